@@ -1,1 +1,4 @@
 pub mod Start
+pub mod Text
+pub mod TextFault
+pub mod Told

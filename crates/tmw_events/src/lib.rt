@@ -3,14 +3,24 @@
 
 mod event;
 mod header;
+mod io_fault;
 mod ix;
+mod reader;
 mod registers;
+mod sink;
+mod source;
 mod trace;
+mod trace_fault;
 mod version;
 
 pub use event::{Event, Kind};
 pub use header::Header;
+pub use io_fault::IoFault;
 pub use ix::Ix;
+pub use reader::read_trace;
 pub use registers::Registers;
+pub use sink::Sink;
+pub use source::Source;
 pub use trace::Trace;
+pub use trace_fault::TraceFault;
 pub use version::Version;
