@@ -2,9 +2,11 @@
 #![tactic(auto)]
 
 mod event;
+mod event_line;
 mod header;
 mod io_fault;
 mod ix;
+mod number;
 mod reader;
 mod registers;
 mod sink;
@@ -14,9 +16,11 @@ mod trace_fault;
 mod version;
 
 pub use event::{Event, Kind};
+pub use event_line::{event_of, kind_of};
 pub use header::Header;
 pub use io_fault::IoFault;
 pub use ix::Ix;
+pub use number::number_of;
 pub use reader::read_trace;
 pub use registers::Registers;
 pub use sink::Sink;

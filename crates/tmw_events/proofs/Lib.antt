@@ -1,0 +1,2 @@
+mod EventLines
+mod Numbers
