@@ -11,6 +11,7 @@ mod reader;
 mod registers;
 mod sink;
 mod source;
+mod splitting;
 mod trace;
 mod trace_fault;
 mod version;
