@@ -1,3 +1,5 @@
 mod EventLines
+mod HeaderLines
 mod Numbers
 mod Splits
+mod ValueParts

@@ -3,6 +3,7 @@ use Rattle.std.proofs.Common.{◌≡◌, ℕ, ◌+◌, ◌<◌, ◌≤◌, ◌^�
 use Rattle.std.specs.List.{list_all, position_or_len}
 use Rattle.std.specs.Fmt.{decimal}
 use Rattle.std.specs.Str.Parse.{AllDigits}
+use Rattle.tmw_events.specs.Parts.{IsFree, is_next}
 use Rattle.std.proofs.lemmas.Bool.{eqb-true, cases_Bool}
 use Rattle.std.proofs.lemmas.Bool.Decides.{nat_tests}
 use Rattle.std.proofs.lemmas.Fmt.{decimal_is_IsNumeral}
@@ -20,20 +21,11 @@ pub and_both : (a b : Bool) → a ≡ true → b ≡ true → (a && b) ≡ true
 and_both true b h k = k
 and_both false b h k = h
 
--- none of these bytes is `stop`
-abbrev pub IsFree : ℕ → List ℕ → Type 0
-IsFree stop bytes = list_all (λ byte. not (byte == stop)) bytes ≡ true
-
--- nothing, or bytes that begin with `stop`
-abbrev pub is_next : ℕ → List ℕ → Bool
-is_next stop [] = true
-is_next stop (byte ∷ bytes) = byte == stop
-
 pub free-append : (stop : ℕ) (xs ys : List ℕ) → IsFree stop xs → IsFree stop ys → IsFree stop (xs ++ ys)
 free-append stop [] ys a b = b
 free-append stop (x ∷ xs) ys a b =
     and_both (not (x == stop)) _ (and_left (not (x == stop)) _ a)
-        (free-append stop xs ys (and_right (not (x == stop)) _ a) b)
+    (free-append stop xs ys (and_right (not (x == stop)) _ a) b)
 
 -- the first byte of what is free of `stop` isn't it
 pub first_free : (stop x : ℕ) (xs : List ℕ) → IsFree stop (x ∷ xs) → (x == stop) ≡ false
@@ -53,22 +45,24 @@ free-before stop [] = refl
 free-before stop (x ∷ xs) =
     let n = position_or_len (λ byte. byte == stop) xs in
     let step : 1 + n ≡ suc n = omega arith in
-    elim (cases_Bool (x == stop))
-    [ inl h ↦ rw h refl
-    | inr h ↦ rw (h, step) (and_both (not (x == stop)) _ (rw h refl) (free-before stop xs)) ]
+    elim (cases_Bool (x == stop)) [
+      | inl h ↦ rw h refl
+      | inr h ↦ rw (h, step) (and_both (not (x == stop)) _ (rw h refl) (free-before stop xs))
+    ]
 
 pub drop-before : (stop : ℕ) (bytes : List ℕ) → position_or_len (λ byte. byte == stop) bytes < length bytes
     → drop (position_or_len (λ byte. byte == stop) bytes) bytes
-      ≡ stop ∷ drop (position_or_len (λ byte. byte == stop) bytes + 1) bytes
+    ≡ stop ∷ drop (position_or_len (λ byte. byte == stop) bytes + 1) bytes
 drop-before stop [] within = absurd (omega arith)
 drop-before stop (x ∷ xs) within =
     let n = position_or_len (λ byte. byte == stop) xs in
     let step : 1 + n ≡ suc n = omega arith in
     let next : suc n + 1 ≡ suc (n + 1) = omega arith in
-    elim (cases_Bool (x == stop))
-    [ inl h ↦ let e : x ≡ stop = eqb-true x stop h in rw h (ap (λ y. y ∷ xs) e)
-    | inr h ↦ let less = rw (h, step) at within in
-        rw (h, step, next) (drop-before stop xs (omega (arith, less))) ]
+    elim (cases_Bool (x == stop)) [
+      | inl h ↦ let e : x ≡ stop = eqb-true x stop h in rw h (ap (λ y. y ∷ xs) e)
+      | inr h ↦ let less = rw (h, step) at within in
+          rw (h, step, next) (drop-before stop xs (omega (arith, less)))
+    ]
 
 -- what is free of `stop` and stands before it, or at the end, is fixed, and so is what follows
 pub split_free : (stop : ℕ) (xs us ys vs : List ℕ) → IsFree stop xs → IsFree stop us

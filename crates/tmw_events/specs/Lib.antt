@@ -1,4 +1,6 @@
+pub mod Parts
 pub mod Start
 pub mod Text
 pub mod TextFault
 pub mod Told
+pub mod Values

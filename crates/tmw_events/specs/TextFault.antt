@@ -1,6 +1,6 @@
 -- Which fault the text of a trace has. Lines are judged in order, and the first fault counts.
-use Rattle.std.specs.Prelude.{◌≡◌, ◌≢◌, ◌==◌, ℕ, ◌+◌, ◌<◌, ◌^◌, ◌⊎◌, true, not, List, [], ◌∷◌, ◌++◌, length}
-use Rattle.std.specs.List.{list_all}
+use Rattle.std.specs.Prelude.{◌≡◌, ◌≢◌, ℕ, ◌+◌, ◌<◌, ◌^◌, ◌⊎◌, true, List, [], ◌∷◌, ◌++◌, length}
+use Rattle.tmw_events.specs.Parts.{IsFree}
 use Rattle.tmw_events.specs.Start.{is_spoken}
 use Rattle.tmw_events.specs.Text.{header_text, event_text, line, trace_text, FitsKind, FitsHeader, AreEvents}
 use Rattle.tmw_events.specs.Told.{one_more}
@@ -12,7 +12,7 @@ use Rattle.tmw_events.specs.declared.version.Version.{Version}
 
 -- no line feed is among these bytes
 abbrev pub IsUnbroken : List ℕ → Type 0
-IsUnbroken bytes = list_all (λ byte. not (byte == 10)) bytes ≡ true
+IsUnbroken bytes = IsFree 10 bytes
 
 -- no header has this text
 abbrev pub IsNoHeader : List ℕ → Type 0

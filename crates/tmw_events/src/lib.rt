@@ -4,6 +4,7 @@
 mod event;
 mod event_line;
 mod header;
+mod header_line;
 mod io_fault;
 mod ix;
 mod number;
@@ -19,6 +20,7 @@ mod version;
 pub use event::{Event, Kind};
 pub use event_line::{event_of, kind_of};
 pub use header::Header;
+pub use header_line::header_of;
 pub use io_fault::IoFault;
 pub use ix::Ix;
 pub use number::number_of;

@@ -18,9 +18,10 @@ pub returns-clause-some : goal.returns-clause-some
 returns-clause-some c =
     let some : 0 < length c.args.bytes.now = grind (arith, nat_tests, c.is_empty.ensures, c.if-is_empty.false) in
     let plain : get_or c.args.bytes.now 0 0 ≡ 48 → length c.args.bytes.now ≡ 1 =
-        elim c.else-bytes-eq48.branch
-        [ else-bytes-eq48-via-then-bytes-eq48+else-bytes-gt1 w ↦ λ h. omega arith
-        | else-bytes-eq48-via-else-bytes-eq48 w ↦ λ h. absurd (omega arith) ] in
+    elim c.else-bytes-eq48.branch [
+      | else-bytes-eq48-via-then-bytes-eq48+else-bytes-gt1 w ↦ λ h. omega arith
+      | else-bytes-eq48-via-else-bytes-eq48 w ↦ λ h. absurd (omega arith)
+    ] in
     decimal_from_digits c.args.bytes.now c.digits_number.result some plain c.digits_number.ensures
 
 pub returns-clause-none : goal.returns-clause-none
