@@ -1,5 +1,6 @@
 mod EventLines
 mod HeaderLines
+mod HeldBytes
 mod Numbers
 mod Splits
 mod ValueParts

@@ -1,3 +1,4 @@
+pub mod Held
 pub mod Parts
 pub mod Start
 pub mod Text

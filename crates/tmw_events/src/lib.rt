@@ -5,6 +5,7 @@ mod event;
 mod event_line;
 mod header;
 mod header_line;
+mod held;
 mod io_fault;
 mod ix;
 mod number;
