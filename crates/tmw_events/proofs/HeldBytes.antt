@@ -11,7 +11,7 @@ between-less buffer start end count within =
     let m = end - (start + count) in
     let left : end - start ≡ count + m = omega arith in
     sym (ap (λ n. drop count (take n (drop start buffer))) left ∙ drop-take count m (drop start buffer)
-      ∙ ap (λ xs. take m xs) (drop-drop count start buffer))
+    ∙ ap (λ xs. take m xs) (drop-drop count start buffer))
 
 -- so many bytes are moved, and those from there on are as they were
 pub record AreMoved (index start : ℕ) (bytes old : List ℕ) : Type 0 where
@@ -24,7 +24,7 @@ get_or-from_drop : (i k : ℕ) (xs ys : List ℕ) → i ≤ k → drop i xs ≡ 
 get_or-from_drop i k xs ys le same =
     let e : k ≡ i + (k - i) = omega arith in
     ap (λ n. get_or xs n 0) e ∙ sym (get_or-drop i xs (k - i) 0) ∙ ap (λ zs. get_or zs (k - i) 0) same
-      ∙ get_or-drop i ys (k - i) 0 ∙ ap (λ n. get_or ys n 0) (sym e)
+    ∙ get_or-drop i ys (k - i) 0 ∙ ap (λ n. get_or ys n 0) (sym e)
 
 pub AreMoved-more : (index start : ℕ) (bytes old : List ℕ) → AreMoved index start bytes old → start + index < length old
     → AreMoved (index + 1) start (set bytes index (get_or bytes (start + index) 0)) old
@@ -32,15 +32,15 @@ AreMoved-more index start bytes old m within =
     let here : index < length bytes = omega (arith, m.same_length) in
     let there : index < length (drop start old) = simp length-drop (omega arith) in
     let from : get_or bytes (start + index) 0 ≡ get_or old (start + index) 0 =
-        get_or-from_drop index (start + index) bytes old (omega arith) m.left in
+    get_or-from_drop index (start + index) bytes old (omega arith) m.left in
     record {
       same_length = simp length-set m.same_length;
       moved = take_more_set bytes index (get_or bytes (start + index) 0) here
-        ∙ ap (λ xs. xs ++ get_or bytes (start + index) 0 ∷ []) m.moved
-        ∙ ap (λ x. take index (drop start old) ++ x ∷ []) (from ∙ sym (get_or-drop start old index 0))
-        ∙ sym (take_more (drop start old) index 0 there);
+          ∙ ap (λ xs. xs ++ get_or bytes (start + index) 0 ∷ []) m.moved
+          ∙ ap (λ x. take index (drop start old) ++ x ∷ []) (from ∙ sym (get_or-drop start old index 0))
+          ∙ sym (take_more (drop start old) index 0 there);
       left = drop-set-lt (index + 1) bytes index (get_or bytes (start + index) 0) (omega arith)
-        ∙ sym (drop-drop 1 index bytes) ∙ ap (λ xs. drop 1 xs) m.left ∙ drop-drop 1 index old;
+          ∙ sym (drop-drop 1 index bytes) ∙ ap (λ xs. drop 1 xs) m.left ∙ drop-drop 1 index old;
     }
 
 -- what was read stands behind what was there
@@ -50,5 +50,5 @@ take-read moved new held count room within few =
     let part = take held moved in
     let same : length part ≡ held = length-take-le held moved within in
     ap (λ n. take (n + count) (put_mid held room moved new)) (sym same)
-      ∙ take-append-add part (new ++ post_of held room moved) count
-      ∙ ap (λ xs. part ++ xs) (take-append-le count new (post_of held room moved) few)
+    ∙ take-append-add part (new ++ post_of held room moved) count
+    ∙ ap (λ xs. part ++ xs) (take-append-le count new (post_of held room moved) few)

@@ -1,5 +1,6 @@
 pub mod Held
 pub mod Parts
+pub mod Piece
 pub mod Start
 pub mod Text
 pub mod TextFault

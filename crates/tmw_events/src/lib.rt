@@ -9,6 +9,7 @@ mod held;
 mod io_fault;
 mod ix;
 mod number;
+mod piece;
 mod reader;
 mod registers;
 mod sink;

@@ -6,4 +6,4 @@ pub returns : goal.returns
 returns c =
     let few = simp length-take at c.requires in
     between-less c.args.self.now.buffer c.args.self.now.start c.args.self.now.end c.args.count
-        (omega (arith, few, c.args.self.now.ordered))
+    (omega (arith, few, c.args.self.now.ordered))

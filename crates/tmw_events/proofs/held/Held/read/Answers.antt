@@ -14,8 +14,10 @@ returns-clause-more g c =
     let two = c.read.auto.buffer in
     let within : held ≤ length moved = omega (arith, one, c.args.self.now.within) in
     let few : count ≤ length new = omega (arith, two, c.in_ok-count.ensures.within) in
-    let whole : (held + count) - 0 ≡ held + count = omega arith in
-    (take count new, c.in_ok-count.ensures.tells,
+    let whole : (held + count) - 0 ≡ held + count = omega arith in (
+      take count new,
+      c.in_ok-count.ensures.tells,
       ap (λ n. take n (put_mid held (4096 - held) moved new)) whole ∙ take-read moved new held count (4096 - held) within few
-        ∙ ap (λ xs. xs ++ take count new) c.move_to_front.ensures,
-      length-take-le count new few)
+          ∙ ap (λ xs. xs ++ take count new) c.move_to_front.ensures,
+      length-take-le count new few,
+    )
