@@ -1,6 +1,7 @@
 mod EventLines
 mod HeaderLines
 mod HeldBytes
+mod LongLines
 mod Numbers
 mod Pieces
 mod Splits

@@ -25,10 +25,10 @@ pub drop-seen : (bytes : List ℕ) (seen more : ℕ) → more ≡ position_or_le
     → seen + more < length bytes → drop (seen + more) bytes ≡ 10 ∷ drop (seen + more + 1) bytes
 drop-seen bytes seen more is within =
     let here : position_or_len (λ byte. byte == 10) (drop seen bytes) < length (drop seen bytes) =
-        simp length-drop (omega (arith, is)) in
+    simp length-drop (omega (arith, is)) in
     let next : seen + (more + 1) ≡ seen + more + 1 = omega arith in
     sym (drop-drop more seen bytes)
-      ∙ rw is (drop-before 10 (drop seen bytes) here ∙ ap (λ xs. 10 ∷ xs) (rw (← is) (drop-drop (more + 1) seen bytes ∙ ap (λ n. drop n bytes) next)))
+    ∙ rw is (drop-before 10 (drop seen bytes) here ∙ ap (λ xs. 10 ∷ xs) (rw (← is) (drop-drop (more + 1) seen bytes ∙ ap (λ n. drop n bytes) next)))
 
 -- what is read behind the bytes leaves what was seen
 pub IsSeen-append : (bytes rest : List ℕ) (seen : ℕ) → IsSeen seen bytes → IsSeen seen (bytes ++ rest)

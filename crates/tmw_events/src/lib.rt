@@ -8,6 +8,7 @@ mod header_line;
 mod held;
 mod io_fault;
 mod ix;
+mod long_line;
 mod number;
 mod piece;
 mod reader;
