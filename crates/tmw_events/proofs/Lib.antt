@@ -1,7 +1,9 @@
 mod EventLines
 mod HeaderLines
 mod HeldBytes
+mod Lengths
 mod LongLines
+mod NextLines
 mod Numbers
 mod Pieces
 mod Splits

@@ -1,4 +1,5 @@
 pub mod Held
+pub mod Line
 pub mod LongLine
 pub mod Parts
 pub mod Piece

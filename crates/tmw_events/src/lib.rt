@@ -9,6 +9,7 @@ mod held;
 mod io_fault;
 mod ix;
 mod long_line;
+mod next_line;
 mod number;
 mod piece;
 mod reader;
