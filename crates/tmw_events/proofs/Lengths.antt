@@ -1,10 +1,10 @@
 -- The longest texts of an event and of a header, and that longer ones are no text of either.
 use Rattle.std.proofs.Common.{◌≡◌, ℕ, ◌+◌, ◌*◌, ◌<◌, ◌≤◌, ◌^◌, List, [], ◌∷◌, ◌++◌, length, take, ap, length-append, arith}
 use Rattle.std.specs.Fmt.{decimal}
-use Rattle.std.specs.List.{All}
+use Rattle.std.specs.List.{All, AllByRecursion}
 use Rattle.std.proofs.lemmas.Fmt.{length-decimal-le}
 use Rattle.std.proofs.lemmas.List.{length-take-le}
-use Rattle.std.proofs.lemmas.List.Elements.{All-take}
+use Rattle.std.proofs.lemmas.List.Elements.{All-take, recursion_from_All}
 use Rattle.tmw_events.specs.Text.{kind_text, event_text, values_text, initial_text, header_text, FitsKind, FitsHeader}
 use Rattle.tmw_events.specs.TextFault.{IsNoEvent, IsNoHeader}
 use Rattle.tmw_events.specs.declared.event.Event.{Event}
@@ -32,8 +32,22 @@ pub long_no_event : (version : Version) (text : List ℕ) → 4096 ≤ length te
 long_no_event version text long = λ event fits spoken is.
     absurd (omega (arith, ap length is, length-kind_text event.kind fits))
 
-length-values_text : (values : List ℕ) → ((k : ℕ) (d : ℕ) → k < length values → d < 2 ^ 64) → length (values_text values) ≤ 21 * length values
-length-values_text values fit = ?
+length-values_text : (values : List ℕ) → AllByRecursion (λ value. value < 2 ^ 64) values
+    → length (values_text values) ≤ 21 * length values
+length-values_text [] fit = omega arith
+length-values_text (v ∷ vs) fit =
+    omega (arith, length-append (32 ∷ decimal v) (values_text vs), length-decimal v fit.0, length-values_text vs fit.1)
+
+length-initial_text : (version : Version) (values : List ℕ) → length values ≤ 8 → All (λ value. value < 2 ^ 64) values
+    → length (initial_text version values) ≤ 168
+length-initial_text One values few fit = omega arith
+length-initial_text Two values few fit =
+    omega (arith, length-values_text values (recursion_from_All (λ value. value < 2 ^ 64) values fit))
 
 pub long_no_header : (text : List ℕ) → 4096 ≤ length text → IsNoHeader text
-long_no_header text long = λ header fits is. ?
+long_no_header text long = λ header fits is.
+    let n = header.registers.number in
+    let counted = length-take-le n header.initial (omega (arith, fits.0, header.registers.most)) in
+    let most = length-initial_text header.version (take n header.initial) (omega (arith, counted, header.registers.most))
+    (All-take (λ value. value < 2 ^ 64) n header.initial fits.1) in
+    absurd (omega (arith, ap length is, most))

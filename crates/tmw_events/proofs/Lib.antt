@@ -1,4 +1,5 @@
 mod EventLines
+mod FirstLines
 mod HeaderLines
 mod HeldBytes
 mod Lengths

@@ -16,7 +16,7 @@ use Rattle.tmw_events.proofs.Splits.{free-append}
 use Rattle.tmw_events.proofs.ToldBytes.{Adds-more}
 
 -- the bytes up to a line feed, and those after it
-line-split : (bytes text : List ℕ) (count : ℕ) → drop count bytes ≡ 10 ∷ drop (count + 1) bytes → take count bytes ≡ text
+pub line-split : (bytes text : List ℕ) (count : ℕ) → drop count bytes ≡ 10 ∷ drop (count + 1) bytes → take count bytes ≡ text
     → bytes ≡ line text ++ drop (count + 1) bytes
 line-split bytes text count feed is =
     sym (take-append-drop count bytes) ∙ rw (is, feed) (sym (append_assoc text (10 ∷ []) (drop (count + 1) bytes)))
@@ -49,24 +49,30 @@ pub take_event-less : (bytes left : List ℕ) (count : ℕ) → drop count bytes
 take_event-less bytes left count feed is =
     omega (arith, ap length is, ap length feed, length-drop count bytes, length-drop (count + 1) bytes)
 
+-- the bytes read for a line, and then more, behind those held before
+pub bytes-joined : {S : Type 0} (Told : S → List ℕ → Type 0) (a b : S) (before held : List ℕ) (r : Reads Told a b before held)
+    (more : List ℕ) → before ++ (r.bytes ++ more) ≡ held ++ more
+bytes-joined Told a b before held r more = sym (append_assoc before r.bytes more) ∙ ap (λ xs. xs ++ more) (sym r.is)
+
 -- a line longer than can be held
 module _ {S : Type 0} (Told : S → List ℕ → Type 0) (Ended : Type 0) (a b c : S) (version : Version) (count : ℕ)
     (before held left : List ℕ) where
-  bytes-joined : (r : Reads Told a b before held) (more : List ℕ) → before ++ (r.bytes ++ more) ≡ held ++ more
-  bytes-joined r more = sym (append_assoc before r.bytes more) ∙ ap (λ xs. xs ++ more) (sym r.is)
-
   pub long-feed : Reads Told a b before held → length held ≡ 4096 → IsFree 10 held → Skips Told Ended b c Feed → count < 2 ^ 40
       → ReadsLine Told Ended a c version count before left (Err (BadLine (count + 2)))
   long-feed r long free s few = record {
     bytes = r.bytes ++ s.bytes;
     told = Adds-more Told a b c r.bytes s.bytes r.told s.told;
-    is = rw (bytes-joined r s.bytes) (few, refl, record {
-      text = held ++ s.is.front;
-      rest = s.is.rest;
-      split = ap (λ xs. held ++ xs) s.is.split ∙ simp append_assoc;
-      unbroken = free-append 10 held s.is.front free s.is.free;
-      bad = long_no_event version (held ++ s.is.front) (simp length-append (omega (arith, long)));
-    });
+    is = rw (bytes-joined Told a b before held r s.bytes) (
+      few,
+      refl,
+      record {
+        text = held ++ s.is.front;
+        rest = s.is.rest;
+        split = ap (λ xs. held ++ xs) s.is.split ∙ simp append_assoc;
+        unbroken = free-append 10 held s.is.front free s.is.free;
+        bad = long_no_event version (held ++ s.is.front) (simp length-append (omega (arith, long)));
+      },
+    );
   }
 
   pub long-end : Reads Told a b before held → length held ≡ 4096 → IsFree 10 held → Skips Told Ended b c End → count < 2 ^ 40
@@ -74,8 +80,13 @@ module _ {S : Type 0} (Told : S → List ℕ → Type 0) (Ended : Type 0) (a b c
   long-end r long free s few = record {
     bytes = r.bytes ++ s.bytes;
     told = Adds-more Told a b c r.bytes s.bytes r.told s.told;
-    is = rw (bytes-joined r s.bytes) (few, refl, s.is.0, free-append 10 held s.bytes free s.is.1,
-      λ empty. absurd (omega (arith, long, ap length empty, length-append held s.bytes)));
+    is = rw (bytes-joined Told a b before held r s.bytes) (
+      few,
+      refl,
+      s.is.0,
+      free-append 10 held s.bytes free s.is.1,
+      λ empty. absurd (omega (arith, long, ap length empty, length-append held s.bytes)),
+    );
   }
 
   pub long-failed : Reads Told a b before held → IsFree 10 held → Skips Told Ended b c Failed → count < 2 ^ 40
@@ -83,5 +94,5 @@ module _ {S : Type 0} (Told : S → List ℕ → Type 0) (Ended : Type 0) (a b c
   long-failed r free s few = record {
     bytes = r.bytes ++ s.bytes;
     told = Adds-more Told a b c r.bytes s.bytes r.told s.told;
-    is = rw (bytes-joined r s.bytes) (free-append 10 held s.bytes free s.is, λ last. absurd (omega (arith, last)));
+    is = rw (bytes-joined Told a b before held r s.bytes) (free-append 10 held s.bytes free s.is, λ last. absurd (omega (arith, last)));
   }

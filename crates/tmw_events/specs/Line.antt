@@ -2,10 +2,11 @@
 use Rattle.std.specs.Prelude.{◌≡◌, ◌≢◌, ℕ, ◌+◌, ◌<◌, ◌≤◌, ◌^◌, true, Option, Some, None, Result, Ok, Err, List, [], ◌++◌, length, drop, take}
 use Rattle.tmw_events.specs.Parts.{IsFree}
 use Rattle.tmw_events.specs.Start.{is_spoken}
-use Rattle.tmw_events.specs.Text.{event_text, line, FitsKind}
-use Rattle.tmw_events.specs.TextFault.{IsNoEvent}
+use Rattle.tmw_events.specs.Text.{event_text, header_text, line, FitsKind, FitsHeader}
+use Rattle.tmw_events.specs.TextFault.{IsNoEvent, HasTextFault}
 use Rattle.tmw_events.specs.Told.{Adds}
 use Rattle.tmw_events.specs.declared.event.Event.{Event}
+use Rattle.tmw_events.specs.declared.header.Header.{Header}
 use Rattle.tmw_events.specs.declared.trace_fault.TraceFault.{TraceFault}
 use Rattle.tmw_events.specs.declared.trace_fault.TraceFault.TheVariants.{BadHeader, BadLine, Cut, Memory, Io, TooLong}
 use Rattle.tmw_events.specs.declared.version.Version.{Version}
@@ -46,3 +47,15 @@ pub record ReadsLine {S : Type 0} (Told : S → List ℕ → Type 0) (Ended : Ty
   pub bytes : List ℕ
   pub told : Adds Told old bytes new
   pub is : IsLineRead Ended version count (before ++ bytes) left result
+
+-- what was read of the first bytes: a header's line and what is left, or a fault
+abbrev pub IsHeaderRead : Type 0 → List ℕ → List ℕ → Result Header TraceFault → Type 0
+IsHeaderRead Ended bytes left (Ok header) = (bytes ≡ line (header_text header) ++ left) × FitsHeader header
+IsHeaderRead Ended bytes left (Err fault) = HasTextFault Ended bytes fault
+
+-- what the source told makes, behind the bytes held before, a header's line that was read
+pub record ReadsHeader {S : Type 0} (Told : S → List ℕ → Type 0) (Ended : Type 0) (old new : S) (before left : List ℕ)
+    (result : Result Header TraceFault) : Type 0 where
+  pub bytes : List ℕ
+  pub told : Adds Told old bytes new
+  pub is : IsHeaderRead Ended (before ++ bytes) left result

@@ -3,6 +3,7 @@
 
 mod event;
 mod event_line;
+mod first_line;
 mod header;
 mod header_line;
 mod held;
