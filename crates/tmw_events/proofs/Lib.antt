@@ -3,6 +3,7 @@ mod FirstLines
 mod HeaderLines
 mod HeldBytes
 mod Lengths
+mod LinesRead
 mod LongLines
 mod NextLines
 mod Numbers

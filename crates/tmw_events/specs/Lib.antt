@@ -1,5 +1,6 @@
 pub mod Held
 pub mod Line
+pub mod Lines
 pub mod LongLine
 pub mod Parts
 pub mod Piece

@@ -20,6 +20,7 @@ mod source;
 mod splitting;
 mod trace;
 mod trace_fault;
+mod trace_lines;
 mod version;
 
 pub use event::{Event, Kind};
@@ -35,4 +36,5 @@ pub use sink::Sink;
 pub use source::Source;
 pub use trace::Trace;
 pub use trace_fault::TraceFault;
+pub use trace_lines::TraceLines;
 pub use version::Version;
