@@ -10,4 +10,5 @@ mod Numbers
 mod Pieces
 mod Splits
 pub mod ToldBytes
+mod TracesRead
 mod ValueParts

@@ -5,6 +5,7 @@ use crate::io_fault::IoFault;
 use crate::source::Source;
 
 /// Bytes that were read from a source and are still to be used: at most 4,096.
+#[derive(Drop)]
 pub struct Held {
     buffer: [u8; 4096],
     start: usize,

@@ -26,6 +26,7 @@ pub enum State {
 /// Reads a trace line by line, and holds at most 4,096 bytes of it. First `header` is called once; where that is `Ok`,
 /// `next` gives one event after another. All calls take the same source, which nobody else reads meanwhile.
 /// It allocates nothing, so `Memory` is not among its faults.
+#[derive(Drop)]
 pub struct TraceLines {
     held: Held,
     version: Version,
