@@ -1,3 +1,4 @@
+pub mod Memory
 pub mod Start
 pub mod Text
 pub mod TextFault
