@@ -1,6 +1,6 @@
 -- Opacity (Guerraoui and Kapalka 2008, section 5), from any start state: the registers are the shared objects, and a
 -- history is asked to be final-state opaque at each of its prefixes, since final-state opacity is not closed under them.
-use Rattle.std.specs.Prelude.{◌≡◌, ◌==◌, ◌&&◌, ◌+◌, ◌%◌, ◌^◌, ◌≤◌, ℕ, Bool, true, false, not, nat_lt, List, [], ◌∷◌, length, take, replicate, remove, slice_get, slice_index, slice_set, Some, IsTrue, if◌then◌else◌}
+use Rattle.std.specs.Prelude.{◌≡◌, ◌==◌, ◌&&◌, ◌+◌, ◌%◌, ◌^◌, ◌≤◌, ℕ, Bool, true, not, nat_lt, List, [], ◌∷◌, length, take, replicate, remove, slice_get, slice_index, slice_set, Some, IsTrue, if◌then◌else◌}
 use Rattle.std.specs.List.{list_all}
 use Rattle.tmw_events.specs.declared.event.Event.{Event}
 use Rattle.tmw_defs.specs.declared.op.Op.{Op}
