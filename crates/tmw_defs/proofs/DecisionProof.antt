@@ -47,7 +47,7 @@ below_found next s ts zero h = cc
 below_found next s ts (suc k) h =
     elim (or_cases (one_below next s ts k) (may_come next s ts k) h) [ inl earlier ↦ below_found next s ts k earlier | inr here ↦ (k, here) ]
 
-found_below : (next : State → List Txn → Bool) (s : State) (ts : List Txn) (k i : ℕ) → i < k → IsTrue (may_come next s ts i) → IsTrue (one_below next s ts k)
+pub found_below : (next : State → List Txn → Bool) (s : State) (ts : List Txn) (k i : ℕ) → i < k → IsTrue (may_come next s ts i) → IsTrue (one_below next s ts k)
 found_below next s ts zero i h here = absurd (omega arith)
 found_below next s ts (suc k) i h here =
     elim (cases_lt i k) [

@@ -1,5 +1,5 @@
 -- What the plain check answers: it tells of the shortest prefix that is at fault, and which fault that is.
-use Rattle.std.specs.Prelude.{◌<◌, ◌≤◌, ℕ, List, length, take, Result, Ok, Err, IsTrue, IsFalse}
+use Rattle.std.specs.Prelude.{◌≡◌, ◌<◌, ◌≤◌, ℕ, Bool, true, false, List, length, take, Result, Ok, Err, IsTrue, IsFalse}
 use Rattle.tmw_events.specs.declared.event.Event.{Event}
 use Rattle.tmw_defs.specs.History.{transactions, is_well_formed}
 use Rattle.tmw_defs.specs.Opaque.{State, IsFinalOpaque}
@@ -39,3 +39,11 @@ Judges registers start history (Ok (Violated m)) = IsFirst IsViolated registers 
 Judges registers start history (Err (IllFormed m)) = IsFirst IsIllFormed registers start history m
 Judges registers start history (Err (Ninth m)) = IsFirst HasNinth registers start history m
 Judges registers start history (Err Memory) = Unit {0}
+
+-- What the result tells of this history alone, with no word of its prefixes.
+abbrev pub Weighs : ℕ → State → List Event → Result Bool WholeFault → Type 0
+Weighs registers start history (Ok true) = IsFine registers start history
+Weighs registers start history (Ok false) = IsViolated registers start history
+Weighs registers start history (Err (IllFormed m)) = (m ≡ length history) × IsIllFormed registers start history
+Weighs registers start history (Err (Ninth m)) = (m ≡ length history) × HasNinth registers start history
+Weighs registers start history (Err Memory) = Unit {0}

@@ -2,6 +2,10 @@
 #![tactic(auto)]
 
 mod judge;
+mod order;
+mod replay;
+mod text;
+mod transaction;
 mod whole;
 
 pub use judge::{judge_whole, judge_whole_from};
