@@ -1,5 +1,5 @@
-ghost use Rattle.std.specs.Prelude.{◌≡◌, ℕ, ◌<◌, length, take, OnOk, OnErr};
-ghost use Rattle.tmw_events.specs.Told.{Adds, one_more};
+ghost use Rattle.std.specs.Prelude.{◌≡◌, OnOk, OnErr};
+ghost use Rattle.tmw_events.specs.Told.{Adds, AddsBeginning, one_more};
 
 use crate::io_fault::IoFault;
 use crate::sink::Sink;
@@ -9,8 +9,7 @@ use crate::sink::Sink;
 pub fn put_all<K: Sink>(sink: &mut K, bytes: &[u8]) -> Result<(), IoFault>
     ensures takes { OnOk result (Adds K.took sink.old bytes.now sink.new) }
     ensures well { OnOk result (K.failures sink.new ≡ K.failures sink.old) }
-    ensures begun { OnErr result ((count : ℕ) × (count < length bytes.now)
-        × Adds K.took sink.old (take count bytes.now) sink.new) }
+    ensures begun { OnErr result (AddsBeginning K.took sink.old bytes.now sink.new) }
     ensures failed { OnErr result (K.failures sink.new ≡ one_more (K.failures sink.old)) }
 {
     let mut at = 0;
