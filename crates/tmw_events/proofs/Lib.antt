@@ -1,3 +1,4 @@
+pub mod Beginnings
 mod EventLines
 mod FirstLines
 mod HeaderLines
@@ -9,6 +10,5 @@ mod NextLines
 mod Numbers
 mod Pieces
 mod Splits
-pub mod ToldBytes
 mod TracesRead
 mod ValueParts

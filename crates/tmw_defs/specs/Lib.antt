@@ -1,0 +1,3 @@
+pub mod History
+pub mod Opaque
+pub mod Decision

@@ -1,0 +1,68 @@
+ghost use Rattle.std.specs.Prelude.{◌≡◌, ◌+◌, ◌-◌, ◌^◌, ◌<◌, ◌≤◌, length, min, IfSome, replicate};
+ghost use Rattle.std.proofs.Common.{rules};
+ghost use Rattle.std.proofs.lemmas.Grind.{common_steps};
+
+use crate::io_fault::IoFault;
+use crate::sink::Sink;
+use std::io::{ErrorKind, Write};
+
+/// A sink over a std writer. It doesn't flush.
+#[derive(Drop)]
+pub struct StdSink<W> {
+    writer: W,
+    taken: u64,
+    failures: u64,
+    ghost fits: { taken < 2 ^ 64 },
+}
+
+impl<W: Write> StdSink<W> {
+    /// A sink that writes to the writer.
+    pub fn new(writer: W) -> StdSink<W>
+        ensures writer { result.writer ≡ writer }
+        ensures taken { result.taken ≡ 0 }
+        ensures failures { result.failures ≡ 0 }
+    {
+        StdSink {
+            writer,
+            taken: 0,
+            failures: 0,
+        }
+    }
+}
+
+impl<W: Write> Sink for StdSink<W> {
+    ghost took = { λ sink bytes. sink.taken ≡ min (length bytes) (2 ^ 64 - 1) };
+
+    ghost failures = { λ sink. sink.failures };
+
+    fn put(&mut self, bytes: &[u8]) -> Result<usize, IoFault> {
+        let written = write_again(&mut self.writer, bytes);
+        let Some(count) = written else {
+            self.failures = self.failures.saturating_add(1);
+            return Err(IoFault);
+        };
+        self.taken = self.taken.saturating_add(count as u64);
+        Ok(count)
+    }
+
+    ghost took_some = { λ sink. (replicate sink.taken 0, Prim.search (rules, common_steps)) };
+}
+
+/// One write, tried again where a signal interrupts it. A write that takes none of some bytes has failed.
+fn write_again<W: Write>(writer: &mut W, bytes: &[u8]) -> Option<usize>
+    ensures within { IfSome result (λ count. count ≤ length bytes.now) }
+    ensures some { IfSome result (λ count. 0 < length bytes.now → 0 < count) }
+{
+    for _ in 0..u64::MAX {
+        match writer.write(bytes) {
+            Ok(0) if !bytes.is_empty() => return None,
+            Ok(count) => return Some(count),
+            Err(fault) => {
+                if fault.kind() != ErrorKind::Interrupted {
+                    return None;
+                }
+            }
+        }
+    }
+    None
+}

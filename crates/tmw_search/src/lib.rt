@@ -1,0 +1,12 @@
+//! The plain check: whether a whole recorded history is opaque, by search over each of its prefixes.
+#![tactic(auto)]
+
+mod judge;
+mod order;
+mod replay;
+mod text;
+mod transaction;
+mod whole;
+
+pub use judge::{judge_whole, judge_whole_from};
+pub use whole::{Whole, WholeFault};

@@ -1,0 +1,58 @@
+ghost use Rattle.std.specs.Prelude.{◌≡◌, [], ◌∷◌, MatchOption};
+ghost use Rattle.tmw_defs.specs.History.{operation, operations};
+ghost use Rattle.tmw_search.specs.Shown.{Replays};
+
+use tmw_defs::Op;
+use tmw_events::Kind;
+
+/// The operation that a call and its answer make, if they make one.
+fn operation(call: Kind, answer: Kind) -> Option<Op>
+    ensures { MatchOption result (operation call answer ≡ []) (λ op. operation call answer ≡ op ∷ []) }
+{
+    match (call, answer) {
+        (Kind::R(register), Kind::V(value)) => Some(Op::Read(register, value)),
+        (Kind::W(register, value), Kind::K) => Some(Op::Write(register, value)),
+        (Kind::N(register, added), Kind::V(value)) => Some(Op::Add(register, added, value)),
+        _ => None,
+    }
+}
+
+/// What the registers hold after the operation, if it was answered what they held before.
+fn after_one(op: Op, state: &[u64; 8]) -> Option<[u64; 8]>
+    ensures { Replays state.now (op ∷ []) result }
+{
+    let mut after = *state;
+    match op {
+        Op::Read(register, value) => {
+            if state[register.get() as usize] != value {
+                return None;
+            }
+        }
+        Op::Write(register, value) => after[register.get() as usize] = value,
+        Op::Add(register, added, value) => {
+            if state[register.get() as usize] != value {
+                return None;
+            }
+            after[register.get() as usize] = value.wrapping_add(added);
+        }
+    }
+    Some(after)
+}
+
+/// What the registers hold after a transaction's operations, if each of them was answered what the registers held then.
+pub fn replay(text: &[Kind], start: &[u64; 8]) -> Option<[u64; 8]>
+    ensures { Replays start.now (operations text.now) result }
+{
+    let mut state = *start;
+    let mut rest = text;
+    while let [call, answer, more @ ..] = rest {
+        if let Some(op) = operation(*call, *answer) {
+            let Some(after) = after_one(op, &state) else {
+                return None;
+            };
+            state = after;
+        }
+        rest = more;
+    }
+    Some(state)
+}

@@ -1,0 +1,46 @@
+//! `tmwatch judge`: reads a recorded run of a transactional memory from standard input, and writes one line on standard
+//! output: whether it is opaque, or which of its prefixes is the first that is not.
+#![tactic(auto)]
+
+mod fault;
+mod fault_line;
+mod judging;
+mod report;
+mod run;
+mod words;
+
+use fault::Fault;
+use run::{run_judge, write_fault};
+use std::env;
+use std::io::ErrorKind;
+use std::process::ExitCode;
+use tmw_events::{StdSink, StdSource, TraceFault};
+use words::is_judge;
+
+fn main(rt: HostRuntime) -> ExitCode {
+    let mut sink = StdSink::new(rt.stdout());
+    let status = match asked(&rt) {
+        Ok(()) => run_judge(rt.alloc(), &mut StdSource::new(rt.stdin()), &mut sink),
+        Err(fault) => write_fault(&mut sink, fault),
+    };
+    ExitCode::from(status)
+}
+
+/// Reads the command line, before any input: it has to be the one word `judge`.
+fn asked(rt: &HostRuntime) -> Result<(), Fault> {
+    let arguments = match env::args(rt) {
+        Ok(arguments) => arguments,
+        Err(error) if error.kind() == ErrorKind::OutOfMemory => return Err(Fault::Trace(
+            TraceFault::Memory,
+        )),
+        Err(_) => return Err(Fault::Usage),
+    };
+    let Ok(words) = arguments.skip(1).collect::<Vec<String>>(rt.alloc()) else {
+        return Err(Fault::Trace(TraceFault::Memory));
+    };
+    if is_judge(&words) {
+        Ok(())
+    } else {
+        Err(Fault::Usage)
+    }
+}
