@@ -108,8 +108,8 @@ pending_read-opaque = opaque-passes 1 zeros pending_read refl
 pending_read-aborted : IsFinalOpaque 1 zeros (pending_read ++ by_zero A ∷ []) → ⊥
 pending_read-aborted = not_final_opaque 1 zeros (pending_read ++ by_zero A ∷ []) refl
 
--- The value that a commit-pending writer would leave need not be seen either: here the completion has to leave it out, and with
--- it the writer stands after a later transaction that read what was there before.
+-- A completion may also leave a commit-pending writer out, and here it has to: the writer read before a value that the other
+-- thread then wrote, so it stands before that thread's second transaction, which did not see the pending write.
 abbrev unseen_pending : List Event
 unseen_pending =
     by_zero (R zero_ix) ∷ by_zero (V 0) ∷ by_zero (W one_ix 5) ∷ by_zero K ∷ by_zero T
