@@ -1,3 +1,4 @@
 pub mod History
 pub mod Opaque
 pub mod Decision
+pub mod Texts

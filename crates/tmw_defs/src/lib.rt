@@ -3,6 +3,8 @@
 
 mod op;
 mod status;
+mod texts;
 
 pub use op::Op;
 pub use status::Status;
+pub use texts::law_texts;
