@@ -1,7 +1,7 @@
 -- Reading a whole trace: what was told so far is what the reader of lines has read.
 use Rattle.std.proofs.Common.{◌≡◌, ℕ, List, [], ◌∷◌, ◌++◌}
 use Rattle.tmw_events.specs.Held.{bytes_of}
-use Rattle.tmw_events.specs.Lines.{HasRead, GivesEvent, GivesEnd, GivesFault}
+use Rattle.tmw_events.specs.TraceLines.{HasRead, GivesEvent, GivesEnd, GivesFault}
 use Rattle.tmw_events.specs.Text.{trace_text, AreEvents}
 use Rattle.tmw_events.specs.TextFault.{HasTextFault, HasBegun}
 use Rattle.tmw_events.specs.Told.{Adds}
