@@ -20,7 +20,8 @@ abbrev pub longer : ℕ → Event → Txn → Txn
 longer place e t = record t { last = place; text = t.text ++ e.kind ∷ [] }
 
 -- the transactions of a history with one event more
-pub transactions_from-push : (place : ℕ) (ts : List Txn) (es : List Event) (e : Event) → transactions_from place ts (es ++ e ∷ []) ≡ add_event (place + length es) e (transactions_from place ts es)
+pub transactions_from-push : (place : ℕ) (ts : List Txn) (es : List Event) (e : Event)
+    → transactions_from place ts (es ++ e ∷ []) ≡ add_event (place + length es) e (transactions_from place ts es)
 transactions_from-push place ts [] e = let same : place ≡ place + 0 = omega arith in ap (λ n. add_event n e ts) same
 transactions_from-push place ts (x ∷ xs) e =
     let same : place + 1 + length xs ≡ place + suc (length xs) = omega arith in
@@ -33,20 +34,25 @@ transactions-push h e =
     transactions_from-push 0 [] h e ∙ ap (λ n. add_event n e (transactions h)) same
 
 -- how an event is added at the first of a list
-pub add_event_here : (place : ℕ) (e : Event) (t : Txn) (ts : List Txn) → joins e t ≡ true → add_event place e (t ∷ ts) ≡ longer place e t ∷ ts
+pub add_event_here : (place : ℕ) (e : Event) (t : Txn) (ts : List Txn) → joins e t ≡ true
+    → add_event place e (t ∷ ts) ≡ longer place e t ∷ ts
 add_event_here place e t ts here = rw here refl
 
-pub add_event_past : (place : ℕ) (e : Event) (t : Txn) (ts : List Txn) → joins e t ≡ false → add_event place e (t ∷ ts) ≡ t ∷ add_event place e ts
+pub add_event_past : (place : ℕ) (e : Event) (t : Txn) (ts : List Txn) → joins e t ≡ false
+    → add_event place e (t ∷ ts) ≡ t ∷ add_event place e ts
 add_event_past place e t ts past = rw past refl
 
-of_thread_kept : (thread : ℕ) (t : Txn) (ts : List Txn) → (t.thread == thread) ≡ true → of_thread thread (t ∷ ts) ≡ t ∷ of_thread thread ts
+of_thread_kept : (thread : ℕ) (t : Txn) (ts : List Txn) → (t.thread == thread) ≡ true
+    → of_thread thread (t ∷ ts) ≡ t ∷ of_thread thread ts
 of_thread_kept thread t ts own = rw own refl
 
-of_thread_left : (thread : ℕ) (t : Txn) (ts : List Txn) → (t.thread == thread) ≡ false → of_thread thread (t ∷ ts) ≡ of_thread thread ts
+of_thread_left : (thread : ℕ) (t : Txn) (ts : List Txn) → (t.thread == thread) ≡ false
+    → of_thread thread (t ∷ ts) ≡ of_thread thread ts
 of_thread_left thread t ts other = rw other refl
 
 -- another thread's event leaves the thread's transactions as they are
-pub of_thread-add_other : (thread place : ℕ) (e : Event) (ts : List Txn) → (e.thread.number == thread) ≡ false → of_thread thread (add_event place e ts) ≡ of_thread thread ts
+pub of_thread-add_other : (thread place : ℕ) (e : Event) (ts : List Txn) → (e.thread.number == thread) ≡ false
+    → of_thread thread (add_event place e ts) ≡ of_thread thread ts
 of_thread-add_other thread place e [] other = rw other refl
 of_thread-add_other thread place e (t ∷ ts) other =
     elim (cases_Bool (joins e t)) [
@@ -66,7 +72,8 @@ of_thread-add_other thread place e (t ∷ ts) other =
     ]
 
 -- its own event is added among them alone
-pub of_thread-add_own : (place : ℕ) (e : Event) (ts : List Txn) → of_thread e.thread.number (add_event place e ts) ≡ add_event place e (of_thread e.thread.number ts)
+pub of_thread-add_own : (place : ℕ) (e : Event) (ts : List Txn)
+    → of_thread e.thread.number (add_event place e ts) ≡ add_event place e (of_thread e.thread.number ts)
 of_thread-add_own place e [] = let own : (e.thread.number == e.thread.number) ≡ true = eq-eqb _ _ refl in rw own refl
 of_thread-add_own place e (t ∷ ts) =
     elim (cases_Bool (joins e t)) [
@@ -97,14 +104,16 @@ all_own thread (t ∷ ts) =
       | inr away ↦ rw (of_thread_left thread t ts away) (all_own thread ts)
     ]
 
-pub kinds_of-own : (h : List Event) (e : Event) → kinds_of e.thread.number (h ++ e ∷ []) ≡ kinds_of e.thread.number h ++ e.kind ∷ []
+pub kinds_of-own : (h : List Event) (e : Event)
+    → kinds_of e.thread.number (h ++ e ∷ []) ≡ kinds_of e.thread.number h ++ e.kind ∷ []
 kinds_of-own h e =
     let own : (e.thread.number == e.thread.number) ≡ true = eq-eqb _ _ refl in
     let last : filter (λ x. x.thread.number == e.thread.number) (e ∷ []) ≡ e ∷ [] = rw own refl in
     ap (map (λ x. x.kind)) (filter-append (λ x. x.thread.number == e.thread.number) h (e ∷ []) ∙ ap (λ xs. filter (λ x. x.thread.number == e.thread.number) h ++ xs) last)
     ∙ map-append (λ x. x.kind) (filter (λ x. x.thread.number == e.thread.number) h) (e ∷ [])
 
-pub kinds_of-other : (thread : ℕ) (h : List Event) (e : Event) → (e.thread.number == thread) ≡ false → kinds_of thread (h ++ e ∷ []) ≡ kinds_of thread h
+pub kinds_of-other : (thread : ℕ) (h : List Event) (e : Event) → (e.thread.number == thread) ≡ false
+    → kinds_of thread (h ++ e ∷ []) ≡ kinds_of thread h
 kinds_of-other thread h e other =
     let last : filter (λ x. x.thread.number == thread) (e ∷ []) ≡ [] = rw other refl in
     ap (map (λ x. x.kind)) (filter-append (λ x. x.thread.number == thread) h (e ∷ [])
@@ -124,7 +133,8 @@ pub only_one : (t : Txn) (ts : List Txn) → is_ended t.text ≡ false → IsTru
 only_one t [] still ended = refl
 only_one t (u ∷ us) still ended = absurd (both_ways _ still (and_parts _ _ ended).0)
 
-pub turn : (e : Event) (t : Txn) (ts : List Txn) → (t.thread == e.thread.number) ≡ true → IsTrue (ended_but_last (t ∷ ts)) → Passes e t ⊎ Takes e t ts
+pub turn : (e : Event) (t : Txn) (ts : List Txn) → (t.thread == e.thread.number) ≡ true
+    → IsTrue (ended_but_last (t ∷ ts)) → Passes e t ⊎ Takes e t ts
 turn e t ts own ended =
     elim (cases_Bool (is_ended t.text)) [
       | inl over ↦ inl (record { past = and_right _ _ (not_from_true _ over); over = over })
@@ -142,7 +152,8 @@ ended_more t (u ∷ us) over ended = and_from _ _ over ended
 abbrev pub Own : Event → List Txn → Type 0
 Own e ts = IsTrue (list_all (λ t. t.thread == e.thread.number) ts)
 
-pub ended_but_last-add : (place : ℕ) (e : Event) (ts : List Txn) → Own e ts → IsTrue (ended_but_last ts) → IsTrue (ended_but_last (add_event place e ts))
+pub ended_but_last-add : (place : ℕ) (e : Event) (ts : List Txn) → Own e ts → IsTrue (ended_but_last ts)
+    → IsTrue (ended_but_last (add_event place e ts))
 ended_but_last-add place e [] own ended = refl
 ended_but_last-add place e (t ∷ ts) own ended =
     let (own_first, own_rest) = and_parts (t.thread == e.thread.number) _ own in
@@ -152,7 +163,8 @@ ended_but_last-add place e (t ∷ ts) own ended =
       | inr k ↦ rw (add_event_here place e t ts k.here, k.alone) refl
     ]
 
-pub joined_texts-add : (place : ℕ) (e : Event) (ts : List Txn) → Own e ts → IsTrue (ended_but_last ts) → joined_texts (add_event place e ts) ≡ joined_texts ts ++ e.kind ∷ []
+pub joined_texts-add : (place : ℕ) (e : Event) (ts : List Txn) → Own e ts → IsTrue (ended_but_last ts)
+    → joined_texts (add_event place e ts) ≡ joined_texts ts ++ e.kind ∷ []
 joined_texts-add place e [] own ended = refl
 joined_texts-add place e (t ∷ ts) own ended =
     let (own_first, own_rest) = and_parts (t.thread == e.thread.number) _ own in

@@ -45,21 +45,24 @@ is_ended-cons k j ks =
     let later : length (k ∷ j ∷ ks) - 1 ≡ suc (length (j ∷ ks) - 1) = omega arith in
     rw later refl
 
-open_but_last-push : (ks : List Kind) (k : Kind) → is_ended ks ≡ false → IsTrue (open_but_last ks) → IsTrue (open_but_last (ks ++ k ∷ []))
+open_but_last-push : (ks : List Kind) (k : Kind) → is_ended ks ≡ false → IsTrue (open_but_last ks)
+    → IsTrue (open_but_last (ks ++ k ∷ []))
 open_but_last-push [] k still broken = refl
 open_but_last-push (j ∷ []) k still broken = let goes_on : ends j ≡ false = sym (is_over-ends j) ∙ still in and_from _ _ (not_from_false _ goes_on) refl
 open_but_last-push (j ∷ i ∷ ks) k still broken =
     let (goes_on, rest) = and_parts _ _ broken in
     and_from _ _ goes_on (open_but_last-push (i ∷ ks) k (sym (is_ended-cons j i ks) ∙ still) rest)
 
-Happens-kept : (h : List Event) (e : Event) (place thread : ℕ) (kind : Kind) → Happens h place thread kind → Happens (h ++ e ∷ []) place thread kind
+Happens-kept : (h : List Event) (e : Event) (place thread : ℕ) (kind : Kind) → Happens h place thread kind
+    → Happens (h ++ e ∷ []) place thread kind
 Happens-kept h e place thread kind (x, at, by, is) = (x, slice_get_kept h (e ∷ []) place x at, by, is)
 
 within : (h : List Event) (place thread : ℕ) (kind : Kind) → Happens h place thread kind → place < length h
 within h place thread kind (x, at, by, is) = slice_get_within h place x at
 
 -- what lies in a history lies there still when it goes on
-lies_kept : (thread : ℕ) (h : List Event) (e : Event) (earlier : List Txn) (t : Txn) → LiesAfter thread h earlier t → LiesAfter thread (h ++ e ∷ []) earlier t
+lies_kept : (thread : ℕ) (h : List Event) (e : Event) (earlier : List Txn) (t : Txn) → LiesAfter thread h earlier t
+    → LiesAfter thread (h ++ e ∷ []) earlier t
 lies_kept thread h e earlier t lies =
     let (first_kind, first_at, first_happens) = lies.begins in
     let (last_kind, last_at, last_happens) = lies.closes in
@@ -74,7 +77,8 @@ lies_kept thread h e earlier t lies =
     }
 
 -- the thread's events up to the new one
-through : (h : List Event) (e : Event) → kinds_of e.thread.number (take (length h + 1) (h ++ e ∷ [])) ≡ kinds_of e.thread.number h ++ e.kind ∷ []
+through : (h : List Event) (e : Event)
+    → kinds_of e.thread.number (take (length h + 1) (h ++ e ∷ [])) ≡ kinds_of e.thread.number h ++ e.kind ∷ []
 through h e = ap (kinds_of e.thread.number) (take-append-add h (e ∷ []) 1) ∙ kinds_of-own h e
 
 lies_begun : (h : List Event) (e : Event) (earlier : List Txn) → joined_texts earlier ≡ kinds_of e.thread.number h
@@ -87,7 +91,8 @@ lies_begun h e earlier joined = record {
   unbroken = refl;
 }
 
-lies_longer : (h : List Event) (e : Event) (earlier : List Txn) (t : Txn) → is_ended t.text ≡ false → joined_texts earlier ++ t.text ≡ kinds_of e.thread.number h
+lies_longer : (h : List Event) (e : Event) (earlier : List Txn) (t : Txn) → is_ended t.text ≡ false
+    → joined_texts earlier ++ t.text ≡ kinds_of e.thread.number h
     → LiesAfter e.thread.number h earlier t → LiesAfter e.thread.number (h ++ e ∷ []) earlier (longer (length h) e t)
 lies_longer h e earlier t still joined lies =
     let kept = lies_kept e.thread.number h e earlier t lies in
@@ -105,7 +110,8 @@ abbrev AllLie : ℕ → List Event → List Txn → List Txn → Type 0
 AllLie thread h earlier [] = Unit {0}
 AllLie thread h earlier (t ∷ ts) = LiesAfter thread h earlier t × AllLie thread h (earlier ++ t ∷ []) ts
 
-all_lie_kept : (thread : ℕ) (h : List Event) (e : Event) (earlier ts : List Txn) → AllLie thread h earlier ts → AllLie thread (h ++ e ∷ []) earlier ts
+all_lie_kept : (thread : ℕ) (h : List Event) (e : Event) (earlier ts : List Txn) → AllLie thread h earlier ts
+    → AllLie thread (h ++ e ∷ []) earlier ts
 all_lie_kept thread h e earlier [] lie = tt
 all_lie_kept thread h e earlier (t ∷ ts) lie = (lies_kept thread h e earlier t lie.0, all_lie_kept thread h e (earlier ++ t ∷ []) ts lie.1)
 
@@ -154,7 +160,8 @@ lain_own h e l =
       lie = subst (AllLie e.thread.number (h ++ e ∷ []) []) (sym added) (all_lie-add h e [] ts own l.ended l.joined l.lie);
     }
 
-lain_other : (thread : ℕ) (h : List Event) (e : Event) → (e.thread.number == thread) ≡ false → Lain thread h → Lain thread (h ++ e ∷ [])
+lain_other : (thread : ℕ) (h : List Event) (e : Event) → (e.thread.number == thread) ≡ false → Lain thread h
+    → Lain thread (h ++ e ∷ [])
 lain_other thread h e other l =
     let same : of_thread thread (transactions (h ++ e ∷ [])) ≡ of_thread thread (transactions h)
     = ap (of_thread thread) (transactions-push h e) ∙ of_thread-add_other thread (length h) e (transactions h) other
@@ -180,7 +187,8 @@ lain_from thread h (e ∷ es) l =
     subst (Lain thread) (append_assoc h (e ∷ []) es) (lain_from thread (h ++ e ∷ []) es (lain_more thread h e l))
 
 -- one that stands after some of them lies after all of those
-lies_at : (thread : ℕ) (h : List Event) (before earlier later : List Txn) (t : Txn) → AllLie thread h before (earlier ++ t ∷ later) → LiesAfter thread h (before ++ earlier) t
+lies_at : (thread : ℕ) (h : List Event) (before earlier later : List Txn) (t : Txn)
+    → AllLie thread h before (earlier ++ t ∷ later) → LiesAfter thread h (before ++ earlier) t
 lies_at thread h before [] later t lie = rw append-nil lie.0
 lies_at thread h before (u ∷ us) later t lie =
     let found : LiesAfter thread h ((before ++ u ∷ []) ++ us) t = lies_at thread h (before ++ u ∷ []) us later t lie.1 in

@@ -36,12 +36,15 @@ abbrev each_passes : ℕ → State → List Event → ℕ → Bool
 each_passes registers start history zero = passes registers start (take 0 history)
 each_passes registers start history (suc n) = each_passes registers start history n && passes registers start (take (suc n) history)
 
-final_opaque-passes : (registers : ℕ) (start : State) (history : List Event) → IsTrue (passes registers start history) → IsFinalOpaque registers start history
+final_opaque-passes : (registers : ℕ) (start : State) (history : List Event) → IsTrue (passes registers start history)
+    → IsFinalOpaque registers start history
 final_opaque-passes registers start history passed =
     let (formed, explained) = and_parts (is_well_formed registers history) _ passed in
     record { formed = formed; ordered = is_explained-sound start (transactions history) explained }
 
-opaque_upto : (registers : ℕ) (start : State) (history : List Event) (n : ℕ) → IsTrue (each_passes registers start history n) → (k : ℕ) → k ≤ n → IsFinalOpaque registers start (take k history)
+opaque_upto : (registers : ℕ) (start : State) (history : List Event) (n : ℕ)
+    → IsTrue (each_passes registers start history n) → (k : ℕ) → k ≤ n
+    → IsFinalOpaque registers start (take k history)
 opaque_upto registers start history zero passed k within =
     let first : k ≡ 0 = omega arith in
     rw first (final_opaque-passes registers start (take 0 history) passed)
@@ -52,10 +55,12 @@ opaque_upto registers start history (suc n) passed k within =
       | inr before ↦ opaque_upto registers start history n earlier k before
     ]
 
-opaque-passes : (registers : ℕ) (start : State) (history : List Event) → IsTrue (each_passes registers start history (length history)) → IsOpaque registers start history
+opaque-passes : (registers : ℕ) (start : State) (history : List Event)
+    → IsTrue (each_passes registers start history (length history)) → IsOpaque registers start history
 opaque-passes registers start history passed = opaque_upto registers start history (length history) passed
 
-not_final_opaque : (registers : ℕ) (start : State) (history : List Event) → is_explained start (transactions history) ≡ false → IsFinalOpaque registers start history → ⊥
+not_final_opaque : (registers : ℕ) (start : State) (history : List Event)
+    → is_explained start (transactions history) ≡ false → IsFinalOpaque registers start history → ⊥
 not_final_opaque registers start history unexplained o = both_ways _ unexplained (is_explained-complete start (transactions history) o.ordered)
 
 -- The dirty read: transaction 1 reads a value whose writer is not yet commit-pending. The whole is final-state opaque, and its prefix
