@@ -1,1 +1,15 @@
 pub mod Beginnings
+mod EventLines
+mod FirstLines
+mod HeaderLines
+mod HeldBytes
+mod Lengths
+mod LinesRead
+mod LongLines
+mod NextLines
+mod Numbers
+mod Pieces
+mod Splits
+pub mod ToldBytes
+mod TracesRead
+mod ValueParts

@@ -1,5 +1,12 @@
+pub mod Held
+pub mod Line
+pub mod Lines
+pub mod LongLine
 pub mod Memory
+pub mod Parts
+pub mod Piece
 pub mod Start
 pub mod Text
 pub mod TextFault
 pub mod Told
+pub mod Values

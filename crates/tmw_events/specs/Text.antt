@@ -1,5 +1,5 @@
 -- The texts of kinds, events, headers and traces. Numbers are decimal, without sign and without leading zeros.
-use Rattle.std.specs.Prelude.{◌≡◌, ℕ, ◌+◌, ◌<◌, ◌^◌, true, List, [], ◌∷◌, ◌++◌, take, codes, All}
+use Rattle.std.specs.Prelude.{◌≡◌, ℕ, ◌+◌, ◌<◌, ◌^◌, true, List, [], ◌∷◌, ◌++◌, length, take, codes, All}
 use Rattle.std.specs.List.{flat_map}
 use Rattle.std.specs.Fmt.{decimal}
 use Rattle.tmw_events.specs.Start.{are_spoken}
@@ -49,11 +49,15 @@ abbrev pub initial_text : Version → List ℕ → List ℕ
 initial_text One values = []
 initial_text Two values = values_text values
 
+-- the version, the number of registers, and the values at the start
+abbrev pub numbers_text : Header → List ℕ
+numbers_text header =
+    version_digit header.version ∷ 32 ∷ (48 + header.registers.number)
+    ∷ initial_text header.version (take header.registers.number header.initial)
+
 -- a trace's first line without its line feed
 abbrev pub header_text : Header → List ℕ
-header_text header =
-    codes "opacity-trace " ++ version_digit header.version ∷ 32 ∷ (48 + header.registers.number)
-    ∷ initial_text header.version (take header.registers.number header.initial)
+header_text header = codes "opacity-trace " ++ numbers_text header
 
 -- a line for each event
 abbrev pub lines_text : List Event → List ℕ
@@ -70,9 +74,9 @@ FitsKind (W register value) = value < 2 ^ 64
 FitsKind (N register value) = value < 2 ^ 64
 FitsKind _ = Unit {0}
 
--- the value at each register's start is a number of 64 bits
+-- eight registers have a value at the start, each of 64 bits
 abbrev pub FitsHeader : Header → Type 0
-FitsHeader header = All (λ value. value < 2 ^ 64) header.initial
+FitsHeader header = (length header.initial ≡ 8) × All (λ value. value < 2 ^ 64) header.initial
 
 -- these are events of a trace with this header: the version has them, and their values are numbers of 64 bits
 pub record AreEvents (header : Header) (events : List Event) : Type 0 where

@@ -1,6 +1,6 @@
 -- Which fault the text of a trace has. Lines are judged in order, and the first fault counts.
-use Rattle.std.specs.Prelude.{◌≡◌, ◌≢◌, ◌==◌, ℕ, ◌+◌, ◌<◌, ◌^◌, ◌⊎◌, true, not, List, [], ◌∷◌, ◌++◌, length}
-use Rattle.std.specs.List.{list_all}
+use Rattle.std.specs.Prelude.{◌≡◌, ◌≢◌, ℕ, ◌+◌, ◌<◌, ◌^◌, ◌⊎◌, true, List, [], ◌∷◌, ◌++◌, length}
+use Rattle.tmw_events.specs.Parts.{IsFree}
 use Rattle.tmw_events.specs.Start.{is_spoken}
 use Rattle.tmw_events.specs.Text.{header_text, event_text, line, trace_text, FitsKind, FitsHeader, AreEvents}
 use Rattle.tmw_events.specs.Told.{one_more}
@@ -12,7 +12,7 @@ use Rattle.tmw_events.specs.declared.version.Version.{Version}
 
 -- no line feed is among these bytes
 abbrev pub IsUnbroken : List ℕ → Type 0
-IsUnbroken bytes = list_all (λ byte. not (byte == 10)) bytes ≡ true
+IsUnbroken bytes = IsFree 10 bytes
 
 -- no header has this text
 abbrev pub IsNoHeader : List ℕ → Type 0
@@ -70,19 +70,35 @@ pub record IsTooLong (bytes : List ℕ) : Type 0 where
 abbrev pub IsCut : List ℕ → ℕ → Type 0
 IsCut bytes number = ((number ≡ 1) × (bytes ≢ []) × IsUnbroken bytes) ⊎ EndsInPiece bytes number
 
--- the bytes told so far show no fault: less than a line, or a header and events' lines, and then less than a line
-abbrev pub IsFaultless : List ℕ → Type 0
-IsFaultless bytes =
-    IsUnbroken bytes
-    ⊎ ((header : Header) × (events : List Event) × (rest : List ℕ) × AreEvents header events
-    × (bytes ≡ trace_text header events ++ rest) × IsUnbroken rest)
+-- a header and events' lines, and then whatever follows
+pub record HasBegun (bytes : List ℕ) : Type 0 where
+  pub header : Header
+  pub events : List Event
+  pub are_events : AreEvents header events
+  pub rest : List ℕ
+  pub split : bytes ≡ trace_text header events ++ rest
 
--- the bytes, which end here where `Ended` holds, have this fault
+-- a header and events' lines, and then less than a line, which is nothing after 2^40 of them
+pub record EndsInOrder (bytes : List ℕ) : Type 0 where
+  pub header : Header
+  pub events : List Event
+  pub are_events : AreEvents header events
+  pub rest : List ℕ
+  pub split : bytes ≡ trace_text header events ++ rest
+  pub unbroken : IsUnbroken rest
+  pub none : length events ≡ 2 ^ 40 → rest ≡ []
+
+-- the bytes told so far show no fault
+abbrev pub IsFaultless : List ℕ → Type 0
+IsFaultless bytes = IsUnbroken bytes ⊎ EndsInOrder bytes
+
+-- the bytes, which end here where `Ended` holds, have this fault; where memory or a read failed, what was judged of
+-- them has none
 abbrev pub HasTextFault : Type 0 → List ℕ → TraceFault → Type 0
 HasTextFault Ended bytes BadHeader = (Ended × (bytes ≡ [])) ⊎ HasBadHeader bytes
 HasTextFault Ended bytes (BadLine number) = HasBadLine bytes number
 HasTextFault Ended bytes (Cut number) = Ended × IsCut bytes number
-HasTextFault Ended bytes Memory = IsFaultless bytes
+HasTextFault Ended bytes Memory = HasBegun bytes
 HasTextFault Ended bytes Io = IsFaultless bytes
 HasTextFault Ended bytes TooLong = IsTooLong bytes
 

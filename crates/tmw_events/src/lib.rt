@@ -2,30 +2,43 @@
 #![tactic(auto)]
 
 mod event;
+mod event_line;
+mod first_line;
 mod header;
+mod header_line;
+mod held;
 mod io_fault;
 mod ix;
+mod long_line;
 mod memory_sink;
 mod memory_source;
+mod next_line;
+mod number;
+mod piece;
 mod reader;
 mod registers;
 mod sink;
 mod source;
+mod splitting;
 mod std_sink;
 mod std_source;
 #[cfg(test)]
 mod stream_tests;
 mod trace;
 mod trace_fault;
+mod trace_lines;
 mod version;
 mod writing;
 
 pub use event::{Event, Kind};
+pub use event_line::{event_of, kind_of};
 pub use header::Header;
+pub use header_line::header_of;
 pub use io_fault::IoFault;
 pub use ix::Ix;
 pub use memory_sink::MemorySink;
 pub use memory_source::MemorySource;
+pub use number::number_of;
 pub use reader::read_trace;
 pub use registers::Registers;
 pub use sink::Sink;
@@ -34,5 +47,6 @@ pub use std_sink::StdSink;
 pub use std_source::StdSource;
 pub use trace::Trace;
 pub use trace_fault::TraceFault;
+pub use trace_lines::TraceLines;
 pub use version::Version;
 pub use writing::put_all;

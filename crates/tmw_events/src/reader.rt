@@ -6,6 +6,7 @@ ghost use Rattle.tmw_events.specs.TextFault.{HasTextFault, failures_after};
 use crate::source::Source;
 use crate::trace::Trace;
 use crate::trace_fault::TraceFault;
+use crate::trace_lines::TraceLines;
 use std::alloc::Global;
 
 /// Reads a whole trace, up to the source's end. Lines are judged in order, each before any further read, and the first
@@ -22,5 +23,21 @@ pub fn read_trace<S: Source>(alloc: Global, source: &mut S) -> Result<Trace, Tra
     ensures well { OnOk result (S.failures source.new ≡ S.failures source.old) }
     ensures failed { IfErr result (λ fault. S.failures source.new ≡ failures_after fault (S.failures source.old)) }
 {
-    Err(TraceFault::Memory)
+    let mut lines = TraceLines::new();
+    let header = match lines.header(source) {
+        Ok(header) => header,
+        Err(fault) => return Err(fault),
+    };
+    let mut events = Vec::new(alloc);
+    'lines: loop {
+        match lines.next(source) {
+            Ok(Some(event)) => {
+                let Ok(()) = events.push(event) else {
+                    return Err(TraceFault::Memory);
+                };
+            }
+            Ok(None) => return Ok(Trace { header, events }),
+            Err(fault) => return Err(fault),
+        }
+    }
 }

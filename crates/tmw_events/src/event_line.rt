@@ -1,0 +1,105 @@
+ghost use Rattle.std.specs.Prelude.{◌≡◌, true, IfSome, IfNone};
+ghost use Rattle.tmw_events.specs.Start.{is_spoken};
+ghost use Rattle.tmw_events.specs.Text.{digit, kind_text, event_text, FitsKind};
+ghost use Rattle.tmw_events.specs.TextFault.{IsNoEvent};
+ghost use Rattle.tmw_events.specs.declared.event.Kind.{Kind};
+ghost use Rattle.tmw_events.specs.declared.ix.Ix.{Ix};
+
+use crate::event::{Event, Kind};
+use crate::ix::Ix;
+use crate::number::number_of;
+use crate::version::Version;
+
+/// The kind that these bytes are the text of: a trace's line without its thread and its line feed. `None` for all
+/// other bytes.
+pub fn kind_of(bytes: &[u8]) -> Option<Kind>
+    ensures some { IfSome result (λ kind. bytes.now ≡ kind_text kind) }
+    ensures fits { IfSome result FitsKind }
+    ensures none { IfNone result ((kind : Kind) → FitsKind kind → bytes.now ≡ kind_text kind → ⊥) }
+{
+    match bytes {
+        [b'K'] => Some(Kind::K),
+        [b'T'] => Some(Kind::T),
+        [b'C'] => Some(Kind::C),
+        [b'X'] => Some(Kind::X),
+        [b'A'] => Some(Kind::A),
+        [b'R', b' ', register] => {
+            let Some(register) = ix_of(*register) else {
+                return None;
+            };
+            Some(Kind::R(register))
+        }
+        [b'V', b' ', value @ ..] => {
+            let Some(value) = number_of(value) else {
+                return None;
+            };
+            Some(Kind::V(value))
+        }
+        [b'W', b' ', register, b' ', value @ ..] => {
+            let Some(register) = ix_of(*register) else {
+                return None;
+            };
+            let Some(value) = number_of(value) else {
+                return None;
+            };
+            Some(Kind::W(register, value))
+        }
+        [b'N', b' ', register, b' ', value @ ..] => {
+            let Some(register) = ix_of(*register) else {
+                return None;
+            };
+            let Some(value) = number_of(value) else {
+                return None;
+            };
+            Some(Kind::N(register, value))
+        }
+        _ => None,
+    }
+}
+
+/// The event of this version that these bytes are the text of: a trace's line without its line feed. `None` for all
+/// other bytes.
+pub fn event_of(version: Version, bytes: &[u8]) -> Option<Event>
+    ensures some { IfSome result (λ event. bytes.now ≡ event_text event) }
+    ensures fits { IfSome result (λ event. FitsKind event.kind) }
+    ensures spoken { IfSome result (λ event. is_spoken version event.kind ≡ true) }
+    ensures none { IfNone result (IsNoEvent version bytes.now) }
+{
+    match bytes {
+        [thread, b' ', kind @ ..] => {
+            let Some(thread) = ix_of(*thread) else {
+                return None;
+            };
+            let Some(kind) = kind_of(kind) else {
+                return None;
+            };
+            if speaks(version, kind) {
+                Some(Event { thread, kind })
+            } else {
+                None
+            }
+        }
+        _ => None,
+    }
+}
+
+/// Whether the version has this kind.
+fn speaks(version: Version, kind: Kind) -> bool
+    ensures { result ≡ is_spoken version kind }
+{
+    match (version, kind) {
+        (Version::One, Kind::N(_, _)) => false,
+        _ => true,
+    }
+}
+
+/// The thread or register that this byte is the digit of.
+fn ix_of(byte: u8) -> Option<Ix>
+    ensures some { IfSome result (λ ix. byte ≡ digit ix) }
+    ensures none { IfNone result ((ix : Ix) → byte ≡ digit ix → ⊥) }
+{
+    if byte < b'0' {
+        return None;
+    }
+    Ix::new(byte - b'0')
+}

@@ -1,0 +1,14 @@
+ghost use Rattle.std.specs.Prelude.{◌≡◌, ◌==◌};
+ghost use Rattle.std.specs.List.{position_or_len};
+
+/// How many bytes stand before the first that is `stop`; all, where none is.
+pub fn length_before(bytes: &[u8], stop: u8) -> usize
+    ensures { result ≡ position_or_len (λ byte. byte == stop) bytes.now }
+{
+    for (index, byte) in bytes.iter().enumerate() {
+        if *byte == stop {
+            return index;
+        }
+    }
+    bytes.len()
+}
