@@ -1,12 +1,9 @@
 -- Bytes that were added in parts, of which the last may be a beginning of what was to be added.
-use Rattle.std.proofs.Common.{◌≡◌, ◌+◌, ◌<◌, ◌≤◌, length, take, ◌++◌, append_assoc, ℕ, List, arith}
+use Rattle.std.proofs.Common.{◌≡◌, ◌+◌, ◌<◌, ◌≤◌, length, take, ◌++◌, ℕ, List, arith}
 use Rattle.std.proofs.lemmas.List.{length-append, take-append-le}
 use Rattle.std.proofs.Math.Seq.{take-append-add}
+use Rattle.tmw_events.proofs.ToldBytes.{Adds-more}
 use Rattle.tmw_events.specs.Told.{Adds, AddsBeginning}
-
-pub Adds-more : {S : Type 0} (Told : S → List ℕ → Type 0) (a b c : S) (xs ys : List ℕ)
-    → Adds Told a xs b → Adds Told b ys c → Adds Told a (xs ++ ys) c
-Adds-more Told a b c xs ys first then before held = rw (← append_assoc before xs ys) (then (before ++ xs) (first before held))
 
 -- all of the first part, and a beginning of the second
 pub AddsBeginning-more : {S : Type 0} (Told : S → List ℕ → Type 0) (a b c : S) (xs ys : List ℕ)

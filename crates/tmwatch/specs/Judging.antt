@@ -27,7 +27,8 @@ pub record IsTraceOf (bytes : List ℕ) (events : ℕ) (found : Result Whole Who
   pub judged : Judges header.registers.number header.initial history found
 
 -- This answers the bytes that a source told, which are all its bytes where `Ended` holds: a verdict on the trace of which
--- they are the text, or the first fault that they have. `Memory` and `Io` are answered where they have none so far.
+-- they are the text, or the first fault that they have. Of bytes that have no fault so far, `Io` answers a failed read, and
+-- `Memory` a growth that was refused.
 abbrev pub IsAnswer : Type 0 → List ℕ → Result Report Fault → Type 0
 IsAnswer Ended bytes (Ok (Opaque events)) = Ended × IsTraceOf bytes events (Ok IsOpaque)
 IsAnswer Ended bytes (Ok (Violated at events)) = Ended × IsTraceOf bytes events (Ok (IsViolated at))

@@ -7,6 +7,8 @@ mod fault_line;
 mod judging;
 mod report;
 mod run;
+#[cfg(test)]
+mod tests;
 mod words;
 
 use fault::Fault;

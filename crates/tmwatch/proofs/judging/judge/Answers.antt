@@ -1,7 +1,8 @@
 -- The bytes that were told are the text of the trace that was read, and what the plain check found is true of its history.
-use Rattle.std.proofs.Common.{◌≡◌, ℕ, List, [], length, Result, Ok, Err, refl, ap, inr, sym, ◌∙◌}
+use Rattle.std.proofs.Common.{◌≡◌, ℕ, List, [], length, Result, Ok, Err, refl, ap, sym, ◌∙◌}
 use Rattle.std.proofs.lemmas.List.{append-nil}
 use Rattle.tmw_events.specs.Text.{trace_text, AreEvents}
+use Rattle.tmw_events.specs.TextFault.{HasBegun}
 use Rattle.tmw_events.specs.declared.event.Event.{Event}
 use Rattle.tmw_events.specs.declared.header.Header.{Header}
 use Rattle.tmw_search.specs.Verdict.{Judges}
@@ -66,11 +67,15 @@ returns-in-Err-Ninth-clause-right g c = (
   ),
 )
 
--- the text of a trace shows no fault so far
+-- what was told begins with a trace's text, and is that text
 pub returns-clause-right : goal.returns-clause-right
 returns-clause-right g c =
-    let text = trace_text c.in-Ok.trace.header c.in-Ok.trace.events.items in (
-      text,
-      c.in-Ok.ensures.text,
-      inr (c.in-Ok.trace.header, c.in-Ok.trace.events.items, [], c.in-Ok.ensures.events, sym (append-nil text), refl),
-    )
+    let text = trace_text c.in-Ok.trace.header c.in-Ok.trace.events.items in
+    let begun : HasBegun text = record {
+      header = c.in-Ok.trace.header;
+      events = c.in-Ok.trace.events.items;
+      are_events = c.in-Ok.ensures.events;
+      rest = [];
+      split = sym (append-nil text);
+    } in
+    (text, c.in-Ok.ensures.text, begun)

@@ -1,6 +1,6 @@
--- A report whose line found no memory is answered by that fault: what was told is a trace's text, and so has no fault.
+-- A report whose line found no memory is answered by that fault: what was told is a trace's text.
 use Rattle.std.proofs.Common.{ℕ, List, [], Ok, Err, inl, inr, refl, sym, append-nil, ◌∙◌}
-use Rattle.tmw_events.specs.TextFault.{IsFaultless}
+use Rattle.tmw_events.specs.TextFault.{HasBegun}
 use Rattle.tmw_events.specs.declared.trace_fault.TraceFault.TheVariants.{Memory}
 use Rattle.tmwatch.specs.Judging.{IsAnswer, IsTraceOf}
 use Rattle.tmwatch.specs.declared.fault.Fault.TheVariants.{Trace}
@@ -11,12 +11,13 @@ use Rattle.tmw_search.specs.declared.whole.WholeFault.{WholeFault}
 use Rattle.std.proofs.Common.{Result}
 use Rattle.tmwatch.proofs.run.run_judge.Goals as goal
 
-faultless_trace : (bytes : List ℕ) (events : ℕ) (found : Result Whole WholeFault) → IsTraceOf bytes events found → IsFaultless bytes
-faultless_trace bytes events found t = inr (t.header, t.history, [], t.are_events, t.text ∙ sym (append-nil _), refl)
+trace_begun : (bytes : List ℕ) (events : ℕ) (found : Result Whole WholeFault) → IsTraceOf bytes events found → HasBegun bytes
+trace_begun bytes events found t =
+    record { header = t.header; events = t.history; are_events = t.are_events; rest = []; split = t.text ∙ sym (append-nil _) }
 
-faultless : (Ended : Type 0) (bytes : List ℕ) (report : Report) → IsAnswer Ended bytes (Ok report) → IsFaultless bytes
-faultless Ended bytes (Opaque events) right = faultless_trace bytes events _ right.1
-faultless Ended bytes (Violated at events) right = faultless_trace bytes events _ right.1
+begun : (Ended : Type 0) (bytes : List ℕ) (report : Report) → IsAnswer Ended bytes (Ok report) → HasBegun bytes
+begun Ended bytes (Opaque events) right = trace_begun bytes events _ right.1
+begun Ended bytes (Violated at events) right = trace_begun bytes events _ right.1
 
 pub returns-in-Ok : goal.returns-in-Ok
 returns-in-Ok g c =
@@ -27,7 +28,7 @@ returns-in-Ok g c =
         bytes = told.0;
         answer = Err (Trace Memory);
         told = told.1;
-        right = faultless (g.S.Source.ended c.judge.new.source) told.0 c.in-Ok.report told.2;
+        right = begun (g.S.Source.ended c.judge.new.source) told.0 c.in-Ok.report told.2;
         failures = c.in-Ok.ensures.failures;
         put = put;
       }

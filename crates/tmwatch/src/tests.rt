@@ -1,0 +1,375 @@
+//! What the contracts leave open: that recorded runs are answered as their readers expect, and that there is memory for it.
+use crate::fault::Fault;
+use crate::run::{run_judge, write_fault};
+use std::alloc::{AllocError, Global};
+use std::process::Abort;
+use std::test::Fail;
+use tmw_events::{MemorySink, MemorySource, TraceFault};
+
+const OPAQUE: u8 = 0;
+
+const VIOLATED: u8 = 1;
+
+const FAULT: u8 = 4;
+
+/// A transaction reads what another, not yet commit-pending, has written.
+const DIRTY_READ: &str = "0 W 0 1, 0 K, 1 R 0, 1 V 1, 0 T, 0 C, 1 T, 1 C";
+
+/// A trace's text, of its first line and of its events, which commas part.
+fn text(alloc: Global, header: &str, events: &str) -> Result<Vec<u8>, AllocError> {
+    let mut text = Vec::from_slice(alloc, header.as_bytes())?;
+    text.push(b'\n')?;
+    for event in events.split(", ") {
+        text.extend_from_slice(event.as_bytes())?;
+        text.push(b'\n')?;
+    }
+    Ok(text)
+}
+
+/// Judges a text, which a source tells a byte a call, and compares what went out, which a sink takes a byte a call.
+fn expect(rt: &(impl Abort + AllocGlobal), text: &[u8], line: &str, status: u8) {
+    let mut source = MemorySource::limited(text, 1, None);
+    let mut sink = MemorySink::limited(rt.alloc(), 1, None);
+    let answered = run_judge(rt.alloc(), &mut source, &mut sink);
+    assert_eq!(rt; sink.bytes(), line.as_bytes(), "of {text:?}");
+    assert_eq!(rt; answered, status, "of {text:?}");
+}
+
+/// Judges a history over one register.
+fn expect_of(
+    rt: &(impl Abort + AllocGlobal),
+    events: &str,
+    line: &str,
+    status: u8,
+) -> Result<(), Fail> {
+    let text = text(rt.alloc(), "opacity-trace 1 1", events)?;
+    expect(rt, &text, line, status);
+    Ok(())
+}
+
+#[test]
+fn histories_that_are_opaque(rt: HostRuntime) -> Result<(), Fail> {
+    for (events, line) in [
+        // Its own write, at the greatest value.
+        (
+            "0 W 0 18446744073709551615, 0 K, 0 R 0, 0 V 18446744073709551615, 0 T, 0 C",
+            "{\"events\":6,\"verdict\":\"opaque so far\"}\n",
+        ),
+        // A read from a commit-pending transaction.
+        (
+            "0 W 0 1, 0 K, 0 T, 1 R 0, 1 V 1, 0 C",
+            "{\"events\":6,\"verdict\":\"opaque so far\"}\n",
+        ),
+        // An old value, read by a transaction that began before the commit.
+        (
+            "1 R 0, 0 W 0 1, 0 K, 0 T, 0 C, 1 V 0",
+            "{\"events\":6,\"verdict\":\"opaque so far\"}\n",
+        ),
+        // Eight transactions, of which one is live.
+        (
+            "0 R 0, 1 T, 1 C, 1 T, 1 C, 1 T, 1 C, 1 T, 1 C, 1 T, 1 C, 1 T, 1 C, 1 T, 1 C",
+            "{\"events\":15,\"verdict\":\"opaque so far\"}\n",
+        ),
+    ] {
+        expect_of(&rt, events, line, OPAQUE)?;
+    }
+    expect(
+        &rt,
+        b"opacity-trace 1 1\n",
+        "{\"events\":0,\"verdict\":\"opaque so far\"}\n",
+        OPAQUE,
+    );
+    // One commit-pending transaction has to be taken as aborted, and the other as committed.
+    let pending = text(
+        rt.alloc(),
+        "opacity-trace 1 2",
+        "0 R 0, 0 V 0, 0 W 1 5, 0 K, 0 T, 1 W 0 1, 1 K, 1 T, 1 C, 1 R 1, 1 V 0",
+    )?;
+    expect(
+        &rt,
+        &pending,
+        "{\"events\":11,\"verdict\":\"opaque so far\"}\n",
+        OPAQUE,
+    );
+    Ok(())
+}
+
+#[test]
+fn histories_that_are_not_opaque(rt: HostRuntime) -> Result<(), Fail> {
+    for (events, line) in [
+        // Not its own write.
+        (
+            "0 W 0 18446744073709551615, 0 K, 0 R 0, 0 V 0, 0 T, 0 C",
+            "{\"at\":4,\"events\":6,\"verdict\":\"violated\"}\n",
+        ),
+        (
+            DIRTY_READ,
+            "{\"at\":4,\"events\":8,\"verdict\":\"violated\"}\n",
+        ),
+        // The commit-pending transaction that was read from aborts.
+        (
+            "0 W 0 1, 0 K, 0 T, 1 R 0, 1 V 1, 0 A",
+            "{\"at\":6,\"events\":6,\"verdict\":\"violated\"}\n",
+        ),
+        // An old value, read after the commit.
+        (
+            "0 W 0 1, 0 K, 0 T, 0 C, 1 R 0, 1 V 0",
+            "{\"at\":6,\"events\":6,\"verdict\":\"violated\"}\n",
+        ),
+        // Two readers that see two writers in opposite orders, and in each order once.
+        (
+            "0 W 0 1, 1 W 0 2, 0 K, 1 K, 0 T, 1 T, 0 C, 1 C, 0 R 0, 0 V 2, 0 T, 0 C, 1 R 0, 1 V 1",
+            "{\"at\":14,\"events\":14,\"verdict\":\"violated\"}\n",
+        ),
+        (
+            "0 W 0 1, 1 W 0 2, 0 K, 1 K, 0 T, 1 T, 0 C, 1 C, 0 R 0, 0 V 1, 0 T, 0 C, 1 R 0, 1 V 2",
+            "{\"at\":14,\"events\":14,\"verdict\":\"violated\"}\n",
+        ),
+    ] {
+        expect_of(&rt, events, line, VIOLATED)?;
+    }
+    // A reader that aborts counts too.
+    let zombie = text(
+        rt.alloc(),
+        "opacity-trace 1 2",
+        "0 R 0, 0 V 0, 1 W 0 1, 1 K, 1 W 1 1, 1 K, 1 T, 1 C, 0 R 1, 0 V 1, 0 T, 0 A",
+    )?;
+    expect(
+        &rt,
+        &zombie,
+        "{\"at\":10,\"events\":12,\"verdict\":\"violated\"}\n",
+        VIOLATED,
+    );
+    Ok(())
+}
+
+#[test]
+fn initial_values_and_adds(rt: HostRuntime) -> Result<(), Fail> {
+    for (header, events, line, status) in [
+        (
+            "opacity-trace 2 1 5",
+            "0 N 0 18446744073709551615, 0 V 5, 0 R 0, 0 V 4, 0 T, 0 C",
+            "{\"events\":6,\"verdict\":\"opaque so far\"}\n",
+            OPAQUE,
+        ),
+        (
+            "opacity-trace 2 1 5",
+            "0 N 0 18446744073709551615, 0 V 0, 0 R 0, 0 V 4, 0 T, 0 C",
+            "{\"at\":2,\"events\":6,\"verdict\":\"violated\"}\n",
+            VIOLATED,
+        ),
+        (
+            "opacity-trace 2 2 5",
+            "0 T",
+            "{\"fault\":\"bad header\"}\n",
+            FAULT,
+        ),
+        (
+            "opacity-trace 1 1",
+            "0 N 0 1",
+            "{\"fault\":\"bad line\",\"line\":2}\n",
+            FAULT,
+        ),
+    ] {
+        expect(&rt, &text(rt.alloc(), header, events)?, line, status);
+    }
+    Ok(())
+}
+
+#[test]
+fn prefixes_that_get_no_verdict(rt: HostRuntime) -> Result<(), Fail> {
+    for (events, line) in [
+        ("0 V 1", "{\"at\":1,\"fault\":\"ill formed\"}\n"),
+        // There is one register.
+        ("0 R 1", "{\"at\":1,\"fault\":\"ill formed\"}\n"),
+        (
+            "0 R 0, 1 T, 1 C, 1 T, 1 C, 1 T, 1 C, 1 T, 1 C, 1 T, 1 C, 1 T, 1 C, 1 T, 1 C, 1 T",
+            "{\"at\":16,\"fault\":\"ninth transaction\"}\n",
+        ),
+    ] {
+        expect_of(&rt, events, line, FAULT)?;
+    }
+    Ok(())
+}
+
+#[test]
+fn lines_that_are_no_events(rt: HostRuntime) -> Result<(), Fail> {
+    for event in [
+        "",
+        "0 R 01",
+        "0 R 8",
+        "8 R 0",
+        "0 R",
+        "0 r 0",
+        "0 R 0 0",
+        "0 T 0",
+        "0 W 0 18446744073709551616",
+        "0 W 0 00",
+        "0 W 0 ",
+        "0 V -1",
+        "0 V +1",
+        "0 V 1e0",
+        "0 T ",
+        " 0 T",
+        "0  T",
+        "0 W  0 1",
+        "0\tT",
+        "0 T\r",
+        "0 T\0",
+    ] {
+        expect_of(&rt, event, "{\"fault\":\"bad line\",\"line\":2}\n", FAULT)?;
+    }
+    // The verdict is known by then.
+    let later = format!(in rt.alloc(); "{DIRTY_READ}, 0 R 01")?;
+    expect_of(&rt, &later, "{\"fault\":\"bad line\",\"line\":10}\n", FAULT)
+}
+
+#[test]
+fn first_lines_that_are_no_headers(rt: HostRuntime) {
+    for text in [
+        "",
+        "\n",
+        "0 T\n",
+        "opacity-trace 1 9\n",
+        "opacity-trace 1 0\n",
+        "opacity-trace 1 01\n",
+        "opacity-trace 01 1\n",
+        "opacity-trace 1 1 \n",
+        "opacity-trace 1  1\n",
+        "opacity-trace 1 1\r\n",
+        "opacity-trace 1 1 0\n",
+        "opacity-trace 3 1\n",
+        "opacity-trace 2 1\n",
+        "opacity-trace 2 1 18446744073709551616\n",
+        "opacity-trace 2 1 05\n",
+        "Opacity-trace 1 1\n",
+        "\u{feff}opacity-trace 1 1\n",
+    ] {
+        expect(&rt, text.as_bytes(), "{\"fault\":\"bad header\"}\n", FAULT);
+    }
+    expect(&rt, b"x", "{\"fault\":\"cut\",\"line\":1}\n", FAULT);
+    expect(
+        &rt,
+        b"opacity-trace 1 1",
+        "{\"fault\":\"cut\",\"line\":1}\n",
+        FAULT,
+    );
+    expect(
+        &rt,
+        b"opacity-trace 1 1\n0 R 0",
+        "{\"fault\":\"cut\",\"line\":2}\n",
+        FAULT,
+    );
+    expect(
+        &rt,
+        b"opacity-trace 1 1\n0 R 0\n!",
+        "{\"fault\":\"cut\",\"line\":3}\n",
+        FAULT,
+    );
+}
+
+#[test]
+fn texts_that_are_cut(rt: HostRuntime) -> Result<(), Fail> {
+    let whole = text(rt.alloc(), "opacity-trace 1 1", DIRTY_READ)?;
+    for size in 0..whole.len() + 1 {
+        let told = &whole[..size];
+        let lines = told.iter().filter(|byte| **byte == b'\n').count();
+        let events = lines.saturating_sub(1);
+        let (line, status) = match told.last() {
+            None => (
+                String::from_str(rt.alloc(), "{\"fault\":\"bad header\"}\n")?,
+                FAULT,
+            ),
+            Some(b'\n') if events < 4 => (
+                format!(in rt.alloc(); "{{\"events\":{events},\"verdict\":\"opaque so far\"}}\n")?,
+                OPAQUE,
+            ),
+            Some(b'\n') => (
+                format!(in rt.alloc();
+                    "{{\"at\":4,\"events\":{events},\"verdict\":\"violated\"}}\n"
+                )?,
+                VIOLATED,
+            ),
+            Some(_) => (
+                format!(in rt.alloc(); "{{\"fault\":\"cut\",\"line\":{}}}\n", lines + 1)?,
+                FAULT,
+            ),
+        };
+        expect(&rt, told, line.as_str(), status);
+    }
+    Ok(())
+}
+
+#[test]
+fn reads_that_fail(rt: HostRuntime) -> Result<(), Fail> {
+    let whole = text(rt.alloc(), "opacity-trace 1 1", DIRTY_READ)?;
+    for call in 1..whole.len() as u64 + 2 {
+        let mut source = MemorySource::limited(&whole, 1, Some(call));
+        let mut sink = MemorySink::new(rt.alloc());
+        assert_eq!(rt;
+            run_judge(rt.alloc(), &mut source, &mut sink),
+            FAULT,
+            "at {call}"
+        );
+        assert_eq!(rt;
+            sink.bytes(),
+            b"{\"fault\":\"io\"}\n".as_slice(),
+            "at {call}"
+        );
+    }
+    // A whole bad line that was told before is answered.
+    let mut source = MemorySource::limited(b"opacity-trace 1 1\n0 R 01\n", 26, Some(2));
+    let mut sink = MemorySink::new(rt.alloc());
+    assert_eq!(rt; run_judge(rt.alloc(), &mut source, &mut sink), FAULT);
+    assert_eq!(rt;
+        sink.bytes(),
+        b"{\"fault\":\"bad line\",\"line\":2}\n".as_slice()
+    );
+    Ok(())
+}
+
+#[test]
+fn writes_that_fail(rt: HostRuntime) -> Result<(), Fail> {
+    let whole = text(rt.alloc(), "opacity-trace 1 1", DIRTY_READ)?;
+    for (text, line) in [
+        (
+            whole.as_slice(),
+            b"{\"at\":4,\"events\":8,\"verdict\":\"violated\"}\n".as_slice(),
+        ),
+        (
+            b"opacity-trace 1 1\n?\n".as_slice(),
+            b"{\"fault\":\"bad line\",\"line\":2}\n".as_slice(),
+        ),
+    ] {
+        for sent in 0..line.len() {
+            let mut source = MemorySource::new(text);
+            let mut sink = MemorySink::limited(rt.alloc(), 1, Some(sent as u64 + 1));
+            assert_eq!(rt;
+                run_judge(rt.alloc(), &mut source, &mut sink),
+                FAULT,
+                "after {sent}"
+            );
+            assert_eq!(rt; sink.bytes(), &line[..sent], "after {sent}");
+        }
+    }
+    Ok(())
+}
+
+#[test]
+fn faults_beside_a_trace(rt: HostRuntime) {
+    for (fault, line) in [
+        (Fault::Usage, b"{\"fault\":\"usage\"}\n".as_slice()),
+        (
+            Fault::Trace(TraceFault::Memory),
+            b"{\"fault\":\"memory\"}\n".as_slice(),
+        ),
+        (
+            Fault::Trace(TraceFault::TooLong),
+            b"{\"fault\":\"too long\"}\n".as_slice(),
+        ),
+    ] {
+        let mut sink = MemorySink::new(rt.alloc());
+        assert_eq!(rt; write_fault(&mut sink, fault), FAULT);
+        assert_eq!(rt; sink.bytes(), line);
+    }
+}
