@@ -1,3 +1,5 @@
+pub mod Apart
+pub mod Before
 pub mod Removals
 pub mod DecisionProof
 pub mod OneMore
