@@ -1,3 +1,4 @@
+pub mod Along
 pub mod Apart
 pub mod Before
 pub mod Removals
