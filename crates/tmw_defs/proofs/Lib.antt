@@ -1,6 +1,8 @@
 pub mod Along
 pub mod Apart
 pub mod Before
+pub mod CutsProof
+pub mod Places
 pub mod Removals
 pub mod DecisionProof
 pub mod OneMore

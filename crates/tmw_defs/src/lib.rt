@@ -1,11 +1,13 @@
 //! What it means that a history of a transactional memory is opaque: the definitions, from an event to opacity.
 #![tactic(auto)]
 
+mod cuts;
 mod naming;
 mod op;
 mod status;
 mod texts;
 
+pub use cuts::law_1;
 pub use naming::law_3;
 pub use op::Op;
 pub use status::Status;

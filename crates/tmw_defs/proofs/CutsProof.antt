@@ -1,0 +1,118 @@
+-- The law of cuts: over a cut the end states of a history are those of what follows from the outcomes of what went before.
+use Rattle.std.proofs.Common.{◌≡◌, ◌&&◌, ◌+◌, ◌<◌, ℕ, Bool, true, false, nat_lt, List, [], ◌∷◌, ◌++◌, length, ◌↔◌, IsTrue, if◌then◌else◌, refl, sym, ap, ◌∙◌, arith}
+use Rattle.std.specs.List.{AllByRecursion}
+use Rattle.std.proofs.lemmas.Bool.{and_parts, and_from, ltb-true, lt-ltb}
+use Rattle.std.proofs.lemmas.List.{append-nil}
+use Rattle.tmw_events.specs.declared.event.Event.{Event}
+use Rattle.tmw_events.specs.declared.event.Kind.{Kind}
+use Rattle.tmw_defs.specs.Cuts.{is_cut, IsCutLaw, CutLaw}
+use Rattle.tmw_defs.specs.History.{Txn, is_ended, status_of, operations, transactions, transactions_from, is_well_formed}
+use Rattle.tmw_defs.specs.Opaque.{State, precedes, may_hold, reads_hold, after, after_writes, IsFinalOpaque, HasOrder}
+use Rattle.tmw_defs.specs.Outcomes.{end_state, Leads, Ends, Only, outcomes}
+use Rattle.tmw_defs.proofs.Along.{Pairs, Eases, Keeps, leads-along}
+use Rattle.tmw_defs.proofs.Apart.{leads_split}
+use Rattle.tmw_defs.proofs.Before.{is_before, leads-append}
+use Rattle.tmw_defs.proofs.Places.{IsLater, Lies, is_before-lies, later-transactions, lies-transactions, transactions_from-append, transactions_from-ended}
+
+-- transactions with one text are alike
+eases_text : (t u : Txn) → t.text ≡ u.text → Eases t u
+eases_text t u same = record {
+  reads = λ s reads. rw (← same) reads;
+  may = λ held may. rw (← same) may;
+  leaves = λ s held may. ap (λ (text : List Kind). if held then after_writes s (operations text) else s) same;
+}
+
+precedes-later : (n : ℕ) (t u a b : Txn) → t.text ≡ u.text → t.last ≡ u.last + n → a.first ≡ b.first + n
+    → IsTrue (precedes u b) → IsTrue (precedes t a)
+precedes-later n t u a b text last first h =
+    let (ended, before) = and_parts (is_ended u.text) _ h in
+    let lt = ltb-true u.last b.first before in
+    and_from _ _ (rw text ended) (lt-ltb t.last a.first (omega (arith, last, first, lt)))
+
+precedes-earlier : (n : ℕ) (t u a b : Txn) → u.text ≡ t.text → u.last ≡ t.last + n → b.first ≡ a.first + n
+    → IsTrue (precedes u b) → IsTrue (precedes t a)
+precedes-earlier n t u a b text last first h =
+    let (ended, before) = and_parts (is_ended u.text) _ h in
+    let lt = ltb-true u.last b.first before in
+    and_from _ _ (rw text at ended) (lt-ltb t.last a.first (omega (arith, last, first, lt)))
+
+keeps-later : (n : ℕ) → Keeps (IsLater n)
+keeps-later n = record {
+  turn = λ t u l. eases_text t u l.text;
+  order = λ t u a b l m. precedes-later n t u a b l.text l.last m.first;
+}
+
+keeps-earlier : (n : ℕ) → Keeps (λ t u. IsLater n u t)
+keeps-earlier n = record {
+  turn = λ t u l. eases_text t u (sym l.text);
+  order = λ t u a b l m. precedes-earlier n t u a b l.text l.last m.first;
+}
+
+pairs-flip : (Rel : Txn → Txn → Type 0) (ts us : List Txn) → Pairs Rel ts us → Pairs (λ u t. Rel t u) us ts
+pairs-flip Rel [] [] pairs = tt
+pairs-flip Rel [] (u ∷ us) pairs = absurd pairs
+pairs-flip Rel (t ∷ ts) [] pairs = absurd pairs
+pairs-flip Rel (t ∷ ts) (u ∷ us) pairs = (pairs.0, pairs-flip Rel ts us pairs.1)
+
+-- the transactions behind the cut, in the whole and on their own
+behind : List Event → List Event → List Txn
+behind past rest = transactions_from (length past) [] rest
+
+behind-later : (past rest : List Event) → Pairs (IsLater (length past)) (behind past rest) (transactions rest)
+unfolding behind
+behind-later past rest =
+    let same : 0 + length past ≡ length past = omega arith in
+    rw same at (later-transactions (length past) 0 [] [] rest tt)
+
+transactions-cut : (past rest : List Event) → IsTrue (is_cut past)
+    → transactions (past ++ rest) ≡ transactions past ++ behind past rest
+unfolding behind
+transactions-cut past rest cut =
+    let same : 0 + length past ≡ length past = omega arith in
+    transactions_from-append 0 [] past rest ∙ ap (λ n. transactions_from n (transactions past) rest) same
+      ∙ ap (λ ts. transactions_from (length past) ts rest) (sym (append-nil (transactions past)))
+      ∙ transactions_from-ended (length past) (transactions past) [] rest cut
+
+comes_apart : (past rest : List Event) → IsTrue (is_cut past) → IsTrue (is_before (transactions past) (behind past rest))
+unfolding behind
+comes_apart past rest cut =
+    let same : 0 + length past ≡ length past = omega arith in
+    let one = rw same at (lies-transactions 0 0 [] past (omega arith) tt) in
+    let two = lies-transactions (length past) (length past) [] rest (omega arith) tt in
+    is_before-lies (length past) (length past + length rest) (transactions past) (behind past rest) cut one two
+
+-- over a cut, orders of the whole are orders of the past followed by orders of the rest
+pub leads_over : (s r : State) (past rest : List Event) → IsTrue (is_cut past) → Leads s (transactions (past ++ rest)) r
+    → (m : State) × Leads s (transactions past) m × Leads m (transactions rest) r
+leads_over s r past rest cut leads =
+    let split = leads_split s r (transactions past) (behind past rest) (comes_apart past rest cut)
+      (rw (transactions-cut past rest cut) at leads) in
+    (split.0, split.1,
+      leads-along (IsLater (length past)) (keeps-later (length past)) (behind past rest) (transactions rest)
+        (behind-later past rest) split.0 r split.2)
+
+pub leads-over : (s m r : State) (past rest : List Event) → IsTrue (is_cut past) → Leads s (transactions past) m
+    → Leads m (transactions rest) r → Leads s (transactions (past ++ rest)) r
+leads-over s m r past rest cut one two =
+    rw (transactions-cut past rest cut)
+      (leads-append s m r (transactions past) (behind past rest) (comes_apart past rest cut) one
+        (leads-along (λ t u. IsLater (length past) u t) (keeps-earlier (length past)) (transactions rest) (behind past rest)
+          (pairs-flip (IsLater (length past)) (behind past rest) (transactions rest) (behind-later past rest)) m r two))
+
+-- the same of the end states from a set
+ends_over : (start end : State) (past rest : List Event) → IsTrue (is_cut past)
+    → outcomes start (past ++ rest) end ↔ Ends (outcomes start past) (transactions rest) end
+ends_over start end past rest cut =
+    (λ (s, is, leads). let over = leads_over s end past rest cut leads in (over.0, (s, is, over.1), over.2),
+      λ (m, (s, is, one), two). (s, is, leads-over s m end past rest cut one two))
+
+pub cut_law : CutLaw
+cut_law registers start past rest formed cut = record {
+  opaque = (
+    λ o. let (order, a) = o.ordered in
+      let end = end_state start order in
+      (end, (ends_over start end past rest cut).0 (start, refl, (order, a, refl))),
+    λ (end, ends). let (s, is, leads) = (ends_over start end past rest cut).1 ends in
+      record { formed = formed; ordered = (leads.0, rw is at leads.1) });
+  ends = λ at_cut end. ends_over start end past rest cut;
+}
