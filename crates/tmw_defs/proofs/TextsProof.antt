@@ -23,7 +23,7 @@ slice_get_end : {A : Type 0} (xs : List A) (x : A) → slice_get (xs ++ x ∷ []
 slice_get_end [] x = refl
 slice_get_end (y ∷ xs) x = slice_get_end xs x
 
-slice_get_last : {A : Type 0} (xs : List A) (x : A) → slice_get (xs ++ x ∷ []) (length (xs ++ x ∷ []) - 1) ≡ Some x
+pub slice_get_last : {A : Type 0} (xs : List A) (x : A) → slice_get (xs ++ x ∷ []) (length (xs ++ x ∷ []) - 1) ≡ Some x
 slice_get_last xs x =
     let last : length (xs ++ x ∷ []) - 1 ≡ length xs = omega (arith, length-append xs (x ∷ [])) in
     rw last (slice_get_end xs x)

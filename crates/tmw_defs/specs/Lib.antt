@@ -4,4 +4,5 @@ pub mod History
 pub mod Naming
 pub mod Opaque
 pub mod Outcomes
+pub mod Quiet
 pub mod Texts

@@ -1,0 +1,95 @@
+-- What a quiet event does to the text of the transaction that it joins.
+use Rattle.std.proofs.Common.{◌≡◌, ◌&&◌, ◌+◌, ◌-◌, ◌++◌, ◌<◌, ℕ, suc, Bool, true, false, not, List, [], ◌∷◌, length, Some, IsTrue, refl, sym, ap, ◌∙◌, inl, inr, ◌⊎◌, arith, append_assoc}
+use Rattle.std.specs.Prelude.{slice_get}
+use Rattle.std.proofs.lemmas.Bool.{and_parts, and_from}
+use Rattle.std.proofs.lemmas.List.{append-nil}
+use Rattle.tmw_events.specs.declared.ix.Ix.{Ix}
+use Rattle.tmw_events.specs.declared.event.Kind.{Kind}
+use Rattle.tmw_events.specs.declared.event.Kind.TheVariants.{R, V, W, K, T, C, X, A, N}
+use Rattle.tmw_defs.specs.declared.op.Op.{Op}
+use Rattle.tmw_defs.specs.declared.op.Op.TheVariants.{Read, Write, Add}
+use Rattle.tmw_defs.specs.declared.status.Status.TheVariants.{Live, Pending, Committed, Aborted}
+use Rattle.tmw_defs.proofs.TextsProof.{slice_get_last}
+use Rattle.tmw_defs.specs.History.{is_text, is_call, answers, ends, status_of, status_after, operation, operations}
+
+-- the event answers no read and no add
+abbrev pub tells_no_value : Kind → Bool
+tells_no_value (V v) = false
+tells_no_value _ = true
+
+-- no operation is added, or a write at the end
+abbrev pub AddsAWrite : List Op → List Op → Type 0
+AddsAWrite old new = (new ≡ old) ⊎ ((r : Ix) × (v : ℕ) × (new ≡ old ++ Write r v ∷ []))
+
+answer-operation : (registers : ℕ) (call answer : Kind) → IsTrue (is_call registers call && answers call answer)
+    → IsTrue (tells_no_value answer) → AddsAWrite [] (operation call answer)
+answer-operation registers (R r) A h quiet = inl refl
+answer-operation registers (W r v) K h quiet = inr (r, v, refl)
+answer-operation registers (W r v) A h quiet = inl refl
+answer-operation registers (N r v) A h quiet = inl refl
+answer-operation registers T C h quiet = inl refl
+answer-operation registers T A h quiet = inl refl
+answer-operation registers X A h quiet = inl refl
+answer-operation registers call (V v) h quiet = absurd (cc)
+answer-operation registers call answer h quiet =
+    absurd (let k : answers call answer ≡ true = (and_parts (is_call registers call) (answers call answer) h).1 in cc)
+
+AddsAWrite-front : (front old new : List Op) → AddsAWrite old new → AddsAWrite (front ++ old) (front ++ new)
+AddsAWrite-front front old new adds =
+    elim adds
+    [ inl same ↦ inl (ap (λ ops. front ++ ops) same)
+    | inr more ↦ inr (more.0, more.1, ap (λ ops. front ++ ops) more.2 ∙ sym (append_assoc front old (Write more.0 more.1 ∷ []))) ]
+
+pub operations-push : (registers : ℕ) (text : List Kind) (k : Kind) → IsTrue (is_text registers (text ++ k ∷ []))
+    → IsTrue (tells_no_value k) → AddsAWrite (operations text) (operations (text ++ k ∷ []))
+operations-push registers [] k formed quiet = inl refl
+operations-push registers (call ∷ []) k formed quiet =
+    rw append-nil (answer-operation registers call k formed quiet)
+operations-push registers (call ∷ answer ∷ []) k formed quiet = inl refl
+operations-push registers (call ∷ answer ∷ next ∷ more) k formed quiet =
+    let rest = (and_parts (is_call registers call && answers call answer && not (ends answer)) _ formed).1 in
+    AddsAWrite-front (operation call answer) (operations (next ∷ more)) (operations (next ∷ more ++ k ∷ []))
+      (operations-push registers (next ∷ more) k rest quiet)
+
+pub status_of-push : (text : List Kind) (k : Kind) → status_of (text ++ k ∷ []) ≡ status_after (Some k)
+status_of-push text k = ap status_after (slice_get_last text k)
+
+status_of-cons : (k j : Kind) (ks : List Kind) → status_of (k ∷ j ∷ ks) ≡ status_of (j ∷ ks)
+status_of-cons k j ks =
+    let later : length (k ∷ j ∷ ks) - 1 ≡ suc (length (j ∷ ks) - 1) = omega arith in
+    rw later refl
+
+-- the last event of a commit-pending text is its commit request
+is_request : (k : Kind) → status_after (Some k) ≡ Pending → k ≡ T
+is_request T pending = refl
+is_request k pending = absurd (cc)
+
+request-answered : (k : Kind) → answers T k ≡ true → (k ≡ C) ⊎ (k ≡ A)
+request-answered C h = inl refl
+request-answered A h = inr refl
+request-answered k h = absurd (cc)
+
+no_answer : (call : Kind) → answers call T ≡ true → ⊥
+no_answer (R r) h = absurd (cc)
+no_answer (W r v) h = absurd (cc)
+no_answer (N r v) h = absurd (cc)
+no_answer T h = absurd (cc)
+no_answer X h = absurd (cc)
+no_answer call h = absurd (cc)
+
+-- a commit request is answered by a commit or an abort event alone
+pub pending-answered : (registers : ℕ) (text : List Kind) (k : Kind) → IsTrue (is_text registers (text ++ k ∷ []))
+    → status_of text ≡ Pending → (k ≡ C) ⊎ (k ≡ A)
+pending-answered registers [] k formed pending = absurd (cc)
+pending-answered registers (call ∷ []) k formed pending =
+    let answered = (and_parts (is_call registers call) (answers call k) formed).1 in
+    request-answered k (rw (is_request call pending) at answered)
+pending-answered registers (call ∷ answer ∷ []) k formed pending =
+    let front = (and_parts (is_call registers call && answers call answer && not (ends answer)) (is_call registers k) formed).0 in
+    let both = (and_parts (is_call registers call && answers call answer) (not (ends answer)) front).0 in
+    let answered = (and_parts (is_call registers call) (answers call answer) both).1 in
+    absurd (no_answer call (rw (is_request answer pending) at answered))
+pending-answered registers (call ∷ answer ∷ next ∷ more) k formed pending =
+    let rest = (and_parts (is_call registers call && answers call answer && not (ends answer)) _ formed).1 in
+    pending-answered registers (next ∷ more) k rest
+      (sym (status_of-cons answer next more) ∙ sym (status_of-cons call answer (next ∷ more)) ∙ pending)
