@@ -20,7 +20,7 @@ pub record Eases (t u : Txn) : Type 0 where
   pub reads : (s : State) → IsTrue (reads_hold s (operations t.text)) → IsTrue (reads_hold s (operations u.text))
   pub may : (held : Bool) → IsTrue (may_hold (status_of t.text) held) → IsTrue (may_hold (status_of u.text) held)
   pub leaves : (s : State) (held : Bool) → IsTrue (may_hold (status_of t.text) held)
-    → after s (record { txn = t; held = held }) ≡ after s (record { txn = u; held = held })
+      → after s (record { txn = t; held = held }) ≡ after s (record { txn = u; held = held })
 
 -- related transactions are alike, and the related ones keep each precedence
 pub record Keeps (Rel : Txn → Txn → Type 0) : Type 0 where
@@ -70,9 +70,10 @@ free-along Rel keeps t u like (p ∷ order) [] pairs free = absurd pairs
 free-along Rel keeps t u like (p ∷ order) (q ∷ other) pairs free =
     let (here, more) = and_parts (not (precedes p.txn t)) _ free in
     let none : not (precedes q.txn u) ≡ true =
-        elim (cases_Bool (precedes q.txn u))
-        [ inl is ↦ absurd (let k = rw (keeps.order p.txn q.txn t u pairs.0.0 like is) at here in cc)
-        | inr is ↦ rw is refl ] in
+    elim (cases_Bool (precedes q.txn u)) [
+      | inl is ↦ absurd (let k = rw (keeps.order p.txn q.txn t u pairs.0.0 like is) at here in cc)
+      | inr is ↦ rw is refl
+    ] in
     and_from _ _ none (free-along Rel keeps t u like order other pairs.1 more)
 
 keeps-along : (Rel : Txn → Txn → Type 0) → Keeps Rel → (order other : List Placed) → Pairs (Alike Rel) order other
@@ -83,7 +84,7 @@ keeps-along Rel keeps (p ∷ order) [] pairs kept = absurd pairs
 keeps-along Rel keeps (p ∷ order) (q ∷ other) pairs kept =
     let (free, more) = and_parts (list_all (λ r. not (precedes r.txn p.txn)) order) _ kept in
     and_from _ _ (free-along Rel keeps p.txn q.txn pairs.0.0 order other pairs.1 free)
-      (keeps-along Rel keeps order other pairs.1 more)
+    (keeps-along Rel keeps order other pairs.1 more)
 
 may-along : (Rel : Txn → Txn → Type 0) → Keeps Rel → (order other : List Placed) → Pairs (Alike Rel) order other
     → IsTrue (list_all may_be order) → IsTrue (list_all may_be other)
@@ -110,7 +111,7 @@ legal-along Rel keeps s (p ∷ order) (q ∷ other) pairs may legal =
     let (here, more) = and_parts (may_be p) _ may in
     let (reads, rest) = and_parts (reads_hold s (operations p.txn.text)) _ legal in
     let held : after s (record { txn = q.txn; held = p.held }) ≡ after s q =
-        ap (λ h. after s (let r : Placed = record { txn = q.txn; held = h } in r)) pairs.0.1 in
+    ap (λ h. after s (let r : Placed = record { txn = q.txn; held = h } in r)) pairs.0.1 in
     let same : after s p ≡ after s q = like.leaves s p.held here ∙ held in
     let on = legal-along Rel keeps (after s q) order other pairs.1 more (rw same at rest) in
     record {
@@ -123,10 +124,13 @@ pub leads-along : (Rel : Txn → Txn → Type 0) → Keeps Rel → (ts us : List
     → Leads s ts r → Leads s us r
 leads-along Rel keeps ts us pairs s r (order, a, is_r) =
     let along = places-along Rel order ts us pairs a.each in
-    let goes = legal-along Rel keeps s order along.other along.alike a.completed a.legal in
-    (along.other, record {
-      each = along.each;
-      kept = keeps-along Rel keeps order along.other along.alike a.kept;
-      completed = may-along Rel keeps order along.other along.alike a.completed;
-      legal = goes.legal;
-    }, sym goes.end ∙ is_r)
+    let goes = legal-along Rel keeps s order along.other along.alike a.completed a.legal in (
+      along.other,
+      record {
+        each = along.each;
+        kept = keeps-along Rel keeps order along.other along.alike a.kept;
+        completed = may-along Rel keeps order along.other along.alike a.completed;
+        legal = goes.legal;
+      },
+      sym goes.end ∙ is_r,
+    )

@@ -53,24 +53,25 @@ places_split order [] us before places kept = record { one = []; two = order; jo
 places_split [] (t ∷ ts) us before places kept = absurd (omega (arith, ap length places))
 places_split (p ∷ more) (t ∷ ts) us before (i, at, places) kept =
     let kept_more = (and_parts (list_all (λ q. not (precedes q.txn p.txn)) more) _ kept).1 in
-    elim (cases_lt i (length (t ∷ ts)))
-    [ inl left ↦
-        let here : slice_get (t ∷ ts) i ≡ Some p.txn = sym (slice_get_in_left (t ∷ ts) us i left) ∙ at in
-        let rest = places_split more (remove (t ∷ ts) i) us (before-remove (t ∷ ts) us i p.txn here before)
+    elim (cases_lt i (length (t ∷ ts))) [
+      | inl left ↦
+          let here : slice_get (t ∷ ts) i ≡ Some p.txn = sym (slice_get_in_left (t ∷ ts) us i left) ∙ at in
+          let rest = places_split more (remove (t ∷ ts) i) us (before-remove (t ∷ ts) us i p.txn here before)
           (rw (remove-append_left (t ∷ ts) us i left) at places) kept_more in
-        record {
-          one = p ∷ rest.one;
-          two = rest.two;
-          joined = ap (λ xs. p ∷ xs) rest.joined;
-          first = (i, here, rest.first);
-          others = rest.others;
-        }
-    | inr right ↦
-        let j = i - length (t ∷ ts) in
-        let split : i ≡ length (t ∷ ts) + j = omega arith in
-        let there : slice_get us j ≡ Some p.txn = sym (slice_get_in_right (t ∷ ts) us j) ∙ ap (slice_get (t ∷ ts ++ us)) (sym split) ∙ at in
-        let left_over = rw (remove-append_right (t ∷ ts) us (length (t ∷ ts)) i refl right) at places in
-        absurd (stands_first ts us (ts ++ remove us j) t p more j before there left_over kept) ]
+          record {
+            one = p ∷ rest.one;
+            two = rest.two;
+            joined = ap (λ xs. p ∷ xs) rest.joined;
+            first = (i, here, rest.first);
+            others = rest.others;
+          }
+      | inr right ↦
+          let j = i - length (t ∷ ts) in
+          let split : i ≡ length (t ∷ ts) + j = omega arith in
+          let there : slice_get us j ≡ Some p.txn = sym (slice_get_in_right (t ∷ ts) us j) ∙ ap (slice_get (t ∷ ts ++ us)) (sym split) ∙ at in
+          let left_over = rw (remove-append_right (t ∷ ts) us (length (t ∷ ts)) i refl right) at places in
+          absurd (stands_first ts us (ts ++ remove us j) t p more j before there left_over kept)
+    ]
 
 pub leads_split : (s r : State) (ts us : List Txn) → IsTrue (is_before ts us) → Leads s (ts ++ us) r
     → (m : State) × Leads s ts m × Leads m us r
@@ -78,19 +79,23 @@ leads_split s r ts us before (order, a, is_r) =
     let apart = places_split order ts us before a.each a.kept in
     let legal = and_parts (is_legal s apart.one) _ (rw (apart.joined, is_legal-append s apart.one apart.two) at a.legal) in
     let completed = and_parts (list_all may_be apart.one) _
-      (rw (apart.joined, list_all-append may_be apart.one apart.two) at a.completed) in
+    (rw (apart.joined, list_all-append may_be apart.one apart.two) at a.completed) in
     let kept = keeps_parts apart.one apart.two (rw apart.joined at a.kept) in
-    let m = end_state s apart.one in
-    (m,
+    let m = end_state s apart.one in (
+      m,
       (apart.one, record { each = apart.first; kept = kept.0; completed = completed.0; legal = legal.0 }, refl),
-      (apart.two, record { each = apart.others; kept = kept.1; completed = completed.1; legal = legal.1 },
-        sym (end_state-append s apart.one apart.two) ∙ ap (end_state s) (sym apart.joined) ∙ is_r))
+      (
+        apart.two,
+        record { each = apart.others; kept = kept.1; completed = completed.1; legal = legal.1 },
+        sym (end_state-append s apart.one apart.two) ∙ ap (end_state s) (sym apart.joined) ∙ is_r,
+      ),
+    )
   where
     keeps_parts : (one two : List Placed) → IsTrue (keeps_order (one ++ two)) → IsTrue (keeps_order one) × IsTrue (keeps_order two)
     keeps_parts [] two kept = (refl, kept)
     keeps_parts (p ∷ one) two kept =
         let (free, more) = and_parts (list_all (λ q. not (precedes q.txn p.txn)) (one ++ two)) _ kept in
         let (here, later) = and_parts (list_all (λ q. not (precedes q.txn p.txn)) one) _
-          (rw (list_all-append (λ q. not (precedes q.txn p.txn)) one two) at free) in
+        (rw (list_all-append (λ q. not (precedes q.txn p.txn)) one two) at free) in
         let (one_kept, two_kept) = keeps_parts one two more in
         (and_from _ _ here one_kept, two_kept)

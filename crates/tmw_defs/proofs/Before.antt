@@ -41,27 +41,27 @@ places-append ts us (p ∷ one) two (i, at, more) rest =
     (i, slice_get_left ts us i p.txn at, rw (remove-append_left ts us i within) (places-append (remove ts i) us one two more rest))
 
 -- no one of these precedes the transaction
-abbrev none_precedes : List Placed → Txn → Bool
+abbrev pub none_precedes : List Placed → Txn → Bool
 none_precedes order t = list_all (λ q. not (precedes q.txn t)) order
 
-keeps-append : (one two : List Placed) → IsTrue (keeps_order one) → IsTrue (keeps_order two)
+pub keeps-append : (one two : List Placed) → IsTrue (keeps_order one) → IsTrue (keeps_order two)
     → IsTrue (list_all (λ p. none_precedes two p.txn) one) → IsTrue (keeps_order (one ++ two))
 keeps-append [] two a b across = b
 keeps-append (p ∷ one) two a b across =
     let (here, more) = and_parts (none_precedes one p.txn) _ a in
     let (first, others) = and_parts (none_precedes two p.txn) _ across in
     and_from (none_precedes (one ++ two) p.txn) _
-        (rw (list_all-append (λ q. not (precedes q.txn p.txn)) one two) (and_from _ _ here first))
-        (keeps-append one two more b others)
+    (rw (list_all-append (λ q. not (precedes q.txn p.txn)) one two) (and_from _ _ here first))
+    (keeps-append one two more b others)
 
 -- none of the others precedes one of the first
 across-before : (ts us : List Txn) (one two : List Placed) → PlacesEach ts one → PlacesEach us two → IsTrue (is_before ts us)
     → IsTrue (list_all (λ p. none_precedes two p.txn) one)
 across-before ts us one two places others before =
     let each = list_all-mono (λ t. list_all (λ u. comes_before t u) us) (λ t. none_precedes two t)
-      (λ t h. rw (list_all-places (λ u. not (precedes u t)) us two others)
-        (list_all-mono (λ u. comes_before t u) (λ u. not (precedes u t)) (λ u k. (and_parts (precedes t u) _ k).1) us h))
-      ts before in
+    (λ t h. rw (list_all-places (λ u. not (precedes u t)) us two others)
+    (list_all-mono (λ u. comes_before t u) (λ u. not (precedes u t)) (λ u k. (and_parts (precedes t u) _ k).1) us h))
+    ts before in
     rw (list_all-places (λ t. none_precedes two t) ts one places) each
 
 pub is_legal-append : (s : State) (one two : List Placed)
@@ -69,7 +69,7 @@ pub is_legal-append : (s : State) (one two : List Placed)
 is_legal-append s [] two = refl
 is_legal-append s (p ∷ one) two =
     ap (λ b. reads_hold s (operations p.txn.text) && b) (is_legal-append (after s p) one two)
-      ∙ sym (and_assoc (reads_hold s (operations p.txn.text)) (is_legal (after s p) one) (is_legal (end_state (after s p) one) two))
+    ∙ sym (and_assoc (reads_hold s (operations p.txn.text)) (is_legal (after s p) one) (is_legal (end_state (after s p) one) two))
   where
     and_assoc : (a b c : Bool) → ((a && b) && c) ≡ (a && (b && c))
     and_assoc true b c = refl
@@ -82,10 +82,13 @@ end_state-append s (p ∷ one) two = end_state-append (after s p) one two
 pub leads-append : (s m r : State) (ts us : List Txn) → IsTrue (is_before ts us) → Leads s ts m → Leads m us r
     → Leads s (ts ++ us) r
 leads-append s m r ts us before (one, a, is_m) (two, b, is_r) =
-    let legal : IsTrue (is_legal (end_state s one) two) = rw is_m b.legal in
-    (one ++ two, record {
-      each = places-append ts us one two a.each b.each;
-      kept = keeps-append one two a.kept b.kept (across-before ts us one two a.each b.each before);
-      completed = rw (list_all-append may_be one two) (and_from _ _ a.completed b.completed);
-      legal = rw (is_legal-append s one two) (and_from _ _ a.legal legal);
-    }, end_state-append s one two ∙ ap (λ x. end_state x two) is_m ∙ is_r)
+    let legal : IsTrue (is_legal (end_state s one) two) = rw is_m b.legal in (
+      one ++ two,
+      record {
+        each = places-append ts us one two a.each b.each;
+        kept = keeps-append one two a.kept b.kept (across-before ts us one two a.each b.each before);
+        completed = rw (list_all-append may_be one two) (and_from _ _ a.completed b.completed);
+        legal = rw (is_legal-append s one two) (and_from _ _ a.legal legal);
+      },
+      end_state-append s one two ∙ ap (λ x. end_state x two) is_m ∙ is_r,
+    )

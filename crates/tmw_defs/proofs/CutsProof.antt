@@ -70,8 +70,8 @@ unfolding behind
 transactions-cut past rest cut =
     let same : 0 + length past ≡ length past = omega arith in
     transactions_from-append 0 [] past rest ∙ ap (λ n. transactions_from n (transactions past) rest) same
-      ∙ ap (λ ts. transactions_from (length past) ts rest) (sym (append-nil (transactions past)))
-      ∙ transactions_from-ended (length past) (transactions past) [] rest cut
+    ∙ ap (λ ts. transactions_from (length past) ts rest) (sym (append-nil (transactions past)))
+    ∙ transactions_from-ended (length past) (transactions past) [] rest cut
 
 comes_apart : (past rest : List Event) → IsTrue (is_cut past) → IsTrue (is_before (transactions past) (behind past rest))
 unfolding behind
@@ -86,33 +86,37 @@ pub leads_over : (s r : State) (past rest : List Event) → IsTrue (is_cut past)
     → (m : State) × Leads s (transactions past) m × Leads m (transactions rest) r
 leads_over s r past rest cut leads =
     let split = leads_split s r (transactions past) (behind past rest) (comes_apart past rest cut)
-      (rw (transactions-cut past rest cut) at leads) in
-    (split.0, split.1,
+    (rw (transactions-cut past rest cut) at leads) in (
+      split.0,
+      split.1,
       leads-along (IsLater (length past)) (keeps-later (length past)) (behind past rest) (transactions rest)
-        (behind-later past rest) split.0 r split.2)
+          (behind-later past rest) split.0 r split.2,
+    )
 
 pub leads-over : (s m r : State) (past rest : List Event) → IsTrue (is_cut past) → Leads s (transactions past) m
     → Leads m (transactions rest) r → Leads s (transactions (past ++ rest)) r
 leads-over s m r past rest cut one two =
     rw (transactions-cut past rest cut)
-      (leads-append s m r (transactions past) (behind past rest) (comes_apart past rest cut) one
-        (leads-along (λ t u. IsLater (length past) u t) (keeps-earlier (length past)) (transactions rest) (behind past rest)
-          (pairs-flip (IsLater (length past)) (behind past rest) (transactions rest) (behind-later past rest)) m r two))
+    (leads-append s m r (transactions past) (behind past rest) (comes_apart past rest cut) one
+    (leads-along (λ t u. IsLater (length past) u t) (keeps-earlier (length past)) (transactions rest) (behind past rest)
+    (pairs-flip (IsLater (length past)) (behind past rest) (transactions rest) (behind-later past rest)) m r two))
 
 -- the same of the end states from a set
 ends_over : (start end : State) (past rest : List Event) → IsTrue (is_cut past)
     → outcomes start (past ++ rest) end ↔ Ends (outcomes start past) (transactions rest) end
-ends_over start end past rest cut =
-    (λ (s, is, leads). let over = leads_over s end past rest cut leads in (over.0, (s, is, over.1), over.2),
-      λ (m, (s, is, one), two). (s, is, leads-over s m end past rest cut one two))
+ends_over start end past rest cut = (
+  λ (s, is, leads). let over = leads_over s end past rest cut leads in (over.0, (s, is, over.1), over.2),
+  λ (m, (s, is, one), two). (s, is, leads-over s m end past rest cut one two),
+)
 
 pub cut_law : CutLaw
 cut_law registers start past rest formed cut = record {
   opaque = (
     λ o. let (order, a) = o.ordered in
-      let end = end_state start order in
-      (end, (ends_over start end past rest cut).0 (start, refl, (order, a, refl))),
+        let end = end_state start order in
+        (end, (ends_over start end past rest cut).0 (start, refl, (order, a, refl))),
     λ (end, ends). let (s, is, leads) = (ends_over start end past rest cut).1 ends in
-      record { formed = formed; ordered = (leads.0, rw is at leads.1) });
+        record { formed = formed; ordered = (leads.0, rw is at leads.1) },
+  );
   ends = λ at_cut end. ends_over start end past rest cut;
 }

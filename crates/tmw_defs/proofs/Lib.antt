@@ -3,6 +3,7 @@ pub mod Apart
 pub mod Before
 pub mod CutsProof
 pub mod Places
+pub mod QuietProof
 pub mod QuietTexts
 pub mod Removals
 pub mod DecisionProof

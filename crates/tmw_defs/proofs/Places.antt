@@ -18,7 +18,7 @@ transactions_from-append place ts [] rest =
 transactions_from-append place ts (e ∷ past) rest =
     let same : place + 1 + length past ≡ place + suc (length past) = omega arith in
     transactions_from-append (place + 1) (add_event place e ts) past rest
-      ∙ ap (λ n. transactions_from n (transactions_from (place + 1) (add_event place e ts) past) rest) same
+    ∙ ap (λ n. transactions_from n (transactions_from (place + 1) (add_event place e ts) past) rest) same
 
 -- an event passes over transactions that have ended
 add_event-ended : (place : ℕ) (e : Event) (ts us : List Txn) → IsTrue (list_all (λ t. is_ended t.text) ts)
@@ -38,7 +38,7 @@ pub transactions_from-ended : (place : ℕ) (ts us : List Txn) (es : List Event)
 transactions_from-ended place ts us [] ended = refl
 transactions_from-ended place ts us (e ∷ es) ended =
     ap (λ xs. transactions_from (place + 1) xs es) (add_event-ended place e ts us ended)
-      ∙ transactions_from-ended (place + 1) ts (add_event place e us) es ended
+    ∙ transactions_from-ended (place + 1) ts (add_event place e us) es ended
 
 -- the transaction begins at `from` or later, and its last event is before `upto`
 pub record Lies (from upto : ℕ) (t : Txn) : Type 0 where
@@ -52,11 +52,12 @@ lies-add from place e [] low all = (record { low = low; ordered = omega arith; h
 lies-add from place e (t ∷ ts) low all =
     let l = all.0 in
     let rest = lies-more from place ts all.1 in
-    elim (cases_Bool (joins e t))
-    [ inl here ↦ rw (add_event_here place e t ts here)
-        (record { low = l.low; ordered = omega (arith, l.ordered, l.high); high = omega arith }, rest)
-    | inr past ↦ rw (add_event_past place e t ts past)
-        (record { low = l.low; ordered = l.ordered; high = omega (arith, l.high) }, lies-add from place e ts low all.1) ]
+    elim (cases_Bool (joins e t)) [
+      | inl here ↦ rw (add_event_here place e t ts here)
+          (record { low = l.low; ordered = omega (arith, l.ordered, l.high); high = omega arith }, rest)
+      | inr past ↦ rw (add_event_past place e t ts past)
+          (record { low = l.low; ordered = l.ordered; high = omega (arith, l.high) }, lies-add from place e ts low all.1)
+    ]
   where
     lies-more : (from place : ℕ) (ts : List Txn) → AllByRecursion (Lies from place) ts → AllByRecursion (Lies from (place + 1)) ts
     lies-more from place [] all = tt
@@ -82,15 +83,17 @@ is_before-lies place upto (t ∷ ts) us ended one two =
     not_and : (b : Bool) → not (b && false) ≡ true
     not_and true = refl
     not_and false = refl
+
     each : (t : Txn) (us : List Txn) → IsTrue (is_ended t.text) → Lies 0 place t → AllByRecursion (Lies place upto) us
         → IsTrue (list_all (λ u. comes_before t u) us)
     each t [] over l all = refl
     each t (u ∷ us) over l all =
         let first = and_from (is_ended t.text) _ over (lt-ltb t.last u.first (omega (arith, l.high, all.0.low))) in
         let not_after : nat_lt u.last t.first ≡ false =
-            elim (cases_Bool (nat_lt u.last t.first))
-            [ inl is ↦ absurd (omega (arith, ltb-true u.last t.first is, l.high, l.ordered, all.0.low, all.0.ordered))
-            | inr is ↦ is ] in
+        elim (cases_Bool (nat_lt u.last t.first)) [
+          | inl is ↦ absurd (omega (arith, ltb-true u.last t.first is, l.high, l.ordered, all.0.low, all.0.ordered))
+          | inr is ↦ is
+        ] in
         and_from _ _ (and_from _ _ first (rw not_after (not_and (is_ended u.text)))) (each t us over l all.1)
 
 -- the same transaction, so many places later
@@ -108,12 +111,13 @@ later-add n place e (t ∷ ts) [] pairs = absurd pairs
 later-add n place e (t ∷ ts) (u ∷ us) pairs =
     let l = pairs.0 in
     let same : joins e t ≡ joins e u = ap (λ x. (x == e.thread.number) && not (is_ended t.text)) l.thread
-      ∙ ap (λ x. (u.thread == e.thread.number) && not (is_ended x)) l.text in
-    elim (cases_Bool (joins e u))
-    [ inl here ↦ rw (add_event_here (place + n) e t ts (same ∙ here), add_event_here place e u us here)
-        (record { thread = l.thread; text = ap (λ (x : List Kind). x ++ e.kind ∷ []) l.text; first = l.first; last = refl }, pairs.1)
-    | inr past ↦ rw (add_event_past (place + n) e t ts (same ∙ past), add_event_past place e u us past)
-        (l, later-add n place e ts us pairs.1) ]
+    ∙ ap (λ x. (u.thread == e.thread.number) && not (is_ended x)) l.text in
+    elim (cases_Bool (joins e u)) [
+      | inl here ↦ rw (add_event_here (place + n) e t ts (same ∙ here), add_event_here place e u us here)
+          (record { thread = l.thread; text = ap (λ (x : List Kind). x ++ e.kind ∷ []) l.text; first = l.first; last = refl }, pairs.1)
+      | inr past ↦ rw (add_event_past (place + n) e t ts (same ∙ past), add_event_past place e u us past)
+          (l, later-add n place e ts us pairs.1)
+    ]
 
 pub later-transactions : (n place : ℕ) (ts us : List Txn) (es : List Event) → Pairs (IsLater n) ts us
     → Pairs (IsLater n) (transactions_from (place + n) ts es) (transactions_from place us es)

@@ -36,9 +36,10 @@ answer-operation registers call answer h quiet =
 
 AddsAWrite-front : (front old new : List Op) → AddsAWrite old new → AddsAWrite (front ++ old) (front ++ new)
 AddsAWrite-front front old new adds =
-    elim adds
-    [ inl same ↦ inl (ap (λ ops. front ++ ops) same)
-    | inr more ↦ inr (more.0, more.1, ap (λ ops. front ++ ops) more.2 ∙ sym (append_assoc front old (Write more.0 more.1 ∷ []))) ]
+    elim adds [
+      | inl same ↦ inl (ap (λ ops. front ++ ops) same)
+      | inr more ↦ inr (more.0, more.1, ap (λ ops. front ++ ops) more.2 ∙ sym (append_assoc front old (Write more.0 more.1 ∷ [])))
+    ]
 
 pub operations-push : (registers : ℕ) (text : List Kind) (k : Kind) → IsTrue (is_text registers (text ++ k ∷ []))
     → IsTrue (tells_no_value k) → AddsAWrite (operations text) (operations (text ++ k ∷ []))
@@ -49,7 +50,7 @@ operations-push registers (call ∷ answer ∷ []) k formed quiet = inl refl
 operations-push registers (call ∷ answer ∷ next ∷ more) k formed quiet =
     let rest = (and_parts (is_call registers call && answers call answer && not (ends answer)) _ formed).1 in
     AddsAWrite-front (operation call answer) (operations (next ∷ more)) (operations (next ∷ more ++ k ∷ []))
-      (operations-push registers (next ∷ more) k rest quiet)
+    (operations-push registers (next ∷ more) k rest quiet)
 
 pub status_of-push : (text : List Kind) (k : Kind) → status_of (text ++ k ∷ []) ≡ status_after (Some k)
 status_of-push text k = ap status_after (slice_get_last text k)
@@ -92,4 +93,4 @@ pending-answered registers (call ∷ answer ∷ []) k formed pending =
 pending-answered registers (call ∷ answer ∷ next ∷ more) k formed pending =
     let rest = (and_parts (is_call registers call && answers call answer && not (ends answer)) _ formed).1 in
     pending-answered registers (next ∷ more) k rest
-      (sym (status_of-cons answer next more) ∙ sym (status_of-cons call answer (next ∷ more)) ∙ pending)
+    (sym (status_of-cons answer next more) ∙ sym (status_of-cons call answer (next ∷ more)) ∙ pending)

@@ -14,9 +14,9 @@ is_cut history = list_all (λ t. is_ended t.text) (transactions history)
 -- its own, has an end state from the outcomes of `past`; and at a cut those end states are the history's outcomes.
 pub record IsCutLaw (registers : ℕ) (start : State) (past rest : List Event) : Type 0 where
   pub opaque : IsFinalOpaque registers start (past ++ rest)
-    ↔ ((end : State) × Ends (outcomes start past) (transactions rest) end)
+      ↔ ((end : State) × Ends (outcomes start past) (transactions rest) end)
   pub ends : IsTrue (is_cut (past ++ rest)) → (end : State)
-    → outcomes start (past ++ rest) end ↔ Ends (outcomes start past) (transactions rest) end
+      → outcomes start (past ++ rest) end ↔ Ends (outcomes start past) (transactions rest) end
 
 abbrev pub CutLaw : Type 0
 CutLaw = (registers : ℕ) (start : State) (past rest : List Event) → IsTrue (is_well_formed registers (past ++ rest))

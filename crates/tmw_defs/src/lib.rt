@@ -4,11 +4,13 @@
 mod cuts;
 mod naming;
 mod op;
+mod quiet;
 mod status;
 mod texts;
 
 pub use cuts::law_1;
 pub use naming::law_3;
 pub use op::Op;
+pub use quiet::law_2;
 pub use status::Status;
 pub use texts::law_texts;

@@ -1,0 +1,237 @@
+-- The law of quiet events: an order of a history's transactions is still one, with the same states, after a quiet event.
+use Rattle.std.proofs.Common.{◌≡◌, ◌==◌, ◌&&◌, ◌||◌, ◌+◌, ◌%◌, ◌^◌, ◌++◌, ◌<◌, ◌≤◌, ◌⊎◌, ℕ, Bool, true, false, not, nat_lt, List, [], ◌∷◌, length, Some, IsTrue, refl, sym, ap, ◌∙◌, inl, inr, arith}
+use Rattle.std.specs.Prelude.{slice_index, slice_set}
+use Rattle.std.specs.List.{list_all, list_any, AllByRecursion}
+use Rattle.std.proofs.lemmas.Bool.{and_parts, and_from, cases_Bool, ltb-true}
+use Rattle.tmw_events.specs.declared.event.Event.{Event}
+use Rattle.tmw_events.specs.declared.ix.Ix.{Ix}
+use Rattle.tmw_events.specs.declared.event.Kind.{Kind}
+use Rattle.tmw_events.specs.declared.event.Kind.TheVariants.{R, V, W, K, T, C, X, A, N}
+use Rattle.tmw_defs.specs.declared.op.Op.{Op}
+use Rattle.tmw_defs.specs.declared.op.Op.TheVariants.{Read, Write, Add}
+use Rattle.tmw_defs.specs.declared.status.Status.{Status}
+use Rattle.tmw_defs.specs.declared.status.Status.TheVariants.{Live, Pending, Committed, Aborted}
+use Rattle.tmw_defs.specs.History.{Txn, is_call, is_over, is_text, is_ended, status_of, status_after, operations, add_event, transactions, is_well_formed}
+use Rattle.tmw_defs.specs.Opaque.{State, Placed, precedes, may_hold, may_be, reads_hold, after, is_legal, IsFinalOpaque, Explains}
+use Rattle.tmw_defs.specs.Outcomes.{end_state, Leads}
+use Rattle.tmw_defs.specs.Quiet.{is_pending, awaits_commit, is_quiet, QuietLaw}
+use Rattle.tmw_defs.proofs.Along.{Pairs, Eases, Keeps, leads-along}
+use Rattle.tmw_defs.proofs.Before.{none_precedes, places-append, keeps-append, is_legal-append, end_state-append}
+use Rattle.tmw_defs.proofs.OneMore.{joins, begun, longer, add_event_here, add_event_past, transactions-push}
+use Rattle.tmw_defs.proofs.Places.{Lies, lies-transactions}
+use Rattle.tmw_defs.proofs.QuietTexts.{tells_no_value, AddsAWrite, operations-push, status_of-push, pending-answered}
+use Rattle.tmw_defs.proofs.Removals.{list_all-places}
+use Rattle.std.proofs.lemmas.List.Folds.{list_all-append}
+
+-- a write at the end is read by nothing
+reads_hold-write : (s : State) (ops : List Op) (r : Ix) (v : ℕ) → reads_hold s (ops ++ Write r v ∷ []) ≡ reads_hold s ops
+reads_hold-write s [] r v = refl
+reads_hold-write s (Read q w ∷ ops) r v = ap (λ b. (slice_index s q.number == w) && b) (reads_hold-write s ops r v)
+reads_hold-write s (Write q w ∷ ops) r v = reads_hold-write (slice_set s q.number w) ops r v
+reads_hold-write s (Add q d w ∷ ops) r v =
+    ap (λ b. (slice_index s q.number == w) && b) (reads_hold-write (slice_set s q.number ((w + d) % 2 ^ 64)) ops r v)
+
+reads_hold-adds : (s : State) (old new : List Op) → AddsAWrite old new → IsTrue (reads_hold s old) → IsTrue (reads_hold s new)
+reads_hold-adds s old new adds reads =
+    elim adds [
+      | inl same ↦ rw same reads
+      | inr more ↦ rw (more.2, reads_hold-write s old more.0 more.1) reads
+    ]
+
+-- what a quiet event is not
+quiet-kind : (ts : List Txn) (thread : ℕ) (k : Kind) → IsTrue (is_quiet ts thread k)
+    → IsTrue (tells_no_value k) × (k ≡ C → ⊥) × (k ≡ A → awaits_commit ts thread ≡ false)
+quiet-kind ts thread (V v) quiet = absurd (cc)
+quiet-kind ts thread C quiet = absurd (cc)
+quiet-kind ts thread A quiet = (refl, λ h. absurd (cc), λ h. not_true (awaits_commit ts thread) quiet)
+  where
+    not_true : (b : Bool) → not b ≡ true → b ≡ false
+    not_true true h = sym h
+    not_true false h = refl
+quiet-kind ts thread (R r) quiet = (refl, λ h. absurd (cc), λ h. absurd (cc))
+quiet-kind ts thread (W r v) quiet = (refl, λ h. absurd (cc), λ h. absurd (cc))
+quiet-kind ts thread K quiet = (refl, λ h. absurd (cc), λ h. absurd (cc))
+quiet-kind ts thread T quiet = (refl, λ h. absurd (cc), λ h. absurd (cc))
+quiet-kind ts thread X quiet = (refl, λ h. absurd (cc), λ h. absurd (cc))
+quiet-kind ts thread (N r v) quiet = (refl, λ h. absurd (cc), λ h. absurd (cc))
+
+-- a transaction may be left out unless it has committed
+left_out : (k : Kind) → (k ≡ C → ⊥) → may_hold (status_after (Some k)) false ≡ true
+left_out C other = absurd (other refl)
+left_out (R r) other = refl
+left_out (V v) other = refl
+left_out (W r v) other = refl
+left_out K other = refl
+left_out T other = refl
+left_out X other = refl
+left_out A other = refl
+left_out (N r v) other = refl
+
+live_of : (s : Status) → is_over s ≡ false → (s ≡ Pending → ⊥) → s ≡ Live
+live_of Live over pending = refl
+live_of Pending over pending = absurd (pending refl)
+live_of Committed over pending = absurd (cc)
+live_of Aborted over pending = absurd (cc)
+
+not_held : (held : Bool) → may_hold Live held ≡ true → held ≡ false
+not_held true may = absurd (cc)
+not_held false may = refl
+
+-- a live transaction and the same with a quiet event more are alike
+eases-longer : (registers place : ℕ) (e : Event) (t : Txn) → is_ended t.text ≡ false → (status_of t.text ≡ Pending → ⊥)
+    → IsTrue (tells_no_value e.kind) → (e.kind ≡ C → ⊥) → IsTrue (is_text registers (t.text ++ e.kind ∷ []))
+    → Eases t (longer place e t)
+eases-longer registers place e t unended pending value commit formed =
+    let live : status_of t.text ≡ Live = live_of (status_of t.text) unended pending in
+    let out : (held : Bool) → IsTrue (may_hold (status_of t.text) held) → held ≡ false =
+    λ held may. not_held held (rw live at may) in
+    record {
+      reads = λ s reads. reads_hold-adds s (operations t.text) (operations (t.text ++ e.kind ∷ []))
+          (operations-push registers t.text e.kind formed value) reads;
+      may = λ held may. rw (out held may, status_of-push t.text e.kind) (left_out e.kind commit);
+      leaves = λ s held may. rw (out held may) refl;
+    }
+
+-- the one is the other, or the other with an event more at this place
+record IsLonger (n : ℕ) (t u : Txn) : Type 0 where
+  first : t.first ≡ u.first
+  within : u.first ≤ n
+  eases : Eases t u
+  ends : IsTrue (is_ended u.text) → ((is_ended t.text ≡ true) × (t.last ≡ u.last)) ⊎ (n ≤ u.last)
+
+eases-same : (t : Txn) → Eases t t
+eases-same t = record { reads = λ s reads. reads; may = λ held may. may; leaves = λ s held may. refl }
+
+longer-same : (n : ℕ) (t : Txn) → Lies 0 n t → IsLonger n t t
+longer-same n t l = record {
+  first = refl;
+  within = omega (arith, l.ordered, l.high);
+  eases = eases-same t;
+  ends = λ over. inl (over, refl);
+}
+
+pairs-same : (n : ℕ) (ts : List Txn) → AllByRecursion (Lies 0 n) ts → Pairs (IsLonger n) ts ts
+pairs-same n [] all = tt
+pairs-same n (t ∷ ts) all = (longer-same n t all.0, pairs-same n ts all.1)
+
+precedes-longer : (n : ℕ) (t u a b : Txn) → IsLonger n t u → IsLonger n a b → IsTrue (precedes u b) → IsTrue (precedes t a)
+precedes-longer n t u a b l m h =
+    let (over, before) = and_parts (is_ended u.text) (nat_lt u.last b.first) h in
+    let less = ltb-true u.last b.first before in
+    elim (l.ends over) [
+      | inl same ↦ and_from _ _ same.0 (rw (same.1, m.first) before)
+      | inr late ↦ absurd (omega (arith, late, less, m.within))
+    ]
+
+keeps-longer : (n : ℕ) → Keeps (IsLonger n)
+keeps-longer n = record { turn = λ t u l. l.eases; order = λ t u a b l m. precedes-longer n t u a b l m }
+
+-- what an event does to the transactions: one is longer, or one has begun
+record Grows (registers n : ℕ) (e : Event) (ts : List Txn) : Type 0 where
+  all : AllByRecursion (Lies 0 n) ts
+  formed : IsTrue (list_all (λ t. is_text registers t.text) (add_event n e ts))
+  aborts : e.kind ≡ A → awaits_commit ts e.thread.number ≡ false
+
+or_none : (a b : Bool) → (a || b) ≡ false → (a ≡ false) × (b ≡ false)
+or_none true b h = absurd (cc)
+or_none false b h = (refl, h)
+
+-- the transaction that the event joins is not commit-pending
+joined_live : (registers n : ℕ) (e : Event) (t : Txn) (ts : List Txn) → joins e t ≡ true → (e.kind ≡ C → ⊥)
+    → (e.kind ≡ A → awaits_commit (t ∷ ts) e.thread.number ≡ false) → IsTrue (is_text registers (t.text ++ e.kind ∷ []))
+    → status_of t.text ≡ Pending → ⊥
+joined_live registers n e t ts here commit aborts formed pending =
+    elim (pending-answered registers t.text e.kind formed pending) [
+      | inl is ↦ commit is
+      | inr is ↦
+          let thread = (and_parts (t.thread == e.thread.number) _ here).0 in
+          let none = (or_none ((t.thread == e.thread.number) && is_pending (status_of t.text)) _ (aborts is)).0 in
+          absurd (let k = rw (thread, pending) at none in cc)
+    ]
+
+grown : (registers n : ℕ) (e : Event) (ts : List Txn) → Grows registers n e ts → IsTrue (tells_no_value e.kind) → (e.kind ≡ C → ⊥)
+    → Pairs (IsLonger n) ts (add_event n e ts) ⊎ (add_event n e ts ≡ ts ++ begun n e ∷ [])
+grown registers n e [] g value commit = inr refl
+grown registers n e (t ∷ ts) g value commit =
+    elim (cases_Bool (joins e t)) [
+      | inl here ↦
+          let list = add_event_here n e t ts here in
+          let formed = (and_parts (is_text registers (t.text ++ e.kind ∷ [])) _ (rw list at g.formed)).0 in
+          let unended : is_ended t.text ≡ false = not_true (is_ended t.text) ((and_parts (t.thread == e.thread.number) _ here).1) in
+          inl (rw list (
+            record {
+              first = refl;
+              within = omega (arith, g.all.0.ordered, g.all.0.high);
+              eases = eases-longer registers n e t unended (joined_live registers n e t ts here commit g.aborts formed) value commit formed;
+              ends = λ over. inr (omega arith);
+            },
+            pairs-same n ts g.all.1,
+          ))
+      | inr past ↦
+          let list = add_event_past n e t ts past in
+          let rest : Grows registers n e ts = record {
+            all = g.all.1;
+            formed = (and_parts (is_text registers t.text) _ (rw list at g.formed)).1;
+            aborts = λ is. (or_none ((t.thread == e.thread.number) && is_pending (status_of t.text)) _ (g.aborts is)).1;
+          } in
+          elim (grown registers n e ts rest value commit) [
+            | inl pairs ↦ inl (rw list (longer-same n t g.all.0, pairs))
+            | inr last ↦ inr (list ∙ ap (λ xs. t ∷ xs) last)
+          ]
+    ]
+  where
+    not_true : (b : Bool) → not b ≡ true → b ≡ false
+    not_true true h = sym h
+    not_true false h = refl
+
+-- a transaction that has begun goes to the end of an order, and is left out of the completion
+none_before : (n : ℕ) (e : Event) (ts : List Txn) → AllByRecursion (Lies 0 n) ts
+    → IsTrue (list_all (λ t. none_precedes (record { txn = begun n e; held = false } ∷ []) t) ts)
+none_before n e [] all = refl
+none_before n e (t ∷ ts) all =
+    let not_after : nat_lt n t.first ≡ false =
+    elim (cases_Bool (nat_lt n t.first))
+    [ inl is ↦ absurd (omega (arith, ltb-true n t.first is, all.0.ordered, all.0.high)) | inr is ↦ is ] in
+    and_from _ _ (and_from _ true (rw not_after (not_and (is_ended (e.kind ∷ [])))) refl) (none_before n e ts all.1)
+  where
+    not_and : (b : Bool) → not (b && false) ≡ true
+    not_and true = refl
+    not_and false = refl
+
+leads-begun : (n : ℕ) (e : Event) (ts : List Txn) (s r : State) → AllByRecursion (Lies 0 n) ts → (e.kind ≡ C → ⊥)
+    → Leads s ts r → Leads s (ts ++ begun n e ∷ []) r
+leads-begun n e ts s r all commit (order, a, is_r) =
+    let new : Placed = record { txn = begun n e; held = false } in (
+      order ++ new ∷ [],
+      record {
+        each = places-append ts (begun n e ∷ []) order (new ∷ []) a.each (0, refl, refl);
+        kept = keeps-append order (new ∷ []) a.kept refl
+            (rw (list_all-places (λ t. none_precedes (new ∷ []) t) ts order a.each) (none_before n e ts all));
+        completed = rw (list_all-append may_be order (new ∷ []))
+            (and_from _ _ a.completed (and_from _ true (left_out e.kind commit) refl));
+        legal = rw (is_legal-append s order (new ∷ [])) (and_from _ _ a.legal refl);
+      },
+      end_state-append s order (new ∷ []) ∙ is_r,
+    )
+
+-- an order still leads where it led
+pub leads-quiet : (registers : ℕ) (s r : State) (h : List Event) (e : Event) → IsTrue (is_well_formed registers (h ++ e ∷ []))
+    → IsTrue (is_quiet (transactions h) e.thread.number e.kind) → Leads s (transactions h) r → Leads s (transactions (h ++ e ∷ [])) r
+leads-quiet registers s r h e formed quiet leads =
+    let kind = quiet-kind (transactions h) e.thread.number e.kind quiet in
+    let same : 0 + length h ≡ length h = omega arith in
+    let all = rw same at (lies-transactions 0 0 [] h (omega arith) tt) in
+    let g : Grows registers (length h) e (transactions h) =
+    record { all = all; formed = rw (transactions-push h e) at formed; aborts = kind.2 } in
+    rw (transactions-push h e)
+    (elim (grown registers (length h) e (transactions h) g kind.0 kind.1) [
+      | inl pairs ↦ leads-along (IsLonger (length h)) (keeps-longer (length h)) (transactions h)
+          (add_event (length h) e (transactions h)) pairs s r leads
+      | inr last ↦ rw last (leads-begun (length h) e (transactions h) s r all kind.1 leads)
+    ])
+
+pub quiet_law : QuietLaw
+quiet_law registers start h e o formed quiet =
+    let (order, a) = o.ordered in
+    let leads = leads-quiet registers start (end_state start order) h e formed quiet (order, a, refl) in
+    record { formed = formed; ordered = (leads.0, leads.1) }

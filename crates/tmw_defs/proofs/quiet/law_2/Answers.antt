@@ -1,0 +1,5 @@
+use Rattle.tmw_defs.proofs.QuietProof.{quiet_law}
+use Rattle.tmw_defs.proofs.quiet.law_2.Goals as goal
+
+pub returns : goal.returns
+returns c = quiet_law
