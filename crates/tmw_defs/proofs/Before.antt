@@ -26,7 +26,7 @@ slice_get_left (x ∷ ts) us zero t at = at
 slice_get_left (x ∷ ts) us (suc i) t at = slice_get_left ts us i t at
 
 -- what holds of each and passes on to another test holds of each by that one
-list_all-mono : {A : Type 0} (p q : A → Bool) → ((x : A) → IsTrue (p x) → IsTrue (q x)) → (xs : List A)
+pub list_all-mono : {A : Type 0} (p q : A → Bool) → ((x : A) → IsTrue (p x) → IsTrue (q x)) → (xs : List A)
     → IsTrue (list_all p xs) → IsTrue (list_all q xs)
 list_all-mono p q to [] all = refl
 list_all-mono p q to (x ∷ xs) all =

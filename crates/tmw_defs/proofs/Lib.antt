@@ -2,6 +2,7 @@ pub mod Along
 pub mod Apart
 pub mod Before
 pub mod CutsProof
+pub mod LastOfOrder
 pub mod Places
 pub mod QuietProof
 pub mod QuietTexts
