@@ -1,6 +1,7 @@
 pub mod Cuts
 pub mod Decision
 pub mod History
+pub mod Layers
 pub mod Naming
 pub mod Opaque
 pub mod Outcomes
