@@ -3,6 +3,7 @@ pub mod Apart
 pub mod Before
 pub mod CutsProof
 pub mod LastOfOrder
+pub mod LayersProof
 pub mod Masks
 pub mod Places
 pub mod QuietProof

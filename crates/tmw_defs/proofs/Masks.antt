@@ -15,7 +15,7 @@ chosen-here mask t ts one = let is : (mask % 2 == 1) ≡ true = eq-eqb (mask % 2
 pub chosen-past : (mask : ℕ) (t : Txn) (ts : List Txn) → mask % 2 ≡ 0 → chosen mask (t ∷ ts) ≡ chosen (mask / 2) ts
 chosen-past mask t ts none = rw none refl
 
-low_bit : (mask : ℕ) → (mask % 2 ≡ 1) ⊎ (mask % 2 ≡ 0)
+pub low_bit : (mask : ℕ) → (mask % 2 ≡ 1) ⊎ (mask % 2 ≡ 0)
 low_bit mask =
     elim (cases_lt (mask % 2) 1) [ inl none ↦ inr (omega arith) | inr some ↦ inl (omega arith) ]
 
