@@ -1,3 +1,5 @@
 mod Adding
+mod Replaying
+mod Sorting
 mod Steps
 mod Weighing

@@ -1,2 +1,4 @@
+pub mod Nexts
+pub mod Pairs
 pub mod Shown
 pub mod Verdict

@@ -2,10 +2,13 @@
 #![tactic(auto)]
 
 mod judge;
+mod layers;
+mod nexts;
 mod order;
 mod replay;
 mod text;
 mod transaction;
+mod txn;
 mod whole;
 
 pub use judge::{judge_whole, judge_whole_from};

@@ -18,7 +18,7 @@ fn operation(call: Kind, answer: Kind) -> Option<Op>
 }
 
 /// What the registers hold after the operation, if it was answered what they held before.
-fn after_one(op: Op, state: &[u64; 8]) -> Option<[u64; 8]>
+pub fn after_one(op: Op, state: &[u64; 8]) -> Option<[u64; 8]>
     ensures { Replays state.now (op ∷ []) result }
 {
     let mut after = *state;
