@@ -38,12 +38,12 @@ not_true : (b : Bool) → not b ≡ true → b ≡ false
 not_true true h = absurd (cc)
 not_true false h = refl
 
-bit_cases : (mask i : ℕ) → (bit_at mask i ≡ 0) ⊎ (bit_at mask i ≡ 1)
+pub bit_cases : (mask i : ℕ) → (bit_at mask i ≡ 0) ⊎ (bit_at mask i ≡ 1)
 bit_cases mask i =
     let small = bit_at-lt mask i in
     elim (cases_lt (bit_at mask i) 1) [ inl none ↦ inl (omega arith) | inr one ↦ inr (omega (arith, small)) ]
 
-same_place : (i j : ℕ) → (i ≡ j) ⊎ (i ≡ j → ⊥)
+pub same_place : (i j : ℕ) → (i ≡ j) ⊎ (i ≡ j → ⊥)
 same_place i j =
     elim (cases_lt i j)
     [ inl below ↦ inr (λ same. absurd (omega arith))

@@ -1,4 +1,6 @@
 mod Adding
+mod FreeNext
+mod NextSteps
 mod Replaying
 mod Sorting
 mod Steps

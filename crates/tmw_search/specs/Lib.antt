@@ -1,4 +1,5 @@
 pub mod Nexts
 pub mod Pairs
 pub mod Shown
+pub mod Shows
 pub mod Verdict
