@@ -13,9 +13,10 @@ use Rattle.tmw_search.specs.Shows.{flag, ShowsOne}
 
 pub mask-set : (mask place : ℕ) → place < 8 → bit_at mask place ≡ 0 → bit_or mask (1 * 2 ^ place % 2 ^ 8) ≡ mask + 2 ^ place
 mask-set mask place within new = same_from_bits (bit_or mask (1 * 2 ^ place % 2 ^ 8)) (mask + 2 ^ place) (λ i.
-    elim (same_place i place)
-    [ inl same ↦ rw same (bit_at_set_same w8 mask place within ∙ sym (bit_at-more_same mask place new))
-    | inr other ↦ bit_at_set_other w8 mask place within i other ∙ sym (bit_at-more_other mask place i new other) ])
+    elim (same_place i place) [
+      | inl same ↦ rw same (bit_at_set_same w8 mask place within ∙ sym (bit_at-more_same mask place new))
+      | inr other ↦ bit_at_set_other w8 mask place within i other ∙ sym (bit_at-more_other mask place i new other)
+    ])
 
 -- a bit of a mask of eight bits is one of the eight
 low_bit : (n i : ℕ) → n < 2 ^ 8 → bit_at n i ≡ 1 → i < 8
@@ -35,11 +36,12 @@ left_none : (before mask : ℕ) → before < 2 ^ 8 → mask < 2 ^ 8 → ((i : �
     → bit_and before (bit_not w8 mask) ≡ 0
 left_none before mask fits small each = same_from_bits (bit_and before (bit_not w8 mask)) 0 (λ i.
     let both = bit_at_and before (bit_not w8 mask) i in
-    elim (bit_cases before i)
-    [ inl none ↦ omega (arith, both, none, bit_at-zero i)
-    | inr one ↦
-        let low = low_bit before i fits one in
-        omega (arith, both, one, each i one, bit_at_not w8 mask i small low, bit_at-zero i) ])
+    elim (bit_cases before i) [
+      | inl none ↦ omega (arith, both, none, bit_at-zero i)
+      | inr one ↦
+          let low = low_bit before i fits one in
+          omega (arith, both, one, each i one, bit_at_not w8 mask i small low, bit_at-zero i)
+    ])
 
 flag_true : (b : Bool) → flag b ≡ 1 → b ≡ true
 flag_true true h = refl
@@ -51,31 +53,36 @@ pub next_free : (ts : List Txn) (x : Seen) (t : Txn) (place mask : ℕ) → leng
     → (bit_at mask place ≡ 0) × ((i : ℕ) (u : Txn) → slice_get ts i ≡ Some u → bit_at mask i ≡ 0 → precedes u t ≡ false)
 next_free ts x t place mask few s small fits next =
     let (new, none) = and_parts (bit_at mask place == 0) _ next in
-    let left = none_left x.before mask fits small (eqb-true _ 0 none) in
-    (eqb-true (bit_at mask place) 0 new, λ i u at out.
-      elim (cases_Bool (precedes u t))
-      [ inl before ↦ absurd (
-          let bit : bit_at x.before i ≡ 1 = s.bits i u at ∙ ap flag before in
-          omega (arith, out, left i bit))
-      | inr other ↦ other ])
+    let left = none_left x.before mask fits small (eqb-true _ 0 none) in (
+      eqb-true (bit_at mask place) 0 new,
+      λ i u at out.
+          elim (cases_Bool (precedes u t)) [
+            | inl before ↦ absurd (
+                let bit : bit_at x.before i ≡ 1 = s.bits i u at ∙ ap flag before in
+                omega (arith, out, left i bit))
+            | inr other ↦ other
+          ],
+    )
 
 pub free-next : (ts : List Txn) (x : Seen) (t : Txn) (place mask : ℕ) → length ts ≤ 8 → ShowsOne ts x t → mask < 2 ^ 8
     → x.before < 2 ^ 8 → bit_at mask place ≡ 0
     → ((i : ℕ) (u : Txn) → slice_get ts i ≡ Some u → bit_at mask i ≡ 0 → precedes u t ≡ false) → IsTrue (is_next x place mask)
 free-next ts x t place mask few s small fits new free =
     let none = left_none x.before mask fits small (λ i one.
-      let within = place_within ts x i s.fits one in
-      let u = slice_get_some ts i within in
-      let before : precedes u.0 t ≡ true = flag_true (precedes u.0 t) (sym (s.bits i u.0 u.1) ∙ one) in
-      elim (bit_cases mask i)
-      [ inl out ↦ absurd (let k = free i u.0 u.1 out in cc)
-      | inr is ↦ is ]) in
+    let within = place_within ts x i s.fits one in
+    let u = slice_get_some ts i within in
+    let before : precedes u.0 t ≡ true = flag_true (precedes u.0 t) (sym (s.bits i u.0 u.1) ∙ one) in
+    elim (bit_cases mask i) [
+      | inl out ↦ absurd (let k = free i u.0 u.1 out in cc)
+      | inr is ↦ is
+    ]) in
     and_from (bit_at mask place == 0) _ (eq-eqb (bit_at mask place) 0 new) (eq-eqb _ 0 none)
   where
     place_within : (ts : List Txn) (x : Seen) (i : ℕ) → x.before < 2 ^ length ts → bit_at x.before i ≡ 1 → i < length ts
     place_within ts x i fits one =
         elim (cases_lt i (length ts))
         [ inl within ↦ within | inr past ↦ absurd (omega (arith, one, bit_at_above x.before (length ts) i fits past)) ]
+
     slice_get_some : (ts : List Txn) (i : ℕ) → i < length ts → (u : Txn) × (slice_get ts i ≡ Some u)
     slice_get_some [] i within = absurd (omega arith)
     slice_get_some (t ∷ ts) zero within = (t, refl)

@@ -1,5 +1,6 @@
 mod Adding
 mod FreeNext
+mod LayerLists
 mod NextSteps
 mod Replaying
 mod Sorting

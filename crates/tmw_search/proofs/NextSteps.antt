@@ -18,17 +18,17 @@ use Rattle.tmw_defs.proofs.LayersProof.{same_place}
 use Rattle.tmw_search.proofs.FreeNext.{mask-set, next_free, free-next}
 
 -- members of a list by its first element
-contains_here : {X : Type 0} (x : X) (xs : List X) → Contains (x ∷ xs) x
+pub contains_here : {X : Type 0} (x : X) (xs : List X) → Contains (x ∷ xs) x
 contains_here x xs = (0, omega arith, refl)
 
-contains_later : {X : Type 0} (x y : X) (xs : List X) → Contains xs y → Contains (x ∷ xs) y
+pub contains_later : {X : Type 0} (x y : X) (xs : List X) → Contains xs y → Contains (x ∷ xs) y
 contains_later x y xs has = Contains-append_right (x ∷ []) xs y has
 
-contains_cases : {X : Type 0} (x y : X) (xs : List X) → Contains (x ∷ xs) y → (x ≡ y) ⊎ Contains xs y
+pub contains_cases : {X : Type 0} (x y : X) (xs : List X) → Contains (x ∷ xs) y → (x ≡ y) ⊎ Contains xs y
 contains_cases x y xs (zero, within, is) = inl is
 contains_cases x y xs (suc k, within, is) = inr (k, omega arith, is)
 
-contains_none : {X : Type 0} (y : X) → Contains [] y → ⊥
+pub contains_none : {X : Type 0} (y : X) → Contains [] y → ⊥
 contains_none y (k, within, is) = absurd (omega arith)
 
 -- a way to place a transaction: held where the completion may hold it, or left out
@@ -54,10 +54,11 @@ way_of Committed above held left_out p has =
     elim (contains_cases _ p [] has) [ inl is ↦ way-held Committed above held left_out p refl is | inr none ↦ absurd (contains_none p none) ]
 way_of Pending above held left_out p has =
     let last : List (ℕ × State) = (above, left_out) ∷ [] in
-    elim (contains_cases _ p last has)
-    [ inl is ↦ way-held Pending above held left_out p refl is
-    | inr rest ↦ elim (contains_cases _ p [] rest)
-        [ inl is ↦ way-left_out Pending above held left_out p refl is | inr none ↦ absurd (contains_none p none) ] ]
+    elim (contains_cases _ p last has) [
+      | inl is ↦ way-held Pending above held left_out p refl is
+      | inr rest ↦ elim (contains_cases _ p [] rest)
+          [ inl is ↦ way-left_out Pending above held left_out p refl is | inr none ↦ absurd (contains_none p none) ]
+    ]
 way_of Live above held left_out p has =
     elim (contains_cases _ p [] has) [ inl is ↦ way-left_out Live above held left_out p refl is | inr none ↦ absurd (contains_none p none) ]
 way_of Aborted above held left_out p has =
@@ -86,14 +87,15 @@ pub record ComesFrom (base : ℕ) (xs : List Seen) (p q : ℕ × State) : Type 0
 pub comes_from : (base : ℕ) (xs : List Seen) (p q : ℕ × State) → Contains (nexts_from base xs p) q → ComesFrom base xs p q
 comes_from base [] p q has = absurd (contains_none q has)
 comes_from base (x ∷ xs) p q has =
-    elim (Contains-append_cases (next_at x base p) (nexts_from (base + 1) xs p) q has)
-    [ inl here ↦
-        let same : base + 0 ≡ base = omega arith in
-        record { place = zero; seen = x; at = refl; made = rw same here }
-    | inr later ↦
-        let c = comes_from (base + 1) xs p q later in
-        let same : base + suc c.place ≡ base + 1 + c.place = omega arith in
-        record { place = suc c.place; seen = c.seen; at = c.at; made = rw same c.made } ]
+    elim (Contains-append_cases (next_at x base p) (nexts_from (base + 1) xs p) q has) [
+      | inl here ↦
+          let same : base + 0 ≡ base = omega arith in
+          record { place = zero; seen = x; at = refl; made = rw same here }
+      | inr later ↦
+          let c = comes_from (base + 1) xs p q later in
+          let same : base + suc c.place ≡ base + 1 + c.place = omega arith in
+          record { place = suc c.place; seen = c.seen; at = c.at; made = rw same c.made }
+    ]
 
 pub comes-from : (base : ℕ) (xs : List Seen) (p q : ℕ × State) (place : ℕ) (x : Seen) → slice_get xs place ≡ Some x
     → Contains (next_at x (base + place) p) q → Contains (nexts_from base xs p) q
@@ -105,7 +107,7 @@ comes-from base (y ∷ xs) p q zero x at made =
 comes-from base (y ∷ xs) p q (suc place) x at made =
     let same : base + suc place ≡ base + 1 + place = omega arith in
     Contains-append_right (next_at y base p) (nexts_from (base + 1) xs p) q
-      (comes-from (base + 1) xs p q place x at (rw same at made))
+    (comes-from (base + 1) xs p q place x at (rw same at made))
 
 -- what is made at a place, where it is made
 pub record IsMade (x : Seen) (place : ℕ) (p q : ℕ × State) : Type 0 where
@@ -115,16 +117,17 @@ pub record IsMade (x : Seen) (place : ℕ) (p q : ℕ × State) : Type 0 where
 
 made_of : (x : Seen) (place : ℕ) (p q : ℕ × State) → Contains (next_at x place p) q → IsMade x place p q
 made_of x place p q has =
-    elim (cases_Bool (is_next x place p.0 && reads_hold p.1 x.ops))
-    [ inl is ↦
-        let (next, reads) = and_parts (is_next x place p.0) _ is in
-        record { next = next; reads = reads; way = way_of x.status _ _ _ q (rw is at has) }
-    | inr other ↦ absurd (contains_none q (rw other at has)) ]
+    elim (cases_Bool (is_next x place p.0 && reads_hold p.1 x.ops)) [
+      | inl is ↦
+          let (next, reads) = and_parts (is_next x place p.0) _ is in
+          record { next = next; reads = reads; way = way_of x.status _ _ _ q (rw is at has) }
+      | inr other ↦ absurd (contains_none q (rw other at has))
+    ]
 
 made-in : (x : Seen) (place : ℕ) (p : ℕ × State) (by : Bool) → IsTrue (is_next x place p.0) → IsTrue (reads_hold p.1 x.ops)
     → IsTrue (may_hold x.status by)
     → Contains (next_at x place p)
-      (let r : ℕ × State = (bit_or p.0 (1 * 2 ^ place % 2 ^ 8), if by then after_writes p.1 x.ops else p.1) in r)
+    (let r : ℕ × State = (bit_or p.0 (1 * 2 ^ place % 2 ^ 8), if by then after_writes p.1 x.ops else p.1) in r)
 made-in x place p by next reads may =
     let is = and_from (is_next x place p.0) _ next reads in
     rw is (way-in x.status (bit_or p.0 (1 * 2 ^ place % 2 ^ 8)) (after_writes p.1 x.ops) p.1 by may)
@@ -147,7 +150,7 @@ step-made_at : (ts : List Txn) (x : Seen) (t : Txn) (place mask above : ℕ) (r 
     → length ts ≤ 8 → mask < 2 ^ length ts → IsMade x place (mask, r) (above, u) → IsStep ts mask r above u
 step-made_at ts x t place mask above r u one at few fits made =
     let free = next_free ts x t place mask few one (eight_bits mask (length ts) few fits) (eight_bits x.before (length ts) few one.fits)
-      made.next in
+    made.next in
     record {
       place = place;
       placed = record { txn = t; held = made.way.by };
@@ -169,7 +172,7 @@ step_of xs ts mask above r u shows few fits has =
     let there = slice_get_some ts c.place (omega (arith, shows.same_length)) in
     let same : 0 + c.place ≡ c.place = omega arith in
     step-made_at ts c.seen there.0 c.place mask above r u (shows.each c.place c.seen there.0 c.at there.1) there.1 few fits
-      (made_of c.seen c.place (mask, r) (above, u) (rw same at c.made))
+    (made_of c.seen c.place (mask, r) (above, u) (rw same at c.made))
 
 step-in : (ts : List Txn) (x : Seen) (mask above : ℕ) (r u : State) (s : IsStep ts mask r above u) → ShowsOne ts x s.placed.txn
     → length ts ≤ 8 → mask < 2 ^ length ts → ((i : ℕ) (t : Txn) → slice_get ts i ≡ Some t → precedes t t ≡ false)
@@ -177,17 +180,18 @@ step-in : (ts : List Txn) (x : Seen) (mask above : ℕ) (r u : State) (s : IsSte
 step-in ts x mask above r u s one few fits none_self =
     let t = s.placed.txn in
     let free : (i : ℕ) (v : Txn) → slice_get ts i ≡ Some v → bit_at mask i ≡ 0 → precedes v t ≡ false = λ i v at out.
-      elim (same_place i s.place)
-      [ inl same ↦ let is : v ≡ t = (let k = rw same at at in let m = s.at in cc) in rw is (none_self s.place t s.at)
-      | inr apart ↦ s.free i v apart at out ] in
+    elim (same_place i s.place) [
+      | inl same ↦ let is : v ≡ t = (let k = rw same at at in let m = s.at in cc) in rw is (none_self s.place t s.at)
+      | inr apart ↦ s.free i v apart at out
+    ] in
     let next = free-next ts x t s.place mask few one (eight_bits mask (length ts) few fits)
-      (eight_bits x.before (length ts) few one.fits) s.new free in
+    (eight_bits x.before (length ts) few one.fits) s.new free in
     let reads : IsTrue (reads_hold r x.ops) = rw one.ops s.reads in
     let may : IsTrue (may_hold x.status s.placed.held) = rw one.status s.may in
     let within = slice_get_within ts s.place t s.at in
     let made = made-in x s.place (mask, r) s.placed.held next reads may in
     let mask_is : bit_or mask (1 * 2 ^ s.place % 2 ^ 8) ≡ above =
-        mask-set mask s.place (omega (arith, within, few)) s.new ∙ sym s.is in
+    mask-set mask s.place (omega (arith, within, few)) s.new ∙ sym s.is in
     let state_is : (if s.placed.held then after_writes r x.ops else r) ≡ u = after-way r x t s.placed.held one.ops ∙ sym s.to in
     let one_is = subst (λ (m : ℕ). Contains (next_at x s.place (mask, r)) (m, if s.placed.held then after_writes r x.ops else r)) mask_is made in
     subst (λ (z : State). Contains (next_at x s.place (mask, r)) (above, z)) state_is one_is
@@ -202,5 +206,5 @@ step-made xs ts mask above r u shows few fits none_self s =
     let one = shows.each s.place there.0 s.placed.txn there.1 s.at in
     let same : s.place ≡ 0 + s.place = omega arith in
     comes-from 0 xs (mask, r) (above, u) s.place there.0 there.1
-      (subst (λ (k : ℕ). Contains (next_at there.0 k (mask, r)) (above, u)) same
-        (step-in ts there.0 mask above r u s one few fits none_self))
+    (subst (λ (k : ℕ). Contains (next_at there.0 k (mask, r)) (above, u)) same
+    (step-in ts there.0 mask above r u s one few fits none_self))

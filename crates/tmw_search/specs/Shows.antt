@@ -21,3 +21,7 @@ pub record ShowsOne (ts : List Txn) (x : Seen) (t : Txn) : Type 0 where
 pub record Shows (xs : List Seen) (ts : List Txn) : Type 0 where
   pub same_length : length xs ≡ length ts
   pub each : (i : ℕ) (x : Seen) (t : Txn) → slice_get xs i ≡ Some x → slice_get ts i ≡ Some t → ShowsOne ts x t
+
+-- no transaction precedes itself
+abbrev pub NoneBeforeItself : List Txn → Type 0
+NoneBeforeItself ts = (i : ℕ) (t : Txn) → slice_get ts i ≡ Some t → precedes t t ≡ false
