@@ -1,1 +1,4 @@
+mod Found
+mod Masks
+pub mod Pushes
 mod Rising
