@@ -1,3 +1,5 @@
+pub mod AcrossCuts
+pub mod Bits
 mod Found
 mod Masks
 pub mod Pushes

@@ -133,7 +133,7 @@ length-push_views_some e before (v ∷ vs) some =
           rw past (ap (λ n. suc n) (length-push_views_some e before vs rest))
     ]
 
-length-views_of : (events : List Event) → length (views_of events) ≡ length (transactions events)
+pub length-views_of : (events : List Event) → length (views_of events) ≡ length (transactions events)
 length-views_of events = length-map (transactions events) (view_of (transactions events))
 
 -- the note tells whether no transaction is open for the event

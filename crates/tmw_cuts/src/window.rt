@@ -62,8 +62,9 @@ fn go_on(txns: &mut Vec<Txn>, event: Event) -> Result<(), AllocError>
 impl Window {
     ghost use Rattle.tmw_events.specs.declared.event.Event.{Event};
     ghost use Rattle.tmw_defs.specs.Cuts.{is_cut};
+    ghost use Rattle.tmw_defs.specs.History.{transactions};
     ghost use Rattle.tmw_wellformed.specs.Notes.{Notes};
-    ghost use Rattle.tmw_cuts.specs.Standing.{StandsFor, views, count_of};
+    ghost use Rattle.tmw_cuts.specs.Standing.{StandsFor, views, views_of, count_of};
 
     /// The window of no event.
     pub fn open(alloc: Global, registers: Registers) -> Window
@@ -78,7 +79,8 @@ impl Window {
 
     /// How many transactions it has.
     pub fn count(&self) -> u8
-        ensures { result ≡ count_of self.now }
+        ensures shown { result ≡ count_of self.now }
+        ensures stands { (events : List Event) → StandsFor self.now events → result ≡ length (transactions events) }
     {
         self.txns.len() as u8
     }
@@ -92,7 +94,9 @@ impl Window {
 
     /// The transactions, in the order of their first events.
     pub fn transactions(&self) -> &[Txn]
-        ensures { map view result.now ≡ views self.now }
+        ensures shown { map view result.now ≡ views self.now }
+        ensures stands { (events : List Event) → StandsFor self.now events → map view result.now ≡ views_of events }
+        ensures few { length result.now ≤ 8 }
     {
         &self.txns
     }
@@ -102,7 +106,7 @@ impl Window {
         requires noted { (events : List Event) × StandsFor self.old events × Notes events event note }
         requires room { IsTrue note.begins → count_of self.old < 8 }
         ensures ok { OnOk result ((events : List Event) → StandsFor self.old events → StandsFor self.new (events ++ event ∷ [])) }
-        ensures err { OnErr result (views self.new ≡ views self.old) }
+        ensures err { OnErr result ((events : List Event) → StandsFor self.old events → StandsFor self.new events) }
         ensures registers { self.new.registers ≡ self.old.registers }
     {
         if note.begins {
@@ -114,6 +118,7 @@ impl Window {
 
     /// A window that stands for the same events.
     pub fn copy(&self) -> Result<Window, AllocError>
+        ensures shown { IfOk result (λ window. views window ≡ views self.now) }
         ensures stands { IfOk result (λ window. (events : List Event) → StandsFor self.now events → StandsFor window events) }
         ensures registers { IfOk result (λ window. window.registers ≡ self.now.registers) }
     {
