@@ -1,0 +1,44 @@
+-- Over a cut the transactions of a history are those of its two parts, so a note of the whole is a note of what follows the cut.
+use Rattle.std.proofs.Common.{◌≡◌, ◌+◌, ℕ, suc, List, [], ◌∷◌, ◌++◌, length, IsTrue, refl, sym, ap, ◌∙◌, arith, append_assoc, length-append}
+use Rattle.std.proofs.lemmas.List.{append-nil}
+use Rattle.tmw_events.specs.declared.event.Event.{Event}
+use Rattle.tmw_defs.specs.Cuts.{is_cut}
+use Rattle.tmw_defs.specs.History.{transactions, transactions_from}
+use Rattle.tmw_defs.proofs.Along.{Pairs}
+use Rattle.tmw_defs.proofs.Places.{IsLater, later-transactions, transactions_from-append, transactions_from-ended}
+use Rattle.tmw_wellformed.specs.declared.note.Note.{Note}
+use Rattle.tmw_wellformed.specs.Notes.{Notes}
+
+length-pairs : {A B : Type 0} (Rel : A → B → Type 0) (xs : List A) (ys : List B) → Pairs Rel xs ys → length xs ≡ length ys
+length-pairs Rel [] [] pairs = refl
+length-pairs Rel [] (y ∷ ys) pairs = absurd pairs
+length-pairs Rel (x ∷ xs) [] pairs = absurd pairs
+length-pairs Rel (x ∷ xs) (y ∷ ys) pairs = ap (λ n. suc n) (length-pairs Rel xs ys pairs.1)
+
+-- how many transactions a history has with a cut in it
+pub length-transactions_cut : (past rest : List Event) → IsTrue (is_cut past)
+    → length (transactions (past ++ rest)) ≡ length (transactions past) + length (transactions rest)
+length-transactions_cut past rest cut =
+    let behind = transactions_from (0 + length past) [] rest in
+    let parts : transactions (past ++ rest) ≡ transactions past ++ behind =
+    transactions_from-append 0 [] past rest
+    ∙ ap (λ ts. transactions_from (0 + length past) ts rest) (sym (append-nil (transactions past)))
+    ∙ transactions_from-ended (0 + length past) (transactions past) [] rest cut in
+    let same : length behind ≡ length (transactions rest) =
+    length-pairs (IsLater (length past)) behind (transactions rest) (later-transactions (length past) 0 [] [] rest tt) in
+    ap length parts ∙ length-append (transactions past) behind ∙ ap (λ n. length (transactions past) + n) same
+
+-- a note of the event after the whole is one of it after the part behind the cut
+pub notes-behind : (past rest : List Event) (e : Event) (note : Note) → IsTrue (is_cut past) → Notes (past ++ rest) e note
+    → Notes rest e note
+notes-behind past rest e note cut notes =
+    let whole = length-transactions_cut past rest cut in
+    let more : length (transactions (past ++ rest ++ e ∷ [])) ≡ length (transactions past) + length (transactions (rest ++ e ∷ [])) =
+    ap (λ (h : List Event). length (transactions h)) (append_assoc past rest (e ∷ [])) ∙ length-transactions_cut past (rest ++ e ∷ []) cut in
+    record {
+      begins = (
+        λ begins. let grown = notes.begins.0 begins in omega (arith, grown, whole, more),
+        λ grown. notes.begins.1 (omega (arith, grown, whole, more)),
+      );
+      ends = notes.ends;
+    }

@@ -1,0 +1,66 @@
+-- How the code finds the transaction of an event, against what is to be shown.
+use Rattle.std.proofs.Common.{◌≡◌, ◌<◌, ◌≤◌, ℕ, zero, suc, Bool, true, false, List, [], ◌∷◌, ◌++◌, length, map, Some, None, get_or, IsTrue, IsFalse, refl, sym, ap, ◌∙◌, inl, inr, arith}
+use Rattle.std.specs.Prelude.{slice_set, position}
+use Rattle.std.specs.List.{list_any, position_or_len}
+use Rattle.std.proofs.lemmas.Bool.{cases_Bool, or_parts, lt-ltb}
+use Rattle.std.proofs.lemmas.List.Quantifiers.{position-Some}
+use Rattle.tmw_events.specs.declared.event.Event.{Event}
+use Rattle.tmw_cuts.specs.declared.txn.Txn.{Txn}
+use Rattle.tmw_cuts.specs.Views.{View, view, begun, longer, is_open_for, push_views}
+
+push_views_here : (e : Event) (before : ℕ) (v : View) (vs : List View) → is_open_for e.thread.number v ≡ true
+    → push_views e before (v ∷ vs) ≡ longer e.kind v ∷ vs
+push_views_here e before v vs here = rw here refl
+
+push_views_past : (e : Event) (before : ℕ) (v : View) (vs : List View) → is_open_for e.thread.number v ≡ false
+    → push_views e before (v ∷ vs) ≡ v ∷ push_views e before vs
+push_views_past e before v vs past = rw past refl
+
+-- none is open for the event, so it begins one
+pub push_views-none : (e : Event) (before : ℕ) (vs : List View) → IsFalse (list_any (is_open_for e.thread.number) vs)
+    → push_views e before vs ≡ vs ++ begun e.thread.number e.kind before ∷ []
+push_views-none e before [] none = refl
+push_views-none e before (v ∷ vs) none =
+    let (past, rest) = or_parts (is_open_for e.thread.number v) _ none in
+    push_views_past e before v vs past ∙ ap (λ ws. v ∷ ws) (push_views-none e before vs rest)
+
+-- the first that is open for the event is at this place
+push_views-at : (e : Event) (before : ℕ) (txns : List Txn) (i : ℕ) (d new : Txn) → i < length txns
+    → is_open_for e.thread.number (view (get_or txns i d)) ≡ true
+    → ((k : ℕ) → k < i → is_open_for e.thread.number (view (get_or txns k d)) ≡ false)
+    → view new ≡ longer e.kind (view (get_or txns i d))
+    → map view (slice_set txns i new) ≡ push_views e before (map view txns)
+push_views-at e before [] i d new within here past is = absurd (omega arith)
+push_views-at e before (t ∷ ts) zero d new within here past is =
+    ap (λ v. v ∷ map view ts) is ∙ sym (push_views_here e before (view t) (map view ts) here)
+push_views-at e before (t ∷ ts) (suc i) d new within here past is =
+    ap (λ vs. view t ∷ vs)
+    (push_views-at e before ts i d new (omega arith) here (λ k below. past (suc k) (omega arith)) is)
+    ∙ sym (push_views_past e before (view t) (map view ts) (past 0 (omega arith)))
+
+pub push_views-position : (e : Event) (before : ℕ) (txns : List Txn) (i : ℕ) (old new : Txn)
+    → Some i ≡ position (λ txn. is_open_for e.thread.number (view txn)) txns
+    → old ≡ get_or txns i old → view new ≡ longer e.kind (view old)
+    → map view (slice_set txns i new) ≡ push_views e before (map view txns)
+push_views-position e before txns i old new found at is =
+    let (within, here, past) = position-Some (λ txn. is_open_for e.thread.number (view txn)) txns i old (sym found) in
+    push_views-at e before txns i old new within here past (rw (← at) is)
+
+within_some : (p : View → Bool) (txns : List Txn) → IsTrue (list_any p (map view txns))
+    → position_or_len (λ txn. p (view txn)) txns < length txns
+within_some p [] some = absurd (cc)
+within_some p (t ∷ ts) some =
+    elim (cases_Bool (p (view t))) [
+      | inl here ↦ rw here (omega arith)
+      | inr past ↦
+          let rest : IsTrue (list_any p (map view ts)) = rw past at some in
+          let found : position_or_len (λ txn. p (view txn)) ts < length ts = within_some p ts rest in
+          rw past (omega arith)
+    ]
+
+-- one that is there is found
+pub position-some : (p : View → Bool) (txns : List Txn) → IsTrue (list_any p (map view txns))
+    → None ≡ position (λ txn. p (view txn)) txns → ⊥
+position-some p txns some nowhere =
+    let found : None ≡ Some (position_or_len (λ txn. p (view txn)) txns) = nowhere ∙ rw (lt-ltb _ _ (within_some p txns some)) refl in
+    absurd (cc)

@@ -1,0 +1,131 @@
+-- Lists that rise strictly in a total order: what a binary search finds in one, and what one element more makes of it.
+use Rattle.std.proofs.Common.{◌≡◌, ◌↔◌, ◌⊎◌, ◌<◌, ◌≤◌, ℕ, zero, suc, List, [], ◌∷◌, ◌++◌, length, take, drop, get_or, Result, Ok, Err, IsTrue, refl, sym, ap, ◌∙◌, inl, inr, arith}
+use Rattle.std.specs.Prelude.{is_ok}
+use Rattle.std.specs.declared.cmp.Ordering.{Ordering}
+use Rattle.std.specs.declared.cmp.Ordering.TheVariants.{Less, Equal, Greater}
+use Rattle.std.specs.Ordering.{ordering_index, ordering_reverse}
+use Rattle.std.specs.Cmp.{IsTotalOrder}
+use Rattle.std.specs.List.{AllByRecursion, Contains, insert}
+use Rattle.std.specs.List.Sorted.{IsBinarySearchResult, IsNonDecreasingBy, IsPartitionPoint, IsSearchInRange, IsStrictlySortedBy}
+use Rattle.std.proofs.lemmas.Bool.{cases_lt}
+use Rattle.std.proofs.lemmas.Cmp.{tied_itself}
+use Rattle.std.proofs.lemmas.List.{take-append-drop}
+use Rattle.std.proofs.lemmas.List.Elements.{Contains-append_left, Contains-append_right, Contains-append_cases}
+use Rattle.std.proofs.lemmas.Map.Lookups.{CmpEqualImpliesEq}
+
+all_at : {K : Type 0} (P : K → Type 0) (xs : List K) (i : ℕ) (d : K) → AllByRecursion P xs → i < length xs → P (get_or xs i d)
+all_at P [] i d all within = absurd (omega arith)
+all_at P (x ∷ xs) zero d all within = all.0
+all_at P (x ∷ xs) (suc i) d all within = all_at P xs i d all.1 (omega arith)
+
+all_weaker : {K : Type 0} (P Q : K → Type 0) (xs : List K) → ((x : K) → P x → Q x) → AllByRecursion P xs → AllByRecursion Q xs
+all_weaker P Q [] to all = tt
+all_weaker P Q (x ∷ xs) to all = (to x all.0, all_weaker P Q xs to all.1)
+
+all_insert : {K : Type 0} (P : K → Type 0) (xs : List K) (i : ℕ) (x : K) → P x → AllByRecursion P xs → AllByRecursion P (insert xs i x)
+all_insert P [] zero x here all = (here, tt)
+all_insert P [] (suc i) x here all = (here, tt)
+all_insert P (y ∷ ys) zero x here all = (here, all)
+all_insert P (y ∷ ys) (suc i) x here all = (all.0, all_insert P ys i x here all.1)
+
+most : (r : Ordering) → ordering_index r ≤ 2
+most Less = omega arith
+most Equal = omega arith
+most Greater = omega arith
+
+contains_cons : {K : Type 0} (x s : K) (xs : List K) → Contains (x ∷ xs) s → (s ≡ x) ⊎ Contains xs s
+contains_cons x s xs (zero, within, is) = inl (sym is)
+contains_cons x s xs (suc i, within, is) = inr (i, omega arith, is)
+
+contains_here : {K : Type 0} (x s : K) (xs : List K) → s ≡ x → Contains (x ∷ xs) s
+contains_here x s xs is = (0, omega arith, sym is)
+
+-- a list with one element more has that and its own
+pub Contains-insert : {K : Type 0} (xs : List K) (i : ℕ) (x s : K) → Contains (insert xs i x) s ↔ ((s ≡ x) ⊎ Contains xs s)
+Contains-insert xs i x s =
+    let whole = take-append-drop i xs in (
+      λ has. elim (Contains-append_cases (take i xs) (x ∷ drop i xs) s has) [
+        | inl front ↦ inr (rw whole at (Contains-append_left (take i xs) (drop i xs) s front))
+        | inr back ↦ elim (contains_cons x s (drop i xs) back) [
+          | inl same ↦ inl same
+          | inr more ↦ inr (rw whole at (Contains-append_right (take i xs) (drop i xs) s more))
+        ]
+      ],
+      λ one. elim one [
+        | inl same ↦ Contains-append_right (take i xs) (x ∷ drop i xs) s (contains_here x s (drop i xs) same)
+        | inr old ↦ elim (Contains-append_cases (take i xs) (drop i xs) s (rw (← whole) at old)) [
+          | inl front ↦ Contains-append_left (take i xs) (x ∷ drop i xs) s front
+          | inr (k, within, is) ↦ Contains-append_right (take i xs) (x ∷ drop i xs) s (suc k, omega arith, is)
+        ]
+      ],
+    )
+
+module _ {K : Type 0} {R : K → K → Ordering} (o : IsTotalOrder R) where
+  -- of a smaller one and a greater one, how each compares to a third
+  index_rises : (x a b : K) → R a b ≡ Less → (r : Ordering) → R b x ≡ r → ordering_index (R a x) ≤ ordering_index r
+  index_rises x a b less Less is = rw (o.trans a b x less is) (omega arith)
+  index_rises x a b less Equal is =
+      let turned : R a x ≡ Less = o.antisymm a x ∙ ap ordering_reverse (o.congr x b a (o.antisymm x b ∙ ap ordering_reverse is)
+      ∙ o.antisymm b a ∙ ap ordering_reverse less) in
+      rw turned (omega arith)
+  index_rises x a b less Greater is = most (R a x)
+
+  non_decreasing : (x : K) (xs : List K) → IsStrictlySortedBy R xs → IsNonDecreasingBy (λ y. ordering_index (R y x)) xs
+  unfolding IsStrictlySortedBy
+  non_decreasing x [] rising i j d le within = absurd (omega arith)
+  non_decreasing x (y ∷ ys) rising zero zero d le within = omega arith
+  non_decreasing x (y ∷ ys) rising zero (suc j) d le within =
+      index_rises x y (get_or ys j d) (all_at (λ z. R y z ≡ Less) ys j d rising.0 (omega arith)) (R (get_or ys j d) x) refl
+  non_decreasing x (y ∷ ys) rising (suc i) zero d le within = absurd (omega arith)
+  non_decreasing x (y ∷ ys) rising (suc i) (suc j) d le within = non_decreasing x ys rising.1 i j d (omega arith) (omega arith)
+
+  -- an element at its place in the order leaves the list rising
+  pub IsStrictlySortedBy-insert : (xs : List K) (i : ℕ) (x : K) → IsStrictlySortedBy R xs
+      → IsPartitionPoint (λ y. R y x ≡ Less) (λ y. R y x ≡ Greater) xs i → IsStrictlySortedBy R (insert xs i x)
+  unfolding IsStrictlySortedBy
+  IsStrictlySortedBy-insert [] zero x rising parted = (tt, tt)
+  IsStrictlySortedBy-insert [] (suc i) x rising parted = (tt, tt)
+  IsStrictlySortedBy-insert (y ∷ ys) zero x rising parted =
+      let below : R x y ≡ Less = o.antisymm x y ∙ ap ordering_reverse (parted.1 0 y (omega arith) (omega arith)) in
+      ((below, all_weaker (λ z. R y z ≡ Less) (λ z. R x z ≡ Less) ys (λ z less. o.trans x y z below less) rising.0), rising)
+  IsStrictlySortedBy-insert (y ∷ ys) (suc i) x rising parted = (
+    all_insert (λ z. R y z ≡ Less) ys i x (parted.0 0 y (omega arith) (omega arith)) rising.0,
+    IsStrictlySortedBy-insert ys i x rising.1 (
+      λ k d low high. parted.0 (suc k) d (omega arith) (omega arith),
+      λ k d low high. parted.1 (suc k) d (omega arith) (omega arith),
+    ),
+  )
+
+  -- the place that a search answers for one that is not there
+  pub place_by_search : (xs found : List K) (x : K) (i : ℕ) → found ≡ xs → IsStrictlySortedBy R xs
+      → IsBinarySearchResult (λ y. R y x) found (Err i) → IsStrictlySortedBy R (insert xs i x)
+  place_by_search xs found x i same rising parted =
+      IsStrictlySortedBy-insert xs i x rising (rw same at (parted (rw same (non_decreasing x xs rising))))
+
+  module _ (exact : CmpEqualImpliesEq R) where
+    -- what a binary search answers is an element's place, or the place where it would stand
+    pub found_by_search : (xs found : List K) (x : K) (r : Result ℕ ℕ) → found ≡ xs → IsStrictlySortedBy R xs
+        → IsSearchInRange r (length found) → IsBinarySearchResult (λ y. R y x) found r → IsTrue (is_ok r) ↔ Contains xs x
+    found_by_search xs found x (Ok i) same rising within equal =
+        (λ ok. (i, rw same at within, exact _ x (rw same at (equal x))), λ has. refl)
+    found_by_search xs found x (Err i) same rising within parted = (
+      λ ok. absurd (cc),
+      λ (k, inside, is).
+          let apart = rw same at (parted (rw same (non_decreasing x xs rising))) in
+          let tied : R (get_or xs k x) x ≡ Equal = rw is (tied_itself o x) in
+          absurd (elim (cases_lt k i) [
+            | inl below ↦ let less = apart.0 k x (omega arith) below in (cc)
+            | inr above ↦ let more = apart.1 k x above inside in (cc)
+          ]),
+    )
+
+    -- one that was found is no new member
+    pub found_is_member : (xs found : List K) (x : K) (i : ℕ) → found ≡ xs → i < length found → ((d : K) → R (get_or found i d) x ≡ Equal)
+        → (s : K) → Contains xs s ↔ ((s ≡ x) ⊎ Contains xs s)
+    found_is_member xs found x i same within equal s = (
+      λ has. inr has,
+      λ one. elim one [
+        | inl is ↦ (i, rw same at within, rw (← same) (exact _ x (equal s) ∙ sym is))
+        | inr has ↦ has
+      ],
+    )

@@ -1,0 +1,11 @@
+-- A binary search finds the state exactly where the set has it.
+use Rattle.std.proofs.lemmas.Cmp.{nat_list_cmp_total}
+use Rattle.std.proofs.lemmas.Map.Lookups.{exact_bytes}
+use Rattle.tmw_cuts.proofs.Rising.{found_by_search}
+use Rattle.tmw_cuts.proofs.states.States.contains.Goals as goal
+
+pub returns : goal.returns
+returns c =
+    rw c.is_ok.ensures.value
+    (found_by_search nat_list_cmp_total exact_bytes _ _ _ _ c.deref.ensures.value c.args.self.now.rising
+    c.binary_search.ensures.bound c.binary_search.ensures.position)

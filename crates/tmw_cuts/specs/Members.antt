@@ -1,0 +1,12 @@
+-- The states of a set, in rising order: register 0 is compared first.
+use Rattle.std.specs.Prelude.{◌≡◌, ◌↔◌, ◌⊎◌, List}
+use Rattle.std.specs.List.{Contains}
+use Rattle.tmw_defs.specs.Opaque.{State}
+use Rattle.tmw_cuts.specs.declared.states.States.{States}
+
+abbrev pub members : States → List State
+members states = states.items.items
+
+-- The one list has the states of the other and this one.
+abbrev pub AddsMember : List State → List State → State → Type 0
+AddsMember old new state = (s : State) → Contains new s ↔ ((s ≡ state) ⊎ Contains old s)

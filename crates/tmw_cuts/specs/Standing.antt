@@ -1,0 +1,37 @@
+-- Which events a window stands for: it shows their transactions, in the order of their first events.
+use Rattle.std.specs.Prelude.{◌≡◌, ◌+◌, ◌*◌, ℕ, List, [], ◌∷◌, length, map}
+use Rattle.tmw_events.specs.declared.event.Event.{Event}
+use Rattle.tmw_defs.specs.History.{Txn, operations, status_of, transactions}
+use Rattle.tmw_defs.specs.Opaque.{precedes}
+use Rattle.tmw_wellformed.specs.Pending.{call_of}
+use Rattle.tmw_cuts.specs.declared.window.Window.{Window}
+use Rattle.tmw_cuts.specs.Views.{View, view, bit}
+
+-- The number whose bit j says that transaction j of these precedes this one in real time.
+abbrev pub before_of : List Txn → Txn → ℕ
+before_of [] u = 0
+before_of (t ∷ ts) u = bit (precedes t u) + 2 * before_of ts u
+
+abbrev pub view_of : List Txn → Txn → View
+view_of ts t = record {
+  thread = t.thread;
+  call = call_of t.text;
+  ops = operations t.text;
+  status = status_of t.text;
+  before = before_of ts t;
+}
+
+-- What is to be shown of these events.
+abbrev pub views_of : List Event → List View
+views_of events = map (view_of (transactions events)) (transactions events)
+
+-- What the window shows.
+abbrev pub views : Window → List View
+views window = map view window.txns.items
+
+-- How many transactions it shows.
+abbrev pub count_of : Window → ℕ
+count_of window = length (views window)
+
+pub record StandsFor (window : Window) (events : List Event) : Type 0 where
+  pub shows : views window ≡ views_of events

@@ -1,0 +1,13 @@
+//! What an online judge keeps of a history: the set of states in which the past may have ended, and the transactions since.
+#![tactic(auto)]
+
+mod kinds;
+mod mask;
+mod states;
+mod txn;
+mod window;
+
+pub use kinds::{operation, status_after};
+pub use states::{State, States};
+pub use txn::Txn;
+pub use window::Window;

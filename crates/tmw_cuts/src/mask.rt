@@ -1,0 +1,21 @@
+ghost use Rattle.std.specs.Prelude.{◌≡◌, ◌≤◌, length, map};
+ghost use Rattle.tmw_cuts.specs.Views.{view, completed};
+
+use crate::txn::Txn;
+
+/// The bits of those that have committed or aborted.
+pub fn completed(txns: &[Txn]) -> u8
+    requires { length txns.now ≤ 8 }
+    ensures { result ≡ completed (map view txns.now) }
+{
+    let mut mask = 0u8;
+    let mut left = txns.len();
+    while left > 0 {
+        left -= 1;
+        mask *= 2;
+        if txns[left].is_over() {
+            mask += 1;
+        }
+    }
+    mask
+}

@@ -1,0 +1,102 @@
+ghost use Rattle.std.specs.Prelude.{◌≡◌, ◌↔◌, [], ◌∷◌, IfOk, OnOk, OnErr, IsTrue, Contains, length, replicate, slice_get};
+ghost use Rattle.std.specs.List.Sorted.{IsStrictlySortedBy};
+ghost use Rattle.std.specs.Cmp.Lexicographic.{slice_cmp};
+ghost use Rattle.std.specs.Ordering.{nat_cmp};
+ghost use Rattle.std.proofs.lemmas.Map.Keys.{IsStrictlySortedBy-prop};
+
+use std::alloc::{AllocError, Global};
+
+/// What each register holds. Registers that the run does not have hold 0.
+pub type State = [u64; 8];
+
+/// A set of states.
+#[derive(Debug, Drop)]
+pub struct States {
+    items: Vec<State>,
+    pub ghost rising: { IsStrictlySortedBy (slice_cmp nat_cmp) items.items } by { IsStrictlySortedBy-prop (slice_cmp nat_cmp) items.items },
+}
+
+impl States {
+    ghost use Rattle.tmw_cuts.specs.Members.{members, AddsMember};
+
+    /// The set of no state.
+    pub fn empty(alloc: Global) -> States
+        ensures { members result ≡ [] }
+    {
+        States {
+            items: Vec::new(alloc),
+        }
+    }
+
+    /// The set of the state in which each register holds 0.
+    pub fn zeros(alloc: Global) -> Result<States, AllocError>
+        ensures { IfOk result (λ states. members states ≡ replicate 8 0 ∷ []) }
+    {
+        States::only(alloc, [0; 8])
+    }
+
+    /// The set of this state.
+    pub fn only(alloc: Global, state: State) -> Result<States, AllocError>
+        ensures { IfOk result (λ states. members states ≡ state ∷ []) }
+    {
+        let mut items = Vec::new(alloc);
+        items.push(state)?;
+        Ok(States { items })
+    }
+
+    /// How many states.
+    pub fn len(&self) -> usize
+        ensures { result ≡ length (members self.now) }
+    {
+        self.items.len()
+    }
+
+    /// Whether it has no state.
+    pub fn is_empty(&self) -> bool
+        ensures { IsTrue result ↔ (members self.now ≡ []) }
+    {
+        self.items.is_empty()
+    }
+
+    /// The states, in rising order.
+    pub fn states(&self) -> &[State]
+        ensures members { result.now ≡ members self.now }
+        ensures rising { IsStrictlySortedBy (slice_cmp nat_cmp) result.now }
+    {
+        &self.items
+    }
+
+    /// The state at this place in the rising order.
+    pub fn get(&self, index: usize) -> Option<State>
+        ensures { result ≡ slice_get (members self.now) index }
+    {
+        self.items.get(index).copied()
+    }
+
+    /// Whether the state is one of the set.
+    pub fn contains(&self, state: &State) -> bool
+        ensures { IsTrue result ↔ Contains (members self.now) state.now }
+    {
+        self.items.binary_search(state).is_ok()
+    }
+
+    /// Adds the state, where the set does not have it.
+    pub fn insert(&mut self, state: State) -> Result<(), AllocError>
+        ensures ok { OnOk result (AddsMember (members self.old) (members self.new) state) }
+        ensures err { OnErr result (members self.new ≡ members self.old) }
+    {
+        if let Err(place) = self.items.binary_search(&state) {
+            self.items.insert(place, state)?;
+        }
+        Ok(())
+    }
+
+    /// A set of the same states.
+    pub fn copy(&self) -> Result<States, AllocError>
+        ensures { IfOk result (λ states. members states ≡ members self.now) }
+    {
+        Ok(States {
+            items: self.items.clone()?,
+        })
+    }
+}

@@ -1,0 +1,72 @@
+-- What one event more makes of a transaction's text: whether it is a text still, its pending call, and whether it has ended.
+use Rattle.std.proofs.Common.{◌≡◌, ◌&&◌, ◌-◌, ◌++◌, ℕ, Bool, true, false, not, List, suc, [], ◌∷◌, length, Option, Some, None, refl, sym, ◌∙◌, arith, length-append}
+use Rattle.std.specs.Prelude.{slice_get}
+use Rattle.std.proofs.lemmas.Bool.{and_parts}
+use Rattle.tmw_events.specs.declared.event.Kind.{Kind}
+use Rattle.tmw_events.specs.declared.event.Kind.TheVariants.{R, V, K, C, A}
+use Rattle.tmw_defs.specs.History.{is_call, answers, ends, is_text, status_after, is_over, is_ended}
+use Rattle.tmw_wellformed.specs.Pending.{call_of}
+use Rattle.tmw_wellformed.specs.Faults.{asks}
+
+slice_get_end : {A : Type 0} (xs : List A) (x : A) → slice_get (xs ++ x ∷ []) (length xs) ≡ Some x
+slice_get_end [] x = refl
+slice_get_end (y ∷ xs) x = slice_get_end xs x
+
+-- an event ends its transaction exactly where it is the last of an ended one
+is_over-ends : (k : Kind) → is_over (status_after (Some k)) ≡ ends k
+is_over-ends (R r) = refl
+is_over-ends _ = refl
+
+pub is_ended-push : (text : List Kind) (k : Kind) → is_ended (text ++ k ∷ []) ≡ ends k
+is_ended-push text k =
+    let last : length (text ++ k ∷ []) - 1 ≡ length text = omega (arith, length-append text (k ∷ [])) in
+    rw (last, slice_get_end text k) (is_over-ends k)
+
+is_ended-cons : (k j : Kind) (ks : List Kind) → is_ended (k ∷ j ∷ ks) ≡ is_ended (j ∷ ks)
+is_ended-cons k j ks =
+    let later : length (k ∷ j ∷ ks) - 1 ≡ suc (length (j ∷ ks) - 1) = omega arith in
+    rw later refl
+
+-- the pending call with one event more
+abbrev pub next_call : Option Kind → Kind → Option Kind
+next_call None k = Some k
+next_call (Some call) k = None
+
+pub call_of-push : (text : List Kind) (k : Kind) → call_of (text ++ k ∷ []) ≡ next_call (call_of text) k
+call_of-push [] k = refl
+call_of-push (c ∷ []) k = refl
+call_of-push (c ∷ a ∷ more) k = call_of-push more k
+
+-- the event is a call where none is pending, and else answers the pending one
+abbrev pub goes_on : ℕ → Option Kind → Kind → Bool
+goes_on registers None k = is_call registers k
+goes_on registers (Some call) k = answers call k
+
+pub is_text-push : (registers : ℕ) (text : List Kind) (k : Kind) → is_text registers text ≡ true → is_ended text ≡ false
+    → is_text registers (text ++ k ∷ []) ≡ goes_on registers (call_of text) k
+is_text-push registers [] k formed still = refl
+is_text-push registers (c ∷ []) k formed still = rw formed refl
+is_text-push registers (c ∷ a ∷ []) k formed still =
+    let (call, answer) = and_parts (is_call registers c) (answers c a) formed in
+    let unended : ends a ≡ false = sym (is_over-ends a) ∙ still in
+    rw (call, answer, unended) refl
+is_text-push registers (c ∷ a ∷ b ∷ more) k formed still =
+    let (front, rest) = and_parts (is_call registers c && answers c a && not (ends a)) (is_text registers (b ∷ more)) formed in
+    let still_rest : is_ended (b ∷ more) ≡ false = sym (is_ended-cons a b more) ∙ sym (is_ended-cons c a (b ∷ more)) ∙ still in
+    rw front (is_text-push registers (b ∷ more) k rest still_rest)
+
+is_call-asks : (registers : ℕ) (k : Kind) → is_call registers k ≡ true → asks k ≡ true
+is_call-asks registers (V v) call = cc
+is_call-asks registers K call = cc
+is_call-asks registers C call = cc
+is_call-asks registers A call = cc
+is_call-asks registers _ call = refl
+
+-- what is pending is a call
+pub pending_asks : (registers : ℕ) (text : List Kind) (c : Kind) → is_text registers text ≡ true → call_of text ≡ Some c → asks c ≡ true
+pending_asks registers [] c formed is = cc
+pending_asks registers (d ∷ []) c formed is = let same : d ≡ c = cc in rw (← same) (is_call-asks registers d formed)
+pending_asks registers (d ∷ a ∷ []) c formed is = cc
+pending_asks registers (d ∷ a ∷ b ∷ more) c formed is =
+    let (front, rest) = and_parts (is_call registers d && answers d a && not (ends a)) (is_text registers (b ∷ more)) formed in
+    pending_asks registers (b ∷ more) c rest is

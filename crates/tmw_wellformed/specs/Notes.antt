@@ -1,0 +1,19 @@
+-- What an event is to its transaction: whether it begins it, and how it ends it.
+use Rattle.std.specs.Prelude.{◌≡◌, ◌+◌, ◌↔◌, List, [], ◌∷◌, ◌++◌, length, Option, Some, None, IsTrue}
+use Rattle.tmw_events.specs.declared.event.Event.{Event}
+use Rattle.tmw_events.specs.declared.event.Kind.{Kind}
+use Rattle.tmw_events.specs.declared.event.Kind.TheVariants.{C, A}
+use Rattle.tmw_defs.specs.History.{transactions}
+use Rattle.tmw_wellformed.specs.declared.note.End.{End}
+use Rattle.tmw_wellformed.specs.declared.note.End.TheVariants.{Commit, Abort}
+use Rattle.tmw_wellformed.specs.declared.note.Note.{Note}
+
+abbrev pub end_of : Kind → Option End
+end_of C = Some Commit
+end_of A = Some Abort
+end_of _ = None
+
+-- The note tells of the event after the history whether there is a transaction more with it, and whether and how it ends its own.
+pub record Notes (history : List Event) (event : Event) (note : Note) : Type 0 where
+  pub begins : IsTrue note.begins ↔ (length (transactions (history ++ event ∷ [])) ≡ length (transactions history) + 1)
+  pub ends : note.ends ≡ end_of event.kind

@@ -1,0 +1,11 @@
+//! Whether a history is well-formed, told event by event in a few bytes of memory.
+#![tactic(auto)]
+
+mod malformed;
+mod note;
+mod phase;
+mod tracker;
+
+pub use malformed::Malformed;
+pub use note::{End, Note};
+pub use tracker::Tracker;
