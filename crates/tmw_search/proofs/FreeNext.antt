@@ -8,8 +8,10 @@ use Rattle.tmw_defs.specs.History.{Txn}
 use Rattle.tmw_defs.specs.Opaque.{precedes}
 use Rattle.tmw_defs.proofs.LayersProof.{same_place, bit_cases}
 use Rattle.tmw_defs.proofs.Masks.{bit_at-more_same, bit_at-more_other}
-use Rattle.tmw_search.specs.Nexts.{Seen, is_next}
-use Rattle.tmw_search.specs.Shows.{flag, ShowsOne}
+use Rattle.tmw_cuts.specs.Views.{View}
+use Rattle.tmw_search.specs.Nexts.{is_next}
+use Rattle.tmw_cuts.specs.Views.{bit}
+use Rattle.tmw_search.specs.Shows.{ShowsOne}
 
 pub mask-set : (mask place : ℕ) → place < 8 → bit_at mask place ≡ 0 → bit_or mask (1 * 2 ^ place % 2 ^ 8) ≡ mask + 2 ^ place
 mask-set mask place within new = same_from_bits (bit_or mask (1 * 2 ^ place % 2 ^ 8)) (mask + 2 ^ place) (λ i.
@@ -43,12 +45,12 @@ left_none before mask fits small each = same_from_bits (bit_and before (bit_not 
           omega (arith, both, one, each i one, bit_at_not w8 mask i small low, bit_at-zero i)
     ])
 
-flag_true : (b : Bool) → flag b ≡ 1 → b ≡ true
-flag_true true h = refl
-flag_true false h = absurd (omega (arith, h))
+bit_true : (b : Bool) → bit b ≡ 1 → b ≡ true
+bit_true true h = refl
+bit_true false h = absurd (omega (arith, h))
 
 -- the test tells that it isn't placed, and that none that is left precedes it
-pub next_free : (ts : List Txn) (x : Seen) (t : Txn) (place mask : ℕ) → length ts ≤ 8 → ShowsOne ts x t → mask < 2 ^ 8
+pub next_free : (ts : List Txn) (x : View) (t : Txn) (place mask : ℕ) → length ts ≤ 8 → ShowsOne ts x t → mask < 2 ^ 8
     → x.before < 2 ^ 8 → IsTrue (is_next x place mask)
     → (bit_at mask place ≡ 0) × ((i : ℕ) (u : Txn) → slice_get ts i ≡ Some u → bit_at mask i ≡ 0 → precedes u t ≡ false)
 next_free ts x t place mask few s small fits next =
@@ -58,27 +60,27 @@ next_free ts x t place mask few s small fits next =
       λ i u at out.
           elim (cases_Bool (precedes u t)) [
             | inl before ↦ absurd (
-                let bit : bit_at x.before i ≡ 1 = s.bits i u at ∙ ap flag before in
+                let bit : bit_at x.before i ≡ 1 = s.bits i u at ∙ ap bit before in
                 omega (arith, out, left i bit))
             | inr other ↦ other
           ],
     )
 
-pub free-next : (ts : List Txn) (x : Seen) (t : Txn) (place mask : ℕ) → length ts ≤ 8 → ShowsOne ts x t → mask < 2 ^ 8
+pub free-next : (ts : List Txn) (x : View) (t : Txn) (place mask : ℕ) → length ts ≤ 8 → ShowsOne ts x t → mask < 2 ^ 8
     → x.before < 2 ^ 8 → bit_at mask place ≡ 0
     → ((i : ℕ) (u : Txn) → slice_get ts i ≡ Some u → bit_at mask i ≡ 0 → precedes u t ≡ false) → IsTrue (is_next x place mask)
 free-next ts x t place mask few s small fits new free =
     let none = left_none x.before mask fits small (λ i one.
     let within = place_within ts x i s.fits one in
     let u = slice_get_some ts i within in
-    let before : precedes u.0 t ≡ true = flag_true (precedes u.0 t) (sym (s.bits i u.0 u.1) ∙ one) in
+    let before : precedes u.0 t ≡ true = bit_true (precedes u.0 t) (sym (s.bits i u.0 u.1) ∙ one) in
     elim (bit_cases mask i) [
       | inl out ↦ absurd (let k = free i u.0 u.1 out in cc)
       | inr is ↦ is
     ]) in
     and_from (bit_at mask place == 0) _ (eq-eqb (bit_at mask place) 0 new) (eq-eqb _ 0 none)
   where
-    place_within : (ts : List Txn) (x : Seen) (i : ℕ) → x.before < 2 ^ length ts → bit_at x.before i ≡ 1 → i < length ts
+    place_within : (ts : List Txn) (x : View) (i : ℕ) → x.before < 2 ^ length ts → bit_at x.before i ≡ 1 → i < length ts
     place_within ts x i fits one =
         elim (cases_lt i (length ts))
         [ inl within ↦ within | inr past ↦ absurd (omega (arith, one, bit_at_above x.before (length ts) i fits past)) ]

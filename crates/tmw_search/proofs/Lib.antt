@@ -4,5 +4,8 @@ mod LayerLists
 mod NextSteps
 mod Replaying
 mod Sorting
+mod Stepping
 mod Steps
 mod Weighing
+mod WindowLayers
+mod WindowViews

@@ -12,7 +12,8 @@ use Rattle.tmw_defs.specs.declared.status.Status.TheVariants.{Live, Pending, Com
 use Rattle.tmw_defs.specs.History.{Txn, status_of, operations}
 use Rattle.tmw_defs.specs.Layers.{IsStep}
 use Rattle.tmw_defs.specs.Opaque.{State, Placed, precedes, may_hold, may_be, reads_hold, after, after_writes}
-use Rattle.tmw_search.specs.Nexts.{Seen, is_next, ways, next_at, nexts_from}
+use Rattle.tmw_cuts.specs.Views.{View}
+use Rattle.tmw_search.specs.Nexts.{is_next, ways, next_at, nexts_from}
 use Rattle.tmw_search.specs.Shows.{ShowsOne, Shows}
 use Rattle.tmw_defs.proofs.LayersProof.{same_place}
 use Rattle.tmw_search.proofs.FreeNext.{mask-set, next_free, free-next}
@@ -78,26 +79,26 @@ way-in Aborted above held left_out true may = absurd (cc)
 way-in Aborted above held left_out false may = contains_here _ []
 
 -- members of the whole come from one place
-pub record ComesFrom (base : ℕ) (xs : List Seen) (p q : ℕ × State) : Type 0 where
+pub record ComesFrom (base : ℕ) (xs : List View) (p q : ℕ × State) : Type 0 where
   pub place : ℕ
-  pub seen : Seen
-  pub at : slice_get xs place ≡ Some seen
-  pub made : Contains (next_at seen (base + place) p) q
+  pub shown : View
+  pub at : slice_get xs place ≡ Some shown
+  pub made : Contains (next_at shown (base + place) p) q
 
-pub comes_from : (base : ℕ) (xs : List Seen) (p q : ℕ × State) → Contains (nexts_from base xs p) q → ComesFrom base xs p q
+pub comes_from : (base : ℕ) (xs : List View) (p q : ℕ × State) → Contains (nexts_from base xs p) q → ComesFrom base xs p q
 comes_from base [] p q has = absurd (contains_none q has)
 comes_from base (x ∷ xs) p q has =
     elim (Contains-append_cases (next_at x base p) (nexts_from (base + 1) xs p) q has) [
       | inl here ↦
           let same : base + 0 ≡ base = omega arith in
-          record { place = zero; seen = x; at = refl; made = rw same here }
+          record { place = zero; shown = x; at = refl; made = rw same here }
       | inr later ↦
           let c = comes_from (base + 1) xs p q later in
           let same : base + suc c.place ≡ base + 1 + c.place = omega arith in
-          record { place = suc c.place; seen = c.seen; at = c.at; made = rw same c.made }
+          record { place = suc c.place; shown = c.shown; at = c.at; made = rw same c.made }
     ]
 
-pub comes-from : (base : ℕ) (xs : List Seen) (p q : ℕ × State) (place : ℕ) (x : Seen) → slice_get xs place ≡ Some x
+pub comes-from : (base : ℕ) (xs : List View) (p q : ℕ × State) (place : ℕ) (x : View) → slice_get xs place ≡ Some x
     → Contains (next_at x (base + place) p) q → Contains (nexts_from base xs p) q
 comes-from base [] p q place x at made = absurd (cc)
 comes-from base (y ∷ xs) p q zero x at made =
@@ -110,12 +111,12 @@ comes-from base (y ∷ xs) p q (suc place) x at made =
     (comes-from (base + 1) xs p q place x at (rw same at made))
 
 -- what is made at a place, where it is made
-pub record IsMade (x : Seen) (place : ℕ) (p q : ℕ × State) : Type 0 where
+pub record IsMade (x : View) (place : ℕ) (p q : ℕ × State) : Type 0 where
   pub next : IsTrue (is_next x place p.0)
   pub reads : IsTrue (reads_hold p.1 x.ops)
   pub way : IsWay x.status (bit_or p.0 (1 * 2 ^ place % 2 ^ 8)) (after_writes p.1 x.ops) p.1 q
 
-made_of : (x : Seen) (place : ℕ) (p q : ℕ × State) → Contains (next_at x place p) q → IsMade x place p q
+made_of : (x : View) (place : ℕ) (p q : ℕ × State) → Contains (next_at x place p) q → IsMade x place p q
 made_of x place p q has =
     elim (cases_Bool (is_next x place p.0 && reads_hold p.1 x.ops)) [
       | inl is ↦
@@ -124,7 +125,7 @@ made_of x place p q has =
       | inr other ↦ absurd (contains_none q (rw other at has))
     ]
 
-made-in : (x : Seen) (place : ℕ) (p : ℕ × State) (by : Bool) → IsTrue (is_next x place p.0) → IsTrue (reads_hold p.1 x.ops)
+made-in : (x : View) (place : ℕ) (p : ℕ × State) (by : Bool) → IsTrue (is_next x place p.0) → IsTrue (reads_hold p.1 x.ops)
     → IsTrue (may_hold x.status by)
     → Contains (next_at x place p)
     (let r : ℕ × State = (bit_or p.0 (1 * 2 ^ place % 2 ^ 8), if by then after_writes p.1 x.ops else p.1) in r)
@@ -141,12 +142,12 @@ slice_get_some (x ∷ xs) (suc i) within = slice_get_some xs i (omega arith)
 eight_bits : (n bound : ℕ) → bound ≤ 8 → n < 2 ^ bound → n < 2 ^ 8
 eight_bits n bound few fits = omega (arith, fits, pow_mono few)
 
-after-way : (r : State) (x : Seen) (t : Txn) (by : Bool) → x.ops ≡ operations t.text
+after-way : (r : State) (x : View) (t : Txn) (by : Bool) → x.ops ≡ operations t.text
     → (if by then after_writes r x.ops else r) ≡ after r (record { txn = t; held = by })
 after-way r x t true ops = ap (after_writes r) ops
 after-way r x t false ops = refl
 
-step-made_at : (ts : List Txn) (x : Seen) (t : Txn) (place mask above : ℕ) (r u : State) → ShowsOne ts x t → slice_get ts place ≡ Some t
+step-made_at : (ts : List Txn) (x : View) (t : Txn) (place mask above : ℕ) (r u : State) → ShowsOne ts x t → slice_get ts place ≡ Some t
     → length ts ≤ 8 → mask < 2 ^ length ts → IsMade x place (mask, r) (above, u) → IsStep ts mask r above u
 step-made_at ts x t place mask above r u one at few fits made =
     let free = next_free ts x t place mask few one (eight_bits mask (length ts) few fits) (eight_bits x.before (length ts) few one.fits)
@@ -164,17 +165,17 @@ step-made_at ts x t place mask above r u one at few fits made =
     }
 
 -- what is made of a pair is a step from it
-pub step_of : (xs : List Seen) (ts : List Txn) (mask above : ℕ) (r u : State) → Shows xs ts → length ts ≤ 8 → mask < 2 ^ length ts
+pub step_of : (xs : List View) (ts : List Txn) (mask above : ℕ) (r u : State) → Shows xs ts → length ts ≤ 8 → mask < 2 ^ length ts
     → Contains (nexts_from 0 xs (mask, r)) (above, u) → IsStep ts mask r above u
 step_of xs ts mask above r u shows few fits has =
     let c = comes_from 0 xs (mask, r) (above, u) has in
-    let within = slice_get_within xs c.place c.seen c.at in
+    let within = slice_get_within xs c.place c.shown c.at in
     let there = slice_get_some ts c.place (omega (arith, shows.same_length)) in
     let same : 0 + c.place ≡ c.place = omega arith in
-    step-made_at ts c.seen there.0 c.place mask above r u (shows.each c.place c.seen there.0 c.at there.1) there.1 few fits
-    (made_of c.seen c.place (mask, r) (above, u) (rw same at c.made))
+    step-made_at ts c.shown there.0 c.place mask above r u (shows.each c.place c.shown there.0 c.at there.1) there.1 few fits
+    (made_of c.shown c.place (mask, r) (above, u) (rw same at c.made))
 
-step-in : (ts : List Txn) (x : Seen) (mask above : ℕ) (r u : State) (s : IsStep ts mask r above u) → ShowsOne ts x s.placed.txn
+step-in : (ts : List Txn) (x : View) (mask above : ℕ) (r u : State) (s : IsStep ts mask r above u) → ShowsOne ts x s.placed.txn
     → length ts ≤ 8 → mask < 2 ^ length ts → ((i : ℕ) (t : Txn) → slice_get ts i ≡ Some t → precedes t t ≡ false)
     → Contains (next_at x s.place (mask, r)) (above, u)
 step-in ts x mask above r u s one few fits none_self =
@@ -197,7 +198,7 @@ step-in ts x mask above r u s one few fits none_self =
     subst (λ (z : State). Contains (next_at x s.place (mask, r)) (above, z)) state_is one_is
 
 -- and each step from it is made
-pub step-made : (xs : List Seen) (ts : List Txn) (mask above : ℕ) (r u : State) → Shows xs ts → length ts ≤ 8 → mask < 2 ^ length ts
+pub step-made : (xs : List View) (ts : List Txn) (mask above : ℕ) (r u : State) → Shows xs ts → length ts ≤ 8 → mask < 2 ^ length ts
     → ((i : ℕ) (t : Txn) → slice_get ts i ≡ Some t → precedes t t ≡ false) → IsStep ts mask r above u
     → Contains (nexts_from 0 xs (mask, r)) (above, u)
 step-made xs ts mask above r u shows few fits none_self s =

@@ -1,3 +1,4 @@
+pub mod Ended
 pub mod Nexts
 pub mod Pairs
 pub mod Shown

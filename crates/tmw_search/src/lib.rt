@@ -1,6 +1,8 @@
 //! The plain check: whether a whole recorded history is opaque, by search over each of its prefixes.
 #![tactic(auto)]
 
+mod end_states;
+mod ends;
 mod judge;
 mod layers;
 mod nexts;
@@ -8,8 +10,9 @@ mod order;
 mod replay;
 mod text;
 mod transaction;
-mod txn;
 mod whole;
 
+pub use end_states::EndStates;
+pub use ends::{layer, outcomes, possible};
 pub use judge::{judge_whole, judge_whole_from};
 pub use whole::{Whole, WholeFault};

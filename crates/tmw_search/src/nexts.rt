@@ -1,14 +1,12 @@
 ghost use Rattle.std.specs.Prelude.{◌≡◌, ◌<◌, ◌≤◌, ◌++◌, OnOk, length, flat_map, map};
-ghost use Rattle.tmw_search.specs.Nexts.{seen, is_next, ways, next_at, nexts_from};
+ghost use Rattle.tmw_cuts.specs.Views.{view};
+ghost use Rattle.tmw_search.specs.Nexts.{is_next, ways, next_at, nexts_from};
 ghost use Rattle.tmw_search.specs.Shown.{Replays};
 
 use crate::replay::after_one;
-use crate::txn::Txn;
 use std::alloc::AllocError;
+use tmw_cuts::{State, Txn};
 use tmw_defs::{Op, Status};
-
-/// What each register holds.
-pub type State = [u64; 8];
 
 /// The transactions that were placed, as a mask, and the state that they have led to.
 pub type Reached = (u8, State);
@@ -30,7 +28,7 @@ fn replay(ops: &[Op], start: &State) -> Option<State>
 /// Whether the transaction at the place isn't placed, and no other that isn't precedes it.
 fn is_next(item: &Txn, place: usize, mask: u8) -> bool
     requires { place < 8 }
-    ensures { result ≡ is_next (seen item.now) place mask }
+    ensures { result ≡ is_next (view item.now) place mask }
 {
     mask >> place & 1 == 0 && item.before & !mask == 0
 }
@@ -43,7 +41,7 @@ fn push_next(
     reached: &Reached,
 ) -> Result<(), AllocError>
     requires { place < 8 }
-    ensures { OnOk result (nexts.new.items ≡ nexts.old.items ++ next_at (seen item.now) place reached.now) }
+    ensures { OnOk result (nexts.new.items ≡ nexts.old.items ++ next_at (view item.now) place reached.now) }
 {
     let (mask, state) = *reached;
     if !is_next(item, place, mask) {
@@ -77,7 +75,7 @@ fn push_ways(
 /// Adds what placing each transaction makes of what was reached.
 fn push_nexts(nexts: &mut Vec<Reached>, items: &[Txn], reached: &Reached) -> Result<(), AllocError>
     requires { length items.now ≤ 8 }
-    ensures { OnOk result (nexts.new.items ≡ nexts.old.items ++ nexts_from 0 (map seen items.now) reached.now) }
+    ensures { OnOk result (nexts.new.items ≡ nexts.old.items ++ nexts_from 0 (map view items.now) reached.now) }
 {
     for (place, item) in items.iter().enumerate() {
         push_next(nexts, item, place, reached)?;
@@ -92,7 +90,7 @@ pub fn push_all(
     layer: &[Reached],
 ) -> Result<(), AllocError>
     requires { length items.now ≤ 8 }
-    ensures { OnOk result (nexts.new.items ≡ nexts.old.items ++ flat_map (nexts_from 0 (map seen items.now)) layer.now) }
+    ensures { OnOk result (nexts.new.items ≡ nexts.old.items ++ flat_map (nexts_from 0 (map view items.now)) layer.now) }
 {
     for reached in layer {
         push_nexts(nexts, items, reached)?;

@@ -1,0 +1,50 @@
+-- The layers of what a window shows are those of its events.
+use Rattle.std.proofs.Common.{◌≡◌, ◌↔◌, ◌≤◌, ◌-◌, ◌^◌, ℕ, List, [], ◌∷◌, length, map, Result, Ok, Err, IfOk, sym, ap, subst, ◌∙◌, arith}
+use Rattle.std.specs.List.{Contains}
+use Rattle.tmw_events.specs.declared.event.Event.{Event}
+use Rattle.tmw_defs.specs.History.{transactions}
+use Rattle.tmw_defs.specs.Layers.{InLayer}
+use Rattle.tmw_defs.specs.Opaque.{State}
+use Rattle.tmw_defs.proofs.LayersProof.{layer-last, layer_last}
+use Rattle.tmw_cuts.specs.declared.states.States.{States}
+use Rattle.tmw_cuts.specs.declared.window.Window.{Window}
+use Rattle.tmw_cuts.specs.Members.{members}
+use Rattle.tmw_cuts.specs.Views.{View}
+use Rattle.tmw_cuts.specs.Standing.{StandsFor, views}
+use Rattle.tmw_cuts.proofs.Pushes.{length-views_of}
+use Rattle.tmw_search.specs.Ended.{EndsOf, AreLayer}
+use Rattle.tmw_search.specs.Pairs.{IsLayer}
+use Rattle.tmw_search.specs.Shows.{Shows}
+use Rattle.tmw_search.proofs.WindowViews.{shows-views_of, none_before_itself}
+
+pub if_ok : {X E : Type 0} (r : Result X E) (P Q : X → Type 0) → IfOk r P → ((x : X) → P x → Q x) → IfOk r Q
+if_ok (Ok x) P Q holds step = step x holds
+if_ok (Err e) P Q holds step = holds
+
+pub window-layer : (states : States) (window : Window) (start : List State) (xs : List View) (k : ℕ) (pairs : List (ℕ × State))
+    → start ≡ members states → xs ≡ views window → IsLayer start xs k pairs → AreLayer states window k pairs
+window-layer states window start xs k pairs same shown is = λ events stands p.
+    let shows : Shows xs (transactions events) = subst (λ (v : List View). Shows v (transactions events))
+    (sym (shown ∙ stands.shows)) (shows-views_of events) in
+    subst (λ (s : List State). Contains pairs p ↔ InLayer (Contains s) (transactions events) k p.0 p.1) same
+    (is (transactions events) shows (none_before_itself events) p)
+
+-- the last layer has just the end states, each with all of the transactions
+pub last_layer : (states : States) (window : Window) (k : ℕ) (pairs : List (ℕ × State)) (events : List Event)
+    → AreLayer states window k pairs → k ≡ length (views window) → StandsFor window events
+    → (p : ℕ × State) → Contains pairs p → EndsOf states events p.1
+last_layer states window k pairs events are all stands p has =
+    let count : k ≡ length (transactions events) = all ∙ ap (λ (v : List View). length v) stands.shows ∙ length-views_of events in
+    layer_last (Contains (members states)) (transactions events) p.0 p.1
+    (subst (λ (n : ℕ). InLayer (Contains (members states)) (transactions events) n p.0 p.1) count ((are events stands p).0 has))
+
+pub last-layer : (states : States) (window : Window) (k : ℕ) (pairs : List (ℕ × State)) (events : List Event)
+    → AreLayer states window k pairs → k ≡ length (views window) → StandsFor window events
+    → (end : State) → EndsOf states events end
+    → Contains pairs (let r : ℕ × State = (2 ^ length (transactions events) - 1, end) in r)
+last-layer states window k pairs events are all stands end ends =
+    let count : k ≡ length (transactions events) = all ∙ ap (λ (v : List View). length v) stands.shows ∙ length-views_of events in
+    let r : ℕ × State = (2 ^ length (transactions events) - 1, end) in
+    (are events stands r).1
+    (subst (λ (n : ℕ). InLayer (Contains (members states)) (transactions events) n r.0 r.1) (sym count)
+    (layer-last (Contains (members states)) (transactions events) end ends))
