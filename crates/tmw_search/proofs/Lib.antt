@@ -1,5 +1,6 @@
 mod Adding
 mod FreeNext
+mod Gathering
 mod LayerLists
 mod NextSteps
 mod Replaying

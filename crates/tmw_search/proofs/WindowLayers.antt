@@ -1,6 +1,7 @@
 -- The layers of what a window shows are those of its events.
-use Rattle.std.proofs.Common.{◌≡◌, ◌↔◌, ◌≤◌, ◌-◌, ◌^◌, ℕ, List, [], ◌∷◌, length, map, Result, Ok, Err, IfOk, sym, ap, subst, ◌∙◌, arith}
+use Rattle.std.proofs.Common.{◌≡◌, ◌==◌, ◌↔◌, ◌≤◌, ◌-◌, ◌^◌, ℕ, false, not, List, [], ◌∷◌, length, map, Result, Ok, Err, IfOk, refl, sym, ap, subst, ◌∙◌, inl, inr, arith}
 use Rattle.std.specs.List.{Contains}
+use Rattle.std.proofs.lemmas.Bool.{cases_Bool, not-true, eqb-true}
 use Rattle.tmw_events.specs.declared.event.Event.{Event}
 use Rattle.tmw_defs.specs.History.{transactions}
 use Rattle.tmw_defs.specs.Layers.{InLayer}
@@ -12,9 +13,10 @@ use Rattle.tmw_cuts.specs.Members.{members}
 use Rattle.tmw_cuts.specs.Views.{View}
 use Rattle.tmw_cuts.specs.Standing.{StandsFor, views}
 use Rattle.tmw_cuts.proofs.Pushes.{length-views_of}
-use Rattle.tmw_search.specs.Ended.{EndsOf, AreLayer}
+use Rattle.tmw_search.specs.Ended.{EndsOf, AreLayer, TellsEnd}
 use Rattle.tmw_search.specs.Pairs.{IsLayer}
 use Rattle.tmw_search.specs.Shows.{Shows}
+use Rattle.tmw_search.proofs.NextSteps.{contains_here, contains_none}
 use Rattle.tmw_search.proofs.WindowViews.{shows-views_of, none_before_itself}
 
 pub if_ok : {X E : Type 0} (r : Result X E) (P Q : X → Type 0) → IfOk r P → ((x : X) → P x → Q x) → IfOk r Q
@@ -48,3 +50,25 @@ last-layer states window k pairs events are all stands end ends =
     (are events stands r).1
     (subst (λ (n : ℕ). InLayer (Contains (members states)) (transactions events) n r.0 r.1) (sym count)
     (layer-last (Contains (members states)) (transactions events) end ends))
+
+-- a layer is empty just where the window has no end state
+empty_none : {X : Type 0} (xs : List X) (x : X) → length xs ≡ 0 → Contains xs x → ⊥
+empty_none [] x none has = contains_none x has
+empty_none (y ∷ xs) x none has = absurd (omega (arith, none))
+
+some_first : {X : Type 0} (xs : List X) → ((length xs == 0) ≡ false) → (x : X) × Contains xs x
+some_first [] some = absurd (cc)
+some_first (x ∷ xs) some = (x, contains_here x xs)
+
+pub tells-end : (states : States) (window : Window) (k : ℕ) (pairs : List (ℕ × State)) → AreLayer states window k pairs
+    → k ≡ length (views window) → TellsEnd states window (not (length pairs == 0))
+tells-end states window k pairs are all = λ events stands. (
+  λ some.
+      let p = some_first pairs (not-true _ some) in
+      (p.0.1, last_layer states window k pairs events are all stands p.0 p.1),
+  λ ends. elim (cases_Bool (length pairs == 0)) [
+    | inl none ↦ absurd (empty_none pairs _ (eqb-true (length pairs) 0 none)
+        (last-layer states window k pairs events are all stands ends.0 ends.1))
+    | inr some ↦ rw some refl
+  ],
+)

@@ -1,0 +1,96 @@
+-- States that are gathered from pairs: those gathered and those of the pairs left are those of all.
+use Rattle.std.proofs.Common.{◌≡◌, ◌⊎◌, ◌+◌, ◌<◌, ◌≤◌, ◌-◌, ◌^◌, ℕ, zero, suc, List, [], ◌∷◌, drop, length, refl, sym, ap, subst, ◌∙◌, inl, inr, arith}
+use Rattle.std.specs.List.{Contains}
+use Rattle.std.specs.Prelude.{slice_index_or}
+use Rattle.std.proofs.Math.Seq.{drop-cons}
+use Rattle.tmw_events.specs.declared.event.Event.{Event}
+use Rattle.tmw_defs.specs.History.{transactions}
+use Rattle.tmw_defs.specs.Opaque.{State}
+use Rattle.tmw_cuts.specs.declared.states.States.{States}
+use Rattle.tmw_cuts.specs.declared.window.Window.{Window}
+use Rattle.tmw_cuts.specs.Members.{members, AddsMember}
+use Rattle.tmw_cuts.specs.Standing.{StandsFor, views}
+use Rattle.tmw_search.specs.declared.end_states.EndStates.TheVariants.{Few, Many}
+use Rattle.tmw_search.specs.Ended.{EndsOf, AreLayer, AreEnds}
+use Rattle.tmw_search.proofs.NextSteps.{contains_here, contains_later, contains_cases, contains_none}
+use Rattle.tmw_search.proofs.WindowLayers.{last_layer, last-layer}
+
+-- a pair of the list has this state
+pub record HasState (pairs : List (ℕ × State)) (s : State) : Type 0 where
+  pub pair : ℕ × State
+  pub within : Contains pairs pair
+  pub is : pair.1 ≡ s
+
+pub record Gathers (ends : List State) (left all : List (ℕ × State)) : Type 0 where
+  pub only : (s : State) → Contains ends s → HasState all s
+  pub within : (p : ℕ × State) → Contains left p → Contains all p
+  pub each : (s : State) → HasState all s → Contains ends s ⊎ HasState left s
+
+pub gathers-none : (ends : List State) (all : List (ℕ × State)) → ends ≡ [] → Gathers ends all all
+gathers-none ends all none = record {
+  only = λ s has. absurd (contains_none s (rw none at has));
+  within = λ p has. has;
+  each = λ s has. inr has;
+}
+
+pub gathers-more : (ends more : List State) (p : ℕ × State) (left all : List (ℕ × State)) → Gathers ends (p ∷ left) all
+    → AddsMember ends more p.1 → Gathers more left all
+gathers-more ends more p left all g adds = record {
+  only = λ s has. elim ((adds s).0 has) [
+    | inl is ↦ record { pair = p; within = g.within p (contains_here p left); is = sym is }
+    | inr old ↦ g.only s old
+  ];
+  within = λ q has. g.within q (contains_later p q left has);
+  each = λ s has. elim (g.each s has) [
+    | inl old ↦ inl ((adds s).1 (inr old))
+    | inr h ↦ elim (contains_cases p h.pair left h.within) [
+        | inl is ↦ inl ((adds s).1 (inl (sym (ap (λ (q : ℕ × State). q.1) is ∙ h.is))))
+        | inr later ↦ inr (record { pair = h.pair; within = later; is = h.is })
+      ]
+  ];
+}
+
+pub gathers-all : (ends : List State) (all : List (ℕ × State)) (s : State) → Gathers ends [] all → HasState all s → Contains ends s
+gathers-all ends all s g has =
+    elim (g.each s has) [ inl here ↦ here | inr h ↦ absurd (contains_none h.pair h.within) ]
+
+pub gathers-next : (ends more : List State) (i : ℕ) (all : List (ℕ × State)) (d : ℕ × State) → i < length all
+    → Gathers ends (drop i all) all → AddsMember ends more (slice_index_or all i d).1 → Gathers more (drop (i + 1) all) all
+gathers-next ends more i all d within g adds =
+    let same : suc i ≡ i + 1 = omega arith in
+    let left : drop i all ≡ slice_index_or all i d ∷ drop (i + 1) all =
+    drop-cons all i d within ∙ ap (λ (n : ℕ). slice_index_or all i d ∷ drop n all) same in
+    gathers-more ends more (slice_index_or all i d) (drop (i + 1) all) all
+    (subst (λ (l : List (ℕ × State)). Gathers ends l all) left g) adds
+
+-- the gathered states of the last layer are end states of the window
+pub gathered-end : (states : States) (window : Window) (k : ℕ) (all left : List (ℕ × State)) (ends : List State) (events : List Event)
+    → AreLayer states window k all → k ≡ length (views window) → Gathers ends left all → StandsFor window events
+    → (s : State) → Contains ends s → EndsOf states events s
+gathered-end states window k all left ends events are count g stands s has =
+    let h = g.only s has in
+    subst (λ (r : State). EndsOf states events r) h.is (last_layer states window k all events are count stands h.pair h.within)
+
+pub gathered-more : (states : States) (window : Window) (k cap : ℕ) (all left : List (ℕ × State)) (ends : States)
+    → AreLayer states window k all → k ≡ length (views window) → Gathers (members ends) left all → cap < length (members ends)
+    → AreEnds states window cap Many
+gathered-more states window k cap all left ends are count g more = λ events stands.
+    (members ends, ends.rising, more, gathered-end states window k all left (members ends) events are count g stands)
+
+pub gathered-few : (states : States) (window : Window) (k cap : ℕ) (all left : List (ℕ × State)) (ends : States)
+    → AreLayer states window k all → k ≡ length (views window) → Gathers (members ends) left all → left ≡ []
+    → length (members ends) ≤ cap → AreEnds states window cap (Few ends)
+gathered-few states window k cap all left ends are count g none few = λ events stands.
+    (few, λ s. (
+      gathered-end states window k all left (members ends) events are count g stands s,
+      λ end.
+          let pair : ℕ × State = (2 ^ length (transactions events) - 1, s) in
+          gathers-all (members ends) all s (subst (λ (l : List (ℕ × State)). Gathers (members ends) l all) none g)
+          (record { pair = pair; within = last-layer states window k all events are count stands s end; is = refl }),
+    ))
+
+pub drop_past : {X : Type 0} (n : ℕ) (xs : List X) → length xs ≤ n → drop n xs ≡ []
+drop_past zero [] past = refl
+drop_past zero (x ∷ xs) past = absurd (omega arith)
+drop_past (suc n) [] past = refl
+drop_past (suc n) (x ∷ xs) past = drop_past n xs (omega arith)
