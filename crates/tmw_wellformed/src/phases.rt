@@ -15,7 +15,7 @@ pub struct Phases {
 impl Phases {
     ghost use Rattle.tmw_wellformed.specs.declared.phase.Phase.TheVariants.{Between};
 
-    /// No thread has a live transaction.
+    /// Each thread is between transactions.
     pub fn new() -> Phases
         ensures { result.by_thread ≡ replicate 8 Between }
     {
