@@ -44,9 +44,9 @@ gathers-more ends more p left all g adds = record {
   each = λ s has. elim (g.each s has) [
     | inl old ↦ inl ((adds s).1 (inr old))
     | inr h ↦ elim (contains_cases p h.pair left h.within) [
-        | inl is ↦ inl ((adds s).1 (inl (sym (ap (λ (q : ℕ × State). q.1) is ∙ h.is))))
-        | inr later ↦ inr (record { pair = h.pair; within = later; is = h.is })
-      ]
+      | inl is ↦ inl ((adds s).1 (inl (sym (ap (λ (q : ℕ × State). q.1) is ∙ h.is))))
+      | inr later ↦ inr (record { pair = h.pair; within = later; is = h.is })
+    ]
   ];
 }
 
@@ -80,17 +80,13 @@ gathered-more states window k cap all left ends are count g more = λ events sta
 pub gathered-few : (states : States) (window : Window) (k cap : ℕ) (all left : List (ℕ × State)) (ends : States)
     → AreLayer states window k all → k ≡ length (views window) → Gathers (members ends) left all → left ≡ []
     → length (members ends) ≤ cap → AreEnds states window cap (Few ends)
-gathered-few states window k cap all left ends are count g none few = λ events stands.
-    (few, λ s. (
-      gathered-end states window k all left (members ends) events are count g stands s,
-      λ end.
-          let pair : ℕ × State = (2 ^ length (transactions events) - 1, s) in
-          gathers-all (members ends) all s (subst (λ (l : List (ℕ × State)). Gathers (members ends) l all) none g)
-          (record { pair = pair; within = last-layer states window k all events are count stands s end; is = refl }),
-    ))
-
-pub drop_past : {X : Type 0} (n : ℕ) (xs : List X) → length xs ≤ n → drop n xs ≡ []
-drop_past zero [] past = refl
-drop_past zero (x ∷ xs) past = absurd (omega arith)
-drop_past (suc n) [] past = refl
-drop_past (suc n) (x ∷ xs) past = drop_past n xs (omega arith)
+gathered-few states window k cap all left ends are count g none few = λ events stands. (
+  few,
+  λ s. (
+    gathered-end states window k all left (members ends) events are count g stands s,
+    λ end.
+        let pair : ℕ × State = (2 ^ length (transactions events) - 1, s) in
+        gathers-all (members ends) all s (subst (λ (l : List (ℕ × State)). Gathers (members ends) l all) none g)
+        (record { pair = pair; within = last-layer states window k all events are count stands s end; is = refl }),
+  ),
+)

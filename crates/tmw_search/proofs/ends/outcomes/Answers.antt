@@ -1,7 +1,7 @@
 use Rattle.std.proofs.Common.{◌≡◌, ◌≤◌, ◌+◌, ℕ, List, drop, length, ap, subst, sym, ◌∙◌, arith}
-use Rattle.tmw_defs.specs.Opaque.{State}
+use Rattle.std.proofs.lemmas.List.{drop_all}
 use Rattle.tmw_search.specs.Ended.{AreLayer}
-use Rattle.tmw_search.proofs.Gathering.{gathers-none, gathers-next, gathered-more, gathered-few, drop_past}
+use Rattle.tmw_search.proofs.Gathering.{gathers-none, gathers-next, gathered-more, gathered-few}
 use Rattle.tmw_search.proofs.ends.outcomes.Goals as goal
 
 pub loop-all-init : goal.loop-all-init
@@ -10,19 +10,21 @@ loop-all-init c = (gathers-none _ _ c.empty-ends.ensures, rw c.empty-ends.ensure
 pub returns-then-len-cap : goal.returns-then-len-cap
 returns-then-len-cap c =
     gathered-more c.args.states.now c.args.window.now c.count.result c.args.cap c.deref-all-items.result.now
-      (drop (c.loop-all._all-index + 1) c.deref-all-items.result.now) c.insert.new.self
-      (rw c.deref-all-items.ensures.value c.in_ok-last.ensures.exact) c.count.ensures.shown
-      (gathers-next _ _ c.loop-all._all-index c.deref-all-items.result.now _ c.loop-all-test.true c.loop-all.invariant.0
-        c.in_ok-insert.ensures.ok) (rw c.len.ensures at c.if-len-cap.true)
+    (drop (c.loop-all._all-index + 1) c.deref-all-items.result.now) c.insert.new.self
+    (rw c.deref-all-items.ensures.value c.in_ok-last.ensures.exact) c.count.ensures.shown
+    (gathers-next _ _ c.loop-all._all-index c.deref-all-items.result.now _ c.loop-all-test.true c.loop-all.invariant.0
+    c.in_ok-insert.ensures.ok) (rw c.len.ensures at c.if-len-cap.true)
 
 pub loop-all-preserved : goal.loop-all-preserved
-loop-all-preserved c =
-    (gathers-next _ _ c.loop-all._all-index c.deref-all-items.result.now _ c.loop-all-test.true c.loop-all.invariant.0
-        c.in_ok-insert.ensures.ok, rw c.len.ensures at c.if-len-cap.false)
+loop-all-preserved c = (
+  gathers-next _ _ c.loop-all._all-index c.deref-all-items.result.now _ c.loop-all-test.true c.loop-all.invariant.0
+      c.in_ok-insert.ensures.ok,
+  rw c.len.ensures at c.if-len-cap.false,
+)
 
 pub returns : goal.returns
 returns c =
     gathered-few c.args.states.now c.args.window.now c.count.result c.args.cap c.deref-all-items.result.now
-      (drop c.loop-all._all-index c.deref-all-items.result.now) c.loop-all.ends
-      (rw c.deref-all-items.ensures.value c.in_ok-last.ensures.exact) c.count.ensures.shown c.loop-all.invariant.0
-      (drop_past c.loop-all._all-index c.deref-all-items.result.now (omega (arith, c.loop-all-test.false))) c.loop-all.invariant.1
+    (drop c.loop-all._all-index c.deref-all-items.result.now) c.loop-all.ends
+    (rw c.deref-all-items.ensures.value c.in_ok-last.ensures.exact) c.count.ensures.shown c.loop-all.invariant.0
+    (drop_all c.loop-all._all-index c.deref-all-items.result.now (omega (arith, c.loop-all-test.false))) c.loop-all.invariant.1
