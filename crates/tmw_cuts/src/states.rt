@@ -100,3 +100,6 @@ impl States {
         })
     }
 }
+
+#[cfg(test)]
+mod tests;

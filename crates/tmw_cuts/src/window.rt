@@ -133,3 +133,6 @@ impl Window {
         })
     }
 }
+
+#[cfg(test)]
+mod tests;
