@@ -1,9 +1,8 @@
 -- What the search's values show: of its transactions those of the definitions, and of a state what operations make of it.
 use Rattle.std.specs.Prelude.{◌≡◌, ◌==◌, ◌&&◌, ℕ, Bool, not, List, map, Option, Some, None, IsTrue, IsFalse}
 use Rattle.std.specs.Borrow.{Bor}
-use Rattle.std.specs.List.{list_all}
 use Rattle.tmw_defs.specs.declared.op.Op.{Op}
-use Rattle.tmw_defs.specs.History.{Txn, is_text, is_ended}
+use Rattle.tmw_defs.specs.History.{Txn, is_ended}
 use Rattle.tmw_defs.specs.Opaque.{State, reads_hold, after_writes}
 use Rattle.tmw_search.specs.declared.transaction.Transaction.{Transaction}
 
@@ -20,10 +19,6 @@ shown ts = map (λ t. txn_of t.now) ts
 -- the thread's next event belongs to this transaction
 abbrev pub joins : ℕ → Transaction → Bool
 joins thread t = (t.thread.number == thread) && not (is_ended t.text.items)
-
--- each transaction's events form a text
-abbrev pub are_texts : ℕ → List Txn → Bool
-are_texts registers ts = list_all (λ t. is_text registers t.text) ts
 
 -- The result is the state after these operations, where each was answered what its register held then, and else None.
 abbrev pub Replays : State → List Op → Option State → Type 0

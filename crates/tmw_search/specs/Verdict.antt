@@ -2,7 +2,7 @@
 use Rattle.std.specs.Prelude.{◌≡◌, ◌<◌, ◌≤◌, ℕ, Bool, true, false, List, length, take, Result, Ok, Err, IsTrue, IsFalse}
 use Rattle.tmw_events.specs.declared.event.Event.{Event}
 use Rattle.tmw_defs.specs.History.{transactions, is_well_formed}
-use Rattle.tmw_defs.specs.Opaque.{State, IsFinalOpaque}
+use Rattle.tmw_defs.specs.Opaque.{State, HasOrder, IsFinalOpaque}
 use Rattle.tmw_search.specs.declared.whole.Whole.{Whole}
 use Rattle.tmw_search.specs.declared.whole.Whole.TheVariants.{Opaque, Violated}
 use Rattle.tmw_search.specs.declared.whole.WholeFault.{WholeFault}
@@ -40,10 +40,10 @@ Judges registers start history (Err (IllFormed m)) = IsFirst IsIllFormed registe
 Judges registers start history (Err (Ninth m)) = IsFirst HasNinth registers start history m
 Judges registers start history (Err Memory) = Unit {0}
 
--- What the result tells of this history alone, with no word of its prefixes.
-abbrev pub Weighs : ℕ → State → List Event → Result Bool WholeFault → Type 0
-Weighs registers start history (Ok true) = IsFine registers start history
-Weighs registers start history (Ok false) = IsViolated registers start history
-Weighs registers start history (Err (IllFormed m)) = (m ≡ length history) × IsIllFormed registers start history
-Weighs registers start history (Err (Ninth m)) = (m ≡ length history) × HasNinth registers start history
-Weighs registers start history (Err Memory) = Unit {0}
+-- What the result tells of this history alone, with no word of its prefixes, and whether or not it is well-formed.
+abbrev pub Weighs : State → List Event → Result Bool WholeFault → Type 0
+Weighs start history (Ok true) = (length (transactions history) ≤ 8) × HasOrder start (transactions history)
+Weighs start history (Ok false) = (length (transactions history) ≤ 8) × (HasOrder start (transactions history) → ⊥)
+Weighs start history (Err (IllFormed m)) = ⊥
+Weighs start history (Err (Ninth m)) = (m ≡ length history) × (8 < length (transactions history))
+Weighs start history (Err Memory) = Unit {0}

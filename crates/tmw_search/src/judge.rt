@@ -2,10 +2,11 @@ ghost use Rattle.tmw_defs.specs.Opaque.{zeros};
 ghost use Rattle.tmw_search.specs.Verdict.{Judges, Weighs};
 
 use crate::order::is_explained;
-use crate::transaction::{are_texts, transactions};
+use crate::transaction::transactions;
 use crate::whole::{Whole, WholeFault};
 use std::alloc::Global;
 use tmw_events::{Event, Registers};
+use tmw_wellformed::Tracker;
 
 /// Judges a history whose registers all begin at 0. See `judge_whole_from`.
 pub fn judge_whole(
@@ -29,27 +30,24 @@ pub fn judge_whole_from(
 ) -> Result<Whole, WholeFault>
     ensures { Judges registers.number start.now events.now result }
 {
-    for size in 0..events.len() + 1 {
-        if !is_final_opaque(alloc, registers, start, &events[..size])? {
+    let mut tracker = Tracker::new(registers);
+    for (place, event) in events.iter().enumerate() {
+        let size = place + 1;
+        if tracker.step(*event).is_err() {
+            return Err(WholeFault::IllFormed(size as u64));
+        }
+        if !has_legal_order(alloc, start, &events[..size])? {
             return Ok(Whole::Violated(size as u64));
         }
     }
     Ok(Whole::Opaque)
 }
 
-/// Whether a history is final-state opaque; a fault where it is ill-formed or has more than eight transactions.
-fn is_final_opaque(
-    alloc: Global,
-    registers: Registers,
-    start: &[u64; 8],
-    events: &[Event],
-) -> Result<bool, WholeFault>
-    ensures { Weighs registers.number start.now events.now result }
+/// Whether the transactions of a history have a legal serial order from the start; a fault where there are more than eight.
+fn has_legal_order(alloc: Global, start: &[u64; 8], events: &[Event]) -> Result<bool, WholeFault>
+    ensures { Weighs start.now events.now result }
 {
     let list = transactions(alloc, events)?;
-    if !are_texts(registers, &list) {
-        return Err(WholeFault::IllFormed(events.len() as u64));
-    }
     if list.len() > 8 {
         return Err(WholeFault::Ninth(events.len() as u64));
     }

@@ -1,10 +1,10 @@
 ghost use Rattle.std.specs.Prelude.{◌≡◌, IfOk, OnOk, position};
-ghost use Rattle.tmw_defs.specs.History.{add_event, transactions, is_well_formed};
-ghost use Rattle.tmw_search.specs.Shown.{txn_of, txns_of, joins, are_texts};
+ghost use Rattle.tmw_defs.specs.History.{add_event, transactions};
+ghost use Rattle.tmw_search.specs.Shown.{txn_of, txns_of, joins};
 
-use crate::text::{is_ended, is_text};
+use crate::text::is_ended;
 use std::alloc::{AllocError, Global};
-use tmw_events::{Event, Ix, Kind, Registers};
+use tmw_events::{Event, Ix, Kind};
 
 /// A transaction of a history: its thread, the places of its first and its last event, and its text.
 #[derive(Debug, Drop)]
@@ -61,16 +61,4 @@ pub fn transactions(alloc: Global, events: &[Event]) -> Result<Vec<Transaction>,
         add(alloc, &mut list, place, event)?;
     }
     Ok(list)
-}
-
-/// Whether each transaction's events form a text.
-pub fn are_texts(registers: Registers, list: &[Transaction]) -> bool
-    ensures { result ≡ are_texts registers.number (txns_of list.now) }
-{
-    for transaction in list {
-        if !is_text(registers, &transaction.text) {
-            return false;
-        }
-    }
-    true
 }

@@ -12,7 +12,7 @@ use Rattle.tmw_wellformed.specs.declared.phase.Phase.{Phase}
 use Rattle.tmw_wellformed.specs.declared.phase.Phase.TheVariants.{Between}
 use Rattle.tmw_wellformed.specs.Pending.{call_of}
 use Rattle.tmw_wellformed.specs.Faults.{asks, lacks_register, has_fault, earlier}
-use Rattle.tmw_wellformed.specs.Phases.{phase_in, phase_within, phase_of, is_live, waits, takes, next_phase}
+use Rattle.tmw_wellformed.specs.Phase.{phase_in, phase_within, phase_of, is_live, waits, takes, next_phase}
 use Rattle.tmw_wellformed.proofs.TextSteps.{next_call, goes_on, is_text-push, pending_asks}
 use Rattle.tmw_wellformed.proofs.HistorySteps.{text_of}
 

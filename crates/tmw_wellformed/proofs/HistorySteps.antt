@@ -13,8 +13,7 @@ use Rattle.tmw_wellformed.specs.Pending.{live_of}
 use Rattle.tmw_wellformed.proofs.TextSteps.{is_ended-push}
 
 abbrev pub flag : Bool → ℕ
-flag false = 0
-flag true = 1
+flag b = if b then 1 else 0
 
 abbrev pub still : Txn → Bool
 still t = not (is_ended t.text)
@@ -88,9 +87,7 @@ live_of-add_own place e ts ended =
     ∙ ap (live_after place e) (sym (live_of-thread thread ts))
 
 count_by-cons : (t : Txn) (ts : List Txn) → count_by still (t ∷ ts) ≡ flag (still t) + count_by still ts
-count_by-cons t ts =
-    let counted = sum_by-cons (λ u. if still u then 1 else 0) t ts in
-    elim (cases_Bool (still t)) [ inl live ↦ rw live (rw live at counted) | inr over ↦ rw over (rw over at counted) ]
+count_by-cons t ts = sum_by-cons (λ u. flag (still u)) t ts
 
 -- no transaction is live exactly where each has ended
 pub none_live-from_zero : (ts : List Txn) → count_by still ts ≡ 0 → IsTrue (list_all (λ t. is_ended t.text) ts)

@@ -1,9 +1,10 @@
 -- A tracker that a history fits, one event further.
-use Rattle.std.proofs.Common.{◌≡◌, ◌==◌, ◌&&◌, ◌+◌, ◌-◌, ◌++◌, ◌<◌, ◌↔◌, ℕ, zero, suc, true, false, not, List, [], ◌∷◌, length, Option, Some, None, Ok, Err, IsTrue, refl, sym, ap, ◌∙◌, inl, inr, arith}
+use Rattle.std.proofs.Common.{◌≡◌, ◌==◌, ◌&&◌, ◌+◌, ◌++◌, ◌<◌, ◌↔◌, ℕ, zero, suc, true, false, not, List, [], ◌∷◌, length, Option, Some, None, Ok, Err, IsTrue, refl, sym, ap, ◌∙◌, inl, inr, arith}
 use Rattle.std.specs.Prelude.{slice_get, slice_set, slice_index_or, is_some, count_by}
 use Rattle.std.specs.List.{list_all}
 use Rattle.std.proofs.lemmas.Bool.{cases_Bool, cases_eq, both_ways, and_parts, not-true, ne_eqb}
-use Rattle.std.proofs.lemmas.Option.{get_or_from_slice_get}
+use Rattle.std.proofs.lemmas.Option.{get_or_from_slice_get, slice_get_within}
+use Rattle.std.proofs.lemmas.List.Sums.{sum_by-set}
 use Rattle.tmw_events.specs.declared.event.Event.{Event}
 use Rattle.tmw_defs.specs.History.{Txn, ends, is_text, is_ended, transactions, is_well_formed, add_event}
 use Rattle.tmw_defs.proofs.OneMore.{transactions-push}
@@ -13,11 +14,12 @@ use Rattle.tmw_wellformed.specs.declared.malformed.Malformed.TheVariants.{Regist
 use Rattle.tmw_wellformed.specs.declared.note.Note.{Note}
 use Rattle.tmw_wellformed.specs.declared.phase.Phase.{Phase}
 use Rattle.tmw_wellformed.specs.declared.phase.Phase.TheVariants.{Between}
+use Rattle.tmw_wellformed.specs.declared.phases.Phases.{Phases}
 use Rattle.tmw_wellformed.specs.declared.tracker.Tracker.{Tracker}
 use Rattle.tmw_wellformed.specs.Pending.{live_of, pending_call, live_count, none_live}
 use Rattle.tmw_wellformed.specs.Faults.{lacks_register, Refuses}
 use Rattle.tmw_wellformed.specs.Notes.{Notes, end_of}
-use Rattle.tmw_wellformed.specs.Phases.{phase_of, is_live, next_phase}
+use Rattle.tmw_wellformed.specs.Phase.{phase_of, is_live, next_phase}
 use Rattle.tmw_wellformed.specs.Tracks.{Tracks}
 use Rattle.tmw_wellformed.proofs.TextSteps.{goes_on, call_of-push}
 use Rattle.tmw_wellformed.proofs.HistorySteps.{flag, still, found, live_of-add_other, live_of-add_own, live_after, live_count-add, length-add, none_live-from_zero, zero-from_none_live, list_all-add}
@@ -73,29 +75,35 @@ slice_get-set_other (z ∷ xs) (suc i) (suc j) y other = slice_get-set_other xs 
 
 -- the phase that the tracker has of a thread
 phase_read : (registers : ℕ) (history : List Event) (tracker : Tracker) (thread : ℕ) → Tracks registers history tracker → thread < 8
-    → slice_index_or tracker.phases thread Between ≡ phase_of (live_of thread (transactions history))
+    → slice_index_or tracker.phases.by_thread thread Between ≡ phase_of (live_of thread (transactions history))
 phase_read registers history tracker thread tracks below =
-    get_or_from_slice_get tracker.phases thread (phase_of (live_of thread (transactions history))) Between (tracks.phases thread below)
+    get_or_from_slice_get tracker.phases.by_thread thread (phase_of (live_of thread (transactions history))) Between (tracks.phases thread below)
 
 shown : (registers : ℕ) (history : List Event) (tracker : Tracker) (e : Event) → Tracks registers history tracker
-    → Shows (slice_index_or tracker.phases e.thread.number Between) (pending_call e.thread.number history)
+    → Shows (slice_index_or tracker.phases.by_thread e.thread.number Between) (pending_call e.thread.number history)
 shown registers history tracker e tracks =
     let thread = e.thread.number in
     rw (phase_read registers history tracker thread tracks e.thread.below)
     (shows registers (live_of thread (transactions history)) (live_is_open registers thread history tracks.formed))
 
+-- the number of live transactions with a thread in its next phase
+live-set : (old new : Phases) (i : ℕ) (next : Phase) → i < length old.by_thread → new.by_thread ≡ slice_set old.by_thread i next
+    → new.live + flag (is_live (slice_index_or old.by_thread i Between)) ≡ old.live + flag (is_live next)
+live-set old new i next within one_phase =
+    let counted = sum_by-set (λ p. flag (is_live p)) old.by_thread i next Between within in
+    omega (arith, old.counted, new.counted, ap (count_by is_live) one_phase, counted)
+
 -- the event is taken
 pub tracks-push : (registers : ℕ) (history : List Event) (e : Event) (old new : Tracker) (next : Phase) → Tracks registers history old
     → lacks_register old.registers.number e.kind ≡ false
-    → next_phase (slice_index_or old.phases e.thread.number Between) e.kind ≡ Ok next
+    → next_phase (slice_index_or old.phases.by_thread e.thread.number Between) e.kind ≡ Ok next
     → new.registers ≡ old.registers
-    → new.phases ≡ slice_set old.phases e.thread.number next
-    → new.live ≡ old.live + flag (is_live next) - flag (is_live (slice_index_or old.phases e.thread.number Between))
+    → new.phases.by_thread ≡ slice_set old.phases.by_thread e.thread.number next
     → Tracks registers (history ++ e ∷ []) new
-tracks-push registers history e old new next tracks has is same_registers one_phase counted =
+tracks-push registers history e old new next tracks has is same_registers one_phase =
     let thread = e.thread.number in
     let live = live_of thread (transactions history) in
-    let phase = slice_index_or old.phases thread Between in
+    let phase = slice_index_or old.phases.by_thread thread Between in
     let pending = pending_call thread history in
     let has_it : lacks_register registers e.kind ≡ false = ap (λ n. lacks_register n e.kind) (sym tracks.number) ∙ has in
     let accepts : Accepts registers pending e.kind next
@@ -105,6 +113,9 @@ tracks-push registers history e old new next tracks has is same_registers one_ph
     = ap is_live (phase_read registers history old thread tracks e.thread.below) ∙ is_live-phase_of live
     in
     let stays_live : is_live next ≡ not (ends e.kind) = ap is_live accepts.leads ∙ is_live-phase_after pending e.kind in
+    let counted : new.phases.live + flag (is_live phase) ≡ old.phases.live + flag (is_live next)
+    = live-set old.phases new.phases thread next (slice_get_within old.phases.by_thread thread (phase_of live) (tracks.phases thread e.thread.below)) one_phase
+    in
     let one_more : live_count (history ++ e ∷ []) ≡ count_by still (add_event (length history) e (transactions history))
     = ap (count_by still) (transactions-push history e)
     in
@@ -114,12 +125,12 @@ tracks-push registers history e old new next tracks has is same_registers one_ph
       phases = λ other below.
           elim (cases_eq other thread) [
             | inl own ↦ rw (own, one_phase) (
-                slice_get-set_same old.phases thread (phase_of live) next (tracks.phases thread e.thread.below)
+                slice_get-set_same old.phases.by_thread thread (phase_of live) next (tracks.phases thread e.thread.below)
                 ∙ ap Some (accepts.leads ∙ sym (phase_of-own history e))
                 )
             | inr away ↦
                 rw one_phase (
-                slice_get-set_other old.phases thread other next away
+                slice_get-set_other old.phases.by_thread thread other next away
                 ∙ tracks.phases other below
                 ∙ ap (λ o. Some (phase_of o)) (sym (live_of-other other history e (ne_eqb thread other (λ same. away (sym same)))))
                 )
@@ -135,12 +146,12 @@ tracks-push registers history e old new next tracks has is same_registers one_ph
     }
 
 pub notes-push : (registers : ℕ) (history : List Event) (e : Event) (old : Tracker) (note : Note) → Tracks registers history old
-    → note.begins ≡ not (is_live (slice_index_or old.phases e.thread.number Between))
+    → note.begins ≡ not (is_live (slice_index_or old.phases.by_thread e.thread.number Between))
     → note.ends ≡ end_of e.kind
     → Notes history e note
 notes-push registers history e old note tracks begins ends =
     let live = live_of e.thread.number (transactions history) in
-    let was_live : is_live (slice_index_or old.phases e.thread.number Between) ≡ is_some live
+    let was_live : is_live (slice_index_or old.phases.by_thread e.thread.number Between) ≡ is_some live
     = ap is_live (phase_read registers history old e.thread.number tracks e.thread.below) ∙ is_live-phase_of live
     in
     let fresh : note.begins ≡ not (is_some live) = begins ∙ ap not was_live in
@@ -174,16 +185,16 @@ refuses_lacking registers history e old tracks lacks =
 
 pub refuses_next : (registers : ℕ) (history : List Event) (e : Event) (old : Tracker) (fault : Malformed) → Tracks registers history old
     → lacks_register old.registers.number e.kind ≡ false
-    → next_phase (slice_index_or old.phases e.thread.number Between) e.kind ≡ Err fault → Refuses registers history e fault
+    → next_phase (slice_index_or old.phases.by_thread e.thread.number Between) e.kind ≡ Err fault → Refuses registers history e fault
 refuses_next registers history e old fault tracks has is =
     let has_it : lacks_register registers e.kind ≡ false = ap (λ n. lacks_register n e.kind) (sym tracks.number) ∙ has in
     let pending = pending_call e.thread.number history in
     refuses-from registers history e fault tracks.formed
-    (next_phase-rejects registers (slice_index_or old.phases e.thread.number Between) fault pending e.kind
+    (next_phase-rejects registers (slice_index_or old.phases.by_thread e.thread.number Between) fault pending e.kind
     (shown registers history old e tracks) has_it is)
 
 pub none_live-zero : (registers : ℕ) (history : List Event) (tracker : Tracker) → Tracks registers history tracker
-    → (tracker.live ≡ 0) ↔ IsTrue (none_live history)
+    → (tracker.phases.live ≡ 0) ↔ IsTrue (none_live history)
 none_live-zero registers history tracker tracks = (
   λ none. none_live-from_zero (transactions history) (sym tracks.live ∙ none),
   λ ended. tracks.live ∙ zero-from_none_live (transactions history) ended,

@@ -1,5 +1,5 @@
 pub mod Pending
 pub mod Faults
 pub mod Notes
-pub mod Phases
+pub mod Phase
 pub mod Tracks

@@ -4,6 +4,7 @@
 mod malformed;
 mod note;
 mod phase;
+mod phases;
 mod tracker;
 
 pub use malformed::Malformed;

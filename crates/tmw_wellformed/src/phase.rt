@@ -1,5 +1,5 @@
 ghost use Rattle.std.specs.Prelude.{◌≡◌};
-ghost use Rattle.tmw_wellformed.specs.Phases.{is_live, next_phase};
+ghost use Rattle.tmw_wellformed.specs.Phase.{is_live, next_phase};
 
 use crate::malformed::Malformed;
 use tmw_events::Kind;

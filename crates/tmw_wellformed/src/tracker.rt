@@ -1,47 +1,42 @@
-ghost use Rattle.std.specs.Prelude.{◌≡◌, ℕ, List, [], ◌∷◌, ◌++◌, ◌↔◌, count_by, IfOk, IfErr, OnErr, IsTrue};
-ghost use Rattle.tmw_wellformed.specs.Phases.{is_live};
-ghost use Rattle.tmw_wellformed.specs.Faults.{lacks_register};
+ghost use Rattle.std.specs.Prelude.{◌≡◌, ℕ, List, [], ◌∷◌, ◌++◌, ◌↔◌, IfOk, IfErr, OnErr, IsTrue};
+ghost use Rattle.tmw_events.specs.declared.event.Event.{Event};
+ghost use Rattle.tmw_wellformed.specs.Pending.{live_count, none_live};
+ghost use Rattle.tmw_wellformed.specs.Notes.{Notes};
+ghost use Rattle.tmw_wellformed.specs.Faults.{lacks_register, Refuses};
+ghost use Rattle.tmw_wellformed.specs.Tracks.{Tracks};
 
 use crate::malformed::Malformed;
 use crate::note::{Note, end_of};
-use crate::phase::Phase;
+use crate::phases::Phases;
 use tmw_events::{Event, Kind, Registers};
 
 /// Takes a history event by event, and refuses each event that would make it ill-formed. It holds no event.
 #[derive(Clone, Copy, PartialEq, Eq, Debug)]
 pub struct Tracker {
     registers: Registers,
-    phases: [Phase; 8],
-    live: u8,
-    ghost counted: { live ≡ count_by is_live phases },
+    phases: Phases,
 }
 
 impl Tracker {
-    ghost use Rattle.tmw_events.specs.declared.event.Event.{Event};
-    ghost use Rattle.tmw_wellformed.specs.Pending.{live_count, none_live};
-    ghost use Rattle.tmw_wellformed.specs.Notes.{Notes};
-    ghost use Rattle.tmw_wellformed.specs.Faults.{Refuses};
-    ghost use Rattle.tmw_wellformed.specs.Tracks.{Tracks};
-
     /// A tracker for a run with so many registers, before its first event.
     pub fn new(registers: Registers) -> Tracker
         ensures { Tracks registers.number [] result }
     {
         Tracker {
             registers,
-            phases: [Phase::Between; 8],
-            live: 0,
+            phases: Phases::new(),
         }
     }
 
-    /// Takes the next event, where the history stays well-formed with it.
+    /// Takes the next event where the history stays well-formed with it. A refusal changes nothing, and names the first of the
+    /// faults that the event has.
     pub fn step(&mut self, event: Event) -> Result<Note, Malformed>
         ensures takes { IfOk result (λ _. (registers : ℕ) (history : List Event) → Tracks registers history self.old
             → Tracks registers (history ++ event ∷ []) self.new) }
         ensures notes { IfOk result (λ note. (registers : ℕ) (history : List Event) → Tracks registers history self.old
             → Notes history event note) }
 
-        // Which fault it is, and that the history would be ill-formed.
+        // With the event the history would be ill-formed, and this is its first fault.
         ensures refuses { IfErr result (λ fault. (registers : ℕ) (history : List Event) → Tracks registers history self.old
             → Refuses registers history event fault) }
         ensures kept { OnErr result (self.new ≡ self.old) }
@@ -49,11 +44,9 @@ impl Tracker {
         if lacks_register(self.registers, event.kind) {
             return Err(Malformed::Register);
         }
-        let place = event.thread.get() as usize;
-        let phase = self.phases[place];
+        let phase = self.phases.get(event.thread);
         let next = phase.next(event.kind)?;
-        self.phases[place] = next;
-        self.live = self.live + u8::from(next.is_live()) - u8::from(phase.is_live());
+        self.phases.set(event.thread, next);
         Ok(Note {
             begins: !phase.is_live(),
             ends: end_of(event.kind),
@@ -67,7 +60,7 @@ impl Tracker {
         ensures none { (registers : ℕ) (history : List Event) → Tracks registers history self.now
             → (result ≡ 0) ↔ IsTrue (none_live history) }
     {
-        self.live
+        self.phases.live
     }
 }
 
@@ -82,3 +75,6 @@ fn lacks_register(registers: Registers, kind: Kind) -> bool
         Kind::V(_) | Kind::K | Kind::T | Kind::C | Kind::X | Kind::A => false,
     }
 }
+
+#[cfg(test)]
+mod tests;

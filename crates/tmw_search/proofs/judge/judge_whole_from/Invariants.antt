@@ -1,7 +1,11 @@
--- Each shorter prefix is fine.
-use Rattle.std.proofs.Common.{ℕ, ◌<◌, take}
-use Rattle.tmw_search.specs.Verdict.{IsFine}
+-- The events so far fit the tracker, and they and each shorter prefix are fine.
+use Rattle.std.proofs.Common.{◌+◌, take}
+use Rattle.tmw_wellformed.specs.Tracks.{Tracks}
+use Rattle.tmw_search.proofs.Weighing.{FineBelow}
 use Rattle.tmw_search.proofs.judge.judge_whole_from.Given as goal
 
-abbrev pub invariant-loop-size : goal.invariant-loop-size
-invariant-loop-size l = (k : ℕ) → k < l.size → IsFine l.registers.number l.start (take k l.events)
+abbrev pub invariant-loop-place : goal.invariant-loop-place
+invariant-loop-place l = record {
+  tracks : Tracks l.fn.registers.number (take l.place l.events) l.tracker;
+  fine : FineBelow l.fn.registers.number l.start l.events (l.place + 1);
+}

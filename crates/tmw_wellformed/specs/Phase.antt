@@ -29,6 +29,7 @@ abbrev pub phase_of : Option Txn → Phase
 phase_of (Some t) = phase_within (call_of t.text)
 phase_of None = Between
 
+-- The thread has a live transaction.
 abbrev pub is_live : Phase → Bool
 is_live Between = false
 is_live _ = true
@@ -47,6 +48,7 @@ takes Committing C = true
 takes phase A = waits phase
 takes _ _ = false
 
+-- The phase after the event, or what is wrong with the event. Registers are left out of account.
 abbrev pub next_phase : Phase → Kind → Result Phase Malformed
 next_phase phase kind =
     if asks kind then (if waits phase then Err Busy else Ok (phase_in kind))
