@@ -40,9 +40,17 @@ impl States {
     pub fn only(alloc: Global, state: State) -> Result<States, AllocError>
         ensures { IfOk result (λ states. members states ≡ state ∷ []) }
     {
-        let mut items = Vec::new(alloc);
-        items.push(state)?;
-        Ok(States { items })
+        let mut one = Vec::new(alloc);
+        one.push(state)?;
+        Ok(States { items: one })
+    }
+
+    /// The set of these states, which rise.
+    pub fn from_rising(items: Vec<State>) -> States
+        requires { IsStrictlySortedBy (slice_cmp nat_cmp) items.items }
+        ensures { members result ≡ items.items }
+    {
+        States { items }
     }
 
     /// How many states.

@@ -16,7 +16,10 @@ fn each_state_once_in_rising_order(rt: HostRuntime) -> Result<(), AllocError> {
     assert_eq!(rt; states.get(3), None);
     assert!(rt; states.contains(&LOW));
     assert!(rt; !states.contains(&[2; 8]));
-    assert_eq!(rt; states.copy()?.states(), states.states());
+    let copy = states.copy()?;
+    assert_eq!(rt; copy.states(), states.states());
+    let again = States::from_rising(copy.states().to_vec(rt.alloc())?);
+    assert_eq!(rt; again.states(), states.states());
     Ok(())
 }
 
