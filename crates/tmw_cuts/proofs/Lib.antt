@@ -3,4 +3,4 @@ pub mod Bits
 mod Found
 mod Masks
 pub mod Pushes
-mod Rising
+pub mod Rising

@@ -1,5 +1,5 @@
 -- The mask of those that have completed fits eight bits.
-use Rattle.std.proofs.Common.{◌≡◌, ◌+◌, ◌-◌, ◌*◌, ◌^◌, ◌<◌, ◌≤◌, ℕ, zero, suc, Bool, true, false, List, [], ◌∷◌, length, map, drop, arith, pow-suc, length-drop}
+use Rattle.std.proofs.Common.{◌^◌, ◌<◌, ◌≤◌, ℕ, zero, suc, Bool, true, false, List, [], ◌∷◌, length, map, drop, arith, pow-suc, length-drop}
 use Rattle.std.proofs.lemmas.List.{length-map}
 use Rattle.tmw_defs.specs.History.{is_over}
 use Rattle.tmw_cuts.specs.declared.txn.Txn.{Txn}

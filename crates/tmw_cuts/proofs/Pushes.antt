@@ -1,5 +1,5 @@
 -- What is to be shown of events when there is one more.
-use Rattle.std.proofs.Common.{◌≡◌, ◌==◌, ◌&&◌, ◌+◌, ◌*◌, ◌<◌, ◌≤◌, ℕ, Bool, true, false, not, nat_lt, List, [], ◌∷◌, ◌++◌, length, map, Option, Some, IsTrue, IsFalse, suc, if◌then◌else◌, refl, sym, ap, ◌∙◌, inl, inr, arith, append_assoc}
+use Rattle.std.proofs.Common.{◌≡◌, ◌==◌, ◌&&◌, ◌+◌, ◌*◌, ◌≤◌, ℕ, Bool, true, false, not, nat_lt, List, [], ◌∷◌, ◌++◌, length, map, IsTrue, IsFalse, suc, refl, sym, ap, ◌∙◌, inl, inr, arith, append_assoc}
 use Rattle.std.specs.List.{AllByRecursion, list_any, list_all}
 use Rattle.std.proofs.lemmas.Bool.{and_parts, and_right, cases_Bool, not-true, lt-ltb, le-ltb, or_parts, not_from_true, not_from_false, false_from_ne_true}
 use Rattle.std.proofs.lemmas.List.{append-nil, length-map}
@@ -7,7 +7,7 @@ use Rattle.std.proofs.lemmas.List.Folds.{list_all-map}
 use Rattle.tmw_events.specs.declared.event.Event.{Event}
 use Rattle.tmw_events.specs.declared.event.Kind.{Kind}
 use Rattle.tmw_defs.specs.Cuts.{is_cut}
-use Rattle.tmw_defs.specs.History.{Txn, is_over, is_ended, status_of, operation, operations, add_event, transactions}
+use Rattle.tmw_defs.specs.History.{Txn, is_over, is_ended, operation, operations, add_event, transactions}
 use Rattle.tmw_defs.specs.Opaque.{precedes}
 use Rattle.tmw_defs.proofs.OneMore as more
 use Rattle.tmw_defs.proofs.OneMore.{joins, add_event_here, add_event_past, transactions-push}

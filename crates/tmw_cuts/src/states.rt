@@ -1,8 +1,9 @@
-ghost use Rattle.std.specs.Prelude.{◌≡◌, ◌↔◌, [], ◌∷◌, IfOk, OnOk, OnErr, IsTrue, Contains, length, replicate, slice_get};
+ghost use Rattle.std.specs.Prelude.{◌≡◌, ◌↔◌, [], ◌∷◌, IfOk, OnOk, OnErr, IsTrue, Contains, length, slice_get};
 ghost use Rattle.std.specs.List.Sorted.{IsStrictlySortedBy};
 ghost use Rattle.std.specs.Cmp.Lexicographic.{slice_cmp};
 ghost use Rattle.std.specs.Ordering.{nat_cmp};
 ghost use Rattle.std.proofs.lemmas.Map.Keys.{IsStrictlySortedBy-prop};
+ghost use Rattle.tmw_defs.specs.Opaque.{zeros};
 
 use std::alloc::{AllocError, Global};
 
@@ -30,7 +31,7 @@ impl States {
 
     /// The set of the state in which each register holds 0.
     pub fn zeros(alloc: Global) -> Result<States, AllocError>
-        ensures { IfOk result (λ states. members states ≡ replicate 8 0 ∷ []) }
+        ensures { IfOk result (λ states. members states ≡ zeros ∷ []) }
     {
         States::only(alloc, [0; 8])
     }
@@ -39,9 +40,17 @@ impl States {
     pub fn only(alloc: Global, state: State) -> Result<States, AllocError>
         ensures { IfOk result (λ states. members states ≡ state ∷ []) }
     {
-        let mut items = Vec::new(alloc);
-        items.push(state)?;
-        Ok(States { items })
+        let mut one = Vec::new(alloc);
+        one.push(state)?;
+        Ok(States { items: one })
+    }
+
+    /// The set of these states, which rise.
+    pub fn from_rising(items: Vec<State>) -> States
+        requires { IsStrictlySortedBy (slice_cmp nat_cmp) items.items }
+        ensures { members result ≡ items.items }
+    {
+        States { items }
     }
 
     /// How many states.
@@ -63,7 +72,7 @@ impl States {
         ensures members { result.now ≡ members self.now }
         ensures rising { IsStrictlySortedBy (slice_cmp nat_cmp) result.now }
     {
-        &self.items
+        self.items.as_slice()
     }
 
     /// The state at this place in the rising order.
@@ -80,7 +89,7 @@ impl States {
         self.items.binary_search(state).is_ok()
     }
 
-    /// Adds the state, where the set does not have it.
+    /// Adds the state, where the set does not have it. Where memory is refused the set stays as it was.
     pub fn insert(&mut self, state: State) -> Result<(), AllocError>
         ensures ok { OnOk result (AddsMember (members self.old) (members self.new) state) }
         ensures err { OnErr result (members self.new ≡ members self.old) }
@@ -100,3 +109,6 @@ impl States {
         })
     }
 }
+
+#[cfg(test)]
+mod tests;

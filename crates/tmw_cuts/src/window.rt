@@ -98,10 +98,11 @@ impl Window {
         ensures stands { (events : List Event) → StandsFor self.now events → map view result.now ≡ views_of events }
         ensures few { length result.now ≤ 8 }
     {
-        &self.txns
+        self.txns.as_slice()
     }
 
-    /// Takes the next event of a well-formed history, whose note tells whether it begins a transaction.
+    /// Takes the next event of a well-formed history, whose note tells whether it begins a transaction. Where memory is
+    /// refused the window stays as it was.
     pub fn push(&mut self, event: Event, note: Note) -> Result<(), AllocError>
         requires noted { (events : List Event) × StandsFor self.old events × Notes events event note }
         requires room { IsTrue note.begins → count_of self.old < 8 }
@@ -133,3 +134,6 @@ impl Window {
         })
     }
 }
+
+#[cfg(test)]
+mod tests;

@@ -1,7 +1,7 @@
 -- The transaction that begins is shown last.
 use Rattle.std.proofs.Common.{◌≡◌, [], ◌∷◌, map, sym, ap, ◌∙◌}
 use Rattle.std.proofs.lemmas.List.{map-append}
-use Rattle.tmw_cuts.specs.Views.{view, completed, begun}
+use Rattle.tmw_cuts.specs.Views.{view, completed}
 use Rattle.tmw_cuts.proofs.Found.{push_views-none}
 use Rattle.tmw_cuts.proofs.window.begin.Goals as goal
 

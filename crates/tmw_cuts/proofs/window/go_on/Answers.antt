@@ -1,5 +1,5 @@
 -- The first transaction that is open for the event takes it, and shows the same where memory is refused.
-use Rattle.std.proofs.Common.{◌≡◌, map, sym, ap, ◌∙◌}
+use Rattle.std.proofs.Common.{map, ap, ◌∙◌}
 use Rattle.std.proofs.Math.Seq.{map-set_same}
 use Rattle.std.proofs.lemmas.Result.{err_from_is_err_and}
 use Rattle.tmw_cuts.specs.Views.{view, completed, is_open_for}
