@@ -54,3 +54,8 @@ pub fn outcomes(
     }
     Ok(EndStates::Few(ends))
 }
+
+#[cfg(test)]
+mod compared;
+#[cfg(test)]
+mod tests;
