@@ -6,10 +6,10 @@ use Rattle.std.proofs.lemmas.Bool.{cases_Bool, or_parts, lt-ltb}
 use Rattle.std.proofs.lemmas.List.Quantifiers.{position-Some}
 use Rattle.tmw_events.specs.declared.event.Event.{Event}
 use Rattle.tmw_cuts.specs.declared.txn.Txn.{Txn}
-use Rattle.tmw_cuts.specs.Views.{View, view, begun, longer, is_open_for, push_views}
+use Rattle.tmw_cuts.specs.Views.{View, view, new_view, next_view, is_open_for, push_views}
 
 push_views_here : (e : Event) (before : ℕ) (v : View) (vs : List View) → is_open_for e.thread.number v ≡ true
-    → push_views e before (v ∷ vs) ≡ longer e.kind v ∷ vs
+    → push_views e before (v ∷ vs) ≡ next_view e.kind v ∷ vs
 push_views_here e before v vs here = rw here refl
 
 push_views_past : (e : Event) (before : ℕ) (v : View) (vs : List View) → is_open_for e.thread.number v ≡ false
@@ -18,7 +18,7 @@ push_views_past e before v vs past = rw past refl
 
 -- none is open for the event, so it begins one
 pub push_views-none : (e : Event) (before : ℕ) (vs : List View) → IsFalse (list_any (is_open_for e.thread.number) vs)
-    → push_views e before vs ≡ vs ++ begun e.thread.number e.kind before ∷ []
+    → push_views e before vs ≡ vs ++ new_view e.thread.number e.kind before ∷ []
 push_views-none e before [] none = refl
 push_views-none e before (v ∷ vs) none =
     let (past, rest) = or_parts (is_open_for e.thread.number v) _ none in
@@ -28,7 +28,7 @@ push_views-none e before (v ∷ vs) none =
 push_views-at : (e : Event) (before : ℕ) (txns : List Txn) (i : ℕ) (d new : Txn) → i < length txns
     → is_open_for e.thread.number (view (get_or txns i d)) ≡ true
     → ((k : ℕ) → k < i → is_open_for e.thread.number (view (get_or txns k d)) ≡ false)
-    → view new ≡ longer e.kind (view (get_or txns i d))
+    → view new ≡ next_view e.kind (view (get_or txns i d))
     → map view (slice_set txns i new) ≡ push_views e before (map view txns)
 push_views-at e before [] i d new within here past is = absurd (omega arith)
 push_views-at e before (t ∷ ts) zero d new within here past is =
@@ -40,7 +40,7 @@ push_views-at e before (t ∷ ts) (suc i) d new within here past is =
 
 pub push_views-position : (e : Event) (before : ℕ) (txns : List Txn) (i : ℕ) (old new : Txn)
     → Some i ≡ position (λ txn. is_open_for e.thread.number (view txn)) txns
-    → old ≡ get_or txns i old → view new ≡ longer e.kind (view old)
+    → old ≡ get_or txns i old → view new ≡ next_view e.kind (view old)
     → map view (slice_set txns i new) ≡ push_views e before (map view txns)
 push_views-position e before txns i old new found at is =
     let (within, here, past) = position-Some (λ txn. is_open_for e.thread.number (view txn)) txns i old (sym found) in

@@ -3,23 +3,23 @@ use Rattle.std.proofs.Common.{◌^◌, ◌<◌, ◌≤◌, ℕ, zero, suc, Bool,
 use Rattle.std.proofs.lemmas.List.{length-map}
 use Rattle.tmw_defs.specs.History.{is_over}
 use Rattle.tmw_cuts.specs.declared.txn.Txn.{Txn}
-use Rattle.tmw_cuts.specs.Views.{View, view, bit, completed}
+use Rattle.tmw_cuts.specs.Views.{View, view, bit, completed_mask}
 
 bit-le : (b : Bool) → bit b ≤ 1
 bit-le true = omega arith
 bit-le false = omega arith
 
-completed-lt : (k : ℕ) (vs : List View) → length vs ≤ k → completed vs < 2 ^ k
-completed-lt zero [] few = omega arith
-completed-lt zero (v ∷ vs) few = absurd (omega arith)
-completed-lt (suc k) [] few = let p : completed [] < 2 ^ k = completed-lt k [] (omega arith) in omega (arith, pow-suc 2 k)
-completed-lt (suc k) (v ∷ vs) few =
+completed_mask-lt : (k : ℕ) (vs : List View) → length vs ≤ k → completed_mask vs < 2 ^ k
+completed_mask-lt zero [] few = omega arith
+completed_mask-lt zero (v ∷ vs) few = absurd (omega arith)
+completed_mask-lt (suc k) [] few = let p : completed_mask [] < 2 ^ k = completed_mask-lt k [] (omega arith) in omega (arith, pow-suc 2 k)
+completed_mask-lt (suc k) (v ∷ vs) few =
     let b : bit (is_over v.status) ≤ 1 = bit-le (is_over v.status) in
-    let rest : completed vs < 2 ^ k = completed-lt k vs (omega arith) in
+    let rest : completed_mask vs < 2 ^ k = completed_mask-lt k vs (omega arith) in
     omega (arith, pow-suc 2 k)
 
 -- behind the first of eight are seven at most
-pub completed-drop_lt : (txns : List Txn) (left : ℕ) → 0 < left → length txns ≤ 8 → completed (map view (drop left txns)) < 128
-completed-drop_lt txns left some few =
+pub completed_mask-drop_lt : (txns : List Txn) (left : ℕ) → 0 < left → length txns ≤ 8 → completed_mask (map view (drop left txns)) < 128
+completed_mask-drop_lt txns left some few =
     let fewer : length (map view (drop left txns)) ≤ 7 = rw (length-map (drop left txns) view, length-drop left txns) (omega arith) in
-    completed-lt 7 (map view (drop left txns)) fewer
+    completed_mask-lt 7 (map view (drop left txns)) fewer

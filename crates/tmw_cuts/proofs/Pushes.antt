@@ -16,7 +16,7 @@ use Rattle.tmw_defs.proofs.QuietTexts.{status_of-push}
 use Rattle.tmw_wellformed.specs.declared.note.Note.{Note}
 use Rattle.tmw_wellformed.specs.Notes.{Notes}
 use Rattle.tmw_wellformed.specs.Pending.{call_of}
-use Rattle.tmw_cuts.specs.Views.{View, bit, completed, begun, longer, next_call, answered, is_open_for, push_views}
+use Rattle.tmw_cuts.specs.Views.{View, bit, completed_mask, new_view, next_view, next_call, answered_ops, is_open_for, push_views}
 use Rattle.tmw_cuts.specs.Standing.{before_of, view_of, views_of}
 
 call_of-push : (text : List Kind) (k : Kind) → call_of (text ++ k ∷ []) ≡ next_call (call_of text) k
@@ -24,12 +24,12 @@ call_of-push [] k = refl
 call_of-push (call ∷ []) k = refl
 call_of-push (call ∷ answer ∷ rest) k = call_of-push rest k
 
-operations-push : (text : List Kind) (k : Kind) → operations (text ++ k ∷ []) ≡ operations text ++ answered (call_of text) k
+operations-push : (text : List Kind) (k : Kind) → operations (text ++ k ∷ []) ≡ operations text ++ answered_ops (call_of text) k
 operations-push [] k = refl
 operations-push (call ∷ []) k = append-nil (operation call k)
 operations-push (call ∷ answer ∷ rest) k =
     ap (λ ops. operation call answer ++ ops) (operations-push rest k)
-    ∙ sym (append_assoc (operation call answer) (operations rest) (answered (call_of rest) k))
+    ∙ sym (append_assoc (operation call answer) (operations rest) (answered_ops (call_of rest) k))
 
 -- which transactions precede one depends on its first event alone
 before_of-first : (ts : List Txn) (u w : Txn) → u.first ≡ w.first → before_of ts u ≡ before_of ts w
@@ -56,7 +56,7 @@ before_of-add n e (t ∷ ts) u first =
 
 -- those that precede one that begins now are those that have completed
 before_of-now : (n : ℕ) (all ts : List Txn) (u : Txn) → u.first ≡ n → AllByRecursion (Lies 0 n) ts
-    → before_of ts u ≡ completed (map (view_of all) ts)
+    → before_of ts u ≡ completed_mask (map (view_of all) ts)
 before_of-now n all [] u now lies = refl
 before_of-now n all (t ∷ ts) u now lies =
     let earlier : nat_lt t.last u.first ≡ true = lt-ltb t.last u.first (omega (arith, lies.0.high)) in
@@ -80,28 +80,28 @@ views-add_others n e all (t ∷ ts) lies =
     ∙ ap (λ vs. view_of all t ∷ vs) (views-add_others n e all ts lies.1)
 
 view_of-longer : (n : ℕ) (e : Event) (all : List Txn) (t : Txn) → t.first ≤ n
-    → view_of (add_event n e all) (more.longer n e t) ≡ longer e.kind (view_of all t)
+    → view_of (add_event n e all) (more.longer n e t) ≡ next_view e.kind (view_of all t)
 view_of-longer n e all t first =
     let before : before_of (add_event n e all) (more.longer n e t) ≡ before_of all t =
     before_of-add n e all (more.longer n e t) first ∙ before_of-first all (more.longer n e t) t refl in
     rw (before, call_of-push t.text e.kind, operations-push t.text e.kind, status_of-push t.text e.kind) refl
 
 view_of-begun : (n : ℕ) (e : Event) (all : List Txn) → AllByRecursion (Lies 0 n) all
-    → view_of (add_event n e all) (more.begun n e) ≡ begun e.thread.number e.kind (completed (map (view_of all) all))
+    → view_of (add_event n e all) (more.begun n e) ≡ new_view e.thread.number e.kind (completed_mask (map (view_of all) all))
 view_of-begun n e all lies =
-    let before : before_of (add_event n e all) (more.begun n e) ≡ completed (map (view_of all) all) =
+    let before : before_of (add_event n e all) (more.begun n e) ≡ completed_mask (map (view_of all) all) =
     before_of-add n e all (more.begun n e) (omega arith) ∙ before_of-now n all all (more.begun n e) refl lies in
-    ap (begun e.thread.number e.kind) before
+    ap (new_view e.thread.number e.kind) before
 
 views-add : (n : ℕ) (e : Event) (all ts : List Txn) → AllByRecursion (Lies 0 n) all → AllByRecursion (Lies 0 n) ts
-    → map (view_of (add_event n e all)) (add_event n e ts) ≡ push_views e (completed (map (view_of all) all)) (map (view_of all) ts)
+    → map (view_of (add_event n e all)) (add_event n e ts) ≡ push_views e (completed_mask (map (view_of all) all)) (map (view_of all) ts)
 views-add n e all [] whole lies = ap (λ v. v ∷ []) (view_of-begun n e all whole)
 views-add n e all (t ∷ ts) whole lies =
     let first : t.first ≤ n = omega (arith, lies.0.ordered, lies.0.high) in
     elim (cases_Bool (joins e t)) [
       | inl here ↦ rw (add_event_here n e t ts here, here)
           (ap (λ v. v ∷ map (view_of (add_event n e all)) ts) (view_of-longer n e all t first)
-          ∙ ap (λ vs. longer e.kind (view_of all t) ∷ vs) (views-add_others n e all ts lies.1))
+          ∙ ap (λ vs. next_view e.kind (view_of all t) ∷ vs) (views-add_others n e all ts lies.1))
       | inr past ↦ rw (add_event_past n e t ts past, past)
           (ap (λ v. v ∷ map (view_of (add_event n e all)) (add_event n e ts)) (view_of-add n e all t first)
           ∙ ap (λ vs. view_of all t ∷ vs) (views-add n e all ts whole lies.1))
@@ -109,7 +109,7 @@ views-add n e all (t ∷ ts) whole lies =
 
 -- what is to be shown with one event more
 pub views_of-push : (events : List Event) (e : Event)
-    → views_of (events ++ e ∷ []) ≡ push_views e (completed (views_of events)) (views_of events)
+    → views_of (events ++ e ∷ []) ≡ push_views e (completed_mask (views_of events)) (views_of events)
 views_of-push events e =
     let same : 0 + length events ≡ length events = omega arith in
     let lies : AllByRecursion (Lies 0 (length events)) (transactions events) =
@@ -142,26 +142,26 @@ pub begins_none_open : (events : List Event) (e : Event) (note : Note) (vs : Lis
 begins_none_open events e note vs shows notes =
     let n : length (views_of (events ++ e ∷ [])) ≡ length (transactions (events ++ e ∷ [])) = length-views_of (events ++ e ∷ []) in
     let m : length vs ≡ length (transactions events) = ap length shows ∙ length-views_of events in
-    let pushed : length (views_of (events ++ e ∷ [])) ≡ length (push_views e (completed vs) vs) =
-    ap length (views_of-push events e) ∙ ap (λ ws. length (push_views e (completed ws) ws)) (sym shows) in
+    let pushed : length (views_of (events ++ e ∷ [])) ≡ length (push_views e (completed_mask vs) vs) =
+    ap length (views_of-push events e) ∙ ap (λ ws. length (push_views e (completed_mask ws) ws)) (sym shows) in
     elim (cases_Bool (list_any (is_open_for e.thread.number) vs)) [
       | inl some ↦
-          let kept : length (push_views e (completed vs) vs) ≡ length vs = length-push_views_some e (completed vs) vs some in
+          let kept : length (push_views e (completed_mask vs) vs) ≡ length vs = length-push_views_some e (completed_mask vs) vs some in
           let none_begins : note.begins ≡ false = false_from_ne_true note.begins (λ begins.
           let grown : length (transactions (events ++ e ∷ [])) ≡ length (transactions events) + 1 = notes.begins.0 begins in
           omega arith) in
           some ∙ sym (not_from_false _ none_begins)
       | inr none ↦
-          let grown : length (push_views e (completed vs) vs) ≡ length vs + 1 = length-push_views_none e (completed vs) vs none in
+          let grown : length (push_views e (completed_mask vs) vs) ≡ length vs + 1 = length-push_views_none e (completed_mask vs) vs none in
           let longer_by_one : length (transactions (events ++ e ∷ [])) ≡ length (transactions events) + 1 = omega arith in
           none ∙ sym (not_from_true _ (notes.begins.1 longer_by_one))
     ]
 
 -- what was shown of the events is what is to be shown of them and one more, with that one
-pub shows-push : (events : List Event) (e : Event) (old new : List View) → new ≡ push_views e (completed old) old → old ≡ views_of events
+pub shows-push : (events : List Event) (e : Event) (old new : List View) → new ≡ push_views e (completed_mask old) old → old ≡ views_of events
     → new ≡ views_of (events ++ e ∷ [])
 shows-push events e old new pushed shows =
-    pushed ∙ ap (λ vs. push_views e (completed vs) vs) shows ∙ sym (views_of-push events e)
+    pushed ∙ ap (λ vs. push_views e (completed_mask vs) vs) shows ∙ sym (views_of-push events e)
 
 -- no transaction of the events is live where each that is shown has completed
 pub is_cut-views : (events : List Event) → list_all (λ v. is_over v.status) (views_of events) ≡ is_cut events

@@ -24,38 +24,38 @@ bit true = 1
 bit false = 0
 
 -- The bits of those that have completed.
-abbrev pub completed : List View → ℕ
-completed [] = 0
-completed (v ∷ vs) = bit (is_over v.status) + 2 * completed vs
+abbrev pub completed_mask : List View → ℕ
+completed_mask [] = 0
+completed_mask (v ∷ vs) = bit (is_over v.status) + 2 * completed_mask vs
 
 -- The thread's next event belongs to this transaction.
 abbrev pub is_open_for : ℕ → View → Bool
 is_open_for thread v = (v.thread == thread) && not (is_over v.status)
 
 -- A transaction that begins with this event, where these have completed before.
-abbrev pub begun : ℕ → Kind → ℕ → View
-begun thread kind before = record { thread = thread; call = Some kind; ops = []; status = status_after (Some kind); before = before }
+abbrev pub new_view : ℕ → Kind → ℕ → View
+new_view thread kind before = record { thread = thread; call = Some kind; ops = []; status = status_after (Some kind); before = before }
 
 -- The call that has no answer after an event more, and the operation that the event makes with the call before it.
 abbrev pub next_call : Option Kind → Kind → Option Kind
 next_call None kind = Some kind
 next_call (Some call) kind = None
 
-abbrev pub answered : Option Kind → Kind → List Op
-answered None kind = []
-answered (Some call) kind = operation call kind
+abbrev pub answered_ops : Option Kind → Kind → List Op
+answered_ops None kind = []
+answered_ops (Some call) kind = operation call kind
 
 -- A transaction with one event more.
-abbrev pub longer : Kind → View → View
-longer kind v = record v { call = next_call v.call kind; ops = v.ops ++ answered v.call kind; status = status_after (Some kind) }
+abbrev pub next_view : Kind → View → View
+next_view kind v = record v { call = next_call v.call kind; ops = v.ops ++ answered_ops v.call kind; status = status_after (Some kind) }
 
 -- What is shown after an event more, where the transactions in the mask have completed before it: the event belongs to the
 -- first that is open for its thread, or begins a transaction.
 abbrev pub push_views : Event → ℕ → List View → List View
-push_views e before [] = begun e.thread.number e.kind before ∷ []
+push_views e before [] = new_view e.thread.number e.kind before ∷ []
 push_views e before (v ∷ vs) =
-    if is_open_for e.thread.number v then longer e.kind v ∷ vs else v ∷ push_views e before vs
+    if is_open_for e.thread.number v then next_view e.kind v ∷ vs else v ∷ push_views e before vs
 
 -- What is shown is what was shown, with an event more.
 abbrev pub PushesEvent : Event → List View → List View → Type 0
-PushesEvent e old new = new ≡ push_views e (completed old) old
+PushesEvent e old new = new ≡ push_views e (completed_mask old) old

@@ -1,12 +1,12 @@
 ghost use Rattle.std.specs.Prelude.{◌≡◌, ◌≤◌, length, map};
-ghost use Rattle.tmw_cuts.specs.Views.{view, completed};
+ghost use Rattle.tmw_cuts.specs.Views.{view, completed_mask};
 
 use crate::txn::Txn;
 
 /// The bits of those that have committed or aborted.
-pub fn completed(txns: &[Txn]) -> u8
+pub fn completed_mask(txns: &[Txn]) -> u8
     requires { length txns.now ≤ 8 }
-    ensures { result ≡ completed (map view txns.now) }
+    ensures { result ≡ completed_mask (map view txns.now) }
 {
     let mut mask = 0u8;
     let mut left = txns.len();

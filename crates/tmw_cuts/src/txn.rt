@@ -19,11 +19,11 @@ pub struct Txn {
 }
 
 impl Txn {
-    ghost use Rattle.tmw_cuts.specs.Views.{view, begun, longer, is_open_for};
+    ghost use Rattle.tmw_cuts.specs.Views.{view, new_view, next_view, is_open_for};
 
     /// A transaction that begins with this event, where those in the mask have completed.
-    pub(crate) fn begun(alloc: Global, event: Event, before: u8) -> Txn
-        ensures { view result ≡ begun event.thread.number event.kind before }
+    pub(crate) fn new(alloc: Global, event: Event, before: u8) -> Txn
+        ensures { view result ≡ new_view event.thread.number event.kind before }
     {
         Txn {
             ops: Vec::new(alloc),
@@ -50,7 +50,7 @@ impl Txn {
 
     /// Takes its next event.
     pub(crate) fn add(&mut self, kind: Kind) -> Result<(), AllocError>
-        ensures ok { OnOk result (view self.new ≡ longer kind (view self.old)) }
+        ensures ok { OnOk result (view self.new ≡ next_view kind (view self.old)) }
         ensures err { OnErr result (view self.new ≡ view self.old) }
     {
         if let Some(call) = self.call {

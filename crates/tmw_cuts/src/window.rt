@@ -3,7 +3,7 @@ ghost use Rattle.std.specs.List.{list_all, list_any};
 ghost use Rattle.tmw_defs.specs.History.{is_over};
 ghost use Rattle.tmw_cuts.specs.Views.{view, is_open_for, PushesEvent};
 
-use crate::mask::completed;
+use crate::mask::completed_mask;
 use crate::txn::Txn;
 use std::alloc::{AllocError, Global};
 use tmw_events::{Event, Ix, Registers};
@@ -41,8 +41,8 @@ fn begin(txns: &mut Vec<Txn>, event: Event) -> Result<(), AllocError>
     ensures size { length txns.new.items ≤ length txns.old.items + 1 }
 {
     let alloc = *txns.allocator();
-    let before = completed(txns);
-    txns.push(Txn::begun(alloc, event, before))?;
+    let before = completed_mask(txns);
+    txns.push(Txn::new(alloc, event, before))?;
     Ok(())
 }
 

@@ -2,7 +2,7 @@
 use Rattle.std.proofs.Common.{map, ap, ◌∙◌}
 use Rattle.std.proofs.Math.Seq.{map-set_same}
 use Rattle.std.proofs.lemmas.Result.{err_from_is_err_and}
-use Rattle.tmw_cuts.specs.Views.{view, completed, is_open_for}
+use Rattle.tmw_cuts.specs.Views.{view, completed_mask, is_open_for}
 use Rattle.tmw_cuts.proofs.Found.{push_views-position, position-some}
 use Rattle.tmw_cuts.proofs.window.go_on.Goals as goal
 
@@ -14,7 +14,7 @@ returns-in_err-add-clause-err c =
 
 pub returns-in_ok-add-clause-ok : goal.returns-in_ok-add-clause-ok
 returns-in_ok-add-clause-ok c =
-    push_views-position c.args.event (completed (map view c.args.txns.now.items)) c.args.txns.now.items c.in-Some.index c.index_mut.result.now c.add.new.self
+    push_views-position c.args.event (completed_mask (map view c.args.txns.now.items)) c.args.txns.now.items c.in-Some.index c.index_mut.result.now c.add.new.self
     (rw c.deref.ensures.value at c.in-Some.ensures) c.index_mut.ensures.value c.in_ok-add.ensures.ok
 
 pub returns-in_default-clause-ok : goal.returns-in_default-clause-ok

@@ -1,12 +1,12 @@
 -- The mask has the bits of those that are behind.
 use Rattle.std.proofs.Common.{◌≡◌, ◌≤◌, length, map, drop}
-use Rattle.tmw_cuts.specs.Views.{view, completed}
-use Rattle.tmw_cuts.proofs.mask.completed.Given as goal
+use Rattle.tmw_cuts.specs.Views.{view, completed_mask}
+use Rattle.tmw_cuts.proofs.mask.completed_mask.Given as goal
 
 abbrev pub invariant-loop-left : goal.invariant-loop-left
 invariant-loop-left l = record {
   within : l.left ≤ length l.txns;
-  bits : l.mask ≡ completed (map view (drop l.left l.txns));
+  bits : l.mask ≡ completed_mask (map view (drop l.left l.txns));
 }
 
 abbrev pub decreases-loop-left : goal.decreases-loop-left
