@@ -1,21 +1,10 @@
-ghost use Rattle.std.specs.Prelude.{◌≡◌, [], ◌∷◌, MatchOption};
-ghost use Rattle.tmw_defs.specs.History.{operation, operations};
+ghost use Rattle.std.specs.Prelude.{◌≡◌, [], ◌∷◌};
+ghost use Rattle.tmw_defs.specs.History.{operations};
 ghost use Rattle.tmw_search.specs.Shown.{Replays};
 
+use tmw_cuts::operation;
 use tmw_defs::Op;
 use tmw_events::Kind;
-
-/// The operation that a call and its answer make, if they make one.
-fn operation(call: Kind, answer: Kind) -> Option<Op>
-    ensures { MatchOption result (operation call answer ≡ []) (λ op. operation call answer ≡ op ∷ []) }
-{
-    match (call, answer) {
-        (Kind::R(register), Kind::V(value)) => Some(Op::Read(register, value)),
-        (Kind::W(register, value), Kind::K) => Some(Op::Write(register, value)),
-        (Kind::N(register, added), Kind::V(value)) => Some(Op::Add(register, added, value)),
-        _ => None,
-    }
-}
 
 /// What the registers hold after the operation, if it was answered what they held before.
 pub fn after_one(op: Op, state: &[u64; 8]) -> Option<[u64; 8]>

@@ -1,6 +1,7 @@
 ghost use Rattle.std.specs.Prelude.{◌≡◌};
 ghost use Rattle.tmw_defs.specs.History.{status_of, is_ended};
 
+use tmw_cuts::status_after;
 use tmw_defs::Status;
 use tmw_events::Kind;
 
@@ -8,12 +9,7 @@ use tmw_events::Kind;
 pub fn status_of(text: &[Kind]) -> Status
     ensures { result ≡ status_of text.now }
 {
-    match text.last() {
-        Some(Kind::C) => Status::Committed,
-        Some(Kind::A) => Status::Aborted,
-        Some(Kind::T) => Status::Pending,
-        _ => Status::Live,
-    }
+    text.last().map_or(Status::Live, |kind| status_after(*kind))
 }
 
 /// Whether a transaction with this text has committed or aborted.

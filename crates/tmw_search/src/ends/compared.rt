@@ -30,7 +30,7 @@ fn draw_event(seed: &mut u64, far: Ix) -> Event {
         _ => LAST,
     };
     let register = if draw(seed) % 3 == 0 { far } else { FIRST };
-    let value = draw(seed) % 3;
+    let value = draw(seed) % 2;
     let kind = match draw(seed) % 13 {
         0 | 1 => Kind::R(register),
         2 | 3 | 4 => Kind::V(value),
