@@ -18,7 +18,8 @@ record Comes (next : State → List Txn → Bool) (s : State) (rest : List Txn) 
   may : IsTrue (may_be placed)
   goes_on : IsTrue (next (after s placed) rest)
 
-comes_parts : (next : State → List Txn → Bool) (s : State) (rest : List Txn) (found : Option Txn) → IsTrue (comes next s rest found) → Comes next s rest found
+comes_parts : (next : State → List Txn → Bool) (s : State) (rest : List Txn) (found : Option Txn)
+    → IsTrue (comes next s rest found) → Comes next s rest found
 comes_parts next s rest None h = cc
 comes_parts next s rest (Some t) h =
     let (front, ways) = and_parts (is_free t rest && reads_hold s (operations t.text)) _ h in
@@ -30,7 +31,8 @@ comes_parts next s rest (Some t) h =
     elim (or_cases (one_way next s rest (record { txn = t; held = true })) _ ways) [ inl way ↦ by_way true way | inr way ↦ by_way false way ]
 
 -- and the other way round
-comes_from : (next : State → List Txn → Bool) (s : State) (rest : List Txn) (found : Option Txn) → Comes next s rest found → IsTrue (comes next s rest found)
+comes_from : (next : State → List Txn → Bool) (s : State) (rest : List Txn) (found : Option Txn)
+    → Comes next s rest found → IsTrue (comes next s rest found)
 comes_from next s rest found c =
     let t = c.placed.txn in
     let way : (held : Bool) → c.placed.held ≡ held → IsTrue (one_way next s rest (record { txn = t; held = held })) =
@@ -42,12 +44,14 @@ comes_from next s rest found c =
     rw c.is (and_from _ _ (and_from _ _ c.free c.reads) ways)
 
 -- one of the first so many may come
-below_found : (next : State → List Txn → Bool) (s : State) (ts : List Txn) (k : ℕ) → IsTrue (one_below next s ts k) → (i : ℕ) × IsTrue (may_come next s ts i)
+below_found : (next : State → List Txn → Bool) (s : State) (ts : List Txn) (k : ℕ) → IsTrue (one_below next s ts k)
+    → (i : ℕ) × IsTrue (may_come next s ts i)
 below_found next s ts zero h = cc
 below_found next s ts (suc k) h =
     elim (or_cases (one_below next s ts k) (may_come next s ts k) h) [ inl earlier ↦ below_found next s ts k earlier | inr here ↦ (k, here) ]
 
-pub found_below : (next : State → List Txn → Bool) (s : State) (ts : List Txn) (k i : ℕ) → i < k → IsTrue (may_come next s ts i) → IsTrue (one_below next s ts k)
+pub found_below : (next : State → List Txn → Bool) (s : State) (ts : List Txn) (k i : ℕ) → i < k
+    → IsTrue (may_come next s ts i) → IsTrue (one_below next s ts k)
 found_below next s ts zero i h here = absurd (omega arith)
 found_below next s ts (suc k) i h here =
     elim (cases_lt i k) [

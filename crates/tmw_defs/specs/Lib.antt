@@ -1,3 +1,5 @@
-pub mod History
-pub mod Opaque
 pub mod Decision
+pub mod History
+pub mod Naming
+pub mod Opaque
+pub mod Texts

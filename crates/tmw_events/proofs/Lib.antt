@@ -10,6 +10,6 @@ mod NextLines
 mod Numbers
 mod Pieces
 mod Splits
-pub mod ToldBytes
+pub mod TextNames
 mod TracesRead
 mod ValueParts

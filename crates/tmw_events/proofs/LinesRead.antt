@@ -6,7 +6,7 @@ use Rattle.std.proofs.lemmas.List.Elements.{All-push}
 use Rattle.std.specs.List.{All, list_all}
 use Rattle.tmw_events.specs.Held.{bytes_of}
 use Rattle.tmw_events.specs.Line.{IsEventLine, IsBadLine, HasLineFault}
-use Rattle.tmw_events.specs.Lines.{HasRead}
+use Rattle.tmw_events.specs.TraceLines.{HasRead}
 use Rattle.tmw_events.specs.Start.{is_spoken, are_spoken}
 use Rattle.tmw_events.specs.Text.{event_text, header_text, lines_text, trace_text, line, FitsKind, AreEvents}
 use Rattle.tmw_events.specs.TextFault.{HasTextFault}

@@ -1,7 +1,7 @@
 -- Reading a whole trace: what was told so far is what the reader of lines has read.
 use Rattle.std.proofs.Common.{◌≡◌, ℕ, List, [], ◌∷◌, ◌++◌}
 use Rattle.tmw_events.specs.Held.{bytes_of}
-use Rattle.tmw_events.specs.Lines.{HasRead, GivesEvent, GivesEnd, GivesFault}
+use Rattle.tmw_events.specs.TraceLines.{HasRead, GivesEvent, GivesEnd, GivesFault}
 use Rattle.tmw_events.specs.Text.{trace_text, AreEvents}
 use Rattle.tmw_events.specs.TextFault.{HasTextFault, HasBegun}
 use Rattle.tmw_events.specs.Told.{Adds}
@@ -9,7 +9,7 @@ use Rattle.tmw_events.specs.declared.event.Event.{Event}
 use Rattle.tmw_events.specs.declared.header.Header.{Header}
 use Rattle.tmw_events.specs.declared.trace_fault.TraceFault.{TraceFault}
 use Rattle.tmw_events.specs.declared.trace_lines.TraceLines.{TraceLines}
-use Rattle.tmw_events.proofs.ToldBytes.{Adds-more}
+use Rattle.tmw_events.proofs.Beginnings.{Adds-more}
 
 -- the reader has read all that the source told, and given these events
 pub record HasTaken {S : Type 0} (Told : S → List ℕ → Type 0) (old new : S) (lines : TraceLines) (header : Header)

@@ -60,7 +60,7 @@ pub record AreRead (count index : ℕ) (values rest bytes : List ℕ) : Type 0 w
 drop_step : (xs : List ℕ) (i : ℕ) → i < length xs → drop i xs ≡ get_or xs i 0 ∷ drop (i + 1) xs
 drop_step xs i within = drop-cons xs i 0 within ∙ ap (λ n. get_or xs i 0 ∷ drop n xs) (sym (add-one i))
 
-next-values : (values : List ℕ) → is_next 32 (values_text values) ≡ true
+pub next-values : (values : List ℕ) → is_next 32 (values_text values) ≡ true
 next-values [] = refl
 next-values (value ∷ values) = refl
 

@@ -1,6 +1,5 @@
 pub mod Held
 pub mod Line
-pub mod Lines
 pub mod LongLine
 pub mod Memory
 pub mod Parts
@@ -9,4 +8,5 @@ pub mod Start
 pub mod Text
 pub mod TextFault
 pub mod Told
+pub mod TraceLines
 pub mod Values

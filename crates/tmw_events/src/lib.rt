@@ -16,6 +16,8 @@ mod next_line;
 mod number;
 mod piece;
 mod reader;
+#[cfg(test)]
+mod reader_tests;
 mod registers;
 mod sink;
 mod source;

@@ -36,7 +36,7 @@ pub struct TraceLines {
 }
 
 impl TraceLines {
-    ghost use Rattle.tmw_events.specs.Lines.{IsNew, IsReading, IsOver, HasFailed, HasRead, unread, GivesEvent, GivesEnd, GivesFault};
+    ghost use Rattle.tmw_events.specs.TraceLines.{IsNew, IsReading, IsOver, HasFailed, HasRead, unread, GivesEvent, GivesEnd, GivesFault};
 
     /// Nothing is read.
     pub const fn new() -> TraceLines

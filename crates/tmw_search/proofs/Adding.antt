@@ -10,10 +10,12 @@ use Rattle.tmw_defs.specs.History.{add_event}
 use Rattle.tmw_search.specs.declared.transaction.Transaction.{Transaction}
 use Rattle.tmw_search.specs.Shown.{txn_of, txns_of, joins}
 
-add_event_here : (place : ℕ) (e : Event) (t : Transaction) (ts : List Transaction) → joins e.thread.number t ≡ true → add_event place e (txns_of (t ∷ ts)) ≡ record (txn_of t) { last = place; text = t.text.items ++ e.kind ∷ [] } ∷ txns_of ts
+add_event_here : (place : ℕ) (e : Event) (t : Transaction) (ts : List Transaction) → joins e.thread.number t ≡ true
+    → add_event place e (txns_of (t ∷ ts)) ≡ record (txn_of t) { last = place; text = t.text.items ++ e.kind ∷ [] } ∷ txns_of ts
 add_event_here place e t ts here = rw here refl
 
-add_event_past : (place : ℕ) (e : Event) (t : Transaction) (ts : List Transaction) → joins e.thread.number t ≡ false → add_event place e (txns_of (t ∷ ts)) ≡ txn_of t ∷ add_event place e (txns_of ts)
+add_event_past : (place : ℕ) (e : Event) (t : Transaction) (ts : List Transaction) → joins e.thread.number t ≡ false
+    → add_event place e (txns_of (t ∷ ts)) ≡ txn_of t ∷ add_event place e (txns_of ts)
 add_event_past place e t ts past = rw past refl
 
 -- the first that the event joins is at this place
@@ -38,7 +40,8 @@ add_event-none place e (t ∷ ts) new none_joined is =
     ap (λ us. txn_of t ∷ us) (add_event-none place e ts new (λ k d h. none_joined (suc k) d (omega arith)) is)
     ∙ sym (add_event_past place e t ts (none_joined 0 t (omega arith)))
 
-pub add_event-position : (place : ℕ) (e : Event) (ts : List Transaction) (i : ℕ) (old new : Transaction) → Some i ≡ position (joins e.thread.number) ts
+pub add_event-position : (place : ℕ) (e : Event) (ts : List Transaction) (i : ℕ) (old new : Transaction)
+    → Some i ≡ position (joins e.thread.number) ts
     → old ≡ get_or ts i old
     → txn_of new ≡ record (txn_of old) { last = place; text = old.text.items ++ e.kind ∷ [] }
     → txns_of (slice_set ts i new) ≡ add_event place e (txns_of ts)
@@ -46,7 +49,8 @@ add_event-position place e ts i old new found at is =
     let (within, here, before) = position-Some (joins e.thread.number) ts i old (sym found) in
     add_event-at place e ts i old new within here before (rw (← at) is)
 
-pub add_event-nowhere : (place : ℕ) (e : Event) (ts : List Transaction) (new : Transaction) → None ≡ position (joins e.thread.number) ts
+pub add_event-nowhere : (place : ℕ) (e : Event) (ts : List Transaction) (new : Transaction)
+    → None ≡ position (joins e.thread.number) ts
     → txn_of new ≡ record { thread = e.thread.number; first = place; last = place; text = e.kind ∷ [] }
     → txns_of (ts ++ new ∷ []) ≡ add_event place e (txns_of ts)
 add_event-nowhere place e ts new nowhere is =

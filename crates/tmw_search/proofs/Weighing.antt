@@ -31,7 +31,8 @@ pub weighs_shown : (registers : ℕ) (start : State) (history : List Event) (lis
 weighs_shown registers start history list explained shown formed few is =
     weighs_search registers start history explained (rw (← shown) (sym formed)) (rw (← shown, length-map) few) (is ∙ ap (is_explained start) shown)
 
-first_at : (Fault : ℕ → State → List Event → Type 0) (registers : ℕ) (start : State) (history : List Event) (m k : ℕ) → m ≤ length history
+first_at : (Fault : ℕ → State → List Event → Type 0) (registers : ℕ) (start : State) (history : List Event) (m k : ℕ)
+    → m ≤ length history
     → ((j : ℕ) → j < m → IsFine registers start (take j history)) → k ≡ length (take m history) → Fault registers start (take m history)
     → IsFirst Fault registers start history k
 first_at Fault registers start history m k within before size here =

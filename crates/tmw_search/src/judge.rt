@@ -55,3 +55,6 @@ fn is_final_opaque(
     }
     Ok(is_explained(alloc, &list, start)?)
 }
+
+#[cfg(test)]
+mod tests;

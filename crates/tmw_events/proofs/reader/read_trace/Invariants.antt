@@ -1,5 +1,5 @@
 use Rattle.std.proofs.Common.{◌≡◌, ◌+◌}
-use Rattle.tmw_events.specs.Lines.{unread}
+use Rattle.tmw_events.specs.TraceLines.{unread}
 use Rattle.tmw_events.proofs.TracesRead.{HasTaken}
 use Rattle.tmw_events.proofs.reader.read_trace.Given as goal
 

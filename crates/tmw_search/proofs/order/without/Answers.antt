@@ -1,3 +1,4 @@
+-- A reference list without one shows what is left of the transactions.
 use Rattle.std.proofs.Common.{◌≡◌}
 use Rattle.tmw_search.proofs.Steps.{shown-remove}
 use Rattle.tmw_search.proofs.order.without.Goals as goal
