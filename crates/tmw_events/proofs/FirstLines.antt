@@ -12,7 +12,7 @@ use Rattle.tmw_events.specs.declared.trace_fault.TraceFault.TheVariants.{BadHead
 use Rattle.tmw_events.proofs.Lengths.{long_no_header}
 use Rattle.tmw_events.proofs.NextLines.{line-split, bytes-joined}
 use Rattle.tmw_events.proofs.Splits.{free-append}
-use Rattle.tmw_events.proofs.Beginnings.{Adds-more}
+use Rattle.tmw_events.proofs.ToldBytes.{Adds-more}
 
 pub take_header-some : (bytes left : List ℕ) (count : ℕ) (found : Option Header) → drop count bytes ≡ 10 ∷ drop (count + 1) bytes
     → left ≡ drop (count + 1) bytes → IfSome found (λ header. take count bytes ≡ header_text header)

@@ -11,5 +11,6 @@ mod Numbers
 mod Pieces
 mod Splits
 pub mod TextNames
+pub mod ToldBytes
 mod TracesRead
 mod ValueParts

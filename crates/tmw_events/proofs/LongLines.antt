@@ -6,7 +6,7 @@ use Rattle.tmw_events.specs.LongLine.{HasFeed}
 use Rattle.tmw_events.specs.Parts.{IsFree}
 use Rattle.tmw_events.specs.Told.{Adds}
 use Rattle.tmw_events.proofs.Splits.{free-append, free-before, drop-before}
-use Rattle.tmw_events.proofs.Beginnings.{Adds-more}
+use Rattle.tmw_events.proofs.ToldBytes.{Adds-more}
 
 -- what the source told so far holds no line feed
 pub record HasSkipped {S : Type 0} (Told : S → List ℕ → Type 0) (old new : S) : Type 0 where

@@ -13,7 +13,7 @@ use Rattle.tmw_events.specs.declared.trace_fault.TraceFault.TheVariants.{BadLine
 use Rattle.tmw_events.specs.declared.version.Version.{Version}
 use Rattle.tmw_events.proofs.Lengths.{long_no_event}
 use Rattle.tmw_events.proofs.Splits.{free-append}
-use Rattle.tmw_events.proofs.Beginnings.{Adds-more}
+use Rattle.tmw_events.proofs.ToldBytes.{Adds-more}
 
 -- the bytes up to a line feed, and those after it
 pub line-split : (bytes text : List ℕ) (count : ℕ) → drop count bytes ≡ 10 ∷ drop (count + 1) bytes → take count bytes ≡ text

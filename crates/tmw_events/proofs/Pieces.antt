@@ -8,7 +8,7 @@ use Rattle.tmw_events.specs.Parts.{IsFree}
 use Rattle.tmw_events.specs.Piece.{Reads, IsSeen}
 use Rattle.tmw_events.specs.Told.{Adds}
 use Rattle.tmw_events.proofs.Splits.{free-append, free-before, drop-before}
-use Rattle.tmw_events.proofs.Beginnings.{Adds-more}
+use Rattle.tmw_events.proofs.ToldBytes.{Adds-more}
 
 -- the part of the bytes after those seen, up to its first line feed, is seen too
 pub IsSeen-more : (bytes : List ℕ) (seen more : ℕ) → IsSeen seen bytes

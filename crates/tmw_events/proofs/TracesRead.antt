@@ -9,7 +9,7 @@ use Rattle.tmw_events.specs.declared.event.Event.{Event}
 use Rattle.tmw_events.specs.declared.header.Header.{Header}
 use Rattle.tmw_events.specs.declared.trace_fault.TraceFault.{TraceFault}
 use Rattle.tmw_events.specs.declared.trace_lines.TraceLines.{TraceLines}
-use Rattle.tmw_events.proofs.Beginnings.{Adds-more}
+use Rattle.tmw_events.proofs.ToldBytes.{Adds-more}
 
 -- the reader has read all that the source told, and given these events
 pub record HasTaken {S : Type 0} (Told : S → List ℕ → Type 0) (old new : S) (lines : TraceLines) (header : Header)

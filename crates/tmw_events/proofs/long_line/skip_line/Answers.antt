@@ -2,7 +2,7 @@ use Rattle.std.proofs.Common.{◌≡◌, ◌<◌, ◌≤◌, ◌==◌, ◌++◌,
 use Rattle.std.specs.List.{position_or_len}
 use Rattle.tmw_events.proofs.LongLines.{feed-append, free-all}
 use Rattle.tmw_events.proofs.Splits.{free-append}
-use Rattle.tmw_events.proofs.Beginnings.{Adds-more}
+use Rattle.tmw_events.proofs.ToldBytes.{Adds-more}
 use Rattle.tmw_events.proofs.long_line.skip_line.Goals as goal
 
 pub returns-then-length_before-bytes-clause-skips : goal.returns-then-length_before-bytes-clause-skips

@@ -1,5 +1,5 @@
 use Rattle.std.proofs.Common.{List, [], ◌∷◌, ◌++◌, ◌∙◌, refl}
-use Rattle.tmw_events.proofs.Beginnings.{Adds-more}
+use Rattle.tmw_events.proofs.ToldBytes.{Adds-more}
 use Rattle.tmw_events.proofs.TracesRead.{HasTaken-push, begun-taken}
 use Rattle.tmw_events.proofs.reader.read_trace.Goals as goal
 
