@@ -37,9 +37,12 @@ fn asked(rt: &HostRuntime) -> Result<(), Fault> {
         )),
         Err(_) => return Err(Fault::Usage),
     };
-    let Ok(words) = arguments.skip(1).collect::<Vec<String>>(rt.alloc()) else {
-        return Err(Fault::Trace(TraceFault::Memory));
-    };
+    let mut words = Vec::new(rt.alloc());
+    for word in arguments.skip(1) {
+        if words.push(word).is_err() {
+            return Err(Fault::Trace(TraceFault::Memory));
+        }
+    }
     if is_judge(&words) {
         Ok(())
     } else {
