@@ -1,5 +1,5 @@
 -- Bytes that were added in parts, of which the last may be a beginning of what was to be added.
-use Rattle.std.proofs.Common.{◌≡◌, ◌+◌, ◌<◌, ◌≤◌, length, take, ◌++◌, ℕ, List, arith}
+use Rattle.std.proofs.Common.{◌+◌, ◌≤◌, length, take, ◌++◌, ℕ, List, arith}
 use Rattle.std.proofs.lemmas.List.{length-append, take-append-le}
 use Rattle.std.proofs.Math.Seq.{take-append-add}
 use Rattle.tmw_events.proofs.ToldBytes.{Adds-more}

@@ -4,6 +4,7 @@ use Rattle.std.proofs.lemmas.Grind.{flat_map-append}
 use Rattle.std.proofs.lemmas.List.{append-nil}
 use Rattle.std.proofs.lemmas.List.Elements.{All-push}
 use Rattle.std.specs.List.{All, list_all}
+use Rattle.std.proofs.lemmas.Bool.{and_parts, and_from}
 use Rattle.tmw_events.specs.Held.{bytes_of}
 use Rattle.tmw_events.specs.Line.{IsEventLine, IsBadLine, HasLineFault}
 use Rattle.tmw_events.specs.TraceLines.{HasRead}
@@ -18,17 +19,16 @@ use Rattle.tmw_events.specs.declared.trace_fault.TraceFault.TheVariants.{BadHead
 use Rattle.tmw_events.specs.declared.trace_lines.State.TheVariants.{Reading}
 use Rattle.tmw_events.specs.declared.trace_lines.TraceLines.{TraceLines}
 use Rattle.tmw_events.specs.declared.version.Version.{Version}
-use Rattle.tmw_events.proofs.Splits.{and_left, and_right, and_both}
 
 few-held : (held : Held) → length (bytes_of held) ≤ 4096
 few-held held = simp length-take (omega (arith, held.within))
 
 are_spoken-push : (version : Version) (events : List Event) (event : Event) → are_spoken version events ≡ true
     → is_spoken version event.kind ≡ true → are_spoken version (events ++ event ∷ []) ≡ true
-are_spoken-push version [] event all one = and_both (is_spoken version event.kind) true one refl
+are_spoken-push version [] event all one = and_from (is_spoken version event.kind) true one refl
 are_spoken-push version (e ∷ es) event all one =
-    and_both (is_spoken version e.kind) _ (and_left (is_spoken version e.kind) _ all)
-    (are_spoken-push version es event (and_right (is_spoken version e.kind) _ all) one)
+    and_from (is_spoken version e.kind) _ (and_parts (is_spoken version e.kind) _ all).0
+    (are_spoken-push version es event (and_parts (is_spoken version e.kind) _ all).1 one)
 
 AreEvents-push : (header : Header) (events : List Event) (event : Event) → AreEvents header events
     → is_spoken header.version event.kind ≡ true → FitsKind event.kind → AreEvents header (events ++ event ∷ [])

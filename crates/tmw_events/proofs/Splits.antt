@@ -4,40 +4,28 @@ use Rattle.std.specs.List.{list_all, position_or_len}
 use Rattle.std.specs.Fmt.{decimal}
 use Rattle.std.specs.Str.Parse.{AllDigits}
 use Rattle.tmw_events.specs.Parts.{IsFree, is_next}
-use Rattle.std.proofs.lemmas.Bool.{eqb-true, cases_Bool}
+use Rattle.std.proofs.lemmas.Bool.{and_parts, and_from, eqb-true, cases_Bool}
 use Rattle.std.proofs.lemmas.Bool.Decides.{nat_tests}
 use Rattle.std.proofs.lemmas.Fmt.{decimal_is_IsNumeral}
 use Rattle.std.proofs.lemmas.Str.Parse.{digit_from_value}
 
-pub and_left : (a b : Bool) → (a && b) ≡ true → a ≡ true
-and_left true b h = refl
-and_left false b h = h
-
-pub and_right : (a b : Bool) → (a && b) ≡ true → b ≡ true
-and_right true b h = h
-and_right false b h = absurd (cc)
-
-pub and_both : (a b : Bool) → a ≡ true → b ≡ true → (a && b) ≡ true
-and_both true b h k = k
-and_both false b h k = h
-
 pub free-append : (stop : ℕ) (xs ys : List ℕ) → IsFree stop xs → IsFree stop ys → IsFree stop (xs ++ ys)
 free-append stop [] ys a b = b
 free-append stop (x ∷ xs) ys a b =
-    and_both (not (x == stop)) _ (and_left (not (x == stop)) _ a)
-    (free-append stop xs ys (and_right (not (x == stop)) _ a) b)
+    and_from (not (x == stop)) _ (and_parts (not (x == stop)) _ a).0
+    (free-append stop xs ys (and_parts (not (x == stop)) _ a).1 b)
 
 -- the first byte of what is free of `stop` isn't it
 pub first_free : (stop x : ℕ) (xs : List ℕ) → IsFree stop (x ∷ xs) → (x == stop) ≡ false
 first_free stop x xs a =
-    elim (cases_Bool (x == stop)) [ inl h ↦ absurd (let k = rw h at (and_left (not (x == stop)) _ a) in cc) | inr h ↦ h ]
+    elim (cases_Bool (x == stop)) [ inl h ↦ absurd (let k = rw h at (and_parts (not (x == stop)) _ a).0 in cc) | inr h ↦ h ]
 
 pub position_or_len-free : (stop : ℕ) (xs ys : List ℕ) → IsFree stop xs
     → position_or_len (λ byte. byte == stop) (xs ++ ys) ≡ length xs + position_or_len (λ byte. byte == stop) ys
 position_or_len-free stop [] ys a = omega arith
 position_or_len-free stop (x ∷ xs) ys a =
     let first = first_free stop x xs a in
-    let more = position_or_len-free stop xs ys (and_right (not (x == stop)) _ a) in
+    let more = position_or_len-free stop xs ys (and_parts (not (x == stop)) _ a).1 in
     rw first (omega (arith, more))
 
 pub free-before : (stop : ℕ) (bytes : List ℕ) → IsFree stop (take (position_or_len (λ byte. byte == stop) bytes) bytes)
@@ -47,7 +35,7 @@ free-before stop (x ∷ xs) =
     let step : 1 + n ≡ suc n = omega arith in
     elim (cases_Bool (x == stop)) [
       | inl h ↦ rw h refl
-      | inr h ↦ rw (h, step) (and_both (not (x == stop)) _ (rw h refl) (free-before stop xs))
+      | inr h ↦ rw (h, step) (and_from (not (x == stop)) _ (rw h refl) (free-before stop xs))
     ]
 
 pub drop-before : (stop : ℕ) (bytes : List ℕ) → position_or_len (λ byte. byte == stop) bytes < length bytes
@@ -77,7 +65,7 @@ split_free stop (x ∷ xs) [] ys vs a b c d is =
 split_free stop (x ∷ xs) (u ∷ us) ys vs a b c d is =
     let tails : xs ++ ys ≡ us ++ vs = cc in
     let heads : x ≡ u = cc in
-    let more = split_free stop xs us ys vs (and_right (not (x == stop)) _ a) (and_right (not (u == stop)) _ b) c d tails in
+    let more = split_free stop xs us ys vs (and_parts (not (x == stop)) _ a).1 (and_parts (not (u == stop)) _ b).1 c d tails in
     (let k = more.0 in cc, more.1)
 
 pub free-digits : (stop : ℕ) (ds : List ℕ) → stop < 48 → AllDigits 10 ds → IsFree stop ds
@@ -85,7 +73,7 @@ free-digits stop [] low digits = refl
 free-digits stop (c ∷ cs) low digits =
     let range = digit_from_value c digits.0 in
     let other : (c == stop) ≡ false = grind (arith, nat_tests, range, low) in
-    and_both (not (c == stop)) _ (rw other refl) (free-digits stop cs low digits.1)
+    and_from (not (c == stop)) _ (rw other refl) (free-digits stop cs low digits.1)
 
 pub free-decimal : (stop n : ℕ) → stop < 48 → n < 2 ^ 64 → IsFree stop (decimal n)
 free-decimal stop n low small = free-digits stop (decimal n) low (decimal_is_IsNumeral n small).0.1

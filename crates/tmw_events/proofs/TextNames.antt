@@ -4,7 +4,7 @@ use Rattle.std.specs.Fmt.{decimal}
 use Rattle.std.specs.List.{All, AllByRecursion}
 use Rattle.std.proofs.Math.Bool.{Bool-set}
 use Rattle.std.proofs.Math.Bridge.{le_prop}
-use Rattle.std.proofs.lemmas.Bool.{eqb-true}
+use Rattle.std.proofs.lemmas.Bool.{and_parts, and_from, eqb-true}
 use Rattle.std.proofs.lemmas.Bool.Decides.{nat_tests}
 use Rattle.std.proofs.lemmas.Fmt.{decimal_injective}
 use Rattle.std.proofs.lemmas.List.{length-take-le}
@@ -20,7 +20,7 @@ use Rattle.tmw_events.specs.declared.ix.Ix.{Ix}
 use Rattle.tmw_events.specs.declared.registers.Registers.{Registers}
 use Rattle.tmw_events.specs.declared.version.Version.{Version}
 use Rattle.tmw_events.specs.declared.version.Version.TheVariants.{One, Two}
-use Rattle.tmw_events.proofs.Splits.{and_left, and_right, and_both, free-append, free-decimal, split_free}
+use Rattle.tmw_events.proofs.Splits.{free-append, free-decimal, split_free}
 use Rattle.tmw_events.proofs.ValueParts.{next-values}
 
 -- a number below 8 is one thread or register
@@ -36,16 +36,16 @@ same_registers a b same =
     let made : (n : ℕ) → 0 < n → n ≤ 8 → Registers = λ n some most. record { number = n; some = some; most = most } in
     let P : ℕ → Type 0 = λ n. (some : 0 < n) (most : n ≤ 8) → a ≡ made n some most in
     subst P same (λ some most. ap (λ p. made a.number p a.most) (le_prop a.some some) ∙ ap (made a.number some) (le_prop a.most most))
-        b.some b.most
+    b.some b.most
 
 -- the fields that are told name a header
 same_header : (a b : Header) → a.version ≡ b.version → a.registers ≡ b.registers → a.initial ≡ b.initial → a ≡ b
 same_header a b version registers initial =
     let made : (v : Version) (r : Registers) (i : List ℕ) → is_start v r.number i ≡ true → Header =
-        λ v r i starts. record { version = v; registers = r; initial = i; starts = starts } in
+    λ v r i starts. record { version = v; registers = r; initial = i; starts = starts } in
     let Q : Version → Registers → List ℕ → Type 0 = λ v r i. (starts : is_start v r.number i ≡ true) → a ≡ made v r i starts in
     let base : Q a.version a.registers a.initial =
-        λ starts. ap (made a.version a.registers a.initial) (Bool-set _ _ a.starts starts) in
+    λ starts. ap (made a.version a.registers a.initial) (Bool-set _ _ a.starts starts) in
     let one : Q b.version a.registers a.initial = subst (λ v. Q v a.registers a.initial) version base in
     let two : Q b.version b.registers a.initial = subst (λ r. Q b.version r a.initial) registers one in
     subst (λ i. Q b.version b.registers i) initial two b.starts
@@ -69,17 +69,17 @@ event_text-injective e f a b is =
     let thread = same_ix e.thread f.thread (omega (arith, ap (λ xs. get_or xs 0 0) is)) in
     let kind = kind_text-injective e.kind f.kind a b (ap (λ xs. drop 2 xs) is) in
     ap (λ t. let r : Event = record { thread = t; kind = e.kind } in r) thread
-      ∙ ap (λ k. let r : Event = record { thread = f.thread; kind = k } in r) kind
+    ∙ ap (λ k. let r : Event = record { thread = f.thread; kind = k } in r) kind
 
 -- a digit is no line feed
 no_feed : (n : ℕ) → not (48 + n == 10) ≡ true
 no_feed n = let other : (48 + n == 10) ≡ false = grind (arith, nat_tests) in rw other refl
 
 free-kind_text : (k : Kind) → FitsKind k → IsFree 10 (kind_text k)
-free-kind_text (R r) f = and_both _ true (no_feed r.number) refl
+free-kind_text (R r) f = and_from _ true (no_feed r.number) refl
 free-kind_text (V v) f = free-decimal 10 v (omega arith) f
-free-kind_text (W r v) f = and_both _ _ (no_feed r.number) (free-decimal 10 v (omega arith) f)
-free-kind_text (N r v) f = and_both _ _ (no_feed r.number) (free-decimal 10 v (omega arith) f)
+free-kind_text (W r v) f = and_from _ _ (no_feed r.number) (free-decimal 10 v (omega arith) f)
+free-kind_text (N r v) f = and_from _ _ (no_feed r.number) (free-decimal 10 v (omega arith) f)
 free-kind_text K f = refl
 free-kind_text T f = refl
 free-kind_text C f = refl
@@ -87,7 +87,7 @@ free-kind_text X f = refl
 free-kind_text A f = refl
 
 free-event_text : (e : Event) → FitsKind e.kind → IsFree 10 (event_text e)
-free-event_text e f = and_both _ _ (no_feed e.thread.number) (free-kind_text e.kind f)
+free-event_text e f = and_from _ _ (no_feed e.thread.number) (free-kind_text e.kind f)
 
 free-values_text : (values : List ℕ) → AllByRecursion (λ value. value < 2 ^ 64) values → IsFree 10 (values_text values)
 free-values_text [] f = refl
@@ -108,12 +108,12 @@ told-values : (header : Header) → FitsHeader header
     → AllByRecursion (λ value. value < 2 ^ 64) (take header.registers.number header.initial)
 told-values header fits =
     recursion_from_All (λ value. value < 2 ^ 64) (take header.registers.number header.initial)
-      (All-take (λ value. value < 2 ^ 64) header.registers.number header.initial fits.1)
+    (All-take (λ value. value < 2 ^ 64) header.registers.number header.initial fits.1)
 
 free-header_text : (header : Header) → FitsHeader header → IsFree 10 (header_text header)
 free-header_text header fits =
-    and_both _ _ (free-version_digit header.version) (and_both _ _ (no_feed header.registers.number)
-      (free-initial_text header.version (take header.registers.number header.initial) (told-values header fits)))
+    and_from _ _ (free-version_digit header.version) (and_from _ _ (no_feed header.registers.number)
+    (free-initial_text header.version (take header.registers.number header.initial) (told-values header fits)))
 
 -- a line and what follows it are fixed by the bytes
 line-injective : (xs us ys vs : List ℕ) → IsFree 10 xs → IsFree 10 us → line xs ++ ys ≡ line us ++ vs → (xs ≡ us) × (ys ≡ vs)
@@ -129,9 +129,9 @@ lines_text-injective [] (f ∷ fs) a b is = absurd (omega (arith, ap length is))
 lines_text-injective (e ∷ es) [] a b is = absurd (omega (arith, ap length is))
 lines_text-injective (e ∷ es) (f ∷ fs) a b is =
     let parts = line-injective (event_text e) (event_text f) (lines_text es) (lines_text fs)
-      (free-event_text e a.0) (free-event_text f b.0) is in
+    (free-event_text e a.0) (free-event_text f b.0) is in
     ap (λ x. x ∷ es) (event_text-injective e f a.0 b.0 parts.0)
-      ∙ ap (λ xs. f ∷ xs) (lines_text-injective es fs a.1 b.1 parts.1)
+    ∙ ap (λ xs. f ∷ xs) (lines_text-injective es fs a.1 b.1 parts.1)
 
 values_text-injective : (xs ys : List ℕ) → AllByRecursion (λ x. x < 2 ^ 64) xs → AllByRecursion (λ y. y < 2 ^ 64) ys
     → values_text xs ≡ values_text ys → xs ≡ ys
@@ -140,9 +140,9 @@ values_text-injective [] (y ∷ ys) a b is = absurd (omega (arith, ap length is)
 values_text-injective (x ∷ xs) [] a b is = absurd (omega (arith, ap length is))
 values_text-injective (x ∷ xs) (y ∷ ys) a b is =
     let parts = split_free 32 (decimal x) (decimal y) (values_text xs) (values_text ys) (free-decimal 32 x (omega arith) a.0)
-      (free-decimal 32 y (omega arith) b.0) (next-values xs) (next-values ys) (ap (λ zs. drop 1 zs) is) in
+    (free-decimal 32 y (omega arith) b.0) (next-values xs) (next-values ys) (ap (λ zs. drop 1 zs) is) in
     ap (λ z. z ∷ xs) (decimal_injective x y a.0 b.0 parts.0)
-      ∙ ap (λ zs. y ∷ zs) (values_text-injective xs ys a.1 b.1 parts.1)
+    ∙ ap (λ zs. y ∷ zs) (values_text-injective xs ys a.1 b.1 parts.1)
 
 version_digit-injective : (v w : Version) → version_digit v ≡ version_digit w → v ≡ w
 version_digit-injective One One is = refl
@@ -155,9 +155,9 @@ same_zeros [] [] a b same = refl
 same_zeros [] (y ∷ ys) a b same = absurd (omega (arith, same))
 same_zeros (x ∷ xs) [] a b same = absurd (omega (arith, same))
 same_zeros (x ∷ xs) (y ∷ ys) a b same =
-    let first : x ≡ y = eqb-true x 0 (and_left _ _ a) ∙ sym (eqb-true y 0 (and_left _ _ b)) in
+    let first : x ≡ y = eqb-true x 0 (and_parts _ _ a).0 ∙ sym (eqb-true y 0 (and_parts _ _ b).0) in
     ap (λ z. z ∷ xs) first
-      ∙ ap (λ zs. y ∷ zs) (same_zeros xs ys (and_right _ _ a) (and_right _ _ b) (omega (arith, same)))
+    ∙ ap (λ zs. y ∷ zs) (same_zeros xs ys (and_parts _ _ a).1 (and_parts _ _ b).1 (omega (arith, same)))
 
 -- the values at the start are fixed by those told, since the others are 0
 same_initial : (version : Version) (n : ℕ) (xs ys : List ℕ) → is_start version n xs ≡ true → is_start version n ys ≡ true
@@ -183,14 +183,15 @@ header_text-injective a b f g is =
     let registers = same_registers a.registers b.registers number in
     let same : length a.initial ≡ length b.initial = f.0 ∙ sym g.0 in
     same_header a b version registers
-      (same_initial-at a.version b.version a.registers.number b.registers.number a.initial b.initial version number
-        a.starts b.starts same (told-values a f) (told-values b g) (ap (λ xs. drop 17 xs) is))
+    (same_initial-at a.version b.version a.registers.number b.registers.number a.initial b.initial version number
+    a.starts b.starts same (told-values a f) (told-values b g) (ap (λ xs. drop 17 xs) is))
 
 -- two traces with one text are one trace
 pub trace_text-injective : (a b : Header) (es fs : List Event) → AreEvents a es → AreEvents b fs
     → trace_text a es ≡ trace_text b fs → (a ≡ b) × (es ≡ fs)
 trace_text-injective a b es fs x y is =
     let parts = line-injective (header_text a) (header_text b) (lines_text es) (lines_text fs)
-      (free-header_text a x.header_fits) (free-header_text b y.header_fits) is in
-    (header_text-injective a b x.header_fits y.header_fits parts.0,
-      lines_text-injective es fs (recursion_from_All (λ e. FitsKind e.kind) es x.fit) (recursion_from_All (λ e. FitsKind e.kind) fs y.fit) parts.1)
+    (free-header_text a x.header_fits) (free-header_text b y.header_fits) is in (
+      header_text-injective a b x.header_fits y.header_fits parts.0,
+      lines_text-injective es fs (recursion_from_All (λ e. FitsKind e.kind) es x.fit) (recursion_from_All (λ e. FitsKind e.kind) fs y.fit) parts.1,
+    )

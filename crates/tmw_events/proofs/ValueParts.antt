@@ -2,7 +2,7 @@
 use Rattle.std.proofs.Common.{◌≡◌, ℕ, ◌+◌, ◌<◌, ◌≤◌, ◌^◌, true, not, List, [], ◌∷◌, ◌++◌, suc, length, take, drop, get_or, set, sym, ap, ◌∙◌, refl, inl, inr, ◌==◌, length-set, append_assoc, add-one, drop-cons, take-append-drop, arith}
 use Rattle.std.specs.List.{position_or_len}
 use Rattle.std.specs.Fmt.{decimal}
-use Rattle.std.proofs.lemmas.Bool.{cases_Bool}
+use Rattle.std.proofs.lemmas.Bool.{and_parts, cases_Bool}
 use Rattle.std.proofs.Math.Seq.{take-append_seam}
 use Rattle.std.proofs.lemmas.List.Elements.{All-set}
 use Rattle.std.proofs.lemmas.List.Sums.{prefix_len-le-length}
@@ -13,7 +13,7 @@ use Rattle.tmw_events.specs.Parts.{IsFree, is_next}
 use Rattle.tmw_events.specs.Start.{are_zeros}
 use Rattle.tmw_events.specs.Text.{values_text}
 use Rattle.tmw_events.specs.Values.{IsFirstValue, IsNoFirstValue}
-use Rattle.tmw_events.proofs.Splits.{and_right, free-decimal, position_or_len-free, split_free}
+use Rattle.tmw_events.proofs.Splits.{free-decimal, position_or_len-free, split_free}
 
 next-before : (stop : ℕ) (bytes : List ℕ) → is_next stop (drop (position_or_len (λ byte. byte == stop) bytes) bytes) ≡ true
 next-before stop [] = refl
@@ -78,7 +78,7 @@ AreRead-more count index value n values rest bytes r more few first =
       text = rw (take_more_set values index value within, flat_map-append (λ v. 32 ∷ decimal v) (take index values) (value ∷ []))
           (r.text ∙ ap (λ xs. values_text (take index values) ++ xs) (sym parts)
           ∙ simp (append_assoc, append-nil));
-      zeros = rw drop-set-lt (and_right _ _ zeros);
+      zeros = rw drop-set-lt (and_parts _ _ zeros).1;
       left = λ all counted fit is.
           let here : index < length all = omega (arith, counted) in
           let e = rw (drop_step all index here) at (r.left all counted fit is) in

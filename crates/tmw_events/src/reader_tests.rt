@@ -25,7 +25,13 @@ fn numbers_and_kinds_have_one_text(rt: HostRuntime) {
     assert_eq!(rt; kind_of(b"N 0 7"), Some(Kind::N(zero, 7)));
     assert_eq!(rt; kind_of(b"R 8"), None);
     assert_eq!(rt; event_of(Version::One, b"0 N 0 7"), None);
-    assert_eq!(rt; event_of(Version::Two, b"0 N 0 7"), Some(Event { thread: zero, kind: Kind::N(zero, 7) }));
+    assert_eq!(rt;
+        event_of(Version::Two, b"0 N 0 7"),
+        Some(Event {
+            thread: zero,
+            kind: Kind::N(zero, 7)
+        })
+    );
     assert_eq!(rt; event_of(Version::Two, b"0 A\r"), None);
 }
 
@@ -38,14 +44,23 @@ fn a_trace_is_read_in_any_pieces(rt: HostRuntime) -> Result<(), Fail> {
         assert_eq!(rt; trace.header.registers.get(), 1);
         assert_eq!(rt; trace.events.len(), 8);
         let one = Ix::new(1).expect(&rt, "below eight");
-        assert_eq!(rt; trace.events.last().copied(), Some(Event { thread: one, kind: Kind::C }));
+        assert_eq!(rt;
+            trace.events.last().copied(),
+            Some(Event {
+                thread: one,
+                kind: Kind::C
+            })
+        );
     }
     Ok(())
 }
 
 #[test]
 fn a_header_tells_the_values_at_the_start(rt: HostRuntime) -> Result<(), Fail> {
-    let trace = read_trace(rt.alloc(), &mut MemorySource::new(b"opacity-trace 2 3 5 0 18446744073709551615\n"))?;
+    let trace = read_trace(
+        rt.alloc(),
+        &mut MemorySource::new(b"opacity-trace 2 3 5 0 18446744073709551615\n"),
+    )?;
     assert_eq!(rt; trace.header.version, Version::Two);
     assert_eq!(rt; trace.header.registers.get(), 3);
     assert_eq!(rt; trace.header.initial, [5, 0, u64::MAX, 0, 0, 0, 0, 0]);
@@ -65,7 +80,13 @@ fn lines_cross_the_ends_of_what_is_held(rt: HostRuntime) -> Result<(), Fail> {
     let seven = Ix::new(7).expect(&rt, "below eight");
     for (place, event) in trace.events.iter().enumerate() {
         if place % 2 == 0 {
-            assert_eq!(rt; *event, Event { thread: seven, kind: Kind::W(seven, u64::MAX) });
+            assert_eq!(rt;
+                *event,
+                Event {
+                    thread: seven,
+                    kind: Kind::W(seven, u64::MAX)
+                }
+            );
         } else {
             assert_eq!(rt; event.kind, Kind::T);
         }
@@ -77,15 +98,27 @@ fn lines_cross_the_ends_of_what_is_held(rt: HostRuntime) -> Result<(), Fail> {
 fn a_long_line_ends_in_its_fault(rt: HostRuntime) -> Result<(), Fail> {
     let mut text = Vec::new(rt.alloc());
     text.extend_from_slice(&[b'0'; 5000])?;
-    assert_eq!(rt; read_trace(rt.alloc(), &mut MemorySource::new(&text)).err(), Some(TraceFault::Cut(1)));
+    assert_eq!(rt;
+        read_trace(rt.alloc(), &mut MemorySource::new(&text)).err(),
+        Some(TraceFault::Cut(1))
+    );
     text.extend_from_slice(b"\n0 T\n")?;
-    assert_eq!(rt; read_trace(rt.alloc(), &mut MemorySource::new(&text)).err(), Some(TraceFault::BadHeader));
+    assert_eq!(rt;
+        read_trace(rt.alloc(), &mut MemorySource::new(&text)).err(),
+        Some(TraceFault::BadHeader)
+    );
     let mut lines = Vec::new(rt.alloc());
     lines.extend_from_slice(b"opacity-trace 1 1\n0 T\n")?;
     lines.extend_from_slice(&text)?;
-    assert_eq!(rt; read_trace(rt.alloc(), &mut MemorySource::new(&lines)).err(), Some(TraceFault::BadLine(3)));
+    assert_eq!(rt;
+        read_trace(rt.alloc(), &mut MemorySource::new(&lines)).err(),
+        Some(TraceFault::BadLine(3))
+    );
     let mut failing = MemorySource::limited(&lines, 4096, Some(2));
-    assert_eq!(rt; read_trace(rt.alloc(), &mut failing).err(), Some(TraceFault::Io));
+    assert_eq!(rt;
+        read_trace(rt.alloc(), &mut failing).err(),
+        Some(TraceFault::Io)
+    );
     Ok(())
 }
 

@@ -7,9 +7,9 @@ use Rattle.tmw_events.specs.declared.event.Event.{Event}
 use Rattle.tmw_events.specs.declared.header.Header.{Header}
 use Rattle.tmw_search.specs.Verdict.{Judges}
 use Rattle.tmw_search.specs.declared.whole.Whole.{Whole}
-use Rattle.tmw_search.specs.declared.whole.Whole.TheVariants.{Opaque as IsOpaque, Violated as IsViolated}
+use Rattle.tmw_search.specs.declared.whole.Whole.TheVariants.{Opaque as FoundOpaque, Violated as FoundViolated}
 use Rattle.tmw_search.specs.declared.whole.WholeFault.{WholeFault}
-use Rattle.tmw_search.specs.declared.whole.WholeFault.TheVariants.{IllFormed as IsIllFormed, Ninth as HasNinth}
+use Rattle.tmw_search.specs.declared.whole.WholeFault.TheVariants.{IllFormed as FoundIllFormed, Ninth as FoundNinth}
 use Rattle.tmwatch.specs.Lines.{answer_line, answer_status}
 use Rattle.tmwatch.specs.declared.fault.Fault.{Fault}
 use Rattle.tmwatch.specs.declared.fault.Fault.TheVariants.{Trace, IllFormed, Ninth, Usage}
@@ -27,13 +27,13 @@ pub record IsTraceOf (bytes : List ℕ) (events : ℕ) (found : Result Whole Who
   pub judged : Judges header.registers.number header.initial history found
 
 -- This answers the bytes that a source told, which are all its bytes where `Ended` holds: a verdict on the trace of which
--- they are the text, or the first fault that they have. Of bytes that have no fault so far, `Io` answers a failed read, and
+-- they are the text, or the first fault that they have. `Io` answers a failed read after bytes that have no fault, and
 -- `Memory` a growth that was refused.
 abbrev pub IsAnswer : Type 0 → List ℕ → Result Report Fault → Type 0
-IsAnswer Ended bytes (Ok (Opaque events)) = Ended × IsTraceOf bytes events (Ok IsOpaque)
-IsAnswer Ended bytes (Ok (Violated at events)) = Ended × IsTraceOf bytes events (Ok (IsViolated at))
-IsAnswer Ended bytes (Err (IllFormed at)) = Ended × (events : ℕ) × IsTraceOf bytes events (Err (IsIllFormed at))
-IsAnswer Ended bytes (Err (Ninth at)) = Ended × (events : ℕ) × IsTraceOf bytes events (Err (HasNinth at))
+IsAnswer Ended bytes (Ok (Opaque events)) = Ended × IsTraceOf bytes events (Ok FoundOpaque)
+IsAnswer Ended bytes (Ok (Violated at events)) = Ended × IsTraceOf bytes events (Ok (FoundViolated at))
+IsAnswer Ended bytes (Err (IllFormed at)) = Ended × (events : ℕ) × IsTraceOf bytes events (Err (FoundIllFormed at))
+IsAnswer Ended bytes (Err (Ninth at)) = Ended × (events : ℕ) × IsTraceOf bytes events (Err (FoundNinth at))
 IsAnswer Ended bytes (Err (Trace fault)) = HasTextFault Ended bytes fault
 IsAnswer Ended bytes (Err Usage) = ⊥
 

@@ -13,9 +13,9 @@ mod words;
 
 use fault::Fault;
 use run::{run_judge, write_fault};
-use std::env;
 use std::io::ErrorKind;
 use std::process::ExitCode;
+use std::{env, io};
 use tmw_events::{StdSink, StdSource, TraceFault};
 use words::is_judge;
 
@@ -30,19 +30,24 @@ fn main(rt: HostRuntime) -> ExitCode {
 
 /// Reads the command line, before any input: it has to be the one word `judge`.
 fn asked(rt: &HostRuntime) -> Result<(), Fault> {
-    let arguments = match env::args(rt) {
-        Ok(arguments) => arguments,
-        Err(error) if error.kind() == ErrorKind::OutOfMemory => return Err(Fault::Trace(
-            TraceFault::Memory,
-        )),
-        Err(_) => return Err(Fault::Usage),
-    };
-    let Ok(words) = arguments.skip(1).collect::<Vec<String>>(rt.alloc()) else {
-        return Err(Fault::Trace(TraceFault::Memory));
-    };
+    let arguments = env::args(rt).map_err(unread)?;
+    let mut words = Vec::new(rt.alloc());
+    for word in arguments.skip(1) {
+        if words.push(word).is_err() {
+            return Err(Fault::Trace(TraceFault::Memory));
+        }
+    }
     if is_judge(&words) {
         Ok(())
     } else {
         Err(Fault::Usage)
+    }
+}
+
+/// Why there are no words: memory was refused, or one of them is not UTF-8.
+fn unread(error: io::Error) -> Fault {
+    match error.kind() {
+        ErrorKind::OutOfMemory => Fault::Trace(TraceFault::Memory),
+        _ => Fault::Usage,
     }
 }

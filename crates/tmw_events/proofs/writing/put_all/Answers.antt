@@ -1,5 +1,5 @@
 -- The bytes that one more call takes follow those that were taken so far.
-use Rattle.std.proofs.Common.{◌≡◌, ◌+◌, ◌-◌, ◌≤◌, length, take, drop, ◌++◌, append_assoc, take-add, ◌∙◌, ℕ, List, arith}
+use Rattle.std.proofs.Common.{append_assoc, take-add, ◌∙◌, arith}
 use Rattle.std.proofs.lemmas.List.{take_rest, length-drop}
 use Rattle.tmw_events.proofs.writing.put_all.Goals as goal
 
