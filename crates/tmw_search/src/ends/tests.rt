@@ -77,14 +77,14 @@ fn push_writers(events: &mut Vec<Event>, step: u8) -> Result<(), AllocError> {
     Ok(())
 }
 
-/// Adds an event of each thread: its step in reading 0 in register 7, writing 1 to its own and committing.
+/// Adds an event of each thread: its step in reading 0 in register 7, writing 1 to another and committing.
 fn push_readers(events: &mut Vec<Event>, step: u8) -> Result<(), AllocError> {
-    for number in 0..7u8 {
+    for number in 0..8u8 {
         if let Some(thread) = Ix::new(number) {
             let kind = match step {
                 0 => Kind::R(LAST),
                 1 => Kind::V(0),
-                2 => Kind::W(thread, 1),
+                2 => Kind::W(if thread == LAST { FIRST } else { thread }, 1),
                 3 => Kind::K,
                 4 => Kind::T,
                 _ => Kind::C,
@@ -187,5 +187,20 @@ fn readers_and_writers_from_many_states(rt: HostRuntime) -> Result<(), Fail> {
     let states = states_below(rt.alloc(), 64)?;
     let ends = outcomes(rt.alloc(), &states, &window, 64)?;
     assert_eq!(rt; few(&ends), Some([[1, 1, 1, 1, 1, 1, 1, 0]].as_slice()));
+    Ok(())
+}
+
+#[test]
+fn pending_writers_leave_each_choice(rt: HostRuntime) -> Result<(), Fail> {
+    let mut events = Vec::new(rt.alloc());
+    for step in 0..5 {
+        push_readers(&mut events, step)?;
+    }
+    let window = window_of(rt.alloc(), EIGHT, &events)?.expect(&rt, "well-formed");
+    let states = states_below(rt.alloc(), 64)?;
+    let last = layer(rt.alloc(), &states, &window, window.count())?;
+    assert_eq!(rt; last.len(), 64 * 64);
+    let ends = outcomes(rt.alloc(), &states, &window, 255)?;
+    assert_eq!(rt; few(&ends), None);
     Ok(())
 }
