@@ -10,7 +10,7 @@ pub enum Report {
     Opaque { events: u64 },
     /// The prefix of length `at` is the shortest that is not final-state opaque.
     Violated { at: u64, events: u64 },
-    /// The prefix of length `at` is the shortest that is ill-formed.
+    /// The prefix of length `at` is ill-formed, and each shorter one is final-state opaque.
     Malformed { at: u64, events: u64 },
 }
 
