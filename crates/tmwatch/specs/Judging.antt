@@ -12,9 +12,9 @@ use Rattle.tmw_search.specs.declared.whole.WholeFault.{WholeFault}
 use Rattle.tmw_search.specs.declared.whole.WholeFault.TheVariants.{IllFormed as FoundIllFormed, Ninth as FoundNinth}
 use Rattle.tmwatch.specs.Lines.{answer_line, answer_status}
 use Rattle.tmwatch.specs.declared.fault.Fault.{Fault}
-use Rattle.tmwatch.specs.declared.fault.Fault.TheVariants.{Trace, IllFormed, Ninth, Usage}
+use Rattle.tmwatch.specs.declared.fault.Fault.TheVariants.{Trace, Ninth, Usage}
 use Rattle.tmwatch.specs.declared.report.Report.{Report}
-use Rattle.tmwatch.specs.declared.report.Report.TheVariants.{Opaque, Violated}
+use Rattle.tmwatch.specs.declared.report.Report.TheVariants.{Opaque, Violated, Malformed}
 
 -- The bytes are the text of a trace of so many events, and this is true of the trace's history: of its shortest prefix
 -- that is at fault, or of all its prefixes where none is.
@@ -32,7 +32,7 @@ pub record IsTraceOf (bytes : List ℕ) (events : ℕ) (found : Result Whole Who
 abbrev pub IsAnswer : Type 0 → List ℕ → Result Report Fault → Type 0
 IsAnswer Ended bytes (Ok (Opaque events)) = Ended × IsTraceOf bytes events (Ok FoundOpaque)
 IsAnswer Ended bytes (Ok (Violated at events)) = Ended × IsTraceOf bytes events (Ok (FoundViolated at))
-IsAnswer Ended bytes (Err (IllFormed at)) = Ended × (events : ℕ) × IsTraceOf bytes events (Err (FoundIllFormed at))
+IsAnswer Ended bytes (Ok (Malformed at events)) = Ended × IsTraceOf bytes events (Err (FoundIllFormed at))
 IsAnswer Ended bytes (Err (Ninth at)) = Ended × (events : ℕ) × IsTraceOf bytes events (Err (FoundNinth at))
 IsAnswer Ended bytes (Err (Trace fault)) = HasTextFault Ended bytes fault
 IsAnswer Ended bytes (Err Usage) = ⊥

@@ -7,9 +7,6 @@ pub enum Fault {
     /// No trace was read, or memory for its judging or its report was refused.
     #[error("{0}")]
     Trace(TraceFault),
-    /// The prefix of this length is the shortest that is ill-formed.
-    #[error("the prefix of length {0} is ill-formed")]
-    IllFormed(u64),
     /// The prefix of this length is the shortest with more than eight transactions.
     #[error("the prefix of length {0} has a ninth transaction")]
     Ninth(u64),

@@ -24,12 +24,6 @@ pub fn put_fault<K: Sink>(sink: &mut K, fault: Fault) -> Result<(), IoFault>
         Fault::Trace(TraceFault::Memory) => put_all(sink, b"{\"fault\":\"memory\"}\n"),
         Fault::Trace(TraceFault::Io) => put_all(sink, b"{\"fault\":\"io\"}\n"),
         Fault::Trace(TraceFault::TooLong) => put_all(sink, b"{\"fault\":\"too long\"}\n"),
-        Fault::IllFormed(at) => put_numbered(
-            sink,
-            b"{\"at\":",
-            at,
-            b",\"fault\":\"ill formed\"}\n",
-        ),
         Fault::Ninth(at) => {
             put_numbered(
                 sink,

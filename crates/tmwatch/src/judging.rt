@@ -23,7 +23,7 @@ pub fn judge<S: Source>(alloc: Global, source: &mut S) -> Result<Report, Fault>
     match judge_whole_from(alloc, header.registers, &header.initial, &trace.events) {
         Ok(Whole::Opaque) => Ok(Report::Opaque { events }),
         Ok(Whole::Violated(at)) => Ok(Report::Violated { at, events }),
-        Err(WholeFault::IllFormed(at)) => Err(Fault::IllFormed(at)),
+        Err(WholeFault::IllFormed(at)) => Ok(Report::Malformed { at, events }),
         Err(WholeFault::Ninth(at)) => Err(Fault::Ninth(at)),
         Err(WholeFault::Memory) => Err(Fault::Trace(TraceFault::Memory)),
     }

@@ -10,6 +10,8 @@ pub enum Report {
     Opaque { events: u64 },
     /// The prefix of length `at` is the shortest that is not final-state opaque.
     Violated { at: u64, events: u64 },
+    /// The prefix of length `at` is ill-formed, and each shorter one is final-state opaque.
+    Malformed { at: u64, events: u64 },
 }
 
 /// The report's line, with its line feed.
@@ -22,6 +24,9 @@ pub fn report_line(alloc: Global, report: Report) -> Result<String, AllocError>
         }
         Report::Violated { at, events } => {
             format!(in alloc; "{{\"at\":{at},\"events\":{events},\"verdict\":\"violated\"}}\n")
+        }
+        Report::Malformed { at, events } => {
+            format!(in alloc; "{{\"at\":{at},\"events\":{events},\"verdict\":\"malformed\"}}\n")
         }
     }
 }

@@ -15,7 +15,7 @@ use tmw_events::{Sink, Source, TraceFault, put_all};
 const FAULT_STATUS: u8 = 4;
 
 /// Judges the trace that the source tells, and writes the line that answers it. The result is the exit status: 0 for a
-/// history that is opaque so far, 1 for one that is not, 4 for any fault.
+/// history that is opaque so far, 1 for one that is violated, 3 for one that is malformed, 4 for any fault.
 pub fn run_judge<S: Source, K: Sink>(alloc: Global, source: &mut S, sink: &mut K) -> u8
     ensures { Runs S.told S.ended S.failures K.took K.failures source.old source.new sink.old sink.new result }
 {
@@ -55,5 +55,6 @@ fn status_of(report: Report) -> u8
     match report {
         Report::Opaque { .. } => 0,
         Report::Violated { .. } => 1,
+        Report::Malformed { .. } => 3,
     }
 }

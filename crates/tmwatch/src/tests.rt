@@ -10,6 +10,8 @@ const OPAQUE: u8 = 0;
 
 const VIOLATED: u8 = 1;
 
+const MALFORMED: u8 = 3;
+
 const FAULT: u8 = 4;
 
 /// A transaction reads what another, not yet commit-pending, has written.
@@ -106,6 +108,11 @@ fn histories_that_are_not_opaque(rt: HostRuntime) -> Result<(), Fail> {
             DIRTY_READ,
             "{\"at\":4,\"events\":8,\"verdict\":\"violated\"}\n",
         ),
+        // Ill-formed only after it.
+        (
+            "0 W 0 1, 0 K, 1 R 0, 1 V 1, 0 V 1",
+            "{\"at\":4,\"events\":5,\"verdict\":\"violated\"}\n",
+        ),
         // The commit-pending transaction that was read from aborts.
         (
             "0 W 0 1, 0 K, 0 T, 1 R 0, 1 V 1, 0 A",
@@ -177,13 +184,47 @@ fn initial_values_and_adds(rt: HostRuntime) -> Result<(), Fail> {
 }
 
 #[test]
+fn histories_that_are_malformed(rt: HostRuntime) -> Result<(), Fail> {
+    for (events, line) in [
+        (
+            "0 V 1",
+            "{\"at\":1,\"events\":1,\"verdict\":\"malformed\"}\n",
+        ),
+        // There is one register.
+        (
+            "0 R 1",
+            "{\"at\":1,\"events\":1,\"verdict\":\"malformed\"}\n",
+        ),
+        (
+            "0 R 0, 1 V 0",
+            "{\"at\":2,\"events\":2,\"verdict\":\"malformed\"}\n",
+        ),
+        // A read that no order explains, only after it.
+        (
+            "0 W 0 1, 0 K, 0 C, 1 R 0, 1 V 1, 1 R 0, 1 V 2",
+            "{\"at\":3,\"events\":7,\"verdict\":\"malformed\"}\n",
+        ),
+        // The answer without a call begins a ninth transaction too.
+        (
+            "0 R 0, 1 T, 1 C, 1 T, 1 C, 1 T, 1 C, 1 T, 1 C, 1 T, 1 C, 1 T, 1 C, 1 T, 1 C, 1 K, 1 T",
+            "{\"at\":16,\"events\":17,\"verdict\":\"malformed\"}\n",
+        ),
+    ] {
+        expect_of(&rt, events, line, MALFORMED)?;
+    }
+    Ok(())
+}
+
+#[test]
 fn prefixes_that_get_no_verdict(rt: HostRuntime) -> Result<(), Fail> {
     for (events, line) in [
-        ("0 V 1", "{\"at\":1,\"fault\":\"ill formed\"}\n"),
-        // There is one register.
-        ("0 R 1", "{\"at\":1,\"fault\":\"ill formed\"}\n"),
         (
             "0 R 0, 1 T, 1 C, 1 T, 1 C, 1 T, 1 C, 1 T, 1 C, 1 T, 1 C, 1 T, 1 C, 1 T, 1 C, 1 T",
+            "{\"at\":16,\"fault\":\"ninth transaction\"}\n",
+        ),
+        // Ill-formed only after it.
+        (
+            "0 R 0, 1 T, 1 C, 1 T, 1 C, 1 T, 1 C, 1 T, 1 C, 1 T, 1 C, 1 T, 1 C, 1 T, 1 C, 1 T, 1 K",
             "{\"at\":16,\"fault\":\"ninth transaction\"}\n",
         ),
     ] {
@@ -221,7 +262,13 @@ fn lines_that_are_no_events(rt: HostRuntime) -> Result<(), Fail> {
     }
     // The verdict is known by then.
     let later = format!(in rt.alloc(); "{DIRTY_READ}, 0 R 01")?;
-    expect_of(&rt, &later, "{\"fault\":\"bad line\",\"line\":10}\n", FAULT)
+    expect_of(&rt, &later, "{\"fault\":\"bad line\",\"line\":10}\n", FAULT)?;
+    expect_of(
+        &rt,
+        "0 V 1, 0 R 01",
+        "{\"fault\":\"bad line\",\"line\":3}\n",
+        FAULT,
+    )
 }
 
 #[test]

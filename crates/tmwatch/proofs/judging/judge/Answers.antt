@@ -47,7 +47,6 @@ returns-in-Err-IllFormed-clause-right g c = (
   c.in-Ok.ensures.text,
   (
     c.in-Ok.ensures.ended,
-    c.len-events.result,
     trace_of c.in-Ok.trace.header c.in-Ok.trace.events.items c.deref.result.now c.len-events.result (Err c.in-Err-IllFormed.field-0) _
         c.in-Ok.ensures.events c.deref.ensures.value (c.len-events.ensures ∙ c.in-Ok.trace.events.ok.0)
         (ap Err c.in-Err-IllFormed.field-0-is) c.in-Err-IllFormed.ensures,

@@ -5,7 +5,7 @@ use Rattle.tmw_events.specs.declared.trace_fault.TraceFault.TheVariants.{Memory}
 use Rattle.tmwatch.specs.Judging.{IsAnswer, IsTraceOf}
 use Rattle.tmwatch.specs.declared.fault.Fault.TheVariants.{Trace}
 use Rattle.tmwatch.specs.declared.report.Report.{Report}
-use Rattle.tmwatch.specs.declared.report.Report.TheVariants.{Opaque, Violated}
+use Rattle.tmwatch.specs.declared.report.Report.TheVariants.{Opaque, Violated, Malformed}
 use Rattle.tmw_search.specs.declared.whole.Whole.{Whole}
 use Rattle.tmw_search.specs.declared.whole.WholeFault.{WholeFault}
 use Rattle.std.proofs.Common.{Result}
@@ -18,6 +18,7 @@ trace_begun bytes events found t =
 begun : (Ended : Type 0) (bytes : List ℕ) (report : Report) → IsAnswer Ended bytes (Ok report) → HasBegun bytes
 begun Ended bytes (Opaque events) right = trace_begun bytes events _ right.1
 begun Ended bytes (Violated at events) right = trace_begun bytes events _ right.1
+begun Ended bytes (Malformed at events) right = trace_begun bytes events _ right.1
 
 pub returns-in-Ok : goal.returns-in-Ok
 returns-in-Ok g c =
