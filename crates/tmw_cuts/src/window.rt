@@ -85,7 +85,7 @@ impl Window {
         self.txns.len() as u8
     }
 
-    /// Whether no transaction is live.
+    /// Whether each transaction has committed or aborted.
     pub fn is_cut(&self) -> bool
         ensures { (events : List Event) → StandsFor self.now events → result ≡ is_cut events }
     {

@@ -45,16 +45,19 @@ pub leads-last : (s r : State) (us : List Txn) (i : ℕ) (p : Placed) → slice_
     → IsTrue (reads_hold r (operations p.txn.text)) → Leads s us (after r p)
 leads-last s r us i p at (order, a, is_r) none may reads =
     let each = list_all-mono (λ t. not (precedes p.txn t)) (λ t. none_precedes (p ∷ []) t) (λ t h. and_from _ true h refl)
-      (remove us i) none in
+    (remove us i) none in
     let across : IsTrue (list_all (λ q. none_precedes (p ∷ []) q.txn) order) =
-        rw (list_all-places (λ t. none_precedes (p ∷ []) t) (remove us i) order a.each) each in
-    let legal : IsTrue (is_legal (end_state s order) (p ∷ [])) = rw is_r (and_from _ true reads refl) in
-    (order ++ p ∷ [], record {
-      each = places-last order us i p at a.each;
-      kept = keeps-append order (p ∷ []) a.kept refl across;
-      completed = rw (list_all-append may_be order (p ∷ [])) (and_from _ _ a.completed (and_from _ true may refl));
-      legal = rw (is_legal-append s order (p ∷ [])) (and_from _ _ a.legal legal);
-    }, end_state-append s order (p ∷ []) ∙ ap (λ m. after m p) is_r)
+    rw (list_all-places (λ t. none_precedes (p ∷ []) t) (remove us i) order a.each) each in
+    let legal : IsTrue (is_legal (end_state s order) (p ∷ [])) = rw is_r (and_from _ true reads refl) in (
+      order ++ p ∷ [],
+      record {
+        each = places-last order us i p at a.each;
+        kept = keeps-append order (p ∷ []) a.kept refl across;
+        completed = rw (list_all-append may_be order (p ∷ [])) (and_from _ _ a.completed (and_from _ true may refl));
+        legal = rw (is_legal-append s order (p ∷ [])) (and_from _ _ a.legal legal);
+      },
+      end_state-append s order (p ∷ []) ∙ ap (λ m. after m p) is_r,
+    )
 
 -- where the last of an order stands, and the order of the others
 record HasLast (us : List Txn) (front : List Placed) (last : Placed) : Type 0 where
@@ -91,7 +94,7 @@ keeps_front [] last kept = (refl, refl)
 keeps_front (p ∷ front) last kept =
     let (free, more) = and_parts (list_all (λ q. not (precedes q.txn p.txn)) (front ++ last ∷ [])) _ kept in
     let (here, later) = and_parts (list_all (λ q. not (precedes q.txn p.txn)) front) _
-      (rw (list_all-append (λ q. not (precedes q.txn p.txn)) front (last ∷ [])) at free) in
+    (rw (list_all-append (λ q. not (precedes q.txn p.txn)) front (last ∷ [])) at free) in
     let rest = keeps_front front last more in
     (and_from _ _ here rest.0, and_from _ _ later rest.1)
 
@@ -110,7 +113,7 @@ ends_with s u us front last a is_u =
       at = l.at;
       leads = (front, record { each = l.others; kept = kept.0; completed = completed.0; legal = legal.0 }, refl);
       none = list_all-mono (λ t. none_precedes (last ∷ []) t) (λ t. not (precedes last.txn t))
-        (λ t h. (and_parts (not (precedes last.txn t)) _ h).0) (remove us l.place) across;
+          (λ t h. (and_parts (not (precedes last.txn t)) _ h).0) (remove us l.place) across;
       may = (and_parts (may_be last) _ completed.1).0;
       reads = (and_parts (reads_hold (end_state s front) (operations last.txn.text)) _ legal.1).0;
       to = sym is_u ∙ end_state-append s front (last ∷ []);
@@ -121,4 +124,4 @@ leads_last s u us some ([], a, is_u) = absurd (omega (arith, some, ap length a.e
 leads_last s u us some (p ∷ order, a, is_u) =
     let l = last_of order p in
     ends_with s u us l.0 l.1 (subst (λ (xs : List Placed). Explains s us xs) l.2 a)
-      (subst (λ (xs : List Placed). end_state s xs ≡ u) l.2 is_u)
+    (subst (λ (xs : List Placed). end_state s xs ≡ u) l.2 is_u)

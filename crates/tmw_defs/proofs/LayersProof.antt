@@ -20,9 +20,10 @@ list_all-chosen : (p : Txn → Bool) (ts : List Txn) (mask : ℕ)
 list_all-chosen p [] mask each = refl
 list_all-chosen p (t ∷ ts) mask each =
     let rest = list_all-chosen p ts (mask / 2) (λ j u at bit. each (suc j) u at (bit_at-suc mask j ∙ bit)) in
-    elim (low_bit mask)
-    [ inl one ↦ rw (chosen-here mask t ts one) (and_from (p t) _ (each zero t refl (bit_at_lowest mask ∙ one)) rest)
-    | inr even ↦ rw (chosen-past mask t ts even) rest ]
+    elim (low_bit mask) [
+      | inl one ↦ rw (chosen-here mask t ts one) (and_from (p t) _ (each zero t refl (bit_at_lowest mask ∙ one)) rest)
+      | inr even ↦ rw (chosen-past mask t ts even) rest
+    ]
 
 -- and the other way round
 list_all_at : (p : Txn → Bool) (xs : List Txn) (i : ℕ) (x : Txn) → slice_get xs i ≡ Some x → IsTrue (list_all p xs) → p x ≡ true
@@ -45,9 +46,10 @@ bit_cases mask i =
 
 pub same_place : (i j : ℕ) → (i ≡ j) ⊎ (i ≡ j → ⊥)
 same_place i j =
-    elim (cases_lt i j)
-    [ inl below ↦ inr (λ same. absurd (omega arith))
-    | inr above ↦ elim (cases_lt j i) [ inl past ↦ inr (λ same. absurd (omega arith)) | inr within ↦ inl (omega arith) ] ]
+    elim (cases_lt i j) [
+      | inl below ↦ inr (λ same. absurd (omega arith))
+      | inr above ↦ elim (cases_lt j i) [ inl past ↦ inr (λ same. absurd (omega arith)) | inr within ↦ inl (omega arith) ]
+    ]
 
 -- a step leads from each layer to the next
 pub layer-step : (S : State → Type 0) (ts : List Txn) (k mask above : ℕ) (r u : State) → InLayer S ts k mask r
@@ -58,14 +60,14 @@ layer-step S ts k mask above r u l x =
     let set = chosen-set ts mask x.place t x.new x.at in
     let here = slice_get_within (chosen (mask + 2 ^ x.place) ts) set.place t set.at in
     let less : length (remove (chosen (mask + 2 ^ x.place) ts) set.place) + 1 ≡ length (chosen (mask + 2 ^ x.place) ts) =
-        length-remove (chosen (mask + 2 ^ x.place) ts) set.place here in
+    length-remove (chosen (mask + 2 ^ x.place) ts) set.place here in
     let size : length (chosen (mask + 2 ^ x.place) ts) ≡ k + 1 = omega (arith, less, ap length set.others, l.size) in
     let free : IsTrue (list_all (λ v. not (precedes t v)) (chosen mask ts)) =
-        list_all-chosen (λ v. not (precedes t v)) ts mask
-          (λ j v at bit. not_false (precedes t v) (l.closed x.place j t v x.at at x.new bit)) in
+    list_all-chosen (λ v. not (precedes t v)) ts mask
+    (λ j v at bit. not_false (precedes t v) (l.closed x.place j t v x.at at x.new bit)) in
     let (s, is, leads) = l.ends in
     let all : Leads s (chosen (mask + 2 ^ x.place) ts) (after r x.placed) =
-        leads-last s r (chosen (mask + 2 ^ x.place) ts) set.place x.placed set.at (rw set.others leads) (rw set.others free) x.may x.reads in
+    leads-last s r (chosen (mask + 2 ^ x.place) ts) set.place x.placed set.at (rw set.others leads) (rw set.others free) x.may x.reads in
     rw (x.is, x.to) record {
       fits = more_fits (length ts) mask x.place l.fits within x.new;
       size = size;
@@ -79,9 +81,10 @@ layer-step S ts k mask above r u l x =
     closed-step ts mask place p at new free closed i j v w at_i at_j out chosen_j =
         let i_other : i ≡ place → ⊥ = λ same. absurd (let k = rw same at out in omega (arith, k, bit_at-more_same mask place new)) in
         let i_out : bit_at mask i ≡ 0 = sym (bit_at-more_other mask place i new i_other) ∙ out in
-        elim (same_place j place)
-        [ inl same ↦ let is : w ≡ p.txn = (let k = rw same at at_j in cc) in rw is (free i v i_other at_i i_out)
-        | inr other ↦ closed i j v w at_i at_j i_out (sym (bit_at-more_other mask place j new other) ∙ chosen_j) ]
+        elim (same_place j place) [
+          | inl same ↦ let is : w ≡ p.txn = (let k = rw same at at_j in cc) in rw is (free i v i_other at_i i_out)
+          | inr other ↦ closed i j v w at_i at_j i_out (sym (bit_at-more_other mask place j new other) ∙ chosen_j)
+        ]
 
 -- each member of a layer but the first is a step from one of the layer before
 pub record IsStepped (S : State → Type 0) (ts : List Txn) (k above : ℕ) (u : State) : Type 0 where
@@ -105,7 +108,7 @@ layer_step S ts k above u l =
         let new : bit_at mask h.place ≡ 0 = bit_at-less_same above h.place h.bit h.small in
         let whole : above ≡ mask + 2 ^ h.place = omega (arith, h.small) in
         let other : (i : ℕ) → (i ≡ h.place → ⊥) → bit_at above i ≡ bit_at mask i =
-            λ i apart. ap (λ m. bit_at m i) whole ∙ bit_at-more_other mask h.place i new apart in
+        λ i apart. ap (λ m. bit_at m i) whole ∙ bit_at-more_other mask h.place i new apart in
         let here = slice_get_within (chosen above ts) e.place t e.at in
         let less : length (remove (chosen above ts) e.place) + 1 ≡ length (chosen above ts) = length-remove (chosen above ts) e.place here in
         let none = rw h.others at e.none in
@@ -116,13 +119,14 @@ layer_step S ts k above u l =
             fits = omega (arith, l.fits);
             size = omega (arith, less, ap length h.others, l.size);
             closed = λ i j v w at_i at_j out chosen_j.
-              let j_apart : j ≡ h.place → ⊥ = λ same. absurd (let b = rw same at chosen_j in omega (arith, b, new)) in
-              elim (same_place i h.place)
-              [ inl same ↦
-                  let is_t : v ≡ t = (let b = rw same at at_i in let c = h.at in cc) in
-                  let has = chosen_has ts mask j w at_j chosen_j in
-                  rw is_t (not_true (precedes t w) (list_all_at (λ x. not (precedes t x)) (chosen mask ts) has.0 w has.1 none))
-              | inr apart ↦ l.closed i j v w at_i at_j (other i apart ∙ out) (other j j_apart ∙ chosen_j) ];
+                let j_apart : j ≡ h.place → ⊥ = λ same. absurd (let b = rw same at chosen_j in omega (arith, b, new)) in
+                elim (same_place i h.place) [
+                  | inl same ↦
+                      let is_t : v ≡ t = (let b = rw same at at_i in let c = h.at in cc) in
+                      let has = chosen_has ts mask j w at_j chosen_j in
+                      rw is_t (not_true (precedes t w) (list_all_at (λ x. not (precedes t x)) (chosen mask ts) has.0 w has.1 none))
+                  | inr apart ↦ l.closed i j v w at_i at_j (other i apart ∙ out) (other j j_apart ∙ chosen_j)
+                ];
             ends = (s, is, rw h.others at e.leads);
           };
           step = record {
@@ -167,7 +171,7 @@ layer-last S ts r ends = record {
   fits = omega (arith, some (length ts));
   size = ap length (chosen-full ts);
   closed = λ i j t u at_i at_j out bit.
-    absurd (omega (arith, out, bit_at_ones (length ts) i (slice_get_within ts i t at_i)));
+      absurd (omega (arith, out, bit_at_ones (length ts) i (slice_get_within ts i t at_i)));
   ends = rw (chosen-full ts) ends;
 }
   where

@@ -37,23 +37,24 @@ chosen-set (x ∷ ts) mask (suc j) t none at =
     let double = pow-suc 2 j in
     let half : (mask + 2 ^ suc j) / 2 ≡ mask / 2 + 2 ^ j = omega (arith, double) in
     let rest = chosen-set ts (mask / 2) j t (sym (bit_at-suc mask j) ∙ none) at in
-    elim (low_bit mask)
-    [ inl one ↦
-        let odd : (mask + 2 ^ suc j) % 2 ≡ 1 = omega (arith, double, one) in
-        let more = chosen-here (mask + 2 ^ suc j) x ts odd ∙ ap (λ m. x ∷ chosen m ts) half in
-        record {
-          place = suc rest.place;
-          at = rw more rest.at;
-          others = rw more (ap (λ xs. x ∷ xs) rest.others ∙ sym (chosen-here mask x ts one));
-        }
-    | inr even ↦
-        let low : (mask + 2 ^ suc j) % 2 ≡ 0 = omega (arith, double, even) in
-        let more = chosen-past (mask + 2 ^ suc j) x ts low ∙ ap (λ m. chosen m ts) half in
-        record {
-          place = rest.place;
-          at = rw more rest.at;
-          others = rw more (rest.others ∙ sym (chosen-past mask x ts even));
-        } ]
+    elim (low_bit mask) [
+      | inl one ↦
+          let odd : (mask + 2 ^ suc j) % 2 ≡ 1 = omega (arith, double, one) in
+          let more = chosen-here (mask + 2 ^ suc j) x ts odd ∙ ap (λ m. x ∷ chosen m ts) half in
+          record {
+            place = suc rest.place;
+            at = rw more rest.at;
+            others = rw more (ap (λ xs. x ∷ xs) rest.others ∙ sym (chosen-here mask x ts one));
+          }
+      | inr even ↦
+          let low : (mask + 2 ^ suc j) % 2 ≡ 0 = omega (arith, double, even) in
+          let more = chosen-past (mask + 2 ^ suc j) x ts low ∙ ap (λ m. chosen m ts) half in
+          record {
+            place = rest.place;
+            at = rw more rest.at;
+            others = rw more (rest.others ∙ sym (chosen-past mask x ts even));
+          }
+    ]
 
 -- each transaction that is chosen has a bit, without which the others are chosen
 pub record HasBit (ts : List Txn) (mask i : ℕ) (t : Txn) : Type 0 where
@@ -75,7 +76,7 @@ unset_rest x ts mask i t one h =
       bit = bit_at-suc mask h.place ∙ h.bit;
       at = h.at;
       others = rw (chosen-here mask x ts one) (ap (λ xs. x ∷ xs) h.others
-        ∙ sym (chosen-here (mask - 2 ^ suc h.place) x ts low ∙ ap (λ m. x ∷ chosen m ts) half));
+          ∙ sym (chosen-here (mask - 2 ^ suc h.place) x ts low ∙ ap (λ m. x ∷ chosen m ts) half));
     }
 
 unset_past : (x : Txn) (ts : List Txn) (mask i : ℕ) (t : Txn) → mask % 2 ≡ 0 → HasBit ts (mask / 2) i t → HasBit (x ∷ ts) mask i t
@@ -89,7 +90,7 @@ unset_past x ts mask i t even h =
       bit = bit_at-suc mask h.place ∙ h.bit;
       at = h.at;
       others = rw (chosen-past mask x ts even) (h.others
-        ∙ sym (chosen-past (mask - 2 ^ suc h.place) x ts low ∙ ap (λ m. chosen m ts) half));
+          ∙ sym (chosen-past (mask - 2 ^ suc h.place) x ts low ∙ ap (λ m. chosen m ts) half));
     }
 
 unset_here : (x : Txn) (ts : List Txn) (mask i : ℕ) (t : Txn) → mask % 2 ≡ 1 → slice_get (x ∷ chosen (mask / 2) ts) i ≡ Some t
@@ -109,9 +110,10 @@ unset_here x ts mask (suc i) t one at rest = unset_rest x ts mask i t one (rest 
 pub chosen_unset : (ts : List Txn) (mask i : ℕ) (t : Txn) → slice_get (chosen mask ts) i ≡ Some t → HasBit ts mask i t
 chosen_unset [] mask i t at = absurd (cc)
 chosen_unset (x ∷ ts) mask i t at =
-    elim (low_bit mask)
-    [ inl one ↦ unset_here x ts mask i t one (rw (chosen-here mask x ts one) at at) (λ k h. chosen_unset ts (mask / 2) k t h)
-    | inr even ↦ unset_past x ts mask i t even (chosen_unset ts (mask / 2) i t (rw (chosen-past mask x ts even) at at)) ]
+    elim (low_bit mask) [
+      | inl one ↦ unset_here x ts mask i t one (rw (chosen-here mask x ts one) at at) (λ k h. chosen_unset ts (mask / 2) k t h)
+      | inr even ↦ unset_past x ts mask i t even (chosen_unset ts (mask / 2) i t (rw (chosen-past mask x ts even) at at))
+    ]
 
 -- one whose bit is set is among those chosen
 pub chosen_has : (ts : List Txn) (mask j : ℕ) (t : Txn) → slice_get ts j ≡ Some t → bit_at mask j ≡ 1
@@ -122,9 +124,10 @@ chosen_has (x ∷ ts) mask zero t at bit =
     (zero, rw (chosen-here mask x ts one) at)
 chosen_has (x ∷ ts) mask (suc j) t at bit =
     let rest = chosen_has ts (mask / 2) j t at (sym (bit_at-suc mask j) ∙ bit) in
-    elim (low_bit mask)
-    [ inl one ↦ (suc rest.0, rw (chosen-here mask x ts one) rest.1)
-    | inr even ↦ (rest.0, rw (chosen-past mask x ts even) rest.1) ]
+    elim (low_bit mask) [
+      | inl one ↦ (suc rest.0, rw (chosen-here mask x ts one) rest.1)
+      | inr even ↦ (rest.0, rw (chosen-past mask x ts even) rest.1)
+    ]
 
 -- bits of a mask with one more
 pub bit_at-more_same : (mask j : ℕ) → bit_at mask j ≡ 0 → bit_at (mask + 2 ^ j) j ≡ 1
@@ -133,7 +136,7 @@ bit_at-more_same mask zero none =
 bit_at-more_same mask (suc j) none =
     let half : (mask + 2 ^ suc j) / 2 ≡ mask / 2 + 2 ^ j = omega (arith, pow-suc 2 j) in
     bit_at-suc (mask + 2 ^ suc j) j ∙ ap (λ m. bit_at m j) half
-      ∙ bit_at-more_same (mask / 2) j (sym (bit_at-suc mask j) ∙ none)
+    ∙ bit_at-more_same (mask / 2) j (sym (bit_at-suc mask j) ∙ none)
 
 pub bit_at-more_other : (mask j i : ℕ) → bit_at mask j ≡ 0 → (i ≡ j → ⊥) → bit_at (mask + 2 ^ j) i ≡ bit_at mask i
 bit_at-more_other mask zero zero none other = absurd (other refl)
@@ -145,8 +148,8 @@ bit_at-more_other mask (suc j) zero none other =
 bit_at-more_other mask (suc j) (suc i) none other =
     let half : (mask + 2 ^ suc j) / 2 ≡ mask / 2 + 2 ^ j = omega (arith, pow-suc 2 j) in
     bit_at-suc (mask + 2 ^ suc j) i ∙ ap (λ m. bit_at m i) half
-      ∙ bit_at-more_other (mask / 2) j i (sym (bit_at-suc mask j) ∙ none) (λ same. other (ap suc same))
-      ∙ sym (bit_at-suc mask i)
+    ∙ bit_at-more_other (mask / 2) j i (sym (bit_at-suc mask j) ∙ none) (λ same. other (ap suc same))
+    ∙ sym (bit_at-suc mask i)
 
 -- and with one less
 pub bit_at-less_same : (mask j : ℕ) → bit_at mask j ≡ 1 → 2 ^ j ≤ mask → bit_at (mask - 2 ^ j) j ≡ 0
@@ -155,7 +158,7 @@ bit_at-less_same mask zero one small =
 bit_at-less_same mask (suc j) one small =
     let half : (mask - 2 ^ suc j) / 2 ≡ mask / 2 - 2 ^ j = omega (arith, pow-suc 2 j) in
     bit_at-suc (mask - 2 ^ suc j) j ∙ ap (λ m. bit_at m j) half
-      ∙ bit_at-less_same (mask / 2) j (sym (bit_at-suc mask j) ∙ one) (omega (arith, pow-suc 2 j, small))
+    ∙ bit_at-less_same (mask / 2) j (sym (bit_at-suc mask j) ∙ one) (omega (arith, pow-suc 2 j, small))
 
 -- a mask with one more of these bits still fits them
 pub more_fits : (n mask j : ℕ) → mask < 2 ^ n → j < n → bit_at mask j ≡ 0 → mask + 2 ^ j < 2 ^ n
@@ -174,27 +177,30 @@ chosen-zero (t ∷ ts) = chosen-zero ts
 pub chosen_none : (ts : List Txn) (mask : ℕ) → mask < 2 ^ length ts → length (chosen mask ts) ≡ 0 → mask ≡ 0
 chosen_none [] mask fits none = omega arith
 chosen_none (t ∷ ts) mask fits none =
-    elim (low_bit mask)
-    [ inl one ↦ absurd (omega (arith, none, ap length (chosen-here mask t ts one)))
-    | inr even ↦
-        let rest = chosen_none ts (mask / 2) (omega (arith, pow-suc 2 (length ts), fits)) (sym (ap length (chosen-past mask t ts even)) ∙ none) in
-        omega (arith, rest, even) ]
+    elim (low_bit mask) [
+      | inl one ↦ absurd (omega (arith, none, ap length (chosen-here mask t ts one)))
+      | inr even ↦
+          let rest = chosen_none ts (mask / 2) (omega (arith, pow-suc 2 (length ts), fits)) (sym (ap length (chosen-past mask t ts even)) ∙ none) in
+          omega (arith, rest, even)
+    ]
 
 pub length-chosen-le : (ts : List Txn) (mask : ℕ) → length (chosen mask ts) ≤ length ts
 length-chosen-le [] mask = omega arith
 length-chosen-le (t ∷ ts) mask =
-    elim (low_bit mask)
-    [ inl one ↦ omega (arith, ap length (chosen-here mask t ts one), length-chosen-le ts (mask / 2))
-    | inr even ↦ omega (arith, ap length (chosen-past mask t ts even), length-chosen-le ts (mask / 2)) ]
+    elim (low_bit mask) [
+      | inl one ↦ omega (arith, ap length (chosen-here mask t ts one), length-chosen-le ts (mask / 2))
+      | inr even ↦ omega (arith, ap length (chosen-past mask t ts even), length-chosen-le ts (mask / 2))
+    ]
 
 pub chosen_all : (ts : List Txn) (mask : ℕ) → length (chosen mask ts) ≡ length ts → chosen mask ts ≡ ts
 chosen_all [] mask all = refl
 chosen_all (t ∷ ts) mask all =
-    elim (low_bit mask)
-    [ inl one ↦
-        let is = chosen-here mask t ts one in
-        is ∙ ap (λ xs. t ∷ xs) (chosen_all ts (mask / 2) (omega (arith, all, ap length is)))
-    | inr even ↦ absurd (omega (arith, all, ap length (chosen-past mask t ts even), length-chosen-le ts (mask / 2))) ]
+    elim (low_bit mask) [
+      | inl one ↦
+          let is = chosen-here mask t ts one in
+          is ∙ ap (λ xs. t ∷ xs) (chosen_all ts (mask / 2) (omega (arith, all, ap length is)))
+      | inr even ↦ absurd (omega (arith, all, ap length (chosen-past mask t ts even), length-chosen-le ts (mask / 2)))
+    ]
 
 pub chosen-full : (ts : List Txn) → chosen (2 ^ length ts - 1) ts ≡ ts
 chosen-full [] = refl

@@ -1,4 +1,4 @@
--- Cuts: at a length at which no transaction is live, the past is summed up by the states in which it may have ended.
+-- Cuts: at a length at which each transaction has ended, the past is summed up by the states in which it may have ended.
 use Rattle.std.specs.Prelude.{◌≡◌, ◌↔◌, ◌++◌, ℕ, Bool, List, IsTrue}
 use Rattle.std.specs.List.{list_all}
 use Rattle.tmw_events.specs.declared.event.Event.{Event}
@@ -6,7 +6,7 @@ use Rattle.tmw_defs.specs.History.{is_ended, transactions, is_well_formed}
 use Rattle.tmw_defs.specs.Opaque.{State, IsFinalOpaque}
 use Rattle.tmw_defs.specs.Outcomes.{Ends, outcomes}
 
--- No transaction of the history is live, so that its length is a cut of whatever follows it. Length 0 is one.
+-- Each transaction of the history has committed or aborted, so that its length is a cut of whatever follows it. Length 0 is one.
 abbrev pub is_cut : List Event → Bool
 is_cut history = list_all (λ t. is_ended t.text) (transactions history)
 

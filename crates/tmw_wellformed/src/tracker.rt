@@ -53,7 +53,7 @@ impl Tracker {
         })
     }
 
-    /// How many transactions are live.
+    /// How many transactions have not ended, those that are commit-pending included.
     pub fn live(&self) -> u8
         ensures count { (registers : ℕ) (history : List Event) → Tracks registers history self.now
             → result ≡ live_count history }
