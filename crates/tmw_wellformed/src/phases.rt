@@ -25,12 +25,14 @@ impl Phases {
         }
     }
 
+    /// The thread's phase.
     pub fn get(&self, thread: Ix) -> Phase
         ensures { result ≡ slice_index_or self.now.by_thread thread.number Between }
     {
         self.by_thread[thread.get() as usize]
     }
 
+    /// Puts the thread into a phase.
     pub fn set(&mut self, thread: Ix, phase: Phase)
         ensures { self.new.by_thread ≡ slice_set self.old.by_thread thread.number phase }
     {
