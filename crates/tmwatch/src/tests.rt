@@ -57,6 +57,14 @@ fn histories_that_are_opaque(rt: HostRuntime) -> Result<(), Fail> {
             "0 W 0 18446744073709551615, 0 K, 0 R 0, 0 V 18446744073709551615, 0 T, 0 C",
             "{\"events\":6,\"verdict\":\"opaque so far\"}\n",
         ),
+        // Eight writers at once.
+        (
+            "0 W 0 1, 1 W 0 2, 2 W 0 3, 3 W 0 4, 4 W 0 5, 5 W 0 6, 6 W 0 7, 7 W 0 8, \
+                0 K, 1 K, 2 K, 3 K, 4 K, 5 K, 6 K, 7 K, \
+                0 T, 1 T, 2 T, 3 T, 4 T, 5 T, 6 T, 7 T, \
+                0 C, 1 C, 2 C, 3 C, 4 C, 5 C, 6 C, 7 C",
+            "{\"events\":32,\"verdict\":\"opaque so far\"}\n",
+        ),
         // A read from a commit-pending transaction.
         (
             "0 W 0 1, 0 K, 0 T, 1 R 0, 1 V 1, 0 C",
