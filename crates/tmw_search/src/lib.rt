@@ -1,4 +1,4 @@
-//! The plain check: whether a whole recorded history is opaque, by search over each of its prefixes.
+//! Whether a whole recorded history is opaque, by search over each of its prefixes; and the end states of a window, by layers.
 #![tactic(auto)]
 
 mod end_states;
