@@ -6,4 +6,7 @@ pub mod Naming
 pub mod Opaque
 pub mod Outcomes
 pub mod Quiet
+pub mod Summary
 pub mod Texts
+pub mod Verdict
+pub mod Windows

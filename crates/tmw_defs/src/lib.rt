@@ -7,6 +7,7 @@ mod op;
 mod quiet;
 mod status;
 mod texts;
+mod verdict;
 
 pub use cuts::law_1;
 pub use naming::law_3;
@@ -14,3 +15,4 @@ pub use op::Op;
 pub use quiet::law_2;
 pub use status::Status;
 pub use texts::law_texts;
+pub use verdict::{Verdict, Why};
