@@ -8,11 +8,11 @@ use Rattle.tmw_events.specs.declared.event.Event.{Event}
 use Rattle.tmw_cuts.specs.declared.txn.Txn.{Txn}
 use Rattle.tmw_cuts.specs.Views.{View, view, new_view, next_view, is_open_for, push_views}
 
-push_views_here : (e : Event) (before : ℕ) (v : View) (vs : List View) → is_open_for e.thread.number v ≡ true
+pub push_views_here : (e : Event) (before : ℕ) (v : View) (vs : List View) → is_open_for e.thread.number v ≡ true
     → push_views e before (v ∷ vs) ≡ next_view e.kind v ∷ vs
 push_views_here e before v vs here = rw here refl
 
-push_views_past : (e : Event) (before : ℕ) (v : View) (vs : List View) → is_open_for e.thread.number v ≡ false
+pub push_views_past : (e : Event) (before : ℕ) (v : View) (vs : List View) → is_open_for e.thread.number v ≡ false
     → push_views e before (v ∷ vs) ≡ v ∷ push_views e before vs
 push_views_past e before v vs past = rw past refl
 
@@ -63,4 +63,21 @@ pub position-some : (p : View → Bool) (txns : List Txn) → IsTrue (list_any p
     → None ≡ position (λ txn. p (view txn)) txns → ⊥
 position-some p txns some nowhere =
     let found : None ≡ Some (position_or_len (λ txn. p (view txn)) txns) = nowhere ∙ rw (lt-ltb _ _ (within_some p txns some)) refl in
+    absurd (cc)
+
+-- the same of what is shown
+within_some_view : (p : View → Bool) (vs : List View) → IsTrue (list_any p vs) → position_or_len p vs < length vs
+within_some_view p [] some = absurd (cc)
+within_some_view p (v ∷ vs) some =
+    elim (cases_Bool (p v)) [
+      | inl here ↦ rw here (omega arith)
+      | inr past ↦
+          let rest : IsTrue (list_any p vs) = rw past at some in
+          let found : position_or_len p vs < length vs = within_some_view p vs rest in
+          rw past (omega arith)
+    ]
+
+pub position_some : (p : View → Bool) (vs : List View) → IsTrue (list_any p vs) → None ≡ position p vs → ⊥
+position_some p vs some nowhere =
+    let found : None ≡ Some (position_or_len p vs) = nowhere ∙ rw (lt-ltb _ _ (within_some_view p vs some)) refl in
     absurd (cc)

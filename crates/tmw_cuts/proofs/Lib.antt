@@ -1,6 +1,8 @@
 pub mod AcrossCuts
 pub mod Bits
 mod Found
+mod Marked
 mod Masks
+mod TakenBack
 pub mod Pushes
 pub mod Rising

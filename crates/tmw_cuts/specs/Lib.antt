@@ -1,3 +1,4 @@
+pub mod Marking
 pub mod Members
 pub mod Standing
 pub mod Views

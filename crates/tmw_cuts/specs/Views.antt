@@ -1,10 +1,11 @@
 -- What a window shows of a transaction.
-use Rattle.std.specs.Prelude.{◌≡◌, ◌==◌, ◌&&◌, ◌+◌, ◌*◌, ℕ, Bool, true, false, not, List, [], ◌∷◌, ◌++◌, Option, Some, None, if◌then◌else◌}
+use Rattle.std.specs.Prelude.{◌≡◌, ◌==◌, ◌&&◌, ◌+◌, ◌*◌, ℕ, Bool, true, false, not, List, [], ◌∷◌, ◌++◌, take, Option, Some, None, if◌then◌else◌}
 use Rattle.tmw_events.specs.declared.event.Event.{Event}
 use Rattle.tmw_events.specs.declared.event.Kind.{Kind}
 use Rattle.tmw_defs.specs.declared.op.Op.{Op}
 use Rattle.tmw_defs.specs.declared.status.Status.{Status}
 use Rattle.tmw_defs.specs.History.{is_over, operation, status_after}
+use Rattle.tmw_defs.specs.Quiet.{is_pending}
 use Rattle.tmw_cuts.specs.declared.txn.Txn.{Txn}
 
 -- Its thread and the call that has no answer, its answered operations in order and its status. Bit j of `before` says that the
@@ -55,6 +56,14 @@ abbrev pub push_views : Event → ℕ → List View → List View
 push_views e before [] = new_view e.thread.number e.kind before ∷ []
 push_views e before (v ∷ vs) =
     if is_open_for e.thread.number v then next_view e.kind v ∷ vs else v ∷ push_views e before vs
+
+-- A transaction as it was with this call and status, and so many operations.
+abbrev pub earlier_view : Option Kind → Status → ℕ → View → View
+earlier_view call status ops v = record v { call = call; ops = take ops v.ops; status = status }
+
+-- It is the thread's and commit-pending.
+abbrev pub awaits_commit_of : ℕ → View → Bool
+awaits_commit_of thread v = (v.thread == thread) && is_pending v.status
 
 -- What is shown is what was shown, with an event more.
 abbrev pub PushesEvent : Event → List View → List View → Type 0

@@ -2,12 +2,14 @@
 #![tactic(auto)]
 
 mod kinds;
+mod mark;
 mod mask;
 mod states;
 mod txn;
 mod window;
 
 pub use kinds::{operation, status_after};
+pub use mark::Mark;
 pub use states::{State, States};
 pub use txn::Txn;
 pub use window::Window;

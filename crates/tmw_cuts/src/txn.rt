@@ -2,7 +2,7 @@ ghost use Rattle.std.specs.Prelude.{◌≡◌, IfOk, OnOk, OnErr};
 ghost use Rattle.tmw_defs.specs.History.{is_over};
 
 use crate::kinds::{operation, status_after};
-use std::alloc::{AllocError, Global};
+use std::alloc::AllocError;
 use tmw_defs::{Op, Status};
 use tmw_events::{Event, Ix, Kind};
 
@@ -19,14 +19,16 @@ pub struct Txn {
 }
 
 impl Txn {
-    ghost use Rattle.tmw_cuts.specs.Views.{view, new_view, next_view, is_open_for};
+    ghost use Rattle.tmw_cuts.specs.Views.{view, new_view, next_view, earlier_view, is_open_for, awaits_commit_of};
 
-    /// A transaction that begins with this event, where those in the mask have completed.
-    pub(crate) fn new(alloc: Global, event: Event, before: u8) -> Txn
+    /// A transaction that begins with this event, where those in the mask have completed. Its operations come to lie in `room`,
+    /// whose own are dropped.
+    pub(crate) fn new(event: Event, before: u8, mut room: Vec<Op>) -> Txn
         ensures { view result ≡ new_view event.thread.number event.kind before }
     {
+        room.clear();
         Txn {
-            ops: Vec::new(alloc),
+            ops: room,
             status: status_after(event.kind),
             before,
             thread: event.thread,
@@ -63,6 +65,29 @@ impl Txn {
         }
         self.status = status_after(kind);
         Ok(())
+    }
+
+    /// Takes its last event back: what it showed before is told here.
+    pub(crate) fn take_back(&mut self, call: Option<Kind>, status: Status, ops: usize)
+        ensures { view self.new ≡ earlier_view call status ops (view self.old) }
+    {
+        self.ops.truncate(ops);
+        self.call = call;
+        self.status = status;
+    }
+
+    /// The call that has no answer.
+    pub(crate) fn pending_call(&self) -> Option<Kind>
+        ensures { result ≡ self.now.call }
+    {
+        self.call
+    }
+
+    /// Whether it is the thread's, and commit-pending.
+    pub(crate) fn awaits_commit(&self, thread: Ix) -> bool
+        ensures { result ≡ awaits_commit_of thread.number (view self.now) }
+    {
+        self.thread == thread && self.status == Status::Pending
     }
 
     /// One that shows the same.

@@ -1,12 +1,14 @@
 ghost use Rattle.std.specs.Prelude.{◌≡◌, ◌<◌, ◌≤◌, ◌+◌, [], ◌∷◌, ◌++◌, List, IfOk, OnOk, OnErr, IsTrue, IsFalse, length, map, position};
 ghost use Rattle.std.specs.List.{list_all, list_any};
 ghost use Rattle.tmw_defs.specs.History.{is_over};
-ghost use Rattle.tmw_cuts.specs.Views.{view, is_open_for, PushesEvent};
+ghost use Rattle.tmw_cuts.specs.Views.{view, is_open_for, awaits_commit_of, PushesEvent};
 
+use crate::mark::Mark;
 use crate::mask::completed_mask;
 use crate::txn::Txn;
 use std::alloc::{AllocError, Global};
-use tmw_events::{Event, Ix, Registers};
+use tmw_defs::{Op, Status};
+use tmw_events::{Event, Ix, Kind, Registers};
 use tmw_wellformed::Note;
 
 /// The transactions of the events since the last cut. It holds no event.
@@ -15,6 +17,9 @@ pub struct Window {
     /// The registers of the run.
     pub registers: Registers,
     txns: Vec<Txn>,
+
+    /// Memory of earlier transactions, which later ones use again.
+    spare: Vec<Vec<Op>>,
     pub ghost few: { length txns.items ≤ 8 },
 }
 
@@ -32,24 +37,32 @@ fn none_live(txns: &[Txn]) -> bool
     txns.iter().all(|txn| txn.is_over())
 }
 
+/// Whether the thread has a transaction that is commit-pending.
+fn any_awaits_commit(txns: &[Txn], thread: Ix) -> bool
+    ensures { result ≡ list_any (λ txn. awaits_commit_of thread.number (view txn)) txns.now }
+{
+    txns.iter().any(|txn| txn.awaits_commit(thread))
+}
+
 /// Takes the first event of a transaction.
-fn begin(txns: &mut Vec<Txn>, event: Event) -> Result<(), AllocError>
+fn begin(txns: &mut Vec<Txn>, spare: &mut Vec<Vec<Op>>, event: Event) -> Result<(), AllocError>
     requires room { length txns.old.items ≤ 8 }
-    requires none { IsFalse (list_any (is_open_for event.thread.number) (map view txns.old.items)) }
-    ensures ok { OnOk result (PushesEvent event (map view txns.old.items) (map view txns.new.items)) }
+    ensures ok { OnOk result (IsFalse (list_any (is_open_for event.thread.number) (map view txns.old.items))
+        → PushesEvent event (map view txns.old.items) (map view txns.new.items)) }
     ensures err { OnErr result (map view txns.new.items ≡ map view txns.old.items) }
     ensures size { length txns.new.items ≤ length txns.old.items + 1 }
 {
     let alloc = *txns.allocator();
+    let room = spare.pop().unwrap_or_else(|| Vec::new(alloc));
     let before = completed_mask(txns);
-    txns.push(Txn::new(alloc, event, before))?;
+    txns.push(Txn::new(event, before, room))?;
     Ok(())
 }
 
 /// Takes the next event of the transaction that its thread has open.
 fn go_on(txns: &mut Vec<Txn>, event: Event) -> Result<(), AllocError>
-    requires { IsTrue (list_any (is_open_for event.thread.number) (map view txns.old.items)) }
-    ensures ok { OnOk result (PushesEvent event (map view txns.old.items) (map view txns.new.items)) }
+    ensures ok { OnOk result (IsTrue (list_any (is_open_for event.thread.number) (map view txns.old.items))
+        → PushesEvent event (map view txns.old.items) (map view txns.new.items)) }
     ensures err { OnErr result (map view txns.new.items ≡ map view txns.old.items) }
     ensures size { length txns.new.items ≡ length txns.old.items }
 {
@@ -59,11 +72,18 @@ fn go_on(txns: &mut Vec<Txn>, event: Event) -> Result<(), AllocError>
     Ok(())
 }
 
+/// Keeps a transaction's memory for a later one, where there is room to note it.
+fn keep(spare: &mut Vec<Vec<Op>>, txn: Txn) {
+    let _kept = spare.push(txn.ops);
+}
+
 impl Window {
     ghost use Rattle.tmw_events.specs.declared.event.Event.{Event};
     ghost use Rattle.tmw_defs.specs.Cuts.{is_cut};
     ghost use Rattle.tmw_defs.specs.History.{transactions};
+    ghost use Rattle.tmw_defs.specs.Quiet.{is_quiet};
     ghost use Rattle.tmw_wellformed.specs.Notes.{Notes};
+    ghost use Rattle.tmw_cuts.specs.Marking.{Marks};
     ghost use Rattle.tmw_cuts.specs.Standing.{StandsFor, views, views_of, count_of};
 
     /// The window of no event.
@@ -74,6 +94,7 @@ impl Window {
         Window {
             registers,
             txns: Vec::new(alloc),
+            spare: Vec::new(alloc),
         }
     }
 
@@ -104,16 +125,86 @@ impl Window {
     /// Takes the next event of a well-formed history, whose note tells whether it begins a transaction. Where memory is
     /// refused the window stays as it was.
     pub fn push(&mut self, event: Event, note: Note) -> Result<(), AllocError>
-        requires noted { (events : List Event) × StandsFor self.old events × Notes events event note }
         requires room { IsTrue note.begins → count_of self.old < 8 }
-        ensures ok { OnOk result ((events : List Event) → StandsFor self.old events → StandsFor self.new (events ++ event ∷ [])) }
+        ensures ok { OnOk result ((events : List Event) → StandsFor self.old events → Notes events event note
+            → StandsFor self.new (events ++ event ∷ [])) }
         ensures err { OnErr result ((events : List Event) → StandsFor self.old events → StandsFor self.new events) }
         ensures registers { self.new.registers ≡ self.old.registers }
     {
         if note.begins {
-            begin(&mut self.txns, event)
+            begin(&mut self.txns, &mut self.spare, event)
         } else {
             go_on(&mut self.txns, event)
+        }
+    }
+
+    /// Notes what the next event of the thread will change, so that it can be taken back.
+    pub fn mark(&self, thread: Ix) -> Mark
+        ensures thread { result.thread ≡ thread }
+        ensures marks { (events : List Event) → StandsFor self.now events → Marks result (views_of events) }
+    {
+        match open_transaction(&self.txns, thread) {
+            Some(place) => {
+                let txn = &self.txns[place];
+                Mark {
+                    thread,
+                    place: Some(place),
+                    call: txn.pending_call(),
+                    status: txn.status,
+                    ops: txn.ops.len(),
+                }
+            }
+            None => {
+                Mark {
+                    thread,
+                    place: None,
+                    call: None,
+                    status: Status::Live,
+                    ops: 0,
+                }
+            }
+        }
+    }
+
+    /// Takes back the last event, before which the mark was made.
+    pub fn take_back(&mut self, mark: Mark)
+        ensures stands { (events : List Event) (event : Event) → event.thread ≡ mark.thread → Marks mark (views_of events)
+            → StandsFor self.old (events ++ event ∷ []) → StandsFor self.new events }
+        ensures registers { self.new.registers ≡ self.old.registers }
+    {
+        match mark.place {
+            Some(place) => {
+                if let Some(txn) = self.txns.get_mut(place) {
+                    txn.take_back(mark.call, mark.status, mark.ops);
+                }
+            }
+            None => {
+                if let Some(txn) = self.txns.pop() {
+                    keep(&mut self.spare, txn);
+                }
+            }
+        }
+    }
+
+    /// Whether the event tells nothing of the memory: it answers no read and no add, and no commit request.
+    pub fn is_quiet(&self, event: Event) -> bool
+        ensures { (events : List Event) → StandsFor self.now events
+            → result ≡ is_quiet (transactions events) event.thread.number event.kind }
+    {
+        match event.kind {
+            Kind::V(_) | Kind::C => false,
+            Kind::A => !any_awaits_commit(&self.txns, event.thread),
+            _ => true,
+        }
+    }
+
+    /// Forgets all events, and keeps the memory for later ones.
+    pub fn clear(&mut self)
+        ensures stands { StandsFor self.new [] }
+        ensures registers { self.new.registers ≡ self.old.registers }
+    {
+        while let Some(txn) = self.txns.pop() {
+            keep(&mut self.spare, txn);
         }
     }
 
@@ -131,6 +222,7 @@ impl Window {
         Ok(Window {
             registers: self.registers,
             txns,
+            spare: Vec::new(alloc),
         })
     }
 }

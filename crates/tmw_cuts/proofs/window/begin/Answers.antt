@@ -6,8 +6,8 @@ use Rattle.tmw_cuts.proofs.Found.{push_views-none}
 use Rattle.tmw_cuts.proofs.window.begin.Goals as goal
 
 pub returns-clause-ok : goal.returns-clause-ok
-returns-clause-ok c =
+returns-clause-ok c unopened =
     let mask : c.completed_mask-before.result ≡ completed_mask (map view c.args.txns.now.items) = rw c.deref.ensures.value at c.completed_mask-before.ensures in
     ap (map view) c.in_ok-push.ensures.items
     ∙ map-append view c.args.txns.now.items (c.new.result ∷ [])
-    ∙ rw (c.new.ensures, mask) (sym (push_views-none c.args.event (completed_mask (map view c.args.txns.now.items)) (map view c.args.txns.now.items) c.requires.none))
+    ∙ rw (c.new.ensures, mask) (sym (push_views-none c.args.event (completed_mask (map view c.args.txns.now.items)) (map view c.args.txns.now.items) unopened))

@@ -13,10 +13,10 @@ returns-in_err-add-clause-err c =
     (c.in_err-add.ensures.err ∙ ap view c.index_mut.ensures.value))
 
 pub returns-in_ok-add-clause-ok : goal.returns-in_ok-add-clause-ok
-returns-in_ok-add-clause-ok c =
+returns-in_ok-add-clause-ok c opened =
     push_views-position c.args.event (completed_mask (map view c.args.txns.now.items)) c.args.txns.now.items c.in-Some.index c.index_mut.result.now c.add.new.self
     (rw c.deref.ensures.value at c.in-Some.ensures) c.index_mut.ensures.value c.in_ok-add.ensures.ok
 
 pub returns-in_default-clause-ok : goal.returns-in_default-clause-ok
-returns-in_default-clause-ok c =
-    absurd (position-some (is_open_for c.args.event.thread.number) c.args.txns.now.items c.requires (rw c.deref.ensures.value at c.in_default.ensures))
+returns-in_default-clause-ok c opened =
+    absurd (position-some (is_open_for c.args.event.thread.number) c.args.txns.now.items opened (rw c.deref.ensures.value at c.in_default.ensures))

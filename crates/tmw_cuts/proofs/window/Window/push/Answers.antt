@@ -7,16 +7,6 @@ use Rattle.tmw_cuts.specs.Views.{view}
 use Rattle.tmw_cuts.proofs.Pushes.{begins_none_open, shows-push}
 use Rattle.tmw_cuts.proofs.window.Window.push.Goals as goal
 
-pub begin-requires-clause-none : goal.begin-requires-clause-none
-begin-requires-clause-none c =
-    let (events, stands, notes) = c.requires.noted in
-    begins_none_open events c.args.event c.args.note _ stands.shows notes ∙ not_from_true _ c.if-note.true
-
-pub go_on-requires : goal.go_on-requires
-go_on-requires c =
-    let (events, stands, notes) = c.requires.noted in
-    begins_none_open events c.args.event c.args.note _ stands.shows notes ∙ not_from_false _ c.if-note.false
-
 pub invariant_of-self : goal.invariant_of-self
 invariant_of-self c =
     record { few = omega (arith, c.begin.ensures.size, c.requires.room c.if-note.true, length-map c.args.self.now.txns.items view) }
@@ -27,9 +17,15 @@ invariant_of-self-else-note c = record { few = omega (arith, c.go_on.ensures.siz
 pub returns-then-note-clause-ok : goal.returns-then-note-clause-ok
 returns-then-note-clause-ok c =
     on_ok_weaker c.begin.result
-    (λ pushed events stands. record { shows = shows-push events c.args.event _ _ pushed stands.shows }) c.begin.ensures.ok
+    (λ pushed events stands notes. record {
+      shows = shows-push events c.args.event _ _
+      (pushed (begins_none_open events c.args.event c.args.note _ stands.shows notes ∙ not_from_true _ c.if-note.true)) stands.shows;
+    }) c.begin.ensures.ok
 
 pub returns-else-note-clause-ok : goal.returns-else-note-clause-ok
 returns-else-note-clause-ok c =
     on_ok_weaker c.go_on.result
-    (λ pushed events stands. record { shows = shows-push events c.args.event _ _ pushed stands.shows }) c.go_on.ensures.ok
+    (λ pushed events stands notes. record {
+      shows = shows-push events c.args.event _ _
+      (pushed (begins_none_open events c.args.event c.args.note _ stands.shows notes ∙ not_from_false _ c.if-note.false)) stands.shows;
+    }) c.go_on.ensures.ok
