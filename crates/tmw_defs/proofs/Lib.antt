@@ -12,4 +12,5 @@ pub mod Removals
 pub mod DecisionProof
 pub mod OneMore
 pub mod TextsProof
+pub mod WindowsProof
 mod Worked
