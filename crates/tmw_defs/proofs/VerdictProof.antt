@@ -1,5 +1,5 @@
 -- What the verdict is after one event more, by the outcomes at the last cut of a history that is opaque so far.
-use Rattle.std.proofs.Common.{◌≡◌, ◌+◌, ◌++◌, ◌<◌, ◌≤◌, ◌⊎◌, ◌↔◌, ℕ, zero, suc, Bool, true, false, List, [], ◌∷◌, length, IsTrue, IsFalse, All, refl, sym, ap, ◌∙◌, inl, inr, arith}
+use Rattle.std.proofs.Common.{◌≡◌, ◌+◌, ◌++◌, ◌<◌, ◌≤◌, ◌↔◌, ℕ, List, [], ◌∷◌, length, IsTrue, IsFalse, refl, sym, ap, ◌∙◌, inl, inr, arith}
 use Rattle.std.specs.Prelude.{take, drop}
 use Rattle.std.proofs.Math.Seq.{take-length}
 use Rattle.std.proofs.lemmas.Bool.{cases_lt, both_ways}
@@ -7,7 +7,6 @@ use Rattle.std.proofs.lemmas.List.{take_all, drop_all, take-append-drop}
 use Rattle.tmw_events.specs.declared.event.Event.{Event}
 use Rattle.tmw_defs.specs.declared.verdict.Verdict.{Verdict}
 use Rattle.tmw_defs.specs.declared.verdict.Verdict.TheVariants.{OpaqueSoFar, Violated, Undecided, Malformed}
-use Rattle.tmw_defs.specs.declared.verdict.Why.{Why}
 use Rattle.tmw_defs.specs.declared.verdict.Why.TheVariants.{Transactions, States}
 use Rattle.tmw_defs.specs.Cuts.{is_cut, IsCutLaw}
 use Rattle.tmw_defs.specs.History.{Txn, transactions, is_well_formed}
@@ -15,8 +14,8 @@ use Rattle.tmw_defs.specs.Opaque.{State, IsFinalOpaque}
 use Rattle.tmw_defs.specs.Outcomes.{Leads, Ends, Only, outcomes, MoreThan}
 use Rattle.tmw_defs.specs.Quiet.{is_quiet}
 use Rattle.tmw_defs.specs.Summary.{SumsUp, IsLastCut}
-use Rattle.tmw_defs.specs.Verdict.{Rules, HasMany, IsFine, IsMalformed, IsTooWide, IsTooMany, IsViolated, IsFirst, IsVerdict}
-use Rattle.tmw_defs.specs.Windows.{IsCutAt, between, HasWide}
+use Rattle.tmw_defs.specs.Verdict.{Rules, IsFine, IsMalformed, IsTooWide, IsTooMany, IsViolated, IsFirst, IsVerdict}
+use Rattle.tmw_defs.specs.Windows.{between, HasWide}
 use Rattle.tmw_defs.proofs.CutsProof.{cut_law}
 use Rattle.tmw_defs.proofs.QuietProof.{quiet_law}
 use Rattle.tmw_defs.proofs.WindowsProof.{length-push, take-push, take_all-push, take-append-drop-push, is_quiet-append, IsCutAt-push, IsCutAt_push, is_cut-push, HasWide-open, HasWide_push}
@@ -34,10 +33,11 @@ MoreThan-within most S N within many = record {
 MoreThan-member : (most : ℕ) (S : State → Type 0) → MoreThan most S → (s : State) × S s
 MoreThan-member most S many = (_, many.among 0 [] (let more = many.more in omega (arith, more)))
 
--- Of a history opaque so far: every prefix of it, and the history with one event more
+-- nothing is wrong with a history that is opaque so far
 IsFine-whole : (rules : Rules) (h : List Event) → IsVerdict rules h OpaqueSoFar → IsFine rules h
 IsFine-whole rules h judged = rw (← take-length h) (judged (length h) (omega arith))
 
+-- it stays opaque so far where nothing is wrong with one event more, and else that is what is wrong first
 IsVerdict-fine : (rules : Rules) (h : List Event) (e : Event) → IsVerdict rules h OpaqueSoFar → IsFine rules (h ++ e ∷ [])
     → IsVerdict rules (h ++ e ∷ []) OpaqueSoFar
 IsVerdict-fine rules h e judged fine k within =
@@ -56,6 +56,7 @@ IsFirst-new Wrong rules h e judged wrong = record {
   before = λ k earlier. let within : k ≤ length h = omega (arith, earlier) in rw (take-push k h e within) (judged k within);
 }
 
+-- what was wrong first stays so
 IsFirst-push : (Wrong : Rules → List Event → Type 0) (rules : Rules) (h : List Event) (e : Event) (m : ℕ)
     → IsFirst Wrong rules h m → IsFirst Wrong rules (h ++ e ∷ []) m
 IsFirst-push Wrong rules h e m first = record {
@@ -75,16 +76,18 @@ verdict-stays rules h e (Undecided m Transactions) other judged = IsFirst-push I
 verdict-stays rules h e (Undecided m States) other judged = IsFirst-push IsTooMany rules h e m judged
 verdict-stays rules h e (Violated m) other judged = IsFirst-push IsViolated rules h e m judged
 
--- the end states of the open window with the event are the history's outcomes, where its length is a cut
+-- the end states from a smaller set are end states from the larger one
 Ends-within : (S N : State → Type 0) (ts : List Txn) (end : State) → ((s : State) → S s → N s) → Ends S ts end → Ends N ts end
 Ends-within S N ts end within (s, is, leads) = (s, within s is, leads)
 
+-- the law of cuts at the last cut
 cut_law-push : (rules : Rules) (S : State → Type 0) (c : ℕ) (h : List Event) (e : Event) → SumsUp rules S c h
     → IsTrue (is_well_formed rules.registers (h ++ e ∷ []))
     → IsCutLaw rules.registers rules.start (take c h) (drop c h ++ e ∷ [])
 cut_law-push rules S c h e sums formed =
     cut_law rules.registers rules.start (take c h) (drop c h ++ e ∷ []) (rw (take-append-drop-push c h e) formed) sums.last.is.1
 
+-- the same, with the set of outcomes there
 final_opaque-push : (rules : Rules) (S : State → Type 0) (c : ℕ) (h : List Event) (e : Event) → SumsUp rules S c h
     → IsTrue (is_well_formed rules.registers (h ++ e ∷ []))
     → IsFinalOpaque rules.registers rules.start (h ++ e ∷ []) ↔ ((end : State) × Ends S (transactions (drop c h ++ e ∷ [])) end)
@@ -108,6 +111,7 @@ outcomes-push rules S c h e sums formed cut end =
       λ ends. rw (take-append-drop-push c h e) at (law.1 (Ends-within S past rest end (λ s at. (sums.states s).0 at) ends)),
     )
 
+-- where the open window is narrow enough, each window is
 narrow-push : (rules : Rules) (S : State → Type 0) (c : ℕ) (h : List Event) (e : Event) → SumsUp rules S c h
     → length (transactions (drop c h ++ e ∷ [])) ≤ rules.window → HasWide rules.window (h ++ e ∷ []) → ⊥
 narrow-push rules S c h e sums fits wide =
@@ -162,7 +166,7 @@ verdict-many rules S c h e sums formed fits cut many =
       };
     })
 
--- nothing is wrong, and the event makes no cut
+-- where the event makes no cut, the last cut stays
 IsLastCut-open : (c : ℕ) (h : List Event) (e : Event) → IsLastCut h c → IsFalse (is_cut (drop c h ++ e ∷ []))
     → IsLastCut (h ++ e ∷ []) c
 IsLastCut-open c h e last uncut = record {
@@ -176,6 +180,7 @@ IsLastCut-open c h e last uncut = record {
   ];
 }
 
+-- so the summary stays where the history with the event is final-state opaque
 sums_up-fine : (rules : Rules) (S : State → Type 0) (c : ℕ) (h : List Event) (e : Event) → SumsUp rules S c h
     → length (transactions (drop c h ++ e ∷ [])) ≤ rules.window → IsFalse (is_cut (drop c h ++ e ∷ []))
     → IsFinalOpaque rules.registers rules.start (h ++ e ∷ []) → SumsUp rules S c (h ++ e ∷ [])
@@ -279,3 +284,91 @@ sums_up-ends rules S c h sums =
     let law = cut_law rules.registers rules.start (take c h) (drop c h) (rw (take-append-drop c h) final.formed) sums.last.is.1 in
     let (end, ends) = law.opaque.0 (rw (take-append-drop c h) final) in
     (end, Ends-within (outcomes rules.start (take c h)) S (transactions (drop c h)) end (λ s at. (sums.states s).1 at) ends)
+
+-- what is wrong with a history excludes that nothing is, and that anything else is
+abbrev Excludes : (A B : Rules → List Event → Type 0) → Type 0
+Excludes A B = (rules : Rules) (h : List Event) → A rules h → B rules h → ⊥
+
+malformed-fine : Excludes IsMalformed IsFine
+malformed-fine rules h a b = both_ways _ a.ill_formed b.final_opaque.formed
+
+wide-fine : Excludes IsTooWide IsFine
+wide-fine rules h a b = b.narrow a.wide
+
+many-fine : Excludes IsTooMany IsFine
+many-fine rules h a b = b.few a.many
+
+violated-fine : Excludes IsViolated IsFine
+violated-fine rules h a b = a.not_opaque b.final_opaque
+
+-- the shortest prefix at which anything is wrong is one, and one thing is wrong with it
+IsFirst-fine : (A : Rules → List Event → Type 0) → Excludes A IsFine → (rules : Rules) (h : List Event) (m : ℕ)
+    → IsFirst A rules h m → IsVerdict rules h OpaqueSoFar → ⊥
+IsFirst-fine A a rules h m first judged = a rules (take m h) first.here (judged m first.within)
+
+IsFirst-same : (A B : Rules → List Event → Type 0) → Excludes A IsFine → Excludes B IsFine → (rules : Rules) (h : List Event)
+    (m n : ℕ) → IsFirst A rules h m → IsFirst B rules h n → m ≡ n
+IsFirst-same A B a b rules h m n one two =
+    elim (cases_lt m n) [
+      | inl less ↦ absurd (a rules (take m h) one.here (two.before m less))
+      | inr least ↦ elim (cases_lt n m) [
+        | inl less ↦ absurd (b rules (take n h) two.here (one.before n less))
+        | inr greatest ↦ omega (arith, least, greatest)
+      ]
+    ]
+
+IsFirst-apart : (A B : Rules → List Event → Type 0) → Excludes A IsFine → Excludes B IsFine → Excludes A B → (rules : Rules)
+    (h : List Event) (m n : ℕ) → IsFirst A rules h m → IsFirst B rules h n → ⊥
+IsFirst-apart A B a b both rules h m n one two =
+    let same = IsFirst-same A B a b rules h m n one two in both rules (take n h) (rw same at one.here) two.here
+
+malformed-wide : (rules : Rules) (h : List Event) (m n : ℕ) → IsFirst IsMalformed rules h m → IsFirst IsTooWide rules h n → ⊥
+malformed-wide = IsFirst-apart IsMalformed IsTooWide malformed-fine wide-fine (λ rules h a b. both_ways _ a.ill_formed b.formed)
+
+malformed-many : (rules : Rules) (h : List Event) (m n : ℕ) → IsFirst IsMalformed rules h m → IsFirst IsTooMany rules h n → ⊥
+malformed-many = IsFirst-apart IsMalformed IsTooMany malformed-fine many-fine (λ rules h a b. both_ways _ a.ill_formed b.formed)
+
+malformed-violated : (rules : Rules) (h : List Event) (m n : ℕ) → IsFirst IsMalformed rules h m → IsFirst IsViolated rules h n → ⊥
+malformed-violated =
+    IsFirst-apart IsMalformed IsViolated malformed-fine violated-fine (λ rules h a b. both_ways _ a.ill_formed b.formed)
+
+wide-many : (rules : Rules) (h : List Event) (m n : ℕ) → IsFirst IsTooWide rules h m → IsFirst IsTooMany rules h n → ⊥
+wide-many = IsFirst-apart IsTooWide IsTooMany wide-fine many-fine (λ rules h a b. b.narrow a.wide)
+
+wide-violated : (rules : Rules) (h : List Event) (m n : ℕ) → IsFirst IsTooWide rules h m → IsFirst IsViolated rules h n → ⊥
+wide-violated = IsFirst-apart IsTooWide IsViolated wide-fine violated-fine (λ rules h a b. b.narrow a.wide)
+
+many-violated : (rules : Rules) (h : List Event) (m n : ℕ) → IsFirst IsTooMany rules h m → IsFirst IsViolated rules h n → ⊥
+many-violated = IsFirst-apart IsTooMany IsViolated many-fine violated-fine (λ rules h a b. b.few a.many)
+
+-- a history has at most one verdict
+pub verdict-one : (rules : Rules) (h : List Event) (v w : Verdict) → IsVerdict rules h v → IsVerdict rules h w → v ≡ w
+verdict-one rules h OpaqueSoFar OpaqueSoFar j k = refl
+verdict-one rules h OpaqueSoFar (Malformed n) j k = absurd (IsFirst-fine IsMalformed malformed-fine rules h n k j)
+verdict-one rules h OpaqueSoFar (Undecided n Transactions) j k = absurd (IsFirst-fine IsTooWide wide-fine rules h n k j)
+verdict-one rules h OpaqueSoFar (Undecided n States) j k = absurd (IsFirst-fine IsTooMany many-fine rules h n k j)
+verdict-one rules h OpaqueSoFar (Violated n) j k = absurd (IsFirst-fine IsViolated violated-fine rules h n k j)
+verdict-one rules h (Malformed m) OpaqueSoFar j k = absurd (IsFirst-fine IsMalformed malformed-fine rules h m j k)
+verdict-one rules h (Malformed m) (Malformed n) j k =
+    ap (λ x. let v : Verdict = Malformed x in v) (IsFirst-same IsMalformed IsMalformed malformed-fine malformed-fine rules h m n j k)
+verdict-one rules h (Malformed m) (Undecided n Transactions) j k = absurd (malformed-wide rules h m n j k)
+verdict-one rules h (Malformed m) (Undecided n States) j k = absurd (malformed-many rules h m n j k)
+verdict-one rules h (Malformed m) (Violated n) j k = absurd (malformed-violated rules h m n j k)
+verdict-one rules h (Undecided m Transactions) OpaqueSoFar j k = absurd (IsFirst-fine IsTooWide wide-fine rules h m j k)
+verdict-one rules h (Undecided m Transactions) (Malformed n) j k = absurd (malformed-wide rules h n m k j)
+verdict-one rules h (Undecided m Transactions) (Undecided n Transactions) j k =
+    ap (λ x. let v : Verdict = Undecided x Transactions in v) (IsFirst-same IsTooWide IsTooWide wide-fine wide-fine rules h m n j k)
+verdict-one rules h (Undecided m Transactions) (Undecided n States) j k = absurd (wide-many rules h m n j k)
+verdict-one rules h (Undecided m Transactions) (Violated n) j k = absurd (wide-violated rules h m n j k)
+verdict-one rules h (Undecided m States) OpaqueSoFar j k = absurd (IsFirst-fine IsTooMany many-fine rules h m j k)
+verdict-one rules h (Undecided m States) (Malformed n) j k = absurd (malformed-many rules h n m k j)
+verdict-one rules h (Undecided m States) (Undecided n Transactions) j k = absurd (wide-many rules h n m k j)
+verdict-one rules h (Undecided m States) (Undecided n States) j k =
+    ap (λ x. let v : Verdict = Undecided x States in v) (IsFirst-same IsTooMany IsTooMany many-fine many-fine rules h m n j k)
+verdict-one rules h (Undecided m States) (Violated n) j k = absurd (many-violated rules h m n j k)
+verdict-one rules h (Violated m) OpaqueSoFar j k = absurd (IsFirst-fine IsViolated violated-fine rules h m j k)
+verdict-one rules h (Violated m) (Malformed n) j k = absurd (malformed-violated rules h n m k j)
+verdict-one rules h (Violated m) (Undecided n Transactions) j k = absurd (wide-violated rules h n m k j)
+verdict-one rules h (Violated m) (Undecided n States) j k = absurd (many-violated rules h n m k j)
+verdict-one rules h (Violated m) (Violated n) j k =
+    ap (λ x. let v : Verdict = Violated x in v) (IsFirst-same IsViolated IsViolated violated-fine violated-fine rules h m n j k)

@@ -1,10 +1,9 @@
 -- The windows and the cuts of a history with one event more: each window is one of the history's, or the open one.
-use Rattle.std.proofs.Common.{◌≡◌, ◌==◌, ◌&&◌, ◌||◌, ◌+◌, ◌++◌, ◌<◌, ◌≤◌, ◌⊎◌, ℕ, zero, suc, Bool, true, false, List, [], ◌∷◌, length, IsTrue, refl, sym, ap, ◌∙◌, inl, inr, arith, append_assoc}
+use Rattle.std.proofs.Common.{◌≡◌, ◌==◌, ◌&&◌, ◌||◌, ◌+◌, ◌++◌, ◌<◌, ◌≤◌, ◌⊎◌, ℕ, Bool, true, false, List, [], ◌∷◌, length, IsTrue, refl, sym, ap, ◌∙◌, inl, inr, arith, append_assoc}
 use Rattle.std.specs.Prelude.{take, drop}
-use Rattle.std.specs.List.{list_all, list_any}
-use Rattle.std.proofs.Math.Seq.{take-length, drop-length, take-append_seam}
+use Rattle.std.specs.List.{list_all}
 use Rattle.std.proofs.lemmas.Bool.{and_parts, cases_lt}
-use Rattle.std.proofs.lemmas.List.{length-append, length-take-le, take_all, drop_all, take-append-le, drop-append-le, take-append-drop}
+use Rattle.std.proofs.lemmas.List.{length-append, take_all, drop_all, take-append-le, drop-append-le, take-append-drop}
 use Rattle.std.proofs.lemmas.List.Folds.{list_all-append, list_any-append}
 use Rattle.tmw_events.specs.declared.event.Event.{Event}
 use Rattle.tmw_events.specs.declared.event.Kind.{Kind}
@@ -15,7 +14,7 @@ use Rattle.tmw_defs.specs.Cuts.{is_cut}
 use Rattle.tmw_defs.specs.History.{Txn, is_over, is_ended, status_of, transactions}
 use Rattle.tmw_defs.specs.Quiet.{is_pending, awaits_commit, is_quiet}
 use Rattle.tmw_defs.specs.Summary.{IsLastCut}
-use Rattle.tmw_defs.specs.Windows.{IsCutAt, between, IsWindow, HasWide}
+use Rattle.tmw_defs.specs.Windows.{IsCutAt, between, HasWide}
 use Rattle.tmw_defs.proofs.Along.{Pairs}
 use Rattle.tmw_defs.proofs.CutsProof.{behind, behind-later, transactions-cut}
 use Rattle.tmw_defs.proofs.Places.{IsLater}
@@ -32,9 +31,11 @@ take_all-push h e = take_all (length h + 1) (h ++ e ∷ []) (let same = length-p
 
 -- the history is what precedes the cut, and then the open window with the new event
 pub take-append-drop-push : (c : ℕ) (h : List Event) (e : Event) → take c h ++ (drop c h ++ e ∷ []) ≡ h ++ e ∷ []
-take-append-drop-push c h e = sym (append_assoc (take c h) (drop c h) (e ∷ [])) ∙ ap (λ (xs : List Event). xs ++ e ∷ []) (take-append-drop c h)
+take-append-drop-push c h e =
+    sym (append_assoc (take c h) (drop c h) (e ∷ []))
+    ∙ ap (λ (xs : List Event). xs ++ e ∷ []) (take-append-drop c h)
 
--- over a cut, the one is a cut where the other is
+-- a history over a cut is at a cut where what follows the cut, on its own, is
 list_all-later : (n : ℕ) (ts us : List Txn) → Pairs (IsLater n) ts us
     → list_all (λ t. is_ended t.text) ts ≡ list_all (λ t. is_ended t.text) us
 list_all-later n [] [] pairs = refl
@@ -51,7 +52,7 @@ is_cut-append past rest cut =
     ∙ ap (λ b. b && list_all (λ t. is_ended t.text) (behind past rest)) cut
     ∙ list_all-later (length past) (behind past rest) (transactions rest) (behind-later past rest)
 
--- over a cut, a transaction of a thread is commit-pending where one is of what follows the cut
+-- and a thread awaits its commit in it where it does in what follows
 not_pending : (s : Status) → is_over s ≡ true → is_pending s ≡ false
 not_pending Live over = absurd (cc)
 not_pending Pending over = absurd (cc)
@@ -87,7 +88,7 @@ awaits_commit-append past rest thread cut =
     ∙ ap (λ b. b || awaits_commit (behind past rest) thread) (awaits_commit-ended (transactions past) thread cut)
     ∙ awaits_commit-later (length past) (behind past rest) (transactions rest) thread (behind-later past rest)
 
--- over a cut, an event is quiet where it is after what follows the cut
+-- so an event is quiet after it where it is after what follows
 is_quiet-awaits : (ts us : List Txn) (thread : ℕ) (kind : Kind) → awaits_commit ts thread ≡ awaits_commit us thread
     → is_quiet ts thread kind ≡ is_quiet us thread kind
 is_quiet-awaits ts us thread A same = rw same refl
@@ -135,7 +136,7 @@ HasWide-open most c h e last wide = record {
   wide = rw (between-open c h e last.is.0) wide;
 }
 
--- each window with a transaction in it is one of the history without the event, or the open one
+-- a window that closes before the event is one of the history without it
 HasWide-before : (most : ℕ) (h : List Event) (e : Event) (w : HasWide most (h ++ e ∷ [])) → w.upto ≤ length h → HasWide most h
 HasWide-before most h e w within =
     let same = length-push h e in
@@ -155,7 +156,7 @@ HasWide-before most h e w within =
       wide = rw (← take-push w.upto h e within) w.wide;
     }
 
--- one that goes to the end begins at the last cut, or has no event
+-- one that goes to the end begins at the last cut, or has no transaction
 HasWide-after : (most c : ℕ) (h : List Event) (e : Event) → IsLastCut h c → (w : HasWide most (h ++ e ∷ []))
     → w.upto ≡ length h + 1 → most < length (transactions (drop c h ++ e ∷ []))
 HasWide-after most c h e last w end =
@@ -178,6 +179,7 @@ HasWide-after most c h e last w end =
           rw (← drop-append-le c h (e ∷ []) last.is.0, ← from) wide
     ]
 
+-- so no window is too wide where the open one with the event isn't, and none was without it
 pub HasWide_push : (most c : ℕ) (h : List Event) (e : Event) → IsLastCut h c → HasWide most (h ++ e ∷ [])
     → HasWide most h ⊎ (most < length (transactions (drop c h ++ e ∷ [])))
 HasWide_push most c h e last w =
