@@ -55,16 +55,16 @@ pairs-flip Rel (t ∷ ts) [] pairs = absurd pairs
 pairs-flip Rel (t ∷ ts) (u ∷ us) pairs = (pairs.0, pairs-flip Rel ts us pairs.1)
 
 -- the transactions behind the cut, in the whole and on their own
-behind : List Event → List Event → List Txn
+pub behind : List Event → List Event → List Txn
 behind past rest = transactions_from (length past) [] rest
 
-behind-later : (past rest : List Event) → Pairs (IsLater (length past)) (behind past rest) (transactions rest)
+pub behind-later : (past rest : List Event) → Pairs (IsLater (length past)) (behind past rest) (transactions rest)
 unfolding behind
 behind-later past rest =
     let same : 0 + length past ≡ length past = omega arith in
     rw same at (later-transactions (length past) 0 [] [] rest tt)
 
-transactions-cut : (past rest : List Event) → IsTrue (is_cut past)
+pub transactions-cut : (past rest : List Event) → IsTrue (is_cut past)
     → transactions (past ++ rest) ≡ transactions past ++ behind past rest
 unfolding behind
 transactions-cut past rest cut =

@@ -12,4 +12,6 @@ pub mod Removals
 pub mod DecisionProof
 pub mod OneMore
 pub mod TextsProof
+pub mod VerdictProof
+pub mod WindowsProof
 mod Worked
