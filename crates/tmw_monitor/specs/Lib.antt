@@ -1,1 +1,3 @@
 pub mod BadBounds
+pub mod Fitting
+pub mod Weighing

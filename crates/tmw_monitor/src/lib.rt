@@ -2,6 +2,13 @@
 #![tactic(auto)]
 
 mod bounds;
+mod judging;
+mod monitor;
+mod next;
+mod open;
+mod weigh;
 
 pub use bounds::{BadBounds, Bounds};
+pub use judging::{judge, judge_from};
+pub use monitor::Monitor;
 pub use tmw_defs::{Verdict, Why};

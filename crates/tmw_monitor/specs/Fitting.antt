@@ -1,0 +1,36 @@
+-- Which history a monitor stands for: the relation by which its calls are described.
+use Rattle.std.specs.Prelude.{◌≡◌, ℕ, List, length, drop}
+use Rattle.std.specs.List.{Contains}
+use Rattle.tmw_events.specs.declared.event.Event.{Event}
+use Rattle.tmw_events.specs.declared.registers.Registers.{Registers}
+use Rattle.tmw_defs.specs.declared.verdict.Verdict.TheVariants.{OpaqueSoFar}
+use Rattle.tmw_defs.specs.Opaque.{State}
+use Rattle.tmw_defs.specs.Summary.{SumsUp}
+use Rattle.tmw_defs.specs.Verdict.{Rules, IsVerdict}
+use Rattle.tmw_wellformed.specs.Tracks.{Tracks}
+use Rattle.tmw_cuts.specs.Members.{members}
+use Rattle.tmw_cuts.specs.Standing.{StandsFor}
+use Rattle.tmw_monitor.specs.declared.bounds.Bounds.{Bounds}
+use Rattle.tmw_monitor.specs.declared.monitor.Monitor.{Monitor}
+use Rattle.tmw_monitor.specs.declared.open.Open.{Open}
+
+-- What a history is judged by, where the run has so many registers, which begin with these values.
+abbrev pub rules_of : Registers → State → Bounds → Rules
+rules_of registers start bounds =
+    record { registers = registers.number; start = start; window = bounds.window; states = bounds.states }
+
+-- What is kept of a history that is opaque so far: its outcomes at its last cut, the transactions since, and each thread's phase.
+pub record Keeps (rules : Rules) (history : List Event) (kept : Open) : Type 0 where
+  pub cut : ℕ
+  pub sums_up : SumsUp rules (Contains (members kept.states)) cut history
+  pub stands : StandsFor kept.window (drop cut history)
+  pub tracks : Tracks rules.registers history kept.tracker
+
+-- The history fits the monitor: its length and its verdict are the monitor's, and where it is opaque so far, the monitor has
+-- kept of it what it needs to judge what follows.
+pub record Fits (rules : Rules) (history : List Event) (monitor : Monitor) : Type 0 where
+  pub window : monitor.bounds.window ≡ rules.window
+  pub states : monitor.bounds.states ≡ rules.states
+  pub counted : monitor.count ≡ length history
+  pub judged : IsVerdict rules history monitor.verdict
+  pub keeps : monitor.verdict ≡ OpaqueSoFar → Keeps rules history monitor.kept
