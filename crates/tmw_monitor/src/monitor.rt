@@ -66,11 +66,14 @@ impl Monitor {
         ensures err { OnErr result ((rules : Rules) (history : List Event) → Fits rules history self.old → Fits rules history self.new) }
         ensures stays { (self.old.verdict ≡ OpaqueSoFar → ⊥) → result ≡ Ok self.old.verdict }
     {
+        let at = self.count + 1;
         if self.verdict == Verdict::OpaqueSoFar {
-            self.verdict =
-                next_verdict(self.alloc, &mut self.kept, self.bounds, self.count + 1, event)?;
+            let verdict = next_verdict(self.alloc, &mut self.kept, self.bounds, at, event)?;
+            self.verdict = verdict;
+            self.count = at;
+            return Ok(verdict);
         }
-        self.count += 1;
+        self.count = at;
         Ok(self.verdict)
     }
 

@@ -23,7 +23,7 @@ pub fn next_verdict(
     ensures ok { IfOk result (λ verdict. (rules : Rules) (history : List Event) → bounds.window ≡ rules.window
         → bounds.states ≡ rules.states → at ≡ length history + 1 → Keeps rules history kept.old
         → IsVerdict rules (history ++ event ∷ []) verdict
-            × (verdict ≡ OpaqueSoFar → Keeps rules (history ++ event ∷ []) kept.new)) }
+        × (verdict ≡ OpaqueSoFar → Keeps rules (history ++ event ∷ []) kept.new)) }
     ensures err { OnErr result ((rules : Rules) (history : List Event) → Keeps rules history kept.old → Keeps rules history kept.new) }
 {
     let mut tracker = kept.tracker;
@@ -36,7 +36,14 @@ pub fn next_verdict(
     let quiet = kept.window.is_quiet(event);
     let mark = kept.window.mark(event.thread);
     kept.window.push(event, note)?;
-    match weigh(alloc, &mut kept.states, &mut kept.window, bounds.states, at, quiet) {
+    match weigh(
+        alloc,
+        &mut kept.states,
+        &mut kept.window,
+        bounds.states,
+        at,
+        quiet,
+    ) {
         Ok(verdict) => {
             kept.tracker = tracker;
             Ok(verdict)

@@ -1,0 +1,30 @@
+-- Before its first event a history is summed up by the set of its start state.
+use Rattle.std.proofs.Common.{◌≡◌, ◌↔◌, ◌+◌, ◌<◌, ℕ, zero, suc, List, [], ◌∷◌, length, refl, sym, subst, ◌∙◌, arith}
+use Rattle.std.specs.List.{Contains}
+use Rattle.tmw_defs.specs.Opaque.{State}
+use Rattle.tmw_defs.specs.Outcomes.{Only}
+use Rattle.tmw_defs.specs.Summary.{SumsUp}
+use Rattle.tmw_defs.specs.Verdict.{Rules}
+use Rattle.tmw_defs.proofs.VerdictProof.{sums_up-new}
+use Rattle.tmw_cuts.specs.declared.states.States.{States}
+use Rattle.tmw_cuts.specs.Members.{members}
+
+contains_one : (x y : State) → Contains (x ∷ []) y ↔ (y ≡ x)
+contains_one x y = (λ has. only has, λ is. (0, omega arith, sym is))
+  where
+    only : Contains (x ∷ []) y → y ≡ x
+    only (zero, within, is) = sym is
+    only (suc k, within, is) = absurd (omega arith)
+
+pub sums_up-one : (rules : Rules) (states : States) → 0 < rules.states → members states ≡ rules.start ∷ []
+    → SumsUp rules (Contains (members states)) 0 []
+sums_up-one rules states some is =
+    let sums = sums_up-new rules some in
+    record {
+      judged = sums.judged;
+      last = sums.last;
+      states = λ s. (
+        λ has. (sums.states s).0 ((contains_one rules.start s).0 (subst (λ (xs : List State). Contains xs s) is has)),
+        λ outcome. subst (λ (xs : List State). Contains xs s) (sym is) ((contains_one rules.start s).1 ((sums.states s).1 outcome)),
+      );
+    }

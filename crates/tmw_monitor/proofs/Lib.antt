@@ -1,0 +1,5 @@
+mod Counting
+mod Feeding
+mod Fresh
+mod Opening
+mod Told

@@ -1,0 +1,81 @@
+-- The open window of a history that is summed up: it is narrow, and so it is with an event more where the note allows it.
+use Rattle.std.proofs.Common.{◌≡◌, ◌⊎◌, ◌==◌, ◌&&◌, ◌+◌, ◌<◌, ◌≤◌, ℕ, Bool, true, false, not, List, [], ◌∷◌, ◌++◌, length, take, drop, IsTrue, refl, sym, ap, subst, ◌∙◌, inl, inr, arith}
+use Rattle.std.proofs.lemmas.Bool.{cases_Bool, cases_lt}
+use Rattle.std.proofs.lemmas.List.{take-append-drop, take_all, drop_all, drop-append-le}
+use Rattle.tmw_events.specs.declared.event.Event.{Event}
+use Rattle.tmw_defs.specs.History.{Txn, is_ended, add_event, transactions}
+use Rattle.tmw_defs.specs.Opaque.{State}
+use Rattle.tmw_defs.specs.Summary.{SumsUp}
+use Rattle.tmw_defs.specs.Verdict.{Rules, IsFine}
+use Rattle.tmw_defs.specs.Windows.{HasWide, between}
+use Rattle.tmw_defs.proofs.OneMore.{joins, add_event_here, add_event_past, transactions-push}
+use Rattle.tmw_wellformed.specs.declared.note.Note.{Note}
+use Rattle.tmw_wellformed.specs.Notes.{Notes}
+use Rattle.tmw_cuts.proofs.AcrossCuts.{notes-behind}
+
+-- the note of an event of the whole history is one of the event of the open window
+pub notes_open : (rules : Rules) (S : State → Type 0) (c : ℕ) (h : List Event) (e : Event) (note : Note) → SumsUp rules S c h
+    → Notes h e note → Notes (drop c h) e note
+notes_open rules S c h e note sums notes =
+    notes-behind (take c h) (drop c h) e note sums.last.is.1 (rw (take-append-drop c h) notes)
+
+pub narrow_open : (rules : Rules) (S : State → Type 0) (c : ℕ) (h : List Event) → SumsUp rules S c h
+    → length (transactions (drop c h)) ≤ rules.window
+narrow_open rules S c h sums =
+    elim (cases_lt rules.window (length (transactions (drop c h)))) [
+      | inl wide ↦
+          let whole : take (length h) h ≡ h = take_all (length h) h (omega arith) in
+          let fine : IsFine rules h = subst (λ (g : List Event). IsFine rules g) whole (sums.judged (length h) (omega arith)) in
+          absurd (fine.narrow (record {
+            from = c;
+            upto = length h;
+            window = record {
+              order = sums.last.is.0;
+              opens = sums.last.is;
+              inside = λ at after before cut. sums.last.last at after cut;
+              closes = inl refl;
+            };
+            wide = rw whole wide;
+          }))
+      | inr narrow ↦ narrow
+    ]
+
+length-add_event : (place : ℕ) (e : Event) (ts : List Txn)
+    → (length (add_event place e ts) ≡ length ts) ⊎ (length (add_event place e ts) ≡ length ts + 1)
+length-add_event place e [] = inr (omega arith)
+length-add_event place e (t ∷ ts) =
+    elim (cases_Bool (joins e t)) [
+      | inl taken ↦ inl (rw (add_event_here place e t ts taken) refl)
+      | inr past ↦ rw (add_event_past place e t ts past) (
+          elim (length-add_event place e ts) [
+            | inl same ↦ inl (omega (arith, same))
+            | inr more ↦ inr (omega (arith, more))
+          ])
+    ]
+
+-- a history has one transaction more with the event, or as many as before
+length-push : (h : List Event) (e : Event)
+    → (length (transactions (h ++ e ∷ [])) ≡ length (transactions h)) ⊎ (length (transactions (h ++ e ∷ [])) ≡ length (transactions h) + 1)
+length-push h e = rw (transactions-push h e) (length-add_event (length h) e (transactions h))
+
+-- with an event that begins no transaction, or begins one where there is room, the open window is as narrow as the bound asks
+pub narrow-push : (rules : Rules) (S : State → Type 0) (c : ℕ) (h : List Event) (e : Event) (note : Note) → SumsUp rules S c h
+    → Notes h e note → (note.begins ≡ true → length (transactions (drop c h)) < rules.window)
+    → length (transactions (drop c h ++ e ∷ [])) ≤ rules.window
+narrow-push rules S c h e note sums notes room =
+    let narrow = narrow_open rules S c h sums in
+    elim (length-push (drop c h) e) [
+      | inl same ↦ omega (arith, same, narrow)
+      | inr more ↦
+          let begins = (notes_open rules S c h e note sums notes).begins.1 more in
+          let free = room begins in
+          omega (arith, more, free)
+    ]
+
+-- and where it begins one without room, the window becomes too wide
+pub wide-push : (rules : Rules) (S : State → Type 0) (c : ℕ) (h : List Event) (e : Event) (note : Note) → SumsUp rules S c h
+    → Notes h e note → note.begins ≡ true → rules.window ≤ length (transactions (drop c h))
+    → rules.window < length (transactions (drop c h ++ e ∷ []))
+wide-push rules S c h e note sums notes begins full =
+    let more = (notes_open rules S c h e note sums notes).begins.0 begins in
+    omega (arith, more, full)

@@ -1,0 +1,21 @@
+-- No event is opaque so far, with the start state as its one outcome.
+use Rattle.std.proofs.Common.{◌≡◌, ◌<◌, ℕ, List, [], ◌∷◌, refl, sym, subst, arith}
+use Rattle.std.specs.List.{Contains}
+use Rattle.tmw_defs.specs.Opaque.{State}
+use Rattle.tmw_defs.specs.Outcomes.{Only}
+use Rattle.tmw_defs.proofs.VerdictProof.{sums_up-new}
+use Rattle.tmw_monitor.specs.Fitting.{rules_of}
+use Rattle.tmw_monitor.proofs.Fresh.{sums_up-one}
+use Rattle.tmw_monitor.proofs.monitor.Monitor.new_from.Goals as goal
+
+pub returns : goal.returns
+returns c =
+    let rules = rules_of c.args.registers c.args.start c.args.bounds in
+    let sums = sums_up-one rules c.in_ok-only.field-0 c.args.bounds.some_states c.in_ok-only.ensures in
+    record {
+      window = refl;
+      states = refl;
+      counted = refl;
+      judged = sums.judged;
+      keeps = λ is. record { cut = 0; sums_up = sums; stands = c.open.ensures.stands; tracks = c.new.ensures };
+    }
