@@ -5,49 +5,65 @@
 mod fault;
 mod fault_line;
 mod judging;
+mod order;
 mod report;
 mod run;
 #[cfg(test)]
 mod tests;
 mod words;
 
+use clap::Error;
+use clap::error::ErrorKind;
 use fault::Fault;
+use order::Order;
 use run::{run_judge, write_fault};
-use std::io::ErrorKind;
+use std::io::ErrorKind as IoErrorKind;
 use std::process::ExitCode;
 use std::{env, io};
-use tmw_events::{StdSink, StdSource, TraceFault};
-use words::is_judge;
+use tmw_events::{Sink, StdSink, StdSource, TraceFault};
+use words::read_words;
 
 fn main(rt: HostRuntime) -> ExitCode {
     let mut sink = StdSink::new(rt.stdout());
-    let status = match asked(&rt) {
-        Ok(()) => run_judge(rt.alloc(), &mut StdSource::new(rt.stdin()), &mut sink),
+    let status = match words_of(&rt) {
+        Ok(words) => match read_words(rt.alloc(), &words) {
+            Ok(Order::Judge { bounds: _bounds }) => {
+                run_judge(rt.alloc(), &mut StdSource::new(rt.stdin()), &mut sink)
+            }
+            Err(error) => answer(&rt, &mut sink, &error),
+        },
         Err(fault) => write_fault(&mut sink, fault),
     };
     ExitCode::from(status)
 }
 
-/// Reads the command line, before any input: it has to be the one word `judge`.
-fn asked(rt: &HostRuntime) -> Result<(), Fault> {
-    let arguments = env::args(rt).map_err(unread)?;
-    let mut words = Vec::new(rt.alloc());
-    for word in arguments.skip(1) {
-        if words.push(word).is_err() {
-            return Err(Fault::Trace(TraceFault::Memory));
-        }
-    }
-    if is_judge(&words) {
-        Ok(())
-    } else {
-        Err(Fault::Usage)
-    }
+/// The words of the command line, of which the first is the program's name.
+fn words_of(rt: &HostRuntime) -> Result<Vec<String>, Fault> {
+    env::args(rt)
+        .and_then(|words| Ok(words.collect(rt.alloc())?))
+        .map_err(unread)
 }
 
 /// Why there are no words: memory was refused, or one of them is not UTF-8.
 fn unread(error: io::Error) -> Fault {
     match error.kind() {
-        ErrorKind::OutOfMemory => Fault::Trace(TraceFault::Memory),
+        IoErrorKind::OutOfMemory => Fault::Trace(TraceFault::Memory),
         _ => Fault::Usage,
+    }
+}
+
+/// Answers a command line that gives no order, by its exit status: help goes to standard output, any other text of clap's to
+/// standard error, with the fault's line on standard output.
+fn answer<R: Print + Eprint, K: Sink>(rt: &R, sink: &mut K, error: &Error) -> u8 {
+    match error.kind() {
+        ErrorKind::OutOfMemory => write_fault(sink, Fault::Trace(TraceFault::Memory)),
+        ErrorKind::DisplayHelp => match error.print(rt) {
+            Ok(()) => 0,
+            Err(_) => write_fault(sink, Fault::Trace(TraceFault::Io)),
+        },
+        _ => {
+            let _printed = error.print(rt);
+            write_fault(sink, Fault::Usage)
+        }
     }
 }

@@ -1,0 +1,48 @@
+use thiserror::Error;
+
+/// Why there is no report. A line's number counts from 1, and the header is line 1.
+#[derive(Debug, Drop, Clone, Copy, PartialEq, Eq, Error)]
+pub enum Fault {
+    /// The first line is not the header of a trace.
+    #[error("the first line is no header of a trace")]
+    BadHeader,
+    /// This line is not an event.
+    #[error("line {0} is no event")]
+    BadLine(u64),
+    /// The input ends within this line.
+    #[error("the input ends within line {0}")]
+    Cut(u64),
+    /// There are more events than are counted.
+    #[error("there are more events than are counted")]
+    TooLong,
+    /// Memory was refused.
+    #[error("memory was refused")]
+    Memory,
+    /// A read or a write failed.
+    #[error("a read or a write failed")]
+    Io,
+    /// The input is not JSON.
+    #[error("the input is not JSON")]
+    Json,
+    /// The input is JSON of another shape than was asked for.
+    #[error("the JSON has another shape than was asked for")]
+    Shape,
+    /// The number of registers is out of its range.
+    #[error("the number of registers is out of its range")]
+    Registers,
+    /// The ring that events are recorded in is out of use.
+    #[error("the ring of events is out of use")]
+    Ring,
+    /// A thread was not started.
+    #[error("a thread was not started")]
+    Spawn,
+    /// A size is out of its range.
+    #[error("a size is out of its range")]
+    Size,
+    /// A limit was passed.
+    #[error("a limit was passed")]
+    Limit,
+    /// The command line is none that the program knows.
+    #[error("the command line is not known")]
+    Usage,
+}

@@ -1,0 +1,45 @@
+ghost use Rattle.std.specs.Prelude.{◌≡◌, ◌++◌, OnOk, OnErr, decimal};
+ghost use Rattle.tmw_events.specs.Told.{Adds, AddsBeginning, one_more};
+ghost use Rattle.tmw_report.specs.Lines.{fault_line, line_end};
+
+use crate::fault::Fault;
+use itoa::Buffer;
+use tmw_events::{IoFault, Sink, put_all};
+
+/// Writes the fault's line, with its line feed. It takes no memory. After a failed write a beginning of the line went out,
+/// and not all of it.
+pub fn write_fault<K: Sink>(sink: &mut K, fault: &Fault) -> Result<(), IoFault>
+    ensures takes { OnOk result (Adds K.took sink.old (fault_line fault.now) sink.new) }
+    ensures well { OnOk result (K.failures sink.new ≡ K.failures sink.old) }
+    ensures begun { OnErr result (AddsBeginning K.took sink.old (fault_line fault.now) sink.new) }
+    ensures failed { OnErr result (K.failures sink.new ≡ one_more (K.failures sink.old)) }
+{
+    match *fault {
+        Fault::BadHeader => put_all(sink, b"{\"fault\":\"bad header\"}\n"),
+        Fault::BadLine(line) => put_numbered(sink, b"{\"fault\":\"bad line\",\"line\":", line),
+        Fault::Cut(line) => put_numbered(sink, b"{\"fault\":\"cut\",\"line\":", line),
+        Fault::TooLong => put_all(sink, b"{\"fault\":\"too long\"}\n"),
+        Fault::Memory => put_all(sink, b"{\"fault\":\"memory\"}\n"),
+        Fault::Io => put_all(sink, b"{\"fault\":\"io\"}\n"),
+        Fault::Json => put_all(sink, b"{\"fault\":\"json\"}\n"),
+        Fault::Shape => put_all(sink, b"{\"fault\":\"shape\"}\n"),
+        Fault::Registers => put_all(sink, b"{\"fault\":\"registers\"}\n"),
+        Fault::Ring => put_all(sink, b"{\"fault\":\"ring\"}\n"),
+        Fault::Spawn => put_all(sink, b"{\"fault\":\"spawn\"}\n"),
+        Fault::Size => put_all(sink, b"{\"fault\":\"size\"}\n"),
+        Fault::Limit => put_all(sink, b"{\"fault\":\"limit\"}\n"),
+        Fault::Usage => put_all(sink, b"{\"fault\":\"usage\"}\n"),
+    }
+}
+
+/// Writes a text, a number, and the end of an object's line.
+fn put_numbered<K: Sink>(sink: &mut K, before: &[u8], number: u64) -> Result<(), IoFault>
+    ensures takes { OnOk result (Adds K.took sink.old (before.now ++ (decimal number ++ line_end)) sink.new) }
+    ensures well { OnOk result (K.failures sink.new ≡ K.failures sink.old) }
+    ensures begun { OnErr result (AddsBeginning K.took sink.old (before.now ++ (decimal number ++ line_end)) sink.new) }
+    ensures failed { OnErr result (K.failures sink.new ≡ one_more (K.failures sink.old)) }
+{
+    put_all(sink, before)?;
+    put_all(sink, Buffer::new().format(number).as_bytes())?;
+    put_all(sink, b"}\n")
+}

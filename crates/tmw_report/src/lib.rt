@@ -1,0 +1,14 @@
+//! What the program writes: the line that reports a verdict, the line of a fault, and the exit status that goes with each.
+#![tactic(auto)]
+
+mod fault;
+mod fault_line;
+mod report;
+mod status;
+#[cfg(test)]
+mod tests;
+
+pub use fault::Fault;
+pub use fault_line::write_fault;
+pub use report::report_text;
+pub use status::{FAULT_STATUS, status_of};

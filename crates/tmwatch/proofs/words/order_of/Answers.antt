@@ -1,0 +1,43 @@
+-- A subcommand's name and rows make a pair, and the number that was read is its option's.
+use Rattle.std.proofs.Common.{◌≡◌, ◌<◌, ◌^◌, ◌∙◌, ℕ, Option, Some, None, option_map, ap₂, sym, refl, codes, rules}
+use Rattle.std.specs.Str.Parse.{IsNumeral, digits_value, without_leading_plus}
+use Rattle.clap.specs.Words.{Text, found_of, one_text, rows_of, subcommand_name_of}
+use Rattle.clap.specs.declared.parser.matches.Found.{Found}
+use Rattle.clap.proofs.WalkLemmas.{one_text-rows}
+use Rattle.tmwatch.specs.Words.{Gives}
+use Rattle.tmwatch.proofs.words.order_of.Goals as goal
+
+paired : {B X Y : Type 0} (f : B → X) (g : B → Y) (o : Option B) (x : X) (y : Y) → option_map f o ≡ Some x
+    → option_map {T = X × Y} (λ p. p.1) (option_map {U = X × Y} (λ b. (f b, g b)) o) ≡ Some y
+    → option_map {U = X × Y} (λ b. (f b, g b)) o ≡ Some (x, y)
+paired f g None x y first second = cc
+paired {X = X} {Y = Y} f g (Some b) x y first second =
+    let left : f b ≡ x = cc in
+    let right : g b ≡ y = cc in
+    ap₂ (λ (u : X) (v : Y). let pair : X × Y = (u, v) in Some pair) left right
+
+gives : (f : Found) (name : Text) (read number : ℕ) → number ≡ read → (one_text f name ≡ None → Some read ≡ None)
+    → ((t : Text) → one_text f name ≡ Some t
+    → (IsNumeral 10 (without_leading_plus t) × (digits_value 10 (without_leading_plus t) < 2 ^ 8)) × (read ≡ digits_value 10 (without_leading_plus t)))
+    → Gives name (rows_of f) number
+gives f name read number same absent value = go (one_text f name) refl
+  where
+    go : (o : Option Text) → one_text f name ≡ o → Gives name (rows_of f) number
+    go None none =
+        let bad = absent none in
+        absurd (cc)
+    go (Some t) some =
+        let parsed = value t some in
+        record { text = t; found = sym (one_text-rows f name) ∙ some; numeral = parsed.0.0; reads = same ∙ parsed.1 }
+
+pub returns-in-Ok : goal.returns-in-Ok
+returns-in-Ok c =
+    let found = found_of c.in-Some.judge.now in
+    let named : subcommand_name_of c.args.matches.now ≡ Some (codes "judge") = search rules in (
+      rows_of found,
+      paired _ _ _ _ _ named c.in-Some.ensures.rows,
+      gives found (codes "window") c.in-Some-get_one.window c.in-Ok.bounds.window c.in-Ok.ensures.ok.0 c.in-Some-get_one.ensures.none
+          (λ t e. (c.in-Some-get_one.ensures.value t e).0),
+      gives found (codes "states") c.in-Some-get_one-2.states c.in-Ok.bounds.states c.in-Ok.ensures.ok.1 c.in-Some-get_one-2.ensures.none
+          (λ t e. (c.in-Some-get_one-2.ensures.value t e).0),
+    )

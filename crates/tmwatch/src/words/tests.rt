@@ -1,0 +1,131 @@
+//! What the contracts leave open: which words are refused, by which kind of error, and that there is memory for the parse.
+use crate::order::Order;
+use crate::words::read_words;
+use clap::error::ErrorKind;
+use std::test::Fail;
+
+#[test]
+fn bounds_of_judge(rt: HostRuntime) -> Result<(), Fail> {
+    for (words, window, states) in [
+        (["tmwatch", "judge"].as_slice(), 8, 64),
+        (["tmwatch", "judge", "--window", "1"].as_slice(), 1, 64),
+        (["tmwatch", "judge", "--window", "8"].as_slice(), 8, 64),
+        (
+            ["tmwatch", "judge", "--window=3", "--states", "64"].as_slice(),
+            3,
+            64,
+        ),
+        (["tmwatch", "judge", "--states", "1"].as_slice(), 8, 1),
+        (
+            ["tmwatch", "judge", "--states=2", "--window=5"].as_slice(),
+            5,
+            2,
+        ),
+        // clap's integers may have a plus and zeros in front.
+        (["tmwatch", "judge", "--window", "+3"].as_slice(), 3, 64),
+        (["tmwatch", "judge", "--window", "03"].as_slice(), 3, 64),
+        // The program's name is any word.
+        (["--window", "judge"].as_slice(), 8, 64),
+    ] {
+        let Order::Judge { bounds } = read_words(rt.alloc(), words)?;
+        assert_eq!(rt; bounds.window, window, "of {words:?}");
+        assert_eq!(rt; bounds.states, states, "of {words:?}");
+    }
+    Ok(())
+}
+
+#[test]
+fn words_that_are_refused(rt: HostRuntime) {
+    for (words, kind) in [
+        ([].as_slice(), ErrorKind::MissingSubcommand),
+        (["tmwatch"].as_slice(), ErrorKind::MissingSubcommand),
+        (
+            ["tmwatch", "judge", "--window", "0"].as_slice(),
+            ErrorKind::ValueValidation,
+        ),
+        (
+            ["tmwatch", "judge", "--window", "9"].as_slice(),
+            ErrorKind::ValueValidation,
+        ),
+        (
+            ["tmwatch", "judge", "--states", "0"].as_slice(),
+            ErrorKind::ValueValidation,
+        ),
+        (
+            ["tmwatch", "judge", "--states", "65"].as_slice(),
+            ErrorKind::ValueValidation,
+        ),
+        (
+            ["tmwatch", "judge", "--window", "x"].as_slice(),
+            ErrorKind::ValueValidation,
+        ),
+        (
+            ["tmwatch", "judge", "--window=-1"].as_slice(),
+            ErrorKind::ValueValidation,
+        ),
+        (
+            ["tmwatch", "judge", "--window=257"].as_slice(),
+            ErrorKind::ValueValidation,
+        ),
+        (
+            ["tmwatch", "judge", "--window="].as_slice(),
+            ErrorKind::ValueValidation,
+        ),
+        (
+            ["tmwatch", "judge", "--window"].as_slice(),
+            ErrorKind::InvalidValue,
+        ),
+        (
+            ["tmwatch", "judge", "--window", "3", "--window", "3"].as_slice(),
+            ErrorKind::ArgumentConflict,
+        ),
+        (
+            ["tmwatch", "judges"].as_slice(),
+            ErrorKind::InvalidSubcommand,
+        ),
+        (
+            ["tmwatch", "drive"].as_slice(),
+            ErrorKind::InvalidSubcommand,
+        ),
+        (
+            ["tmwatch", "judge", "extra"].as_slice(),
+            ErrorKind::UnknownArgument,
+        ),
+        (
+            ["tmwatch", "judge", "--bound", "3"].as_slice(),
+            ErrorKind::UnknownArgument,
+        ),
+        (
+            ["tmwatch", "--window", "3", "judge"].as_slice(),
+            ErrorKind::UnknownArgument,
+        ),
+    ] {
+        match read_words(rt.alloc(), words) {
+            Ok(_) => assert!(rt; false, "{words:?} was taken"),
+            Err(error) => {
+                assert_eq!(rt; error.kind(), kind, "of {words:?}");
+                assert!(rt; error.use_stderr(), "of {words:?}");
+            }
+        }
+    }
+}
+
+#[test]
+fn words_that_ask_for_help(rt: HostRuntime) {
+    for words in [
+        ["tmwatch", "--help"].as_slice(),
+        ["tmwatch", "-h"].as_slice(),
+        ["tmwatch", "help"].as_slice(),
+        ["tmwatch", "help", "judge"].as_slice(),
+        ["tmwatch", "judge", "--help"].as_slice(),
+        ["tmwatch", "judge", "--window", "3", "--help"].as_slice(),
+    ] {
+        match read_words(rt.alloc(), words) {
+            Ok(_) => assert!(rt; false, "{words:?} was taken"),
+            Err(error) => {
+                assert_eq!(rt; error.kind(), ErrorKind::DisplayHelp, "of {words:?}");
+                assert!(rt; !error.use_stderr(), "of {words:?}");
+            }
+        }
+    }
+}
