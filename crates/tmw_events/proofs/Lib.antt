@@ -12,5 +12,5 @@ mod Pieces
 mod Splits
 pub mod TextNames
 pub mod ToldBytes
-mod TracesRead
+pub mod TracesRead
 mod ValueParts

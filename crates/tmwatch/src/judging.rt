@@ -1,30 +1,56 @@
 ghost use Rattle.std.specs.Prelude.{◌≡◌, ℕ, List};
 ghost use Rattle.tmw_events.specs.Told.{Adds};
-ghost use Rattle.tmwatch.specs.Judging.{IsAnswer, failures_behind};
+ghost use Rattle.tmwatch.specs.Judging.{IsAnswer, failures_behind, fault_of};
 
-use crate::fault::Fault;
 use crate::report::Report;
 use std::alloc::Global;
-use tmw_events::{Source, TraceFault, read_trace};
-use tmw_search::{Whole, WholeFault, judge_whole_from};
+use tmw_events::{Source, TraceFault, TraceLines};
+use tmw_monitor::{Bounds, Monitor};
+use tmw_report::Fault;
 
-/// Reads a trace up to the source's end and judges its history.
-pub fn judge<S: Source>(alloc: Global, source: &mut S) -> Result<Report, Fault>
+/// Reads a trace up to the source's end, and judges each event as its line is read. Of the past nothing is kept, so a trace of
+/// any length is judged in the same memory. Where memory is refused, nothing is read after it.
+pub fn judge<S: Source>(alloc: Global, source: &mut S, bounds: Bounds) -> Result<Report, Fault>
     ensures right { (bytes : List ℕ) × Adds S.told source.old bytes source.new
-        × IsAnswer (S.ended source.new) bytes result }
+        × IsAnswer (S.ended source.new) bounds bytes result }
     ensures failures { S.failures source.new ≡ failures_behind result (S.failures source.old) }
 {
-    let trace = match read_trace(alloc, source) {
-        Ok(trace) => trace,
-        Err(fault) => return Err(Fault::Trace(fault)),
+    let mut lines = TraceLines::new();
+    let header = match lines.header(source) {
+        Ok(header) => header,
+        Err(fault) => return Err(fault_of(fault)),
     };
-    let header = trace.header;
-    let events = trace.events.len() as u64;
-    match judge_whole_from(alloc, header.registers, &header.initial, &trace.events) {
-        Ok(Whole::Opaque) => Ok(Report::Opaque { events }),
-        Ok(Whole::Violated(at)) => Ok(Report::Violated { at, events }),
-        Err(WholeFault::IllFormed(at)) => Ok(Report::Malformed { at, events }),
-        Err(WholeFault::Ninth(at)) => Err(Fault::Ninth(at)),
-        Err(WholeFault::Memory) => Err(Fault::Trace(TraceFault::Memory)),
+    let Ok(mut monitor) = Monitor::new_from(alloc, header.registers, header.initial, bounds) else {
+        return Err(Fault::Memory);
+    };
+    'lines: loop {
+        match lines.next(source) {
+            Ok(Some(event)) => {
+                let Ok(_verdict) = monitor.feed(event) else {
+                    return Err(Fault::Memory);
+                };
+            }
+            Ok(None) => {
+                return Ok(Report {
+                    events: monitor.fed(),
+                    verdict: monitor.verdict(),
+                });
+            }
+            Err(fault) => return Err(fault_of(fault)),
+        }
+    }
+}
+
+/// The fault by which a fault of the trace is answered.
+fn fault_of(fault: TraceFault) -> Fault
+    ensures { result ≡ fault_of fault }
+{
+    match fault {
+        TraceFault::BadHeader => Fault::BadHeader,
+        TraceFault::BadLine(line) => Fault::BadLine(line),
+        TraceFault::Cut(line) => Fault::Cut(line),
+        TraceFault::Memory => Fault::Memory,
+        TraceFault::Io => Fault::Io,
+        TraceFault::TooLong => Fault::TooLong,
     }
 }

@@ -2,8 +2,6 @@
 //! output: whether it is opaque, or which of its prefixes is the first that is not.
 #![tactic(auto)]
 
-mod fault;
-mod fault_line;
 mod judging;
 mod order;
 mod report;
@@ -14,25 +12,25 @@ mod words;
 
 use clap::Error;
 use clap::error::ErrorKind;
-use fault::Fault;
 use order::Order;
-use run::{run_judge, write_fault};
+use run::{answer_fault, run_judge};
 use std::io::ErrorKind as IoErrorKind;
 use std::process::ExitCode;
 use std::{env, io};
-use tmw_events::{Sink, StdSink, StdSource, TraceFault};
+use tmw_events::{Sink, StdSink, StdSource};
+use tmw_report::Fault;
 use words::read_words;
 
 fn main(rt: HostRuntime) -> ExitCode {
     let mut sink = StdSink::new(rt.stdout());
     let status = match words_of(&rt) {
         Ok(words) => match read_words(rt.alloc(), &words) {
-            Ok(Order::Judge { bounds: _bounds }) => {
-                run_judge(rt.alloc(), &mut StdSource::new(rt.stdin()), &mut sink)
+            Ok(Order::Judge { bounds }) => {
+                run_judge(rt.alloc(), &mut StdSource::new(rt.stdin()), &mut sink, bounds)
             }
             Err(error) => answer(&rt, &mut sink, &error),
         },
-        Err(fault) => write_fault(&mut sink, fault),
+        Err(fault) => answer_fault(&mut sink, fault),
     };
     ExitCode::from(status)
 }
@@ -47,7 +45,7 @@ fn words_of(rt: &HostRuntime) -> Result<Vec<String>, Fault> {
 /// Why there are no words: memory was refused, or one of them is not UTF-8.
 fn unread(error: io::Error) -> Fault {
     match error.kind() {
-        IoErrorKind::OutOfMemory => Fault::Trace(TraceFault::Memory),
+        IoErrorKind::OutOfMemory => Fault::Memory,
         _ => Fault::Usage,
     }
 }
@@ -56,14 +54,14 @@ fn unread(error: io::Error) -> Fault {
 /// standard error, with the fault's line on standard output.
 fn answer<R: Print + Eprint, K: Sink>(rt: &R, sink: &mut K, error: &Error) -> u8 {
     match error.kind() {
-        ErrorKind::OutOfMemory => write_fault(sink, Fault::Trace(TraceFault::Memory)),
+        ErrorKind::OutOfMemory => answer_fault(sink, Fault::Memory),
         ErrorKind::DisplayHelp => match error.print(rt) {
             Ok(()) => 0,
-            Err(_) => write_fault(sink, Fault::Trace(TraceFault::Io)),
+            Err(_) => answer_fault(sink, Fault::Io),
         },
         _ => {
             let _printed = error.print(rt);
-            write_fault(sink, Fault::Usage)
+            answer_fault(sink, Fault::Usage)
         }
     }
 }

@@ -1,0 +1,13 @@
+-- What was told so far is what the reader of lines has read, and the monitor was fed its events.
+use Rattle.std.proofs.Common.{◌≡◌, ◌+◌, List}
+use Rattle.tmw_events.specs.TraceLines.{unread}
+use Rattle.tmwatch.proofs.Taken.{HasFed}
+use Rattle.tmwatch.proofs.judging.judge.Given as goal
+
+abbrev pub invariant-lines : goal.invariant-lines
+invariant-lines g l =
+    HasFed g.S.Source.told l.fn.source l.source l.lines l.header l.fn.bounds l.monitor
+    × (g.S.Source.failures l.source ≡ g.S.Source.failures l.fn.source)
+
+abbrev pub decreases-lines : goal.decreases-lines
+decreases-lines g l = g.S.Source.left l.source + unread l.lines
