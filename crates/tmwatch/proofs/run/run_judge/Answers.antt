@@ -1,0 +1,28 @@
+-- A report whose line found no memory is answered by that fault: what was told is a trace's text.
+use Rattle.std.proofs.Common.{◌≡◌, ℕ, List, [], Ok, Err, inl, inr, refl, sym, append-nil, ◌∙◌}
+use Rattle.tmw_events.specs.TextFault.{HasBegun}
+use Rattle.tmw_events.specs.declared.trace_fault.TraceFault.TheVariants.{Memory as WantsMemory}
+use Rattle.tmw_monitor.specs.declared.bounds.Bounds.{Bounds}
+use Rattle.tmw_report.specs.declared.fault.Fault.TheVariants.{Memory}
+use Rattle.tmwatch.specs.Judging.{IsReportOf}
+use Rattle.tmwatch.specs.declared.report.Report.{Report}
+use Rattle.tmwatch.proofs.run.run_judge.Goals as goal
+
+begun : (bounds : Bounds) (bytes : List ℕ) (report : Report) → IsReportOf bounds bytes report → HasBegun bytes
+begun bounds bytes report t =
+    record { header = t.header; events = t.history; are_events = t.are_events; rest = []; split = t.text ∙ sym (append-nil _) }
+
+pub returns-in-Ok : goal.returns-in-Ok
+returns-in-Ok g c =
+    let told = c.in-Ok.ensures.right in
+    elim c.answer_report.ensures [
+      | inl put ↦ record { bytes = told.0; answer = Ok c.in-Ok.report; told = told.1; right = told.2; failures = c.in-Ok.ensures.failures; put = put }
+      | inr put ↦ record {
+        bytes = told.0;
+        answer = Err Memory;
+        told = told.1;
+        right = (WantsMemory, refl, begun c.args.bounds told.0 c.in-Ok.report told.2.1);
+        failures = c.in-Ok.ensures.failures;
+        put = put;
+      }
+    ]
