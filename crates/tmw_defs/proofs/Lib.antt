@@ -2,6 +2,7 @@ pub mod Along
 pub mod Apart
 pub mod Before
 pub mod CutsProof
+pub mod ForcedProof
 pub mod LastOfOrder
 pub mod LayersProof
 pub mod Masks

@@ -1,5 +1,6 @@
 pub mod Cuts
 pub mod Decision
+pub mod Forced
 pub mod History
 pub mod Layers
 pub mod Naming

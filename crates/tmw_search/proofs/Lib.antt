@@ -8,5 +8,6 @@ mod Sorting
 mod Stepping
 mod Steps
 mod Weighing
+mod Walking
 mod WindowLayers
 mod WindowViews

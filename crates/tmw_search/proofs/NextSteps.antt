@@ -1,5 +1,5 @@
 -- What is made of a pair is just what one step makes of it.
-use Rattle.std.proofs.Common.{◌≡◌, ◌≢◌, ◌==◌, ◌&&◌, ◌⊎◌, ◌↔◌, ◌+◌, ◌-◌, ◌*◌, ◌%◌, ◌^◌, ◌<◌, ◌≤◌, ◌++◌, ℕ, zero, suc, Bool, true, false, List, [], ◌∷◌, length, Some, IsTrue, bit_or, refl, sym, ap, subst, ◌∙◌, inl, inr, arith}
+use Rattle.std.proofs.Common.{◌≡◌, ◌&&◌, ◌⊎◌, ◌+◌, ◌*◌, ◌%◌, ◌^◌, ◌<◌, ◌≤◌, ℕ, zero, suc, Bool, true, false, List, [], ◌∷◌, length, Some, IsTrue, bit_or, refl, sym, ap, subst, ◌∙◌, inl, inr, arith}
 use Rattle.std.specs.Int.{bit_at}
 use Rattle.std.specs.List.{Contains}
 use Rattle.std.specs.Prelude.{slice_get, if◌then◌else◌}
@@ -9,9 +9,9 @@ use Rattle.std.proofs.Math.Pow.{pow_mono}
 use Rattle.std.proofs.lemmas.Option.{slice_get_within}
 use Rattle.tmw_defs.specs.declared.status.Status.{Status}
 use Rattle.tmw_defs.specs.declared.status.Status.TheVariants.{Live, Pending, Committed, Aborted}
-use Rattle.tmw_defs.specs.History.{Txn, status_of, operations}
+use Rattle.tmw_defs.specs.History.{Txn, operations}
 use Rattle.tmw_defs.specs.Layers.{IsStep}
-use Rattle.tmw_defs.specs.Opaque.{State, Placed, precedes, may_hold, may_be, reads_hold, after, after_writes}
+use Rattle.tmw_defs.specs.Opaque.{State, precedes, may_hold, reads_hold, after, after_writes}
 use Rattle.tmw_cuts.specs.Views.{View}
 use Rattle.tmw_search.specs.Nexts.{is_next, ways, next_at, nexts_from}
 use Rattle.tmw_search.specs.Shows.{ShowsOne, Shows}
@@ -134,7 +134,7 @@ made-in x place p by next reads may =
     rw is (way-in x.status (bit_or p.0 (1 * 2 ^ place % 2 ^ 8)) (after_writes p.1 x.ops) p.1 by may)
 
 -- a place of the one list is one of the other
-slice_get_some : {A : Type 0} (xs : List A) (i : ℕ) → i < length xs → (x : A) × (slice_get xs i ≡ Some x)
+pub slice_get_some : {A : Type 0} (xs : List A) (i : ℕ) → i < length xs → (x : A) × (slice_get xs i ≡ Some x)
 slice_get_some [] i within = absurd (omega arith)
 slice_get_some (x ∷ xs) zero within = (x, refl)
 slice_get_some (x ∷ xs) (suc i) within = slice_get_some xs i (omega arith)
@@ -147,7 +147,7 @@ after-way : (r : State) (x : View) (t : Txn) (by : Bool) → x.ops ≡ operation
 after-way r x t true ops = ap (after_writes r) ops
 after-way r x t false ops = refl
 
-step-made_at : (ts : List Txn) (x : View) (t : Txn) (place mask above : ℕ) (r u : State) → ShowsOne ts x t → slice_get ts place ≡ Some t
+pub step-made_at : (ts : List Txn) (x : View) (t : Txn) (place mask above : ℕ) (r u : State) → ShowsOne ts x t → slice_get ts place ≡ Some t
     → length ts ≤ 8 → mask < 2 ^ length ts → IsMade x place (mask, r) (above, u) → IsStep ts mask r above u
 step-made_at ts x t place mask above r u one at few fits made =
     let free = next_free ts x t place mask few one (eight_bits mask (length ts) few fits) (eight_bits x.before (length ts) few one.fits)

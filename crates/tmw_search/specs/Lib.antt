@@ -4,3 +4,4 @@ pub mod Pairs
 pub mod Shown
 pub mod Shows
 pub mod Verdict
+pub mod Walks

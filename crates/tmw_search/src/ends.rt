@@ -7,6 +7,7 @@ ghost use Rattle.tmw_search.specs.Pairs.{pair_cmp};
 use crate::end_states::EndStates;
 use crate::layers::layer_of;
 use crate::nexts::Reached;
+use crate::walk::finds_end;
 use std::alloc::{AllocError, Global};
 use tmw_cuts::{States, Window};
 
@@ -30,6 +31,9 @@ pub fn layer(
 pub fn possible(alloc: Global, states: &States, window: &Window) -> Result<bool, AllocError>
     ensures { IfOk result (TellsEnd states.now window.now) }
 {
+    if finds_end(window.transactions(), states.states()) {
+        return Ok(true);
+    }
     let last = layer(alloc, states, window, window.count())?;
     Ok(!last.is_empty())
 }
@@ -58,4 +62,4 @@ pub fn outcomes(
 #[cfg(test)]
 mod compared;
 #[cfg(test)]
-mod tests;
+pub(crate) mod tests;

@@ -10,6 +10,7 @@ mod order;
 mod replay;
 mod text;
 mod transaction;
+mod walk;
 mod whole;
 
 pub use end_states::EndStates;

@@ -12,7 +12,7 @@ use tmw_defs::{Op, Status};
 pub type Reached = (u8, State);
 
 /// What the registers hold after the operations, if each of them was answered what the registers held then.
-fn replay(ops: &[Op], start: &State) -> Option<State>
+pub fn replay(ops: &[Op], start: &State) -> Option<State>
     ensures { Replays start.now ops.now result }
 {
     let mut state = *start;
@@ -26,7 +26,7 @@ fn replay(ops: &[Op], start: &State) -> Option<State>
 }
 
 /// Whether the transaction at the place isn't placed, and no other that isn't precedes it.
-fn is_next(item: &Txn, place: usize, mask: u8) -> bool
+pub fn is_next(item: &Txn, place: usize, mask: u8) -> bool
     requires { place < 8 }
     ensures { result ≡ is_next (view item.now) place mask }
 {

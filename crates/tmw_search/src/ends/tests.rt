@@ -18,7 +18,7 @@ const ONE: Registers = Registers { number: 1 };
 const EIGHT: Registers = Registers { number: 8 };
 
 /// The window of these events, where they are a well-formed history of at most eight transactions.
-pub(super) fn window_of(
+pub(crate) fn window_of(
     alloc: Global,
     registers: Registers,
     events: &[Event],

@@ -1,0 +1,204 @@
+ghost use Rattle.std.specs.Prelude.{◌≡◌, ◌<◌, ◌≤◌, IfSome, IsTrue, length, map};
+ghost use Rattle.tmw_defs.specs.Opaque.{may_hold};
+ghost use Rattle.tmw_cuts.specs.Views.{view};
+ghost use Rattle.tmw_search.specs.Walks.{GoesOnTo, LeadsAll, HaveEnd};
+
+use crate::nexts::{is_next, replay};
+use tmw_cuts::{State, Txn};
+use tmw_defs::{Op, Status};
+
+/// Which transactions are to be tried next, each of the last two as a mask.
+#[derive(Drop)]
+struct Trial {
+    /// One that can be placed without regard to the others, since they need nothing of it.
+    alone: Option<usize>,
+    /// Those that change no value that another has read.
+    first: u8,
+    /// The others.
+    later: u8,
+}
+
+/// Whether one of the operations reads a value that its register has in the one state and not in the other.
+fn reads_one(ops: &[Op], has: &State, has_not: &State) -> bool {
+    ops.iter().any(|op| {
+        match *op {
+            Op::Read(register, value) | Op::Add(register, _, value) => {
+                has[register.get() as usize] == value && has_not[register.get() as usize] != value
+            }
+            Op::Write(_, _) => false,
+        }
+    })
+}
+
+/// Whether a transaction that isn't placed, other than the one at the place, reads such a value.
+fn is_read(items: &[Txn], mask: u8, place: usize, has: &State, has_not: &State) -> bool {
+    items.iter().enumerate().any(|(other, item)| {
+        other < 8 && other != place && mask >> other & 1 == 0 && reads_one(&item.ops, has, has_not)
+    })
+}
+
+/// Whether the operations write nothing.
+fn only_reads(ops: &[Op]) -> bool {
+    ops.iter().all(|op| matches!(op, Op::Read(_, _)))
+}
+
+/// Whether the others need nothing of the transaction: its writes are not made, or make nothing that one of them reads.
+fn is_alone(items: &[Txn], mask: u8, place: usize, state: &State, held: &State) -> bool {
+    let Some(item) = items.get(place) else {
+        return false;
+    };
+    match item.status {
+        Status::Live | Status::Aborted => true,
+        Status::Committed => only_reads(&item.ops),
+        Status::Pending => !is_read(items, mask, place, held, state),
+    }
+}
+
+/// Which transactions to try. It is a guess of what succeeds: nothing is claimed of it.
+fn trial_of(items: &[Txn], mask: u8, state: &State) -> Trial {
+    let mut trial = Trial {
+        alone: None,
+        first: 0,
+        later: 0,
+    };
+    for (place, item) in items.iter().enumerate() {
+        if place < 8 && is_next(item, place, mask) {
+            if let Some(held) = replay(&item.ops, state) {
+                if is_alone(items, mask, place, state, &held) {
+                    trial.alone = Some(place);
+                    return trial;
+                }
+                if is_read(items, mask, place, state, &held) {
+                    trial.later |= 1 << place;
+                } else {
+                    trial.first |= 1 << place;
+                }
+            }
+        }
+    }
+    trial
+}
+
+/// Whether a completion may hold a transaction of this status, or leave it out.
+fn may_hold(status: Status, held: bool) -> bool
+    ensures { result ≡ may_hold status held }
+{
+    match status {
+        Status::Committed => held,
+        Status::Pending => true,
+        Status::Live | Status::Aborted => !held,
+    }
+}
+
+/// Places the transaction, held or left out, and then the rest: a state in which all of them can end, where one is found.
+#[cycle(walks)]
+fn place_one(
+    items: &[Txn],
+    place: usize,
+    held: bool,
+    mask: u8,
+    left: usize,
+    state: &State,
+    fuel: &mut u32,
+) -> Option<State>
+    requires few { length items.now ≤ 8 }
+    requires some { 0 < left }
+    ensures { IfSome result (λ end. GoesOnTo (map view items.now) mask left state.now end) }
+{
+    let Some(item) = items.get(place) else {
+        return None;
+    };
+    if *fuel == 0 || !is_next(item, place, mask) || !may_hold(item.status, held) {
+        return None;
+    }
+    let Some(after) = replay(&item.ops, state) else {
+        return None;
+    };
+    *fuel -= 1;
+    let end = if held { after } else { *state };
+    walk(items, mask | 1 << place, left - 1, &end, fuel)
+}
+
+/// Places one of those in `tried`, held or left out, and then the rest.
+#[cycle(walks)]
+fn place_each(
+    items: &[Txn],
+    tried: u8,
+    held: bool,
+    mask: u8,
+    left: usize,
+    state: &State,
+    fuel: &mut u32,
+) -> Option<State>
+    requires few { length items.now ≤ 8 }
+    requires some { 0 < left }
+    ensures { IfSome result (λ end. GoesOnTo (map view items.now) mask left state.now end) }
+{
+    for place in 0..items.len() {
+        if tried >> place & 1 == 1 {
+            if let Some(end) = place_one(items, place, held, mask, left, state, fuel) {
+                return Some(end);
+            }
+        }
+    }
+    None
+}
+
+/// Places the transactions that are left: a state in which all of them can end, where one is found.
+#[cycle(walks)]
+fn walk(items: &[Txn], mask: u8, left: usize, state: &State, fuel: &mut u32) -> Option<State>
+    requires few { length items.now ≤ 8 }
+    ensures { IfSome result (λ end. GoesOnTo (map view items.now) mask left state.now end) }
+{
+    if left == 0 {
+        return Some(*state);
+    }
+    let trial = trial_of(items, mask, state);
+    if let Some(place) = trial.alone {
+        let held = items
+            .get(place)
+            .is_some_and(|item| item.status == Status::Committed);
+        return place_one(items, place, held, mask, left, state, fuel);
+    }
+    if let Some(end) = place_each(items, trial.first, true, mask, left, state, fuel) {
+        return Some(end);
+    }
+    if let Some(end) = place_each(items, trial.later, true, mask, left, state, fuel) {
+        return Some(end);
+    }
+    place_each(
+        items,
+        trial.first | trial.later,
+        false,
+        mask,
+        left,
+        state,
+        fuel,
+    )
+}
+
+/// A state in which the transactions can end that began in this one, where a search finds one that places at most `fuel`
+/// transactions.
+pub fn find_end(items: &[Txn], state: &State, fuel: &mut u32) -> Option<State>
+    requires { length items.now ≤ 8 }
+    ensures { IfSome result (λ end. LeadsAll (map view items.now) state.now end) }
+{
+    walk(items, 0, items.len(), state, fuel)
+}
+
+/// Whether a search finds a state in which the transactions can end that began in one of these.
+pub fn finds_end(items: &[Txn], states: &[State]) -> bool
+    requires { length items.now ≤ 8 }
+    ensures { IsTrue result → HaveEnd (map view items.now) states.now }
+{
+    let mut fuel = 64;
+    for state in states {
+        if find_end(items, state, &mut fuel).is_some() {
+            return true;
+        }
+    }
+    false
+}
+
+#[cfg(test)]
+mod tests;
