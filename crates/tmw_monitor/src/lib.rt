@@ -2,10 +2,14 @@
 #![tactic(auto)]
 
 mod bounds;
+#[cfg(test)]
+mod compared;
 mod judging;
 mod monitor;
 mod next;
 mod open;
+#[cfg(test)]
+mod tests;
 mod weigh;
 
 pub use bounds::{BadBounds, Bounds};

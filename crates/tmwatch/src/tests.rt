@@ -1,18 +1,27 @@
 //! What the contracts leave open: that recorded runs are answered as their readers expect, and that there is memory for it.
-use crate::fault::Fault;
-use crate::run::{run_judge, write_fault};
+use crate::run::{answer_fault, run_judge};
 use std::alloc::{AllocError, Global};
 use std::process::Abort;
 use std::test::Fail;
-use tmw_events::{MemorySink, MemorySource, TraceFault};
+use tmw_events::{MemorySink, MemorySource};
+use tmw_monitor::Bounds;
+use tmw_report::Fault;
 
 const OPAQUE: u8 = 0;
 
 const VIOLATED: u8 = 1;
 
+const UNDECIDED: u8 = 2;
+
 const MALFORMED: u8 = 3;
 
 const FAULT: u8 = 4;
+
+/// The widest bounds.
+const WIDEST: Bounds = Bounds {
+    window: 8,
+    states: 64,
+};
 
 /// A transaction reads what another, not yet commit-pending, has written.
 const DIRTY_READ: &str = "0 W 0 1, 0 K, 1 R 0, 1 V 1, 0 T, 0 C, 1 T, 1 C";
@@ -28,11 +37,22 @@ fn text(alloc: Global, header: &str, events: &str) -> Result<Vec<u8>, AllocError
     Ok(text)
 }
 
-/// Judges a text, which a source tells a byte a call, and compares what went out, which a sink takes a byte a call.
+/// Judges a text within the widest bounds.
 fn expect(rt: &(impl Abort + AllocGlobal), text: &[u8], line: &str, status: u8) {
+    expect_within(rt, WIDEST, text, line, status);
+}
+
+/// Judges a text, which a source tells a byte a call, and compares what went out, which a sink takes a byte a call.
+fn expect_within(
+    rt: &(impl Abort + AllocGlobal),
+    bounds: Bounds,
+    text: &[u8],
+    line: &str,
+    status: u8,
+) {
     let mut source = MemorySource::limited(text, 1, None);
     let mut sink = MemorySink::limited(rt.alloc(), 1, None);
-    let answered = run_judge(rt.alloc(), &mut source, &mut sink);
+    let answered = run_judge(rt.alloc(), &mut source, &mut sink, bounds);
     assert_eq!(rt; sink.bytes(), line.as_bytes(), "of {text:?}");
     assert_eq!(rt; answered, status, "of {text:?}");
 }
@@ -224,21 +244,76 @@ fn histories_that_are_malformed(rt: HostRuntime) -> Result<(), Fail> {
 }
 
 #[test]
-fn prefixes_that_get_no_verdict(rt: HostRuntime) -> Result<(), Fail> {
-    for (events, line) in [
+fn histories_that_are_undecided(rt: HostRuntime) -> Result<(), Fail> {
+    let two_writers = "0 W 0 1, 1 W 0 2, 0 K, 1 K, 0 T, 1 T, 0 C, 1 C";
+    let eight_writers = "0 W 0 1, 1 W 0 2, 2 W 0 3, 3 W 0 4, 4 W 0 5, 5 W 0 6, 6 W 0 7, 7 W 0 8, \
+        0 K, 1 K, 2 K, 3 K, 4 K, 5 K, 6 K, 7 K, 0 T, 1 T, 2 T, 3 T, 4 T, 5 T, 6 T, 7 T, \
+        0 C, 1 C, 2 C, 3 C, 4 C, 5 C, 6 C, 7 C";
+    let ninth = "0 R 0, 1 T, 1 C, 1 T, 1 C, 1 T, 1 C, 1 T, 1 C, 1 T, 1 C, 1 T, 1 C, 1 T, 1 C, 1 T";
+    for (window, states, events, line, status) in [
         (
-            "0 R 0, 1 T, 1 C, 1 T, 1 C, 1 T, 1 C, 1 T, 1 C, 1 T, 1 C, 1 T, 1 C, 1 T, 1 C, 1 T",
-            "{\"at\":16,\"fault\":\"ninth transaction\"}\n",
+            8,
+            64,
+            ninth,
+            "{\"at\":16,\"events\":16,\"verdict\":\"undecided\",\"why\":\"transactions\"}\n",
+            UNDECIDED,
         ),
-        // Ill-formed only after it.
         (
-            "0 R 0, 1 T, 1 C, 1 T, 1 C, 1 T, 1 C, 1 T, 1 C, 1 T, 1 C, 1 T, 1 C, 1 T, 1 C, 1 T, 1 K",
-            "{\"at\":16,\"fault\":\"ninth transaction\"}\n",
+            1,
+            64,
+            DIRTY_READ,
+            "{\"at\":3,\"events\":8,\"verdict\":\"undecided\",\"why\":\"transactions\"}\n",
+            UNDECIDED,
+        ),
+        // Ill-formed comes before the bound.
+        (
+            1,
+            64,
+            "0 R 0, 1 V 0",
+            "{\"at\":2,\"events\":2,\"verdict\":\"malformed\"}\n",
+            MALFORMED,
+        ),
+        (
+            8,
+            1,
+            two_writers,
+            "{\"at\":8,\"events\":8,\"verdict\":\"undecided\",\"why\":\"states\"}\n",
+            UNDECIDED,
+        ),
+        (
+            8,
+            2,
+            two_writers,
+            "{\"events\":8,\"verdict\":\"opaque so far\"}\n",
+            OPAQUE,
+        ),
+        (
+            8,
+            8,
+            eight_writers,
+            "{\"events\":32,\"verdict\":\"opaque so far\"}\n",
+            OPAQUE,
+        ),
+        (
+            8,
+            7,
+            eight_writers,
+            "{\"at\":32,\"events\":32,\"verdict\":\"undecided\",\"why\":\"states\"}\n",
+            UNDECIDED,
         ),
     ] {
-        expect_of(&rt, events, line, FAULT)?;
+        let bounds = Bounds::new(window, states).ok().expect(&rt, "in range");
+        let text = text(rt.alloc(), "opacity-trace 1 1", events)?;
+        expect_within(&rt, bounds, &text, line, status);
     }
-    Ok(())
+    // A verdict of violated stays, whatever follows.
+    let later = format!(in rt.alloc(); "{DIRTY_READ}, {ninth}")?;
+    expect_of(
+        &rt,
+        &later,
+        "{\"at\":4,\"events\":24,\"verdict\":\"violated\"}\n",
+        VIOLATED,
+    )
 }
 
 #[test]
@@ -362,7 +437,7 @@ fn reads_that_fail(rt: HostRuntime) -> Result<(), Fail> {
         let mut source = MemorySource::limited(&whole, 1, Some(call));
         let mut sink = MemorySink::new(rt.alloc());
         assert_eq!(rt;
-            run_judge(rt.alloc(), &mut source, &mut sink),
+            run_judge(rt.alloc(), &mut source, &mut sink, WIDEST),
             FAULT,
             "at {call}"
         );
@@ -375,7 +450,7 @@ fn reads_that_fail(rt: HostRuntime) -> Result<(), Fail> {
     // A whole bad line that was told before is answered.
     let mut source = MemorySource::limited(b"opacity-trace 1 1\n0 R 01\n", 26, Some(2));
     let mut sink = MemorySink::new(rt.alloc());
-    assert_eq!(rt; run_judge(rt.alloc(), &mut source, &mut sink), FAULT);
+    assert_eq!(rt; run_judge(rt.alloc(), &mut source, &mut sink, WIDEST), FAULT);
     assert_eq!(rt;
         sink.bytes(),
         b"{\"fault\":\"bad line\",\"line\":2}\n".as_slice()
@@ -400,7 +475,7 @@ fn writes_that_fail(rt: HostRuntime) -> Result<(), Fail> {
             let mut source = MemorySource::new(text);
             let mut sink = MemorySink::limited(rt.alloc(), 1, Some(sent as u64 + 1));
             assert_eq!(rt;
-                run_judge(rt.alloc(), &mut source, &mut sink),
+                run_judge(rt.alloc(), &mut source, &mut sink, WIDEST),
                 FAULT,
                 "after {sent}"
             );
@@ -415,16 +490,33 @@ fn faults_beside_a_trace(rt: HostRuntime) {
     for (fault, line) in [
         (Fault::Usage, b"{\"fault\":\"usage\"}\n".as_slice()),
         (
-            Fault::Trace(TraceFault::Memory),
+            Fault::Memory,
             b"{\"fault\":\"memory\"}\n".as_slice(),
         ),
         (
-            Fault::Trace(TraceFault::TooLong),
+            Fault::TooLong,
             b"{\"fault\":\"too long\"}\n".as_slice(),
         ),
     ] {
         let mut sink = MemorySink::new(rt.alloc());
-        assert_eq!(rt; write_fault(&mut sink, fault), FAULT);
+        assert_eq!(rt; answer_fault(&mut sink, fault), FAULT);
         assert_eq!(rt; sink.bytes(), line);
     }
+}
+
+#[test]
+fn a_long_history(rt: HostRuntime) -> Result<(), Fail> {
+    let mut text = Vec::from_slice(rt.alloc(), b"opacity-trace 1 1\n")?;
+    for _pair in 0..200_000 {
+        text.extend_from_slice(b"0 T\n0 C\n")?;
+    }
+    let mut source = MemorySource::new(&text);
+    let mut sink = MemorySink::new(rt.alloc());
+    let answered = run_judge(rt.alloc(), &mut source, &mut sink, WIDEST);
+    assert_eq!(rt; answered, OPAQUE);
+    assert_eq!(rt;
+        sink.bytes(),
+        b"{\"events\":400000,\"verdict\":\"opaque so far\"}\n".as_slice()
+    );
+    Ok(())
 }

@@ -1,0 +1,158 @@
+//! The monitor beside the plain check of the whole history, on seeded histories of four threads over two registers.
+use super::*;
+use std::alloc::{AllocError, Global};
+use std::test::Fail;
+use tmw_events::{Event, Ix, Kind, Registers};
+use tmw_search::{Whole, WholeFault, judge_whole};
+use tmw_wellformed::Tracker;
+
+const TWO: Registers = Registers { number: 2 };
+
+const WIDEST: Bounds = Bounds {
+    window: 8,
+    states: 64,
+};
+
+/// The next number of a sequence that a seed begins.
+fn draw(seed: &mut u64) -> u64 {
+    let mut number = *seed;
+    number ^= number << 13;
+    number ^= number >> 7;
+    number ^= number << 17;
+    *seed = number;
+    number >> 8
+}
+
+/// An event of one of so many threads, at most four.
+fn draw_event(seed: &mut u64, threads: u64) -> Event {
+    let thread = match draw(seed) % threads.max(1) {
+        0 => Ix { number: 0 },
+        1 => Ix { number: 1 },
+        2 => Ix { number: 2 },
+        _ => Ix { number: 3 },
+    };
+    let register = if draw(seed) % 3 == 0 {
+        Ix { number: 1 }
+    } else {
+        Ix { number: 0 }
+    };
+    let value = draw(seed) % 2;
+    let kind = match draw(seed) % 12 {
+        0 | 1 => Kind::R(register),
+        2 | 3 => Kind::V(value),
+        4 => Kind::W(register, value),
+        5 | 6 => Kind::K,
+        7 => Kind::N(register, value),
+        8 => Kind::T,
+        9 | 10 => Kind::C,
+        _ => Kind::A,
+    };
+    Event { thread, kind }
+}
+
+/// A history of `length` events, which is well-formed but for its last event where that is asked for.
+fn draw_events(
+    alloc: Global,
+    seed: &mut u64,
+    length: u64,
+    threads: u64,
+    ill_formed: bool,
+) -> Result<Vec<Event>, AllocError> {
+    let mut tracker = Tracker::new(TWO);
+    let mut events = Vec::new(alloc);
+    for _attempt in 0..length.saturating_mul(6) {
+        let event = draw_event(seed, threads);
+        if tracker.step(event).is_ok() {
+            events.push(event)?;
+        } else if ill_formed && events.len() as u64 >= length {
+            events.push(event)?;
+            break;
+        }
+    }
+    Ok(events)
+}
+
+/// The verdict of a monitor that is fed the events, and after how many of them it was reached.
+fn fed(alloc: Global, events: &[Event]) -> Result<Verdict, AllocError> {
+    let mut monitor = Monitor::new(alloc, TWO, WIDEST)?;
+    for event in events {
+        if monitor.fed() < 1_000_000 {
+            monitor.feed(*event)?;
+        }
+    }
+    Ok(monitor.verdict())
+}
+
+/// What the plain check answers, as a verdict, where it decides.
+fn plain(whole: Result<Whole, WholeFault>) -> Option<Verdict> {
+    match whole {
+        Ok(Whole::Opaque) => Some(Verdict::OpaqueSoFar),
+        Ok(Whole::Violated(at)) => Some(Verdict::Violated(at)),
+        Err(WholeFault::IllFormed(at)) => Some(Verdict::Malformed(at)),
+        Err(WholeFault::Ninth(_) | WholeFault::Memory) => None,
+    }
+}
+
+/// How often each answer was met.
+#[derive(Clone, Copy)]
+struct Met {
+    opaque: u32,
+    violated: u32,
+    malformed: u32,
+    past_eight: u32,
+}
+
+impl Met {
+    /// With one more.
+    fn with(self, answer: Option<Verdict>) -> Met {
+        match answer {
+            None => Met {
+                past_eight: self.past_eight.saturating_add(1),
+                ..self
+            },
+            Some(Verdict::Violated(_)) => Met {
+                violated: self.violated.saturating_add(1),
+                ..self
+            },
+            Some(Verdict::Malformed(_)) => Met {
+                malformed: self.malformed.saturating_add(1),
+                ..self
+            },
+            Some(_) => Met {
+                opaque: self.opaque.saturating_add(1),
+                ..self
+            },
+        }
+    }
+}
+
+#[test]
+fn the_monitor_agrees_with_the_plain_check(rt: HostRuntime) -> Result<(), Fail> {
+    let mut seed = 88172645463325252;
+    let mut met = Met {
+        opaque: 0,
+        violated: 0,
+        malformed: 0,
+        past_eight: 0,
+    };
+    let mut taken = 0usize;
+    for number in 0..400u64 {
+        let events = draw_events(
+            rt.alloc(),
+            &mut seed,
+            4 + number % 9,
+            1 + number % 4,
+            number % 3 == 0,
+        )?;
+        let answer = plain(judge_whole(rt.alloc(), TWO, &events));
+        let verdict = fed(rt.alloc(), &events)?;
+        if let Some(expected) = answer {
+            assert_eq!(rt; verdict, expected, "of {events:?}");
+        }
+        met = met.with(answer);
+        taken = taken.saturating_add(events.len());
+    }
+    assert!(rt; met.opaque > 40 && met.violated > 40 && met.malformed > 40 && met.past_eight > 10);
+    assert!(rt; taken > 3_000);
+    Ok(())
+}
