@@ -105,3 +105,6 @@ pub fn find_ends(
     }
     Ok(Some(EndStates::Few(ends)))
 }
+
+#[cfg(test)]
+mod tests;

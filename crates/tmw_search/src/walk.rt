@@ -201,4 +201,4 @@ pub fn finds_end(items: &[Txn], states: &[State]) -> bool
 }
 
 #[cfg(test)]
-mod tests;
+pub(crate) mod tests;
