@@ -1,4 +1,6 @@
 mod Adding
+mod ForcedEnds
+mod Forcing
 mod FreeNext
 mod Gathering
 mod LayerLists

@@ -1,4 +1,5 @@
 pub mod Ended
+pub mod Forced
 pub mod Nexts
 pub mod Pairs
 pub mod Shown

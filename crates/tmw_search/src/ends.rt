@@ -5,6 +5,7 @@ ghost use Rattle.tmw_search.specs.Ended.{AreLayer, TellsEnd, AreEnds};
 ghost use Rattle.tmw_search.specs.Pairs.{pair_cmp};
 
 use crate::end_states::EndStates;
+use crate::forced::{find_ends, is_forced};
 use crate::layers::layer_of;
 use crate::nexts::Reached;
 use crate::walk::finds_end;
@@ -48,6 +49,12 @@ pub fn outcomes(
 ) -> Result<EndStates, AllocError>
     ensures { IfOk result (AreEnds states.now window.now cap) }
 {
+    let items = window.transactions();
+    if window.is_cut() && is_forced(items) {
+        if let Some(ends) = find_ends(alloc, items, states.states(), cap)? {
+            return Ok(ends);
+        }
+    }
     let mut ends = States::empty(alloc);
     let last = layer(alloc, states, window, window.count())?;
     for (_all, state) in &last {

@@ -3,6 +3,7 @@
 
 mod end_states;
 mod ends;
+mod forced;
 mod judge;
 mod layers;
 mod nexts;

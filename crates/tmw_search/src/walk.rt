@@ -7,14 +7,18 @@ use crate::nexts::{is_next, replay};
 use tmw_cuts::{State, Txn};
 use tmw_defs::{Op, Status};
 
-/// Which transactions are to be tried next, each of the last two as a mask.
+/// Which transactions are to be tried next. It is a guess of what succeeds: nothing is claimed of it.
 #[derive(Drop)]
 struct Trial {
-    /// One that can be placed without regard to the others, since they need nothing of it.
-    alone: Option<usize>,
-    /// Those that change no value that another has read.
+    /// One to try before the others.
+    next: Option<usize>,
+    /// Whether the others need nothing of that one, so that none of them is to be tried in its place.
+    alone: bool,
+    /// That one, as a mask.
+    tried: u8,
+    /// The others that change no value that another has read, as a mask.
     first: u8,
-    /// The others.
+    /// The rest, as a mask.
     later: u8,
 }
 
@@ -54,21 +58,28 @@ fn is_alone(items: &[Txn], mask: u8, place: usize, state: &State, held: &State) 
     }
 }
 
-/// Which transactions to try. It is a guess of what succeeds: nothing is claimed of it.
-fn trial_of(items: &[Txn], mask: u8, state: &State) -> Trial {
+/// Which transactions to try, other than those in `tried`. Where that is empty, one that has committed and changes no value
+/// that another has read is taken at once.
+fn trial_of(items: &[Txn], mask: u8, tried: u8, state: &State) -> Trial {
     let mut trial = Trial {
-        alone: None,
+        next: None,
+        alone: false,
+        tried,
         first: 0,
         later: 0,
     };
     for (place, item) in items.iter().enumerate() {
-        if place < 8 && is_next(item, place, mask) {
+        if place < 8 && tried >> place & 1 == 0 && is_next(item, place, mask) {
             if let Some(held) = replay(&item.ops, state) {
-                if is_alone(items, mask, place, state, &held) {
-                    trial.alone = Some(place);
+                trial.alone = is_alone(items, mask, place, state, &held);
+                let spoils = !trial.alone && is_read(items, mask, place, state, &held);
+                let is_easy = tried == 0 && item.status == Status::Committed && !spoils;
+                if trial.alone || is_easy {
+                    trial.next = Some(place);
+                    trial.tried = 1 << place;
                     return trial;
                 }
-                if is_read(items, mask, place, state, &held) {
+                if spoils {
                     trial.later |= 1 << place;
                 } else {
                     trial.first |= 1 << place;
@@ -77,6 +88,13 @@ fn trial_of(items: &[Txn], mask: u8, state: &State) -> Trial {
         }
     }
     trial
+}
+
+/// Whether the transaction at the place has committed.
+fn is_committed(items: &[Txn], place: usize) -> bool {
+    items
+        .get(place)
+        .is_some_and(|item| item.status == Status::Committed)
 }
 
 /// Whether a completion may hold a transaction of this status, or leave it out.
@@ -153,12 +171,25 @@ fn walk(items: &[Txn], mask: u8, left: usize, state: &State, fuel: &mut u32) -> 
     if left == 0 {
         return Some(*state);
     }
-    let trial = trial_of(items, mask, state);
-    if let Some(place) = trial.alone {
-        let held = items
-            .get(place)
-            .is_some_and(|item| item.status == Status::Committed);
-        return place_one(items, place, held, mask, left, state, fuel);
+    let mut trial = trial_of(items, mask, 0, state);
+    if let Some(place) = trial.next {
+        let held = is_committed(items, place);
+        let found = place_one(items, place, held, mask, left, state, fuel);
+        if trial.alone || found.is_some() {
+            return found;
+        }
+        trial = trial_of(items, mask, trial.tried, state);
+        if let Some(other) = trial.next {
+            return place_one(
+                items,
+                other,
+                is_committed(items, other),
+                mask,
+                left,
+                state,
+                fuel,
+            );
+        }
     }
     if let Some(end) = place_each(items, trial.first, true, mask, left, state, fuel) {
         return Some(end);
@@ -201,4 +232,4 @@ pub fn finds_end(items: &[Txn], states: &[State]) -> bool
 }
 
 #[cfg(test)]
-mod tests;
+pub(crate) mod tests;

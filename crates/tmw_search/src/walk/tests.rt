@@ -15,7 +15,7 @@ const THIRD: Ix = Ix { number: 2 };
 const TWO: Registers = Registers { number: 2 };
 
 /// Adds these events of the thread.
-fn push(events: &mut Vec<Event>, thread: Ix, kinds: &[Kind]) -> Result<(), AllocError> {
+pub(crate) fn push(events: &mut Vec<Event>, thread: Ix, kinds: &[Kind]) -> Result<(), AllocError> {
     for kind in kinds {
         events.push(Event {
             thread,
@@ -26,7 +26,7 @@ fn push(events: &mut Vec<Event>, thread: Ix, kinds: &[Kind]) -> Result<(), Alloc
 }
 
 /// The state with these values in the first two registers and 0 in the others.
-const fn holding(first: u64, second: u64) -> State {
+pub(crate) const fn holding(first: u64, second: u64) -> State {
     [first, second, 0, 0, 0, 0, 0, 0]
 }
 

@@ -1,8 +1,14 @@
-use Rattle.std.proofs.Common.{◌≡◌, ◌≤◌, ◌+◌, ℕ, List, drop, length, ap, subst, sym, ◌∙◌, arith}
+use Rattle.std.proofs.Common.{◌+◌, drop, sym, ◌∙◌, arith}
 use Rattle.std.proofs.lemmas.List.{drop_all}
-use Rattle.tmw_search.specs.Ended.{AreLayer}
+use Rattle.tmw_search.proofs.ForcedEnds.{forced-ends}
 use Rattle.tmw_search.proofs.Gathering.{gathers-none, gathers-next, gathered-more, gathered-few}
 use Rattle.tmw_search.proofs.ends.outcomes.Goals as goal
+
+pub returns-in-Some : goal.returns-in-Some
+returns-in-Some c =
+    forced-ends c.args.states.now c.args.window.now _ _ c.args.cap c.in-Some.ends c.transactions-items.ensures.shown c.states.ensures.members
+    (λ events stands. sym c.if-is_cut.true ∙ c.is_cut.ensures events stands) (c.is_forced.ensures c.if-is_forced.true)
+    (rw c.in-Some.is at c.in_ok-ends.ensures)
 
 pub loop-all-init : goal.loop-all-init
 loop-all-init c = (gathers-none _ _ c.empty-ends.ensures, rw c.empty-ends.ensures (omega arith))

@@ -1,0 +1,196 @@
+-- The masks of a window's writers: a register that two of them write, or that one writes blindly, has its bit.
+use Rattle.std.proofs.Common.{◌≡◌, ◌==◌, ◌&&◌, ◌+◌, ◌≤◌, ℕ, Bool, true, false, not, List, [], ◌∷◌, map, IsTrue, bit_and, bit_or, cond, w8, refl, sym, ap, ◌∙◌, inl, inr, arith}
+use Rattle.std.specs.Int.{bit_at}
+use Rattle.std.specs.List.{list_all, count_by}
+use Rattle.std.proofs.lemmas.Bool.{and_parts, and_from, cases_Bool, cases_lt, eqb-true, eqb-false}
+use Rattle.std.proofs.lemmas.List.Folds.{list_all-map}
+use Rattle.std.proofs.lemmas.List.Sums.{sum_by-cons}
+use Rattle.std.proofs.lemmas.Nat.Bits.{bit_at-zero, bit_at-lt, bit_at_and, bit_at_or, bit_at_set_same, bit_at_set_other}
+use Rattle.tmw_events.specs.declared.ix.Ix.{Ix}
+use Rattle.tmw_defs.specs.declared.op.Op.{Op}
+use Rattle.tmw_defs.specs.declared.op.Op.TheVariants.{Read, Write, Add}
+use Rattle.tmw_defs.specs.Forced.{is_committed, writes, writes_blindly, is_writer, IsForced}
+use Rattle.tmw_defs.specs.History.{Txn}
+use Rattle.tmw_defs.proofs.LayersProof.{bit_cases}
+use Rattle.tmw_cuts.specs.Standing.{view_of}
+use Rattle.tmw_cuts.specs.Views.{View}
+use Rattle.tmw_search.specs.Forced.{with_bit, written_by, blind_by, shared_by, is_without_blind, AreForced}
+
+-- a bit that was set stays, and that of the register is set
+set-here : (mask r : ℕ) (q : Ix) → (q.number == r) ≡ true → bit_at (with_bit mask q.number) r ≡ 1
+set-here mask r q is = rw (← eqb-true q.number r is) (bit_at_set_same w8 mask q.number q.below)
+
+set-else : (mask r : ℕ) (q : Ix) → (q.number == r) ≡ false → bit_at (with_bit mask q.number) r ≡ bit_at mask r
+set-else mask r q other = bit_at_set_other w8 mask q.number q.below r (λ same. eqb-false q.number r other (sym same))
+
+set-stays : (mask r : ℕ) (q : Ix) → bit_at mask r ≡ 1 → bit_at (with_bit mask q.number) r ≡ 1
+set-stays mask r q has =
+    elim (cases_Bool (q.number == r)) [ inl is ↦ set-here mask r q is | inr other ↦ set-else mask r q other ∙ has ]
+
+written-stays : (ops : List Op) (mask r : ℕ) → bit_at mask r ≡ 1 → bit_at (written_by mask ops) r ≡ 1
+written-stays [] mask r has = has
+written-stays (Read q v ∷ ops) mask r has = written-stays ops mask r has
+written-stays (Write q v ∷ ops) mask r has = written-stays ops (with_bit mask q.number) r (set-stays mask r q has)
+written-stays (Add q d v ∷ ops) mask r has = written-stays ops (with_bit mask q.number) r (set-stays mask r q has)
+
+written-has : (ops : List Op) (mask r : ℕ) → writes r ops ≡ true → bit_at (written_by mask ops) r ≡ 1
+written-has [] mask r some = absurd (cc)
+written-has (Read q v ∷ ops) mask r some = written-has ops mask r some
+written-has (Write q v ∷ ops) mask r some =
+    elim (cases_Bool (q.number == r)) [
+      | inl is ↦ written-stays ops (with_bit mask q.number) r (set-here mask r q is)
+      | inr other ↦ written-has ops (with_bit mask q.number) r (rw other at some)
+    ]
+written-has (Add q d v ∷ ops) mask r some =
+    elim (cases_Bool (q.number == r)) [
+      | inl is ↦ written-stays ops (with_bit mask q.number) r (set-here mask r q is)
+      | inr other ↦ written-has ops (with_bit mask q.number) r (rw other at some)
+    ]
+
+blind-stays : (ops : List Op) (seen mask r : ℕ) → bit_at mask r ≡ 1 → bit_at (blind_by seen mask ops) r ≡ 1
+blind-stays [] seen mask r has = has
+blind-stays (Read q v ∷ ops) seen mask r has = blind-stays ops (with_bit seen q.number) mask r has
+blind-stays (Write q v ∷ ops) seen mask r has =
+    elim (cases_Bool (bit_at seen q.number == 0)) [
+      | inl new ↦ rw new (blind-stays ops (with_bit seen q.number) (with_bit mask q.number) r (set-stays mask r q has))
+      | inr old ↦ rw old (blind-stays ops (with_bit seen q.number) mask r has)
+    ]
+blind-stays (Add q d v ∷ ops) seen mask r has = blind-stays ops (with_bit seen q.number) mask r has
+
+blind-has : (ops : List Op) (seen mask r : ℕ) → bit_at seen r ≡ 0 → writes_blindly r ops ≡ true
+    → bit_at (blind_by seen mask ops) r ≡ 1
+blind-has [] seen mask r new some = absurd (cc)
+blind-has (Read q v ∷ ops) seen mask r new some =
+    elim (cases_Bool (q.number == r)) [
+      | inl is ↦ absurd (let b = rw is at some in cc)
+      | inr other ↦ blind-has ops (with_bit seen q.number) mask r (set-else seen r q other ∙ new) (rw other at some)
+    ]
+blind-has (Write q v ∷ ops) seen mask r new some =
+    elim (cases_Bool (q.number == r)) [
+      | inl is ↦
+          let unseen : (bit_at seen q.number == 0) ≡ true = rw (eqb-true q.number r is, new) refl in
+          rw unseen (blind-stays ops (with_bit seen q.number) (with_bit mask q.number) r (set-here mask r q is))
+      | inr other ↦
+          let still = set-else seen r q other ∙ new in
+          elim (cases_Bool (bit_at seen q.number == 0)) [
+            | inl fresh ↦ rw fresh (blind-has ops (with_bit seen q.number) (with_bit mask q.number) r still (rw other at some))
+            | inr old ↦ rw old (blind-has ops (with_bit seen q.number) mask r still (rw other at some))
+          ]
+    ]
+blind-has (Add q d v ∷ ops) seen mask r new some =
+    elim (cases_Bool (q.number == r)) [
+      | inl is ↦ absurd (let b = rw is at some in cc)
+      | inr other ↦ blind-has ops (with_bit seen q.number) mask r (set-else seen r q other ∙ new) (rw other at some)
+    ]
+
+abbrev writer : ℕ → View → Bool
+writer r x = is_committed x.status && writes r x.ops
+
+shared-stays : (xs : List View) (once twice r : ℕ) → bit_at twice r ≡ 1 → bit_at (shared_by once twice xs) r ≡ 1
+shared-stays [] once twice r has = has
+shared-stays (x ∷ xs) once twice r has =
+    elim (cases_Bool (is_committed x.status)) [
+      | inl is ↦
+          let own = written_by 0 x.ops in
+          let more : bit_at (bit_or twice (bit_and once own)) r ≡ 1 =
+          omega (arith, bit_at_or twice (bit_and once own) r, has, bit_at-lt (bit_and once own) r) in
+          rw is (shared-stays xs (bit_or once own) (bit_or twice (bit_and once own)) r more)
+      | inr other ↦ rw other (shared-stays xs once twice r has)
+    ]
+
+abbrev flag : Bool → ℕ
+flag b = cond b 1 0
+
+count-one : (r : ℕ) (x : View) (xs : List View) → writer r x ≡ true → count_by (writer r) (x ∷ xs) ≡ 1 + count_by (writer r) xs
+count-one r x xs is = sum_by-cons (λ y. flag (writer r y)) x xs ∙ ap (λ b. flag b + count_by (writer r) xs) is
+
+count-none : (r : ℕ) (x : View) (xs : List View) → writer r x ≡ false → count_by (writer r) (x ∷ xs) ≡ 0 + count_by (writer r) xs
+count-none r x xs other = sum_by-cons (λ y. flag (writer r y)) x xs ∙ ap (λ b. flag b + count_by (writer r) xs) other
+
+-- a register that two write is shared
+shared-has : (xs : List View) (once twice r : ℕ) → 2 ≤ bit_at once r + count_by (writer r) xs → bit_at (shared_by once twice xs) r ≡ 1
+shared-has [] once twice r two = absurd (omega (arith, two, bit_at-lt once r))
+shared-has (x ∷ xs) once twice r two =
+    let own = written_by 0 x.ops in
+    elim (cases_Bool (is_committed x.status)) [
+      | inl is ↦
+          let both = bit_at_or once own r in
+          elim (cases_Bool (writes r x.ops)) [
+            | inl some ↦
+                let own_has = written-has x.ops 0 r some in
+                let one = count-one r x xs (rw is some) in
+                elim (bit_cases once r) [
+                  | inl none ↦ rw is (shared-has xs (bit_or once own) (bit_or twice (bit_and once own)) r
+                      (omega (arith, one, two, none, both, own_has)))
+                  | inr has ↦
+                      let more : bit_at (bit_or twice (bit_and once own)) r ≡ 1 =
+                      omega (arith, bit_at_or twice (bit_and once own) r, bit_at_and once own r, has, own_has, bit_at-lt twice r) in
+                      rw is (shared-stays xs (bit_or once own) (bit_or twice (bit_and once own)) r more)
+                ]
+            | inr none ↦
+                let same = count-none r x xs (rw is none) in
+                rw is (shared-has xs (bit_or once own) (bit_or twice (bit_and once own)) r (omega (arith, same, two, both)))
+          ]
+      | inr other ↦
+          let same = count-none r x xs (rw other refl) in
+          rw other (shared-has xs once twice r (omega (arith, same, two)))
+    ]
+
+few-writers : (xs : List View) (r : ℕ) → bit_at (shared_by 0 0 xs) r ≡ 0 → count_by (writer r) xs ≤ 1
+few-writers xs r none =
+    elim (cases_lt 1 (count_by (writer r) xs)) [
+      | inl more ↦ absurd (omega (arith, none, shared-has xs 0 0 r (omega (arith, more))))
+      | inr few ↦ few
+    ]
+
+-- one that writes none of the registers blindly does not write this one so
+not-blind : (registers r : ℕ) (x : View) → bit_at registers r ≡ 1 → is_without_blind registers x ≡ true
+    → not (is_committed x.status && writes_blindly r x.ops) ≡ true
+not-blind registers r x one without =
+    elim (cases_Bool (is_committed x.status)) [
+      | inl is ↦ elim (cases_Bool (writes_blindly r x.ops)) [
+        | inl blind ↦ absurd (
+            let none : bit_and registers (blind_by 0 0 x.ops) ≡ 0 = eqb-true (bit_and registers (blind_by 0 0 x.ops)) 0 (rw is at without) in
+            let both = bit_at_and registers (blind_by 0 0 x.ops) r in
+            let zero_bit = ap (λ n. bit_at n r) none ∙ bit_at-zero r in
+            omega (arith, both, zero_bit, one, blind-has x.ops 0 0 r (bit_at-zero r) blind))
+        | inr other ↦ rw (is, other) refl
+      ]
+      | inr other ↦ rw other refl
+    ]
+
+none-blind : (registers r : ℕ) (xs : List View) → bit_at registers r ≡ 1 → IsTrue (list_all (is_without_blind registers) xs)
+    → IsTrue (list_all (λ x. not (is_committed x.status && writes_blindly r x.ops)) xs)
+none-blind registers r [] one all = refl
+none-blind registers r (x ∷ xs) one all =
+    let (here, rest) = and_parts (is_without_blind registers x) _ all in
+    and_from _ _ (not-blind registers r x one here) (none-blind registers r xs one rest)
+
+-- what the two tests tell
+pub none-shared : (xs : List View) → shared_by 0 0 xs ≡ 0 → AreForced xs
+none-shared xs none = λ r. inl (few-writers xs r (ap (λ n. bit_at n r) none ∙ bit_at-zero r))
+
+pub none-shared-blindly : (xs : List View) (registers : ℕ) → registers ≡ shared_by 0 0 xs
+    → IsTrue (list_all (is_without_blind registers) xs) → AreForced xs
+none-shared-blindly xs registers is all = λ r.
+    elim (bit_cases registers r) [
+      | inl none ↦ inl (few-writers xs r (ap (λ n. bit_at n r) (sym is) ∙ none))
+      | inr one ↦ inr (none-blind registers r xs one all)
+    ]
+
+-- what a window shows is forced where its transactions are
+count-map : (r : ℕ) (all ts : List Txn) → count_by (writer r) (map (view_of all) ts) ≡ count_by (is_writer r) ts
+count-map r all [] = refl
+count-map r all (t ∷ ts) =
+    let one : count_by (is_writer r) (t ∷ ts) ≡ flag (is_writer r t) + count_by (is_writer r) ts =
+    sum_by-cons (λ u. flag (is_writer r u)) t ts in
+    let shown : count_by (writer r) (map (view_of all) (t ∷ ts)) ≡ flag (is_writer r t) + count_by (writer r) (map (view_of all) ts) =
+    sum_by-cons (λ y. flag (writer r y)) (view_of all t) (map (view_of all) ts) in
+    omega (arith, one, shown, count-map r all ts)
+
+pub is-forced : (all ts : List Txn) → AreForced (map (view_of all) ts) → IsForced ts
+is-forced all ts forced = λ r.
+    elim (forced r) [
+      | inl few ↦ inl (omega (arith, few, count-map r all ts))
+      | inr none ↦ inr (sym (list_all-map (λ x. not (is_committed x.status && writes_blindly r x.ops)) (view_of all) ts) ∙ none)
+    ]

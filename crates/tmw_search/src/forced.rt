@@ -1,0 +1,110 @@
+ghost use Rattle.std.specs.Prelude.{◌≡◌, ◌≤◌, IfOk, IfSome, IsTrue, length, map};
+ghost use Rattle.std.specs.List.{list_all};
+ghost use Rattle.tmw_cuts.specs.Views.{view};
+ghost use Rattle.tmw_search.specs.Forced.{written_by, blind_by, shared_by, is_without_blind, AreForced, AreForcedEnds};
+
+use crate::end_states::EndStates;
+use crate::walk::find_end;
+use std::alloc::{AllocError, Global};
+use tmw_cuts::{State, States, Txn};
+use tmw_defs::{Op, Status};
+
+/// The registers that the operations write, as a mask.
+fn written_by(ops: &[Op]) -> u8
+    ensures { result ≡ written_by 0 ops.now }
+{
+    let mut written = 0;
+    for op in ops {
+        match *op {
+            Op::Write(register, _) | Op::Add(register, _, _) => written |= 1 << register.get(),
+            Op::Read(_, _) => {}
+        }
+    }
+    written
+}
+
+/// The registers on which the first of the operations is a write, as a mask.
+fn blind_by(ops: &[Op]) -> u8
+    ensures { result ≡ blind_by 0 0 ops.now }
+{
+    let mut seen = 0u8;
+    let mut blind = 0;
+    for op in ops {
+        match *op {
+            Op::Write(register, _) => {
+                if seen >> register.get() & 1 == 0 {
+                    blind |= 1 << register.get();
+                }
+                seen |= 1 << register.get();
+            }
+            Op::Read(register, _) | Op::Add(register, _, _) => seen |= 1 << register.get(),
+        }
+    }
+    blind
+}
+
+/// The registers that more than one committed transaction writes, as a mask.
+fn shared_by(items: &[Txn]) -> u8
+    ensures { result ≡ shared_by 0 0 (map view items.now) }
+{
+    let mut once = 0;
+    let mut twice = 0;
+    for item in items {
+        if item.status == Status::Committed {
+            let own = written_by(&item.ops);
+            twice |= once & own;
+            once |= own;
+        }
+    }
+    twice
+}
+
+/// Whether it has not committed, or writes none of these registers blindly.
+fn is_without_blind(item: &Txn, registers: u8) -> bool
+    ensures { result ≡ is_without_blind registers (view item.now) }
+{
+    item.status != Status::Committed || registers & blind_by(&item.ops) == 0
+}
+
+/// Whether none of them has committed and writes one of these registers blindly.
+fn are_without_blind(items: &[Txn], registers: u8) -> bool
+    ensures { result ≡ list_all (λ item. is_without_blind registers (view item)) items.now }
+{
+    items.iter().all(|item| is_without_blind(item, registers))
+}
+
+/// Whether no register that two committed transactions write is written blindly: all their orders then end in one state.
+pub fn is_forced(items: &[Txn]) -> bool
+    ensures { IsTrue result → AreForced (map view items.now) }
+{
+    let shared = shared_by(items);
+    shared == 0 || are_without_blind(items, shared)
+}
+
+/// The states in which the transactions can end that began in one of these, where those from one state all end in one: the
+/// ends that a search finds, where it finds one from each.
+pub fn find_ends(
+    alloc: Global,
+    items: &[Txn],
+    states: &[State],
+    cap: u8,
+) -> Result<Option<EndStates>, AllocError>
+    requires { length items.now ≤ 8 }
+    ensures { IfOk result (λ found. IfSome found (λ ends. AreForcedEnds (map view items.now) states.now cap ends)) }
+{
+    let mut ends = States::empty(alloc);
+    for state in states {
+        let mut fuel = 64;
+        let Some(end) = find_end(items, state, &mut fuel) else {
+            return Ok(None);
+        };
+        ends.insert(end)?;
+        if ends.len() > cap as usize {
+            return Ok(Some(EndStates::Many));
+        }
+    }
+    Ok(Some(EndStates::Few(ends)))
+}
+
+#[cfg(test)]
+mod tests;
