@@ -23,8 +23,8 @@ fn draw(seed: &mut u64) -> u64 {
     number >> 8
 }
 
-/// An event of one of so many threads, at most four.
-fn draw_event(seed: &mut u64, threads: u64) -> Event {
+/// An event of one of so many threads, at most four, whose value is 1 once in so many times and else 0.
+fn draw_event(seed: &mut u64, threads: u64, ones: u64) -> Event {
     let thread = match draw(seed) % threads.max(1) {
         0 => Ix { number: 0 },
         1 => Ix { number: 1 },
@@ -36,15 +36,15 @@ fn draw_event(seed: &mut u64, threads: u64) -> Event {
     } else {
         Ix { number: 0 }
     };
-    let value = draw(seed) % 2;
+    let value = u64::from(draw(seed) % ones.max(1) == 0);
     let kind = match draw(seed) % 12 {
         0 | 1 => Kind::R(register),
         2 | 3 => Kind::V(value),
         4 => Kind::W(register, value),
         5 | 6 => Kind::K,
         7 => Kind::N(register, value),
-        8 => Kind::T,
-        9 | 10 => Kind::C,
+        8 | 9 => Kind::T,
+        10 => Kind::C,
         _ => Kind::A,
     };
     Event { thread, kind }
@@ -56,12 +56,13 @@ fn draw_events(
     seed: &mut u64,
     length: u64,
     threads: u64,
+    ones: u64,
     ill_formed: bool,
 ) -> Result<Vec<Event>, AllocError> {
     let mut tracker = Tracker::new(TWO);
     let mut events = Vec::new(alloc);
     for _attempt in 0..length.saturating_mul(6) {
-        let event = draw_event(seed, threads);
+        let event = draw_event(seed, threads, ones);
         if tracker.step(event).is_ok() {
             events.push(event)?;
         } else if ill_formed && events.len() as u64 >= length {
@@ -94,7 +95,7 @@ fn plain(whole: Result<Whole, WholeFault>) -> Option<Verdict> {
 }
 
 /// How often each answer was met.
-#[derive(Clone, Copy)]
+#[derive(Clone, Copy, Debug)]
 struct Met {
     opaque: u32,
     violated: u32,
@@ -140,9 +141,10 @@ fn the_monitor_agrees_with_the_plain_check(rt: HostRuntime) -> Result<(), Fail> 
         let events = draw_events(
             rt.alloc(),
             &mut seed,
-            4 + number % 9,
+            4 + number % 11,
             1 + number % 4,
-            number % 3 == 0,
+            if number % 3 == 0 { 2 } else { 24 },
+            number % 5 == 0,
         )?;
         let answer = plain(judge_whole(rt.alloc(), TWO, &events));
         let verdict = fed(rt.alloc(), &events)?;
@@ -152,7 +154,8 @@ fn the_monitor_agrees_with_the_plain_check(rt: HostRuntime) -> Result<(), Fail> 
         met = met.with(answer);
         taken = taken.saturating_add(events.len());
     }
-    assert!(rt; met.opaque > 40 && met.violated > 40 && met.malformed > 40 && met.past_eight > 10);
-    assert!(rt; taken > 3_000);
+    let enough = met.opaque > 40 && met.violated > 40 && met.malformed > 40 && met.past_eight > 10;
+    assert!(rt; enough, "{met:?}");
+    assert!(rt; taken > 3_000, "{taken}");
     Ok(())
 }
