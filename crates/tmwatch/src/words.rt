@@ -1,6 +1,5 @@
 ghost use Rattle.std.specs.Prelude.{◌≡◌, ◌∷◌, [], IfErr, IfOk, IfSome, OnOk, false, map};
 ghost use Rattle.clap.specs.Words.{HasKind, app_of, fault_of, rule_of, subcommand_rows_of};
-ghost use Rattle.clap.specs.declared.builder.command.Command.TheViews.{out-Command};
 ghost use Rattle.tmwatch.specs.Words.{Asks, IsOrder, judge, number_rule, program};
 
 use crate::order::Order;
@@ -57,8 +56,7 @@ fn new_program<'a>(alloc: Global) -> Result<Command<'a>, AllocError>
 
 /// The command `judge`.
 fn new_judge<'a>(alloc: Global) -> Result<Command<'a>, AllocError>
-    ensures app { IfOk result (λ command. app_of command ≡ judge) }
-    ensures local { IfOk result (λ command. (out-Command command).has_globals ≡ false) }
+    ensures { IfOk result (λ command. app_of command ≡ judge) }
 {
     let window = number_option(
         alloc,
