@@ -1,6 +1,5 @@
-ghost use Rattle.std.specs.Prelude.{◌≡◌, IfOk, IfSome, false, map};
-ghost use Rattle.clap.specs.Words.{app_of, rule_of, subcommand_rows_of};
-ghost use Rattle.clap.specs.declared.builder.command.Command.TheViews.{out-Command};
+ghost use Rattle.std.specs.Prelude.{◌≡◌, ◌∷◌, [], IfErr, IfOk, IfSome, OnOk, false, map};
+ghost use Rattle.clap.specs.Words.{HasKind, app_of, fault_of, rule_of, subcommand_rows_of};
 ghost use Rattle.tmwatch.specs.Words.{Asks, IsOrder, judge, number_rule, program};
 
 use crate::order::Order;
@@ -11,10 +10,12 @@ use std::alloc::{AllocError, Global};
 use std::convert::AsStr;
 use tmw_monitor::Bounds;
 
-/// Reads the words of the command line, of which the first is the program's name and is passed over. The error is clap's: a
-/// request for help, words that are none of the program's commands, or a want of memory, by its kind.
+/// Reads the words of the command line, of which the first is the program's name and is passed over. The error is clap's, and
+/// tells by its kind a request for help, what is wrong with the words, or a want of memory.
 pub fn read_words<'a, S: AsStr>(alloc: Global, words: &'a [S]) -> Result<Order, Error>
-    ensures { IfOk result (Asks (map S.text words.entry.now)) }
+    ensures order { IfOk result (Asks (map S.text words.entry.now)) }
+    ensures taken { OnOk result (fault_of program (map S.text words.entry.now) ≡ []) }
+    ensures refused { IfErr result (HasKind (ErrorKind.InvalidSubcommand ∷ fault_of program (map S.text words.entry.now))) }
 {
     let mut command = new_program(alloc)?;
     let matches = command.try_get_matches_from_mut(words)?;
@@ -55,8 +56,7 @@ fn new_program<'a>(alloc: Global) -> Result<Command<'a>, AllocError>
 
 /// The command `judge`.
 fn new_judge<'a>(alloc: Global) -> Result<Command<'a>, AllocError>
-    ensures app { IfOk result (λ command. app_of command ≡ judge) }
-    ensures local { IfOk result (λ command. (out-Command command).has_globals ≡ false) }
+    ensures { IfOk result (λ command. app_of command ≡ judge) }
 {
     let window = number_option(
         alloc,

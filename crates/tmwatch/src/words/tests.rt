@@ -2,10 +2,9 @@
 use crate::order::Order;
 use crate::words::read_words;
 use clap::error::ErrorKind;
-use std::test::Fail;
 
 #[test]
-fn bounds_of_judge(rt: HostRuntime) -> Result<(), Fail> {
+fn bounds_of_judge(rt: HostRuntime) {
     for (words, window, states) in [
         (["tmwatch", "judge"].as_slice(), 8, 64),
         (["tmwatch", "judge", "--window", "1"].as_slice(), 1, 64),
@@ -27,11 +26,14 @@ fn bounds_of_judge(rt: HostRuntime) -> Result<(), Fail> {
         // The program's name is any word.
         (["--window", "judge"].as_slice(), 8, 64),
     ] {
-        let Order::Judge { bounds } = read_words(rt.alloc(), words)?;
-        assert_eq!(rt; bounds.window, window, "of {words:?}");
-        assert_eq!(rt; bounds.states, states, "of {words:?}");
+        match read_words(rt.alloc(), words) {
+            Ok(Order::Judge { bounds }) => {
+                assert_eq!(rt; bounds.window, window, "of {words:?}");
+                assert_eq!(rt; bounds.states, states, "of {words:?}");
+            }
+            Err(error) => assert!(rt; false, "{words:?} was refused: {error}"),
+        }
     }
-    Ok(())
 }
 
 #[test]

@@ -1,14 +1,13 @@
 -- Each builder says which part of the command it changes.
-use Rattle.std.proofs.Common.{◌≡◌, ◌∙◌, ◌||◌, Bool, ap, ap₂, codes, false, rules, pos}
+use Rattle.std.proofs.Common.{◌≡◌, ◌∙◌, ap, ap₂, codes, rules}
 use Rattle.std.proofs.lemmas.Result.{IfOk-weaker}
 use Rattle.clap.specs.Simple.{app_of_fields}
 use Rattle.clap.specs.Words.{app_of, new_app, rule_of, with_rule}
-use Rattle.clap.specs.declared.builder.command.Command.TheViews.{out-Command}
 use Rattle.tmwatch.specs.Words.{number_rule, one_to}
 use Rattle.tmwatch.proofs.words.new_judge.Goals as goal
 
-pub returns-clause-app : goal.returns-clause-app
-returns-clause-app c =
+pub returns : goal.returns
+returns c =
     let window_range : c.range.result ≡ one_to 8 = rw (c.value_parser.ensures, c.new.ensures.start, c.new.ensures.end) at c.range.ensures in
     let states_range : c.range-2.result ≡ one_to 64 = rw (c.value_parser-2.ensures, c.new-2.ensures.start, c.new-2.ensures.end) at c.range-2.ensures in
     let window_is : rule_of c.number_option-window.result ≡ number_rule (codes "window") (one_to 8) (codes "8") = search rules in
@@ -17,11 +16,3 @@ returns-clause-app c =
     IfOk-weaker c.arg-2.result _ _
     (λ command added. added.shape c.number_option-states.ensures.local
     ∙ ap₂ with_rule (c.in_ok-arg.ensures.shape c.number_option-window.ensures.local ∙ ap₂ with_rule about window_is) states_is) c.arg-2.ensures
-
-pub returns-clause-local : goal.returns-clause-local
-returns-clause-local c =
-    let about : (out-Command c.about.result).has_globals ≡ false = search rules in
-    let first : (out-Command c.in_ok-arg.field-0).has_globals ≡ false =
-    c.in_ok-arg.ensures.globals ∙ ap₂ (λ (a b : Bool). a || b) about c.number_option-window.ensures.local in
-    IfOk-weaker c.arg-2.result _ _
-    (λ command added. added.globals ∙ ap₂ (λ (a b : Bool). a || b) first c.number_option-states.ensures.local) c.arg-2.ensures

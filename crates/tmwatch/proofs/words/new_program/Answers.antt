@@ -3,6 +3,7 @@ use Rattle.std.proofs.Common.{◌≡◌, ◌∙◌, ap, ap₂, codes}
 use Rattle.std.proofs.lemmas.Result.{IfOk-weaker}
 use Rattle.clap.specs.Simple.{app_of_fields}
 use Rattle.clap.specs.Words.{App, app_of, new_app, with_subcommand}
+use Rattle.clap.proofs.SimpleLemmas.{plain_fields}
 use Rattle.tmwatch.specs.Words.{wanting}
 use Rattle.tmwatch.proofs.words.new_program.Goals as goal
 
@@ -10,6 +11,7 @@ pub returns : goal.returns
 returns c =
     let top : app_of c.subcommand_required.result ≡ wanting (new_app (codes "tmwatch")) =
     ap app_of_fields c.subcommand_required.ensures ∙ ap wanting (ap app_of_fields c.about.ensures ∙ c.new.ensures.app) in
+    let below = c.in_ok-new_judge.ensures in
+    let local = plain_fields c.in_ok-new_judge.field-0 (ap (λ (app : App). app.top.is_plain) below) in
     IfOk-weaker c.subcommand.result _ _
-    (λ command added. added.shape c.in_ok-new_judge.ensures.local ∙ ap₂ with_subcommand top (ap (λ (app : App). app.top) c.in_ok-new_judge.ensures.app))
-    c.subcommand.ensures
+    (λ command added. added.shape local.globals ∙ ap₂ with_subcommand top (ap (λ (app : App). app.top) below)) c.subcommand.ensures
