@@ -26,7 +26,12 @@ fn main(rt: HostRuntime) -> ExitCode {
     let status = match words_of(&rt) {
         Ok(words) => match read_words(rt.alloc(), &words) {
             Ok(Order::Judge { bounds }) => {
-                run_judge(rt.alloc(), &mut StdSource::new(rt.stdin()), &mut sink, bounds)
+                run_judge(
+                    rt.alloc(),
+                    &mut StdSource::new(rt.stdin()),
+                    &mut sink,
+                    bounds,
+                )
             }
             Err(error) => answer(&rt, &mut sink, &error),
         },

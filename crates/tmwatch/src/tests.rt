@@ -450,7 +450,10 @@ fn reads_that_fail(rt: HostRuntime) -> Result<(), Fail> {
     // A whole bad line that was told before is answered.
     let mut source = MemorySource::limited(b"opacity-trace 1 1\n0 R 01\n", 26, Some(2));
     let mut sink = MemorySink::new(rt.alloc());
-    assert_eq!(rt; run_judge(rt.alloc(), &mut source, &mut sink, WIDEST), FAULT);
+    assert_eq!(rt;
+        run_judge(rt.alloc(), &mut source, &mut sink, WIDEST),
+        FAULT
+    );
     assert_eq!(rt;
         sink.bytes(),
         b"{\"fault\":\"bad line\",\"line\":2}\n".as_slice()
@@ -489,14 +492,8 @@ fn writes_that_fail(rt: HostRuntime) -> Result<(), Fail> {
 fn faults_beside_a_trace(rt: HostRuntime) {
     for (fault, line) in [
         (Fault::Usage, b"{\"fault\":\"usage\"}\n".as_slice()),
-        (
-            Fault::Memory,
-            b"{\"fault\":\"memory\"}\n".as_slice(),
-        ),
-        (
-            Fault::TooLong,
-            b"{\"fault\":\"too long\"}\n".as_slice(),
-        ),
+        (Fault::Memory, b"{\"fault\":\"memory\"}\n".as_slice()),
+        (Fault::TooLong, b"{\"fault\":\"too long\"}\n".as_slice()),
     ] {
         let mut sink = MemorySink::new(rt.alloc());
         assert_eq!(rt; answer_fault(&mut sink, fault), FAULT);

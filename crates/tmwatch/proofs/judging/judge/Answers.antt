@@ -14,7 +14,7 @@ feed-requires g c =
     let given = rw c.in-Ok-Some.field-0-is at c.in-Ok-Some.ensures.event in
     record {
       room = fed_room g.S.Source.told c.args.source.now c.lines.source c.lines.lines c.next.new.self c.args.bounds c.lines.monitor
-        c.in-Ok-Some.event given.0 c.lines.invariant.0 given.2;
+          c.in-Ok-Some.event given.0 c.lines.invariant.0 given.2;
     }
 
 pub lines-preserved : goal.lines-preserved
