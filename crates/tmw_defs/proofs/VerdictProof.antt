@@ -1,5 +1,5 @@
 -- What the verdict is after one event more, by the outcomes at the last cut of a history that is opaque so far.
-use Rattle.std.proofs.Common.{◌≡◌, ◌+◌, ◌++◌, ◌<◌, ◌≤◌, ◌↔◌, ℕ, List, [], ◌∷◌, length, IsTrue, IsFalse, refl, sym, ap, ◌∙◌, inl, inr, arith}
+use Rattle.std.proofs.Common.{◌≡◌, ◌+◌, ◌++◌, ◌<◌, ◌≤◌, ◌↔◌, ℕ, List, [], ◌∷◌, length, IsTrue, IsFalse, refl, sym, ap, subst, ◌∙◌, inl, inr, arith}
 use Rattle.std.specs.Prelude.{take, drop}
 use Rattle.std.proofs.Math.Seq.{take-length}
 use Rattle.std.proofs.lemmas.Bool.{cases_lt, both_ways}
@@ -10,7 +10,7 @@ use Rattle.tmw_defs.specs.declared.verdict.Verdict.TheVariants.{OpaqueSoFar, Vio
 use Rattle.tmw_defs.specs.declared.verdict.Why.TheVariants.{Transactions, States}
 use Rattle.tmw_defs.specs.Cuts.{is_cut, IsCutLaw}
 use Rattle.tmw_defs.specs.History.{Txn, transactions, is_well_formed}
-use Rattle.tmw_defs.specs.Opaque.{State, IsFinalOpaque}
+use Rattle.tmw_defs.specs.Opaque.{State, Explains, IsFinalOpaque}
 use Rattle.tmw_defs.specs.Outcomes.{Leads, Ends, Only, outcomes, MoreThan}
 use Rattle.tmw_defs.specs.Quiet.{is_quiet}
 use Rattle.tmw_defs.specs.Summary.{SumsUp, IsLastCut}
@@ -142,9 +142,6 @@ verdict-violated rules S c h e sums formed fits none_ends =
     (record {
       formed = formed;
       narrow = narrow-push rules S c h e sums fits;
-      few = λ many.
-          let (end, is) = MoreThan-member rules.states (outcomes rules.start (h ++ e ∷ [])) many.many in
-          none_ends end ((outcomes-push rules S c h e sums formed many.cut end).0 is);
       not_opaque = λ o. let (end, ends) = (final_opaque-push rules S c h e sums formed).0 o in none_ends end ends;
     })
 
@@ -301,6 +298,16 @@ many-fine rules h a b = b.few a.many
 violated-fine : Excludes IsViolated IsFine
 violated-fine rules h a b = a.not_opaque b.final_opaque
 
+-- one that has outcomes is final-state opaque
+many-opaque : Excludes IsTooMany IsViolated
+many-opaque rules h a b =
+    let found = (MoreThan-member rules.states (outcomes rules.start h) a.many.many).1 in
+    let leads = found.2 in
+    b.not_opaque (record {
+      formed = b.formed;
+      ordered = (leads.0, subst (λ (s : State). Explains s (transactions h) leads.0) found.1 leads.1);
+    })
+
 -- the shortest prefix at which anything is wrong is one, and one thing is wrong with it
 IsFirst-fine : (A : Rules → List Event → Type 0) → Excludes A IsFine → (rules : Rules) (h : List Event) (m : ℕ)
     → IsFirst A rules h m → IsVerdict rules h OpaqueSoFar → ⊥
@@ -339,7 +346,7 @@ wide-violated : (rules : Rules) (h : List Event) (m n : ℕ) → IsFirst IsTooWi
 wide-violated = IsFirst-apart IsTooWide IsViolated wide-fine violated-fine (λ rules h a b. b.narrow a.wide)
 
 many-violated : (rules : Rules) (h : List Event) (m n : ℕ) → IsFirst IsTooMany rules h m → IsFirst IsViolated rules h n → ⊥
-many-violated = IsFirst-apart IsTooMany IsViolated many-fine violated-fine (λ rules h a b. b.few a.many)
+many-violated = IsFirst-apart IsTooMany IsViolated many-fine violated-fine many-opaque
 
 -- a history has at most one verdict
 pub verdict-one : (rules : Rules) (h : List Event) (v w : Verdict) → IsVerdict rules h v → IsVerdict rules h w → v ≡ w

@@ -30,7 +30,8 @@ pub record IsFine (rules : Rules) (history : List Event) : Type 0 where
   pub few : HasMany rules history → ⊥
   pub final_opaque : IsFinalOpaque rules.registers rules.start history
 
--- What can be wrong with it. Each tells that none of those before it is there.
+-- What can be wrong with it. Each tells that none of those before it is there; one that is not final-state opaque has no outcome,
+-- so it has not too many.
 pub record IsMalformed (rules : Rules) (history : List Event) : Type 0 where
   pub ill_formed : IsFalse (is_well_formed rules.registers history)
 
@@ -46,7 +47,6 @@ pub record IsTooMany (rules : Rules) (history : List Event) : Type 0 where
 pub record IsViolated (rules : Rules) (history : List Event) : Type 0 where
   pub formed : IsTrue (is_well_formed rules.registers history)
   pub narrow : HasWide rules.window history → ⊥
-  pub few : HasMany rules history → ⊥
   pub not_opaque : IsFinalOpaque rules.registers rules.start history → ⊥
 
 -- This is wrong with the prefix of length m, and nothing is with any shorter prefix.

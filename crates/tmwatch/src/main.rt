@@ -18,7 +18,7 @@ use std::io::ErrorKind as IoErrorKind;
 use std::process::ExitCode;
 use std::{env, io};
 use tmw_events::{Sink, StdSink, StdSource};
-use tmw_report::Fault;
+use tmw_report::{FAULT_STATUS, Fault};
 use words::read_words;
 
 fn main(rt: HostRuntime) -> ExitCode {
@@ -62,7 +62,7 @@ fn answer<R: Print + Eprint, K: Sink>(rt: &R, sink: &mut K, error: &Error) -> u8
         ErrorKind::OutOfMemory => answer_fault(sink, Fault::Memory),
         ErrorKind::DisplayHelp => match error.print(rt) {
             Ok(()) => 0,
-            Err(_) => answer_fault(sink, Fault::Io),
+            Err(_) => FAULT_STATUS,
         },
         _ => {
             let _printed = error.print(rt);
