@@ -32,6 +32,7 @@ pub fn layer(
 pub fn possible(alloc: Global, states: &States, window: &Window) -> Result<bool, AllocError>
     ensures { IfOk result (TellsEnd states.now window.now) }
 {
+    // Mostly an order is found at once, and then no memory is needed.
     if finds_end(window.transactions(), states.states()) {
         return Ok(true);
     }
@@ -51,6 +52,7 @@ pub fn outcomes(
 {
     let items = window.transactions();
     if window.is_cut() && is_forced(items) {
+        // All orders from a state end in one, so that one of them tells the end.
         if let Some(ends) = find_ends(alloc, items, states.states(), cap)? {
             return Ok(ends);
         }

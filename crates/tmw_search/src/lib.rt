@@ -1,4 +1,5 @@
-//! Whether a whole recorded history is opaque, by search over each of its prefixes; and the end states of a window, by layers.
+//! Whether a whole recorded history is opaque, by search over each of its prefixes; and the end states of a window, by a
+//! search for one order and by layers.
 #![tactic(auto)]
 
 mod end_states;

@@ -127,6 +127,25 @@ fn a_pending_transaction_is_left_out_where_only_another_writes_what_is_read(
 }
 
 #[test]
+fn a_value_that_a_pending_transaction_writes_back_is_found_by_the_layers(
+    rt: HostRuntime,
+) -> Result<(), Fail> {
+    let mut events = Vec::new(rt.alloc());
+    push(&mut events, FIRST, &[Kind::W(FIRST, 0), Kind::K, Kind::T])?;
+    push(
+        &mut events,
+        SECOND,
+        &[Kind::W(FIRST, 1), Kind::K, Kind::T, Kind::C],
+    )?;
+    push(&mut events, THIRD, &[Kind::R(FIRST), Kind::V(0)])?;
+    let window = window_of(rt.alloc(), TWO, &events)?.expect(&rt, "well-formed");
+    assert_eq!(rt; found(&window, 64), None);
+    let zeros = States::zeros(rt.alloc())?;
+    assert!(rt; possible(rt.alloc(), &zeros, &window)?);
+    Ok(())
+}
+
+#[test]
 fn a_committed_transaction_waits_for_one_that_reads_what_it_writes(
     rt: HostRuntime,
 ) -> Result<(), Fail> {
