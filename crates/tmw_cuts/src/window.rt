@@ -52,6 +52,10 @@ fn begin(txns: &mut Vec<Txn>, spare: &mut Vec<Vec<Op>>, event: Event) -> Result<
     ensures err { OnErr result (map view txns.new.items ≡ map view txns.old.items) }
     ensures size { length txns.new.items ≤ length txns.old.items + 1 }
 {
+    // Room for as many as there can be, so that keeping one takes no memory.
+    if spare.capacity() < 8 {
+        spare.reserve(8)?;
+    }
     let alloc = *txns.allocator();
     let room = spare.pop().unwrap_or_else(|| Vec::new(alloc));
     let before = completed_mask(txns);
@@ -72,7 +76,7 @@ fn go_on(txns: &mut Vec<Txn>, event: Event) -> Result<(), AllocError>
     Ok(())
 }
 
-/// Keeps a transaction's memory for a later one, where there is room to note it.
+/// Keeps a transaction's memory for a later one.
 fn keep(spare: &mut Vec<Vec<Op>>, txn: Txn) {
     let _kept = spare.push(txn.ops);
 }
