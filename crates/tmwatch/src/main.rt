@@ -42,9 +42,14 @@ fn main(rt: HostRuntime) -> ExitCode {
 
 /// The words of the command line, of which the first is the program's name.
 fn words_of(rt: &HostRuntime) -> Result<Vec<String>, Fault> {
-    env::args(rt)
-        .and_then(|words| Ok(words.collect(rt.alloc())?))
-        .map_err(unread)
+    let arguments = env::args(rt).map_err(unread)?;
+    let mut words = Vec::new(rt.alloc());
+    for word in arguments {
+        if words.push(word).is_err() {
+            return Err(Fault::Memory);
+        }
+    }
+    Ok(words)
 }
 
 /// Why there are no words: memory was refused, or one of them is not UTF-8.
