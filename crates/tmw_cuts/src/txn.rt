@@ -1,7 +1,11 @@
 ghost use Rattle.std.specs.Prelude.{◌≡◌, IfOk, OnOk, OnErr};
 ghost use Rattle.tmw_defs.specs.History.{is_over};
+ghost use Rattle.tmw_cuts.specs.Effects.{SumsUp, SumsUp-prop};
+ghost use Rattle.tmw_cuts.specs.Replaying.{Replays};
 
+use crate::effect::Effect;
 use crate::kinds::{operation, status_after};
+use crate::states::State;
 use std::alloc::AllocError;
 use tmw_defs::{Op, Status};
 use tmw_events::{Event, Ix, Kind};
@@ -16,6 +20,9 @@ pub struct Txn {
     pub before: u8,
     thread: Ix,
     call: Option<Kind>,
+    /// What its operations need and leave.
+    effect: Effect,
+    pub ghost sums: { SumsUp effect ops.items } by { SumsUp-prop effect ops.items },
 }
 
 impl Txn {
@@ -33,6 +40,7 @@ impl Txn {
             before,
             thread: event.thread,
             call: Some(event.kind),
+            effect: Effect::new(),
         }
     }
 
@@ -58,6 +66,7 @@ impl Txn {
         if let Some(call) = self.call {
             if let Some(op) = operation(call, kind) {
                 self.ops.push(op)?;
+                self.effect.add(op);
             }
             self.call = None;
         } else {
@@ -72,6 +81,7 @@ impl Txn {
         ensures { view self.new ≡ earlier_view call status ops (view self.old) }
     {
         self.ops.truncate(ops);
+        self.effect = Effect::of(&self.ops);
         self.call = call;
         self.status = status;
     }
@@ -90,6 +100,13 @@ impl Txn {
         self.thread == thread && self.status == Status::Pending
     }
 
+    /// What the registers hold after its operations, if each of them was answered what the registers held then.
+    pub fn after(&self, state: &State) -> Option<State>
+        ensures { Replays state.now self.now.ops.items result }
+    {
+        self.effect.after(state)
+    }
+
     /// One that shows the same.
     pub(crate) fn copy(&self) -> Result<Txn, AllocError>
         ensures { IfOk result (λ txn. view txn ≡ view self.now) }
@@ -100,6 +117,7 @@ impl Txn {
             before: self.before,
             thread: self.thread,
             call: self.call,
+            effect: self.effect,
         })
     }
 }
