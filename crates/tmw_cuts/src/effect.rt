@@ -24,7 +24,7 @@ pub struct Effect {
 }
 
 impl Effect {
-    ghost use Rattle.tmw_cuts.specs.Effects.{SumsUp};
+    ghost use Rattle.tmw_cuts.specs.Effects.{SumsUp, tells, leaves_none};
 
     /// The effect of no operation.
     pub fn new() -> Effect
@@ -123,4 +123,25 @@ impl Effect {
             None
         }
     }
+
+    /// Whether a register that is needed has the needed value in the one state and not in the other.
+    pub fn reads_one(&self, has: &State, has_not: &State) -> bool
+        ensures { result ≡ tells self.now has.now has_not.now }
+    {
+        (0..8).any(|register: usize| {
+            self.needed[register]
+                && has[register] == self.needs[register]
+                && has_not[register] != self.needs[register]
+        })
+    }
+
+    /// Whether no register is written or added to.
+    pub fn only_reads(&self) -> bool
+        ensures { result ≡ leaves_none self.now }
+    {
+        self.left.iter().all(|left| !*left)
+    }
 }
+
+#[cfg(test)]
+mod tests;

@@ -1,6 +1,6 @@
 ghost use Rattle.std.specs.Prelude.{◌≡◌, IfOk, OnOk, OnErr};
 ghost use Rattle.tmw_defs.specs.History.{is_over};
-ghost use Rattle.tmw_cuts.specs.Effects.{SumsUp, SumsUp-prop};
+ghost use Rattle.tmw_cuts.specs.Effects.{SumsUp, SumsUp-prop, tells, leaves_none};
 ghost use Rattle.tmw_cuts.specs.Replaying.{Replays};
 
 use crate::effect::Effect;
@@ -26,7 +26,7 @@ pub struct Txn {
 }
 
 impl Txn {
-    ghost use Rattle.tmw_cuts.specs.Views.{view, new_view, next_view, earlier_view, is_open_for, awaits_commit_of};
+    ghost use Rattle.tmw_cuts.specs.Views.{view, effect_of, new_view, next_view, earlier_view, is_open_for, awaits_commit_of};
 
     /// A transaction that begins with this event, where those in the mask have completed. Its operations come to lie in `room`,
     /// whose own are dropped.
@@ -105,6 +105,20 @@ impl Txn {
         ensures { Replays state.now self.now.ops.items result }
     {
         self.effect.after(state)
+    }
+
+    /// Whether its operations need a value of a register that the register has in the one state and not in the other.
+    pub fn reads_one(&self, has: &State, has_not: &State) -> bool
+        ensures { result ≡ tells (effect_of self.now) has.now has_not.now }
+    {
+        self.effect.reads_one(has, has_not)
+    }
+
+    /// Whether its operations write nothing.
+    pub fn only_reads(&self) -> bool
+        ensures { result ≡ leaves_none (effect_of self.now) }
+    {
+        self.effect.only_reads()
     }
 
     /// One that shows the same.
