@@ -1,5 +1,6 @@
 pub mod AcrossCuts
 pub mod Bits
+mod Effects
 mod Found
 mod Marked
 mod Masks

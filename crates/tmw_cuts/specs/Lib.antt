@@ -1,4 +1,7 @@
+pub mod Effects
 pub mod Marking
 pub mod Members
+pub mod Registers
+pub mod Replaying
 pub mod Standing
 pub mod Views

@@ -6,6 +6,7 @@ use Rattle.tmw_defs.specs.declared.op.Op.{Op}
 use Rattle.tmw_defs.specs.declared.status.Status.{Status}
 use Rattle.tmw_defs.specs.History.{is_over, operation, status_after}
 use Rattle.tmw_defs.specs.Quiet.{is_pending}
+use Rattle.tmw_cuts.specs.declared.effect.Effect.{Effect}
 use Rattle.tmw_cuts.specs.declared.txn.Txn.{Txn}
 
 -- Its thread and the call that has no answer, its answered operations in order and its status. Bit j of `before` says that the
@@ -19,6 +20,10 @@ pub record View : Type 0 where
 
 abbrev pub view : Txn → View
 view txn = record { thread = txn.thread.number; call = txn.call; ops = txn.ops.items; status = txn.status; before = txn.before }
+
+-- What its operations need and leave.
+abbrev pub effect_of : Txn → Effect
+effect_of txn = txn.effect
 
 abbrev pub bit : Bool → ℕ
 bit true = 1

@@ -1,7 +1,11 @@
 ghost use Rattle.std.specs.Prelude.{◌≡◌, IfOk, OnOk, OnErr};
 ghost use Rattle.tmw_defs.specs.History.{is_over};
+ghost use Rattle.tmw_cuts.specs.Effects.{SumsUp, SumsUp-prop, tells, leaves_none};
+ghost use Rattle.tmw_cuts.specs.Replaying.{Replays};
 
+use crate::effect::Effect;
 use crate::kinds::{operation, status_after};
+use crate::states::State;
 use std::alloc::AllocError;
 use tmw_defs::{Op, Status};
 use tmw_events::{Event, Ix, Kind};
@@ -16,10 +20,13 @@ pub struct Txn {
     pub before: u8,
     thread: Ix,
     call: Option<Kind>,
+    /// What its operations need and leave.
+    effect: Effect,
+    pub ghost sums: { SumsUp effect ops.items } by { SumsUp-prop effect ops.items },
 }
 
 impl Txn {
-    ghost use Rattle.tmw_cuts.specs.Views.{view, new_view, next_view, earlier_view, is_open_for, awaits_commit_of};
+    ghost use Rattle.tmw_cuts.specs.Views.{view, effect_of, new_view, next_view, earlier_view, is_open_for, awaits_commit_of};
 
     /// A transaction that begins with this event, where those in the mask have completed. Its operations come to lie in `room`,
     /// whose own are dropped.
@@ -33,6 +40,7 @@ impl Txn {
             before,
             thread: event.thread,
             call: Some(event.kind),
+            effect: Effect::new(),
         }
     }
 
@@ -58,6 +66,7 @@ impl Txn {
         if let Some(call) = self.call {
             if let Some(op) = operation(call, kind) {
                 self.ops.push(op)?;
+                self.effect.add(op);
             }
             self.call = None;
         } else {
@@ -72,6 +81,7 @@ impl Txn {
         ensures { view self.new ≡ earlier_view call status ops (view self.old) }
     {
         self.ops.truncate(ops);
+        self.effect = Effect::of(&self.ops);
         self.call = call;
         self.status = status;
     }
@@ -90,6 +100,27 @@ impl Txn {
         self.thread == thread && self.status == Status::Pending
     }
 
+    /// What the registers hold after its operations, if each of them was answered what the registers held then.
+    pub fn after(&self, state: &State) -> Option<State>
+        ensures { Replays state.now self.now.ops.items result }
+    {
+        self.effect.after(state)
+    }
+
+    /// Whether its operations need a value of a register that the register has in the one state and not in the other.
+    pub fn reads_one(&self, has: &State, has_not: &State) -> bool
+        ensures { result ≡ tells (effect_of self.now) has.now has_not.now }
+    {
+        self.effect.reads_one(has, has_not)
+    }
+
+    /// Whether its operations write nothing.
+    pub fn only_reads(&self) -> bool
+        ensures { result ≡ leaves_none (effect_of self.now) }
+    {
+        self.effect.only_reads()
+    }
+
     /// One that shows the same.
     pub(crate) fn copy(&self) -> Result<Txn, AllocError>
         ensures { IfOk result (λ txn. view txn ≡ view self.now) }
@@ -100,6 +131,7 @@ impl Txn {
             before: self.before,
             thread: self.thread,
             call: self.call,
+            effect: self.effect,
         })
     }
 }

@@ -5,7 +5,6 @@ mod FreeNext
 mod Gathering
 mod LayerLists
 mod NextSteps
-mod Replaying
 mod Sorting
 mod Stepping
 mod Steps

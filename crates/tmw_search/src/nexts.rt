@@ -1,29 +1,13 @@
 ghost use Rattle.std.specs.Prelude.{◌≡◌, ◌<◌, ◌≤◌, ◌++◌, OnOk, length, flat_map, map};
 ghost use Rattle.tmw_cuts.specs.Views.{view};
 ghost use Rattle.tmw_search.specs.Nexts.{is_next, ways, next_at, nexts_from};
-ghost use Rattle.tmw_search.specs.Shown.{Replays};
 
-use crate::replay::after_one;
 use std::alloc::AllocError;
 use tmw_cuts::{State, Txn};
-use tmw_defs::{Op, Status};
+use tmw_defs::Status;
 
 /// The transactions that were placed, as a mask, and the state that they have led to.
 pub type Reached = (u8, State);
-
-/// What the registers hold after the operations, if each of them was answered what the registers held then.
-pub fn replay(ops: &[Op], start: &State) -> Option<State>
-    ensures { Replays start.now ops.now result }
-{
-    let mut state = *start;
-    for op in ops {
-        let Some(after) = after_one(*op, &state) else {
-            return None;
-        };
-        state = after;
-    }
-    Some(state)
-}
 
 /// Whether the transaction at the place isn't placed, and no other that isn't precedes it.
 pub fn is_next(item: &Txn, place: usize, mask: u8) -> bool
@@ -47,7 +31,7 @@ fn push_next(
     if !is_next(item, place, mask) {
         return Ok(());
     }
-    let Some(held) = replay(&item.ops, &state) else {
+    let Some(held) = item.after(&state) else {
         return Ok(());
     };
     push_ways(nexts, item.status, mask | 1 << place, held, state)

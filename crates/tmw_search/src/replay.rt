@@ -1,6 +1,6 @@
 ghost use Rattle.std.specs.Prelude.{◌≡◌, [], ◌∷◌};
 ghost use Rattle.tmw_defs.specs.History.{operations};
-ghost use Rattle.tmw_search.specs.Shown.{Replays};
+ghost use Rattle.tmw_cuts.specs.Replaying.{Replays};
 
 use tmw_cuts::operation;
 use tmw_defs::Op;

@@ -3,9 +3,9 @@ ghost use Rattle.tmw_defs.specs.Opaque.{may_hold};
 ghost use Rattle.tmw_cuts.specs.Views.{view};
 ghost use Rattle.tmw_search.specs.Walks.{GoesOnTo, LeadsAll, HaveEnd};
 
-use crate::nexts::{is_next, replay};
+use crate::nexts::is_next;
 use tmw_cuts::{State, Txn};
-use tmw_defs::{Op, Status};
+use tmw_defs::Status;
 
 /// Which transactions are to be tried next. It is a guess of what succeeds: nothing is claimed of it.
 #[derive(Drop)]
@@ -22,28 +22,11 @@ struct Trial {
     later: u8,
 }
 
-/// Whether one of the operations reads a value that its register has in the one state and not in the other.
-fn reads_one(ops: &[Op], has: &State, has_not: &State) -> bool {
-    ops.iter().any(|op| {
-        match *op {
-            Op::Read(register, value) | Op::Add(register, _, value) => {
-                has[register.get() as usize] == value && has_not[register.get() as usize] != value
-            }
-            Op::Write(_, _) => false,
-        }
-    })
-}
-
 /// Whether a transaction that isn't placed, other than the one at the place, reads such a value.
 fn is_read(items: &[Txn], mask: u8, place: usize, has: &State, has_not: &State) -> bool {
     items.iter().enumerate().any(|(other, item)| {
-        other < 8 && other != place && mask >> other & 1 == 0 && reads_one(&item.ops, has, has_not)
+        other < 8 && other != place && mask >> other & 1 == 0 && item.reads_one(has, has_not)
     })
-}
-
-/// Whether the operations write nothing.
-fn only_reads(ops: &[Op]) -> bool {
-    ops.iter().all(|op| matches!(op, Op::Read(_, _)))
 }
 
 /// Whether the others need nothing of the transaction: its writes are not made, or make nothing that one of them reads.
@@ -53,7 +36,7 @@ fn is_alone(items: &[Txn], mask: u8, place: usize, state: &State, held: &State) 
     };
     match item.status {
         Status::Live | Status::Aborted => true,
-        Status::Committed => only_reads(&item.ops),
+        Status::Committed => item.only_reads(),
         Status::Pending => !is_read(items, mask, place, held, state),
     }
 }
@@ -70,7 +53,7 @@ fn trial_of(items: &[Txn], mask: u8, tried: u8, state: &State) -> Trial {
     };
     for (place, item) in items.iter().enumerate() {
         if place < 8 && tried >> place & 1 == 0 && is_next(item, place, mask) {
-            if let Some(held) = replay(&item.ops, state) {
+            if let Some(held) = item.after(state) {
                 trial.alone = is_alone(items, mask, place, state, &held);
                 let spoils = !trial.alone && is_read(items, mask, place, state, &held);
                 let is_easy = tried == 0 && item.status == Status::Committed && !spoils;
@@ -129,7 +112,7 @@ fn place_one(
     if *fuel == 0 || !is_next(item, place, mask) || !may_hold(item.status, held) {
         return None;
     }
-    let Some(after) = replay(&item.ops, state) else {
+    let Some(after) = item.after(state) else {
         return None;
     };
     *fuel -= 1;

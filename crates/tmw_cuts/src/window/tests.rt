@@ -3,8 +3,6 @@ ghost use Rattle.tmw_cuts.specs.Standing.{StandsFor};
 
 use super::*;
 use std::test::Fail;
-
-
 use tmw_wellformed::Tracker;
 
 const FIRST: Ix = Ix { number: 0 };

@@ -10,7 +10,7 @@ use Rattle.tmw_search.proofs.walk.+walks.Goals as goal
 pub place_one-returns : goal.place_one-returns
 place_one-returns t c =
     let items = c.args.items.now in
-    let replayed = rw c.deref.ensures.value at c.in-Some-replay.ensures in
+    let replayed = c.in-Some-after.ensures in
     let looked = c.in-Some.ensures.lookup in
     let reached : c.if-held.end ≡ (if c.args.held then after_writes c.args.state.now c.in-Some.item.now.ops.items else c.args.state.now)
     = elim c.if-held.branch [

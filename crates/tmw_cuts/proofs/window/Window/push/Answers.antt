@@ -19,7 +19,7 @@ returns-then-note-clause-ok c =
     on_ok_weaker c.begin.result
     (λ pushed events stands notes. record {
       shows = shows-push events c.args.event _ _
-      (pushed (begins_none_open events c.args.event c.args.note _ stands.shows notes ∙ not_from_true _ c.if-note.true)) stands.shows;
+          (pushed (begins_none_open events c.args.event c.args.note _ stands.shows notes ∙ not_from_true _ c.if-note.true)) stands.shows;
     }) c.begin.ensures.ok
 
 pub returns-else-note-clause-ok : goal.returns-else-note-clause-ok
@@ -27,5 +27,5 @@ returns-else-note-clause-ok c =
     on_ok_weaker c.go_on.result
     (λ pushed events stands notes. record {
       shows = shows-push events c.args.event _ _
-      (pushed (begins_none_open events c.args.event c.args.note _ stands.shows notes ∙ not_from_false _ c.if-note.false)) stands.shows;
+          (pushed (begins_none_open events c.args.event c.args.note _ stands.shows notes ∙ not_from_false _ c.if-note.false)) stands.shows;
     }) c.go_on.ensures.ok

@@ -10,8 +10,8 @@ pub returns-in-Some-get_mut-clause-stands : goal.returns-in-Some-get_mut-clause-
 returns-in-Some-get_mut-clause-stands c events event same marks stands =
     record {
       shows = set_back c.args.mark event (completed_mask (views_of events)) (views_of events) c.args.self.now.txns.items c.in-Some.place
-        c.in-Some-get_mut.txn.now c.take_back.new.self same marks c.in-Some.is (stands.shows ∙ views_of-push events event)
-        c.in-Some-get_mut.ensures.value c.take_back.ensures;
+          c.in-Some-get_mut.txn.now c.take_back.new.self same marks c.in-Some.is (stands.shows ∙ views_of-push events event)
+          c.in-Some-get_mut.ensures.value c.take_back.ensures;
     }
 
 pub returns-in_default-clause-stands : goal.returns-in_default-clause-stands
@@ -26,9 +26,9 @@ pub returns-in-Some-pop-clause-stands : goal.returns-in-Some-pop-clause-stands
 returns-in-Some-pop-clause-stands c events event same marks stands =
     record {
       shows = map-pop event (completed_mask (views_of events)) (views_of events) c.args.self.now.txns.items c.pop.new.self.items c.in-Some-pop.txn
-        (none_open c.args.mark event (views_of events) same marks c.in-None.is)
-        (stands.shows ∙ views_of-push events event)
-        c.in-Some-pop.ensures.items;
+          (none_open c.args.mark event (views_of events) same marks c.in-None.is)
+          (stands.shows ∙ views_of-push events event)
+          c.in-Some-pop.ensures.items;
     }
 
 pub returns-in_default-pop-clause-stands : goal.returns-in_default-pop-clause-stands

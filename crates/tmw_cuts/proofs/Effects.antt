@@ -1,0 +1,218 @@
+-- An effect with an answer or a write more, and the registers one at a time.
+use Rattle.std.proofs.Common.{◌≡◌, ◌==◌, ◌&&◌, ◌||◌, ◌+◌, ◌%◌, ◌^◌, ◌++◌, ◌<◌, ℕ, zero, suc, Bool, true, false, not, List, [], ◌∷◌, length, get_or, set, take, drop, refl, sym, ap, ◌∙◌, inl, inr, ◌⊎◌, add-one, arith}
+use Rattle.std.specs.Prelude.{slice_index, slice_set, if◌then◌else◌}
+use Rattle.std.proofs.lemmas.Bool.{cases_Bool, eqb-true, eq-eqb}
+use Rattle.std.proofs.Math.Bool.{and-true, or-true}
+use Rattle.tmw_events.specs.declared.ix.Ix.{Ix}
+use Rattle.tmw_defs.specs.declared.op.Op.{Op}
+use Rattle.tmw_defs.specs.declared.op.Op.TheVariants.{Read, Write, Add}
+use Rattle.tmw_defs.specs.Opaque.{State, reads_hold, after_writes}
+use Rattle.tmw_cuts.specs.declared.effect.Effect.{Effect}
+use Rattle.tmw_cuts.specs.Effects.{SumsUp}
+use Rattle.tmw_cuts.specs.Registers.{have, put}
+
+with_first : (a b c d : Bool) → b ≡ (c && d) → (a && b) ≡ ((a && c) && d)
+with_first true b c d same = same
+with_first false b c d same = refl
+
+with_first_both : (a b c d : Bool) → (b && c) ≡ (b && d) → ((a && b) && c) ≡ ((a && b) && d)
+with_first_both true b c d same = same
+with_first_both false b c d same = refl
+
+-- the operations after others are answered what those leave
+reads_hold-append : (s : State) (one two : List Op)
+    → reads_hold s (one ++ two) ≡ (reads_hold s one && reads_hold (after_writes s one) two)
+reads_hold-append s [] two = refl
+reads_hold-append s (Read q w ∷ one) two = with_first (slice_index s q.number == w) _ _ _ (reads_hold-append s one two)
+reads_hold-append s (Write q w ∷ one) two = reads_hold-append (slice_set s q.number w) one two
+reads_hold-append s (Add q d w ∷ one) two =
+    with_first (slice_index s q.number == w) _ _ _ (reads_hold-append (slice_set s q.number ((w + d) % 2 ^ 64)) one two)
+
+after_writes-append : (s : State) (one two : List Op) → after_writes s (one ++ two) ≡ after_writes (after_writes s one) two
+after_writes-append s [] two = refl
+after_writes-append s (Read q w ∷ one) two = after_writes-append s one two
+after_writes-append s (Write q w ∷ one) two = after_writes-append (slice_set s q.number w) one two
+after_writes-append s (Add q d w ∷ one) two = after_writes-append (slice_set s q.number ((w + d) % 2 ^ 64)) one two
+
+-- what a register holds where the values are put in
+index-put : (ds : List Bool) (vs : List ℕ) (s : State) (i : ℕ) → i < length ds → i < length vs → i < length s
+    → slice_index (put ds vs s) i ≡ (if get_or ds i false then slice_index vs i else slice_index s i)
+index-put [] vs s i a b c = absurd (omega (arith, a))
+index-put (d ∷ ds) [] s i a b c = absurd (omega (arith, b))
+index-put (d ∷ ds) (v ∷ vs) [] i a b c = absurd (omega (arith, c))
+index-put (d ∷ ds) (v ∷ vs) (x ∷ s) zero a b c = refl
+index-put (d ∷ ds) (v ∷ vs) (x ∷ s) (suc i) a b c =
+    index-put ds vs s i (omega (arith, a)) (omega (arith, b)) (omega (arith, c))
+
+-- a value put in one register more
+put-set : (ds : List Bool) (vs : List ℕ) (s : State) (i v : ℕ) → i < length ds → i < length vs → i < length s
+    → put (set ds i true) (set vs i v) s ≡ slice_set (put ds vs s) i v
+put-set [] vs s i v a b c = absurd (omega (arith, a))
+put-set (d ∷ ds) [] s i v a b c = absurd (omega (arith, b))
+put-set (d ∷ ds) (y ∷ vs) [] i v a b c = absurd (omega (arith, c))
+put-set (d ∷ ds) (y ∷ vs) (x ∷ s) zero v a b c = refl
+put-set (d ∷ ds) (y ∷ vs) (x ∷ s) (suc i) v a b c =
+    ap (λ l. (if d then y else x) ∷ l) (put-set ds vs s i v (omega (arith, a)) (omega (arith, b)) (omega (arith, c)))
+
+-- the registers behind a place and the one at it
+put-more : (ds : List Bool) (vs : List ℕ) (s : State) (i : ℕ) → i < length ds → i < length vs → i < length s
+    → put (take (suc i) ds) vs s
+    ≡ (if get_or ds i false then slice_set (put (take i ds) vs s) i (slice_index vs i) else put (take i ds) vs s)
+put-more [] vs s i a b c = absurd (omega (arith, a))
+put-more (d ∷ ds) [] s i a b c = absurd (omega (arith, b))
+put-more (d ∷ ds) (y ∷ vs) [] i a b c = absurd (omega (arith, c))
+put-more (true ∷ ds) (y ∷ vs) (x ∷ s) zero a b c = refl
+put-more (false ∷ ds) (y ∷ vs) (x ∷ s) zero a b c = refl
+put-more (d ∷ ds) (y ∷ vs) (x ∷ s) (suc i) a b c =
+    ap (λ l. (if d then y else x) ∷ l) (put-more ds vs s i (omega (arith, a)) (omega (arith, b)) (omega (arith, c)))
+    ∙ through (get_or ds i false)
+  where
+    through : (e : Bool) → ((if d then y else x) ∷ (if e then slice_set (put (take i ds) vs s) i (slice_index vs i) else put (take i ds) vs s))
+        ≡ (if e then (if d then y else x) ∷ slice_set (put (take i ds) vs s) i (slice_index vs i) else (if d then y else x) ∷ put (take i ds) vs s)
+    through true = refl
+    through false = refl
+
+-- the registers from a place on: the one at it, and those ahead
+have-drop : (ds : List Bool) (vs : List ℕ) (s : State) (i : ℕ) → i < length ds → i < length vs → i < length s
+    → have (drop i ds) (drop i vs) (drop i s)
+    ≡ ((not (get_or ds i false) || (slice_index s i == slice_index vs i)) && have (drop (suc i) ds) (drop (suc i) vs) (drop (suc i) s))
+have-drop [] vs s i a b c = absurd (omega (arith, a))
+have-drop (d ∷ ds) [] s i a b c = absurd (omega (arith, b))
+have-drop (d ∷ ds) (y ∷ vs) [] i a b c = absurd (omega (arith, c))
+have-drop (d ∷ ds) (y ∷ vs) (x ∷ s) zero a b c = refl
+have-drop (d ∷ ds) (y ∷ vs) (x ∷ s) (suc i) a b c =
+    have-drop ds vs s i (omega (arith, a)) (omega (arith, b)) (omega (arith, c))
+
+-- a register more is needed
+have-set : (ds : List Bool) (vs : List ℕ) (s : State) (i v : ℕ) → i < length ds → i < length vs → i < length s
+    → get_or ds i false ≡ false → have (set ds i true) (set vs i v) s ≡ (have ds vs s && (slice_index s i == v))
+have-set [] vs s i v a b c new = absurd (omega (arith, a))
+have-set (d ∷ ds) [] s i v a b c new = absurd (omega (arith, b))
+have-set (d ∷ ds) (y ∷ vs) [] i v a b c new = absurd (omega (arith, c))
+have-set (true ∷ ds) (y ∷ vs) (x ∷ s) zero v a b c new = absurd (cc)
+have-set (false ∷ ds) (y ∷ vs) (x ∷ s) zero v a b c new = turned (x == v) (have ds vs s)
+  where
+    turned : (p q : Bool) → (p && q) ≡ (q && p)
+    turned true true = refl
+    turned true false = refl
+    turned false true = refl
+    turned false false = refl
+have-set (d ∷ ds) (y ∷ vs) (x ∷ s) (suc i) v a b c new =
+    with_first (not d || (x == y)) _ _ _ (have-set ds vs s i v (omega (arith, a)) (omega (arith, b)) (omega (arith, c)) new)
+
+-- a register that is needed already has one value alone
+have-get : (ds : List Bool) (vs : List ℕ) (s : State) (i v : ℕ) → i < length ds → i < length vs → i < length s
+    → get_or ds i false ≡ true → (have ds vs s && (slice_index s i == v)) ≡ (have ds vs s && (slice_index vs i == v))
+have-get [] vs s i v a b c old = absurd (omega (arith, a))
+have-get (d ∷ ds) [] s i v a b c old = absurd (omega (arith, b))
+have-get (d ∷ ds) (y ∷ vs) [] i v a b c old = absurd (omega (arith, c))
+have-get (false ∷ ds) (y ∷ vs) (x ∷ s) zero v a b c old = absurd (cc)
+have-get (true ∷ ds) (y ∷ vs) (x ∷ s) zero v a b c old =
+    elim (cases_Bool (x == y)) [
+      | inl same ↦ ap (λ z. ((x == y) && have ds vs s) && (z == v)) (eqb-true x y same)
+      | inr other ↦ rw other refl
+    ]
+have-get (d ∷ ds) (y ∷ vs) (x ∷ s) (suc i) v a b c old =
+    with_first_both (not d || (x == y)) (have ds vs s) _ _ (have-get ds vs s i v (omega (arith, a)) (omega (arith, b)) (omega (arith, c)) old)
+
+-- an answer more, where so much is told of the state before it
+answered : (ops : List Op) (r : Ix) (v : ℕ) (s t : State) (x b : Bool) → reads_hold s ops ≡ x → after_writes s ops ≡ t
+    → (x && (slice_index t r.number == v)) ≡ b
+    → (reads_hold s (ops ++ Read r v ∷ []) ≡ b) × (after_writes s (ops ++ Read r v ∷ []) ≡ t)
+answered ops r v s t x b reads leaves same = (
+  rw (reads_hold-append s ops (Read r v ∷ []), reads, leaves, and-true (slice_index t r.number == v)) same,
+  rw (after_writes-append s ops (Read r v ∷ [])) leaves,
+)
+
+swapped : (a h q : Bool) → ((a && h) && q) ≡ ((a && q) && h)
+swapped true true q = sym (and-true q)
+swapped true false true = refl
+swapped true false false = refl
+swapped false h q = refl
+
+grouped : (a h q : Bool) → ((a && h) && q) ≡ (a && (h && q))
+grouped true h q = refl
+grouped false h q = refl
+
+module _ (e : Effect) (ops : List Op) (r : Ix) (v : ℕ) (sums : SumsUp e ops) (s : State) (long : length s ≡ 8)
+    (left : length e.left ≡ 8) (leaves : length e.leaves ≡ 8) where
+  abbrev then_holds : Bool → Type 0
+  then_holds b = (reads_hold s (ops ++ Read r v ∷ []) ≡ b) × (after_writes s (ops ++ Read r v ∷ []) ≡ put e.left e.leaves s)
+
+  held : slice_index (put e.left e.leaves s) r.number
+      ≡ (if get_or e.left r.number false then slice_index e.leaves r.number else slice_index s r.number)
+  held = index-put e.left e.leaves s r.number (rw left r.below) (rw leaves r.below) (rw long r.below)
+
+  -- an answer after an own write
+  pub read-left : get_or e.left r.number false ≡ true
+      → then_holds ((e.agrees && (slice_index e.leaves r.number == v)) && have e.needed e.needs s)
+  read-left is =
+      answered ops r v s _ _ _ (sums s long).0 (sums s long).1 (rw (held, is)
+      (swapped e.agrees (have e.needed e.needs s) (slice_index e.leaves r.number == v)))
+
+  -- an answer after another
+  pub read-needed : length e.needed ≡ 8 → length e.needs ≡ 8 → get_or e.left r.number false ≡ false
+      → get_or e.needed r.number false ≡ true
+      → then_holds ((e.agrees && (slice_index e.needs r.number == v)) && have e.needed e.needs s)
+  read-needed needed needs unwritten is =
+      answered ops r v s _ _ _ (sums s long).0 (sums s long).1 (rw (held, unwritten)
+      (grouped e.agrees (have e.needed e.needs s) (slice_index s r.number == v)
+      ∙ ap (λ b. e.agrees && b) (have-get e.needed e.needs s r.number v (rw needed r.below) (rw needs r.below) (rw long r.below) is)
+      ∙ sym (grouped e.agrees (have e.needed e.needs s) (slice_index e.needs r.number == v))
+      ∙ swapped e.agrees (have e.needed e.needs s) (slice_index e.needs r.number == v)))
+
+  -- the first answer
+  pub read-first : length e.needed ≡ 8 → length e.needs ≡ 8 → get_or e.left r.number false ≡ false
+      → get_or e.needed r.number false ≡ false
+      → then_holds (e.agrees && have (slice_set e.needed r.number true) (slice_set e.needs r.number v) s)
+  read-first needed needs unwritten new =
+      answered ops r v s _ _ _ (sums s long).0 (sums s long).1 (rw (held, unwritten)
+      (grouped e.agrees (have e.needed e.needs s) (slice_index s r.number == v)
+      ∙ ap (λ b. e.agrees && b) (sym (have-set e.needed e.needs s r.number v (rw needed r.below) (rw needs r.below) (rw long r.below) new))))
+
+  -- a write
+  pub write-more : (reads_hold s (ops ++ Write r v ∷ []) ≡ (e.agrees && have e.needed e.needs s))
+      × (after_writes s (ops ++ Write r v ∷ []) ≡ put (slice_set e.left r.number true) (slice_set e.leaves r.number v) s)
+  write-more = (
+    rw (reads_hold-append s ops (Write r v ∷ []), and-true (reads_hold s ops)) (sums s long).0,
+    rw (after_writes-append s ops (Write r v ∷ []), (sums s long).1)
+        (sym (put-set e.left e.leaves s r.number v (rw left r.below) (rw leaves r.below) (rw long r.below))),
+  )
+
+-- an add is an answer and then a write
+pub add-split : (e : Effect) (ops : List Op) (r : Ix) (d v : ℕ)
+    → SumsUp e ((ops ++ Read r v ∷ []) ++ Write r ((v + d) % 2 ^ 64) ∷ []) → SumsUp e (ops ++ Add r d v ∷ [])
+add-split e ops r d v sums s long =
+    let w : Op = Write r ((v + d) % 2 ^ 64) in
+    let reads : reads_hold s ((ops ++ Read r v ∷ []) ++ w ∷ []) ≡ reads_hold s (ops ++ Add r d v ∷ []) =
+    rw (
+      reads_hold-append s (ops ++ Read r v ∷ []) (w ∷ []),
+      reads_hold-append s ops (Read r v ∷ []),
+      reads_hold-append s ops (Add r d v ∷ []),
+    ) (and-true _) in
+    let leaves : after_writes s ((ops ++ Read r v ∷ []) ++ w ∷ []) ≡ after_writes s (ops ++ Add r d v ∷ []) =
+    rw (
+      after_writes-append s (ops ++ Read r v ∷ []) (w ∷ []),
+      after_writes-append s ops (Read r v ∷ []),
+      after_writes-append s ops (Add r d v ∷ []),
+    ) refl in
+    (sym reads ∙ (sums s long).0, sym leaves ∙ (sums s long).1)
+
+-- a register that is not needed, or has the needed value, decides nothing
+pub have-past : (ds : List Bool) (vs : List ℕ) (s : State) (i : ℕ) → length ds ≡ 8 → length vs ≡ 8 → length s ≡ 8 → i < 8
+    → (get_or ds i false ≡ false) ⊎ (slice_index s i ≡ slice_index vs i)
+    → have (drop i ds) (drop i vs) (drop i s) ≡ have (drop (i + 1) ds) (drop (i + 1) vs) (drop (i + 1) s)
+have-past ds vs s i d v l within past =
+    rw add-one (have-drop ds vs s i (rw d within) (rw v within) (rw l within) ∙ passes past)
+  where
+    passes : (get_or ds i false ≡ false) ⊎ (slice_index s i ≡ slice_index vs i)
+        → ((not (get_or ds i false) || (slice_index s i == slice_index vs i)) && have (drop (suc i) ds) (drop (suc i) vs) (drop (suc i) s))
+        ≡ have (drop (suc i) ds) (drop (suc i) vs) (drop (suc i) s)
+    passes (inl free) = rw free refl
+    passes (inr same) = rw (eq-eqb _ _ same, or-true (not (get_or ds i false))) refl
+
+-- a turn of the loop that puts the values in
+pub put-past : (ds : List Bool) (vs : List ℕ) (s : State) (i : ℕ) → length ds ≡ 8 → length vs ≡ 8 → length s ≡ 8 → i < 8
+    → put (take (i + 1) ds) vs s
+    ≡ (if get_or ds i false then slice_set (put (take i ds) vs s) i (slice_index vs i) else put (take i ds) vs s)
+put-past ds vs s i d v l within = rw add-one (put-more ds vs s i (rw d within) (rw v within) (rw l within))
