@@ -1,7 +1,6 @@
 -- The turn puts in what is left at its place.
-use Rattle.std.proofs.Common.{rules, ◌≡◌, length, slice_index, slice_index_or, slice_set, false, sym, ap, ◌∙◌}
+use Rattle.std.proofs.Common.{rules, ◌≡◌, length, slice_index, slice_index_or, slice_set, false, sym, ◌∙◌}
 use Rattle.std.specs.Prelude.{if◌then◌else◌}
-use Rattle.tmw_cuts.specs.Registers.{put}
 use Rattle.tmw_cuts.proofs.Effects.{put-past}
 use Rattle.tmw_cuts.proofs.effect.Effect.put.Goals.{then-self-register, else-self-register}
 use Rattle.tmw_cuts.proofs.effect.Effect.put.Goals as goal
