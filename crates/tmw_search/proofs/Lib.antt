@@ -9,6 +9,7 @@ mod Replaying
 mod Sorting
 mod Stepping
 mod Steps
+mod TakingLast
 mod Weighing
 mod Walking
 mod WindowLayers

@@ -1,6 +1,7 @@
 //! Whether a whole recorded history is opaque, by search over each of its prefixes; and the end states of a window, by layers.
 #![tactic(auto)]
 
+mod blind;
 mod end_states;
 mod ends;
 mod forced;
