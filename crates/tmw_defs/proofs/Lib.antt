@@ -1,6 +1,7 @@
 pub mod Along
 pub mod Apart
 pub mod Before
+pub mod BlindProof
 pub mod CutsProof
 pub mod ForcedProof
 pub mod LastOfOrder

@@ -1,3 +1,4 @@
+pub mod Blind
 pub mod Cuts
 pub mod Decision
 pub mod Forced

@@ -8,6 +8,7 @@ mod NextSteps
 mod Sorting
 mod Stepping
 mod Steps
+mod TakingLast
 mod Weighing
 mod Walking
 mod WindowLayers

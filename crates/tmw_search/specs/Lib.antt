@@ -1,3 +1,4 @@
+pub mod Blind
 pub mod Ended
 pub mod Forced
 pub mod Nexts

@@ -4,6 +4,7 @@ ghost use Rattle.tmw_cuts.specs.Standing.{count_of};
 ghost use Rattle.tmw_search.specs.Ended.{AreLayer, TellsEnd, AreEnds};
 ghost use Rattle.tmw_search.specs.Pairs.{pair_cmp};
 
+use crate::blind::{are_blind, find_blind_ends};
 use crate::end_states::EndStates;
 use crate::forced::{find_ends, is_forced};
 use crate::layers::layer_of;
@@ -54,6 +55,11 @@ pub fn outcomes(
     if window.is_cut() && is_forced(items) {
         // All orders from a state end in one, so that one of them tells the end.
         if let Some(ends) = find_ends(alloc, items, states.states(), cap)? {
+            return Ok(ends);
+        }
+    }
+    if are_blind(items) {
+        if let Some(ends) = find_blind_ends(alloc, items, states.states(), cap)? {
             return Ok(ends);
         }
     }

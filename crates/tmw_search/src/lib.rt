@@ -2,6 +2,7 @@
 //! search for one order and by layers.
 #![tactic(auto)]
 
+mod blind;
 mod end_states;
 mod ends;
 mod forced;

@@ -1,7 +1,11 @@
-use Rattle.std.proofs.Common.{◌+◌, drop, sym, ◌∙◌, arith}
+use Rattle.std.proofs.Common.{◌+◌, drop, map, sym, ◌∙◌, arith}
 use Rattle.std.proofs.lemmas.List.{drop_all}
+use Rattle.std.proofs.lemmas.List.Folds.{list_all-map}
+use Rattle.tmw_cuts.specs.Views.{view}
+use Rattle.tmw_search.specs.Blind.{shows_blind}
 use Rattle.tmw_search.proofs.ForcedEnds.{forced-ends}
 use Rattle.tmw_search.proofs.Gathering.{gathers-none, gathers-next, gathered-more, gathered-few}
+use Rattle.tmw_search.proofs.TakingLast.{blind-ends}
 use Rattle.tmw_search.proofs.ends.outcomes.Goals as goal
 
 pub returns-in-Some : goal.returns-in-Some
@@ -9,6 +13,13 @@ returns-in-Some c =
     forced-ends c.args.states.now c.args.window.now _ _ c.args.cap c.in-Some.ends c.transactions-items.ensures.shown c.states.ensures.members
     (λ events stands. sym c.if-is_cut.true ∙ c.is_cut.ensures events stands) (c.is_forced.ensures c.if-is_forced.true)
     (rw c.in-Some.is at c.in_ok-ends.ensures)
+
+pub returns-in-Some-2 : goal.returns-in-Some-2
+returns-in-Some-2 c =
+    blind-ends c.args.states.now c.args.window.now (map view c.transactions-items.result.now) _ c.args.cap c.in-Some-2.ends
+    c.transactions-items.ensures.shown c.states-then-are_blind.ensures.members
+    (list_all-map shows_blind view c.transactions-items.result.now ∙ sym c.if-are_blind.ensures)
+    (rw c.in-Some-2.is at c.in_ok-ends-2.ensures)
 
 pub loop-all-init : goal.loop-all-init
 loop-all-init c = (gathers-none _ _ c.empty-ends.ensures, rw c.empty-ends.ensures (omega arith))
