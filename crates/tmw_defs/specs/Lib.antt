@@ -5,9 +5,15 @@ pub mod Forced
 pub mod History
 pub mod Layers
 pub mod Naming
+pub mod OneLog
 pub mod Opaque
 pub mod Outcomes
 pub mod Quiet
+pub mod Ring
+pub mod RingCells
+pub mod RingMachine
+pub mod RingSound
+pub mod RingSteps
 pub mod Summary
 pub mod Texts
 pub mod Verdict

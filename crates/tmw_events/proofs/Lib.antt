@@ -13,4 +13,5 @@ mod Splits
 pub mod TextNames
 pub mod ToldBytes
 pub mod TracesRead
+pub mod Unpacks
 mod ValueParts
