@@ -2,6 +2,7 @@ pub mod Held
 pub mod Line
 pub mod LongLine
 pub mod Memory
+pub mod Packing
 pub mod Parts
 pub mod Piece
 pub mod Start
