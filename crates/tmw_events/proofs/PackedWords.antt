@@ -1,11 +1,12 @@
 -- Two words name an event, and one word a place and a header.
-use Rattle.std.proofs.Common.{◌≡◌, ℕ, ◌+◌, ◌*◌, ◌/◌, ◌%◌, ◌<◌, ◌^◌, refl, ap, ◌∙◌, arith}
+use Rattle.std.proofs.Common.{◌≡◌, ℕ, ◌+◌, ◌/◌, ◌%◌, ◌<◌, ◌^◌, refl, ap, ◌∙◌, arith}
 use Rattle.tmw_events.specs.Packing.{kind_code, kind_register, kind_value, packed_header, pack, joined}
 use Rattle.tmw_events.specs.declared.event.Event.{Event}
 use Rattle.tmw_events.specs.declared.event.Kind.{Kind}
 use Rattle.tmw_events.specs.declared.event.Kind.TheVariants.{R, V, W, K, T, C, X, A, N}
 use Rattle.tmw_events.proofs.TextNames.{same_ix}
 
+-- there are nine codes
 code-small : (kind : Kind) → kind_code kind < 9
 code-small (R r) = omega arith
 code-small (V v) = omega arith
@@ -17,6 +18,7 @@ code-small X = omega arith
 code-small A = omega arith
 code-small (N r v) = omega arith
 
+-- a register is below 8
 register-small : (kind : Kind) → kind_register kind < 8
 register-small (R r) = r.below
 register-small (W r v) = r.below

@@ -1,4 +1,4 @@
--- An event as two words: a header below 1,024, and a value. A stamped word holds a place and a header.
+-- An event as two words: a header below 1,024, and a value. A joined word holds a place and a header.
 use Rattle.std.specs.Prelude.{ℕ, ◌+◌, ◌*◌}
 use Rattle.tmw_events.specs.declared.event.Event.{Event}
 use Rattle.tmw_events.specs.declared.event.Kind.{Kind}

@@ -1,9 +1,23 @@
 //! Words of single events, and the texts of events that a sink was given.
+ghost use Rattle.std.specs.Prelude.{◌<◌};
+
 use crate::{Event, IoFault, Ix, Kind, MemorySink, join, pack, put_event, split, unpack};
 
-/// The thread or register of this number, or 0.
-fn ix(number: u8) -> Ix {
-    Ix::new(number).unwrap_or(Ix { number: 0 })
+/// The thread or register of this number.
+fn ix(number: u8) -> Ix
+    requires { number < 8 }
+{
+    Ix { number }
+}
+
+/// The thread's event.
+fn event(thread: u8, kind: Kind) -> Event
+    requires { thread < 8 }
+{
+    Event {
+        thread: ix(thread),
+        kind,
+    }
 }
 
 /// Some events with their words and their texts.
@@ -20,14 +34,6 @@ fn events() -> [(Event, (u64, u64), &'static [u8]); 6] {
             b"1 V 18446744073709551615",
         ),
     ]
-}
-
-/// The thread's event.
-fn event(thread: u8, kind: Kind) -> Event {
-    Event {
-        thread: ix(thread),
-        kind,
-    }
 }
 
 #[test]
