@@ -12,6 +12,7 @@ pub mod Masks
 pub mod Places
 pub mod QuietProof
 pub mod QuietTexts
+pub mod RingSizes
 pub mod Removals
 pub mod DecisionProof
 pub mod OneLogProof

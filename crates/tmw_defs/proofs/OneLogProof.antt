@@ -1,8 +1,8 @@
 -- Whatever steps a ring's machine makes, its answers are those of one sequential log.
 use Rattle.std.proofs.Common.{◌≡◌, ◌++◌, ℕ, zero, suc, List, [], ◌∷◌, drop, Some, replicate, slice_get, refl, sym, ap, ◌∙◌, take-append-drop}
 use Rattle.tmw_events.specs.declared.event.Event.{Event}
-use Rattle.tmw_events.specs.declared.event.Kind.TheVariants.{T}
 use Rattle.tmw_defs.proofs.Answered.{Knows, IsAnnounced, core_step-answered}
+use Rattle.tmw_defs.proofs.RingSizes.{after-size}
 use Rattle.tmw_defs.proofs.MachineProof.{machine_step-each, machine_step-sound, after-sound, after-spares}
 use Rattle.tmw_defs.specs.OneLog.{Announced, announces, Asks, AskInOrder, sequential_of, OneLogLaw}
 use Rattle.tmw_defs.specs.Ring.{IsSize, new_core}
@@ -52,7 +52,8 @@ one_log_law law starts size steps sized =
     let front = (after steps machine).core.front in
     record {
       sound = sound;
-      asked = asked_in_order law (λ number. T) steps machine start (new_core-knows (λ number. T) size);
+      sized = after-size steps machine;
+      asked = λ kinds. asked_in_order law kinds steps machine start (new_core-knows kinds size);
       begins = (drop front log, sym (ap (λ (first : List Event). first ++ drop front log) sound.begins ∙ take-append-drop front log));
       spares = after-spares law steps machine start;
     }
