@@ -11,6 +11,12 @@ pub mod Places
 pub mod QuietProof
 pub mod QuietTexts
 pub mod Removals
+pub mod RingLaw
+pub mod RingLooks
+pub mod RingPhases
+pub mod RingReads
+pub mod RingStart
+pub mod RingTakes
 pub mod DecisionProof
 pub mod OneMore
 pub mod TextsProof
