@@ -11,6 +11,13 @@ pub mod Places
 pub mod QuietProof
 pub mod QuietTexts
 pub mod Removals
+pub mod RingClaims
+pub mod RingFills
+pub mod RingPhases
+pub mod RingPlaces
+pub mod RingPublishes
+pub mod RingStores
+pub mod RingWrites
 pub mod DecisionProof
 pub mod OneMore
 pub mod TextsProof
