@@ -1,69 +1,83 @@
--- The phases of a ring's writers once one of them is set, and how many writers are cleared.
-use Rattle.std.proofs.Common.{◌≡◌, ◌⊎◌, ◌+◌, ◌≤◌, ◌<◌, ℕ, zero, suc, List, [], ◌∷◌, length, replicate, Some, slice_get, slice_set, refl, sym, ap, ◌∙◌, inl, inr, arith}
+-- What the phases of a ring's writers are after one was set, and how many of them are cleared.
+use Rattle.std.proofs.Common.{◌≡◌, ◌≢◌, ◌⊎◌, ◌+◌, ◌<◌, ◌≤◌, ℕ, zero, suc, Bool, List, [], ◌∷◌, length, replicate, Some, refl, sym, ap, ◌∙◌, inl, inr, arith}
+use Rattle.std.specs.Prelude.{slice_get, slice_set}
 use Rattle.std.proofs.lemmas.Bool.{cases_eq}
 use Rattle.std.proofs.lemmas.Option.{same_Some}
+use Rattle.tmw_events.specs.declared.event.Kind.{Kind}
 use Rattle.tmw_defs.specs.RingSound.{one_if_cleared, cleared}
 use Rattle.tmw_defs.specs.declared.ring_phase.WriterPhase.{WriterPhase}
 use Rattle.tmw_defs.specs.declared.ring_phase.WriterPhase.TheVariants.{Idle, Looked, Cleared, Claimed}
 
--- the writer that was set
-pub phase-set_same : (phases : List WriterPhase) (i : ℕ) (old next : WriterPhase) → slice_get phases i ≡ Some old
-    → slice_get (slice_set phases i next) i ≡ Some next
-phase-set_same [] i old next at = absurd (cc)
-phase-set_same (p ∷ ps) zero old next at = refl
-phase-set_same (p ∷ ps) (suc i) old next at = phase-set_same ps i old next at
+-- The set writer has the new phase.
+pub phase_set : (phases : List WriterPhase) (writer : ℕ) (phase : WriterPhase) → writer < length phases
+    → slice_get (slice_set phases writer phase) writer ≡ Some phase
+phase_set [] writer phase within = absurd (omega arith)
+phase_set (first ∷ phases) zero phase within = refl
+phase_set (first ∷ phases) (suc writer) phase within = phase_set phases writer phase (omega arith)
 
--- any other writer
-pub phase-set_other : (phases : List WriterPhase) (i j : ℕ) (next : WriterPhase) → (i ≡ j → ⊥)
-    → slice_get (slice_set phases i next) j ≡ slice_get phases j
-phase-set_other [] i j next apart = refl
-phase-set_other (p ∷ ps) zero zero next apart = absurd (apart refl)
-phase-set_other (p ∷ ps) zero (suc j) next apart = refl
-phase-set_other (p ∷ ps) (suc i) zero next apart = refl
-phase-set_other (p ∷ ps) (suc i) (suc j) next apart = phase-set_other ps i j next (λ same. apart (ap suc same))
+-- Every other writer has the one it had.
+pub phase_kept : (phases : List WriterPhase) (writer other : ℕ) (phase : WriterPhase) → other ≢ writer
+    → slice_get (slice_set phases writer phase) other ≡ slice_get phases other
+phase_kept [] writer other phase apart = refl
+phase_kept (first ∷ phases) zero zero phase apart = absurd (apart refl)
+phase_kept (first ∷ phases) zero (suc other) phase apart = refl
+phase_kept (first ∷ phases) (suc writer) zero phase apart = refl
+phase_kept (first ∷ phases) (suc writer) (suc other) phase apart = phase_kept phases writer other phase (λ same. apart (ap suc same))
 
--- A phase is the one that was set, or it was there before.
-pub phase_after : (phases : List WriterPhase) (i j : ℕ) (old next phase : WriterPhase) → slice_get phases i ≡ Some old
-    → slice_get (slice_set phases i next) j ≡ Some phase
-    → ((i ≡ j) × (next ≡ phase)) ⊎ ((i ≡ j → ⊥) × (slice_get phases j ≡ Some phase))
-phase_after phases i j old next phase at is =
-    elim (cases_eq i j) [
-      | inl same ↦
-          inl (same, same_Some next phase (sym (phase-set_same phases i old next at) ∙ ap (slice_get (slice_set phases i next)) same ∙ is))
-      | inr apart ↦ inr (apart, sym (phase-set_other phases i j next apart) ∙ is)
+-- So whoever has a phase is the set writer, with the new one, or another, which had it.
+pub phase_cases : (phases : List WriterPhase) (writer other : ℕ) (phase found : WriterPhase) → writer < length phases
+    → slice_get (slice_set phases writer phase) other ≡ Some found
+    → ((other ≡ writer) × (phase ≡ found)) ⊎ ((other ≢ writer) × (slice_get phases other ≡ Some found))
+phase_cases phases writer other phase found within at =
+    elim (cases_eq other writer) [
+      | inl same ↦ inl (same, (let set = phase_set phases writer phase within in let was = rw same at at in cc))
+      | inr apart ↦ inr (apart, sym (phase_kept phases writer other phase apart) ∙ at)
     ]
 
-pub one_if_cleared-le : (phase : WriterPhase) → one_if_cleared phase ≤ 1
+-- Those who have two phases are two.
+pub two_writers : (phases : List WriterPhase) (a b : ℕ) (p q : WriterPhase) → slice_get phases a ≡ Some p → slice_get phases b ≡ Some q
+    → p ≢ q → a ≢ b
+two_writers phases a b p q at_a at_b apart same = apart (let at = rw same at at_a in cc)
+
+-- Claims of one phase are one claim.
+pub claimed_parts : (p q : ℕ) (k l : Kind) (f g : Bool) → Claimed p k f ≡ Claimed q l g → (p ≡ q) × (k ≡ l) × (f ≡ g)
+claimed_parts p q k l f g same = (cc, cc, cc)
+
+-- The old phase counts no more, and the new one does.
+pub cleared-set : (phases : List WriterPhase) (writer : ℕ) (old new : WriterPhase) → slice_get phases writer ≡ Some old
+    → cleared (slice_set phases writer new) + one_if_cleared old ≡ cleared phases + one_if_cleared new
+cleared-set [] writer old new at = absurd (cc)
+cleared-set (first ∷ phases) zero old new at =
+    let same : first ≡ old = cc in rw same (omega arith)
+cleared-set (first ∷ phases) (suc writer) old new at =
+    let rest = cleared-set phases writer old new at in omega (arith, rest)
+
+one_if_cleared-le : (phase : WriterPhase) → one_if_cleared phase ≤ 1
 one_if_cleared-le Idle = omega arith
 one_if_cleared-le (Looked kind front) = omega arith
 one_if_cleared-le (Cleared kind) = omega arith
 one_if_cleared-le (Claimed place kind is_filled) = omega arith
 
-pub cleared-set : (phases : List WriterPhase) (i : ℕ) (old next : WriterPhase) → slice_get phases i ≡ Some old
-    → cleared (slice_set phases i next) + one_if_cleared old ≡ cleared phases + one_if_cleared next
-cleared-set [] i old next at = absurd (cc)
-cleared-set (p ∷ ps) zero old next at =
-    let same : one_if_cleared p ≡ one_if_cleared old = ap one_if_cleared (same_Some p old at) in omega (arith, same)
-cleared-set (p ∷ ps) (suc i) old next at = omega (arith, cleared-set ps i old next at)
-
-pub cleared-le : (phases : List WriterPhase) → cleared phases ≤ length phases
+cleared-le : (phases : List WriterPhase) → cleared phases ≤ length phases
 cleared-le [] = omega arith
-cleared-le (p ∷ ps) = omega (arith, one_if_cleared-le p, cleared-le ps)
+cleared-le (first ∷ phases) = omega (arith, one_if_cleared-le first, cleared-le phases)
 
--- One writer is not cleared.
-pub cleared-lt : (phases : List WriterPhase) (i : ℕ) (phase : WriterPhase) → slice_get phases i ≡ Some phase → one_if_cleared phase ≡ 0
-    → cleared phases < length phases
-cleared-lt [] i phase at not = absurd (cc)
-cleared-lt (p ∷ ps) zero phase at not =
-    let same : one_if_cleared p ≡ one_if_cleared phase = ap one_if_cleared (same_Some p phase at) in
-    omega (arith, same, not, cleared-le ps)
-cleared-lt (p ∷ ps) (suc i) phase at not = omega (arith, one_if_cleared-le p, cleared-lt ps i phase at not)
+-- Where one is not cleared, fewer than all are.
+pub cleared-lt : (phases : List WriterPhase) (writer : ℕ) (phase : WriterPhase) → slice_get phases writer ≡ Some phase
+    → one_if_cleared phase ≡ 0 → cleared phases < length phases
+cleared-lt [] writer phase at other = absurd (cc)
+cleared-lt (first ∷ phases) zero phase at other =
+    let same : one_if_cleared first ≡ one_if_cleared phase = ap one_if_cleared (same_Some first phase at) in
+    omega (arith, same, other, cleared-le phases)
+cleared-lt (first ∷ phases) (suc writer) phase at other =
+    omega (arith, one_if_cleared-le first, cleared-lt phases writer phase at other)
 
-pub idle_only : (n i : ℕ) (phase : WriterPhase) → slice_get (replicate n Idle) i ≡ Some phase → Idle ≡ phase
-idle_only zero i phase at = absurd (cc)
-idle_only (suc n) zero phase at = same_Some Idle phase at
-idle_only (suc n) (suc i) phase at = idle_only n i phase at
+-- At the start every writer is idle, and none is cleared.
+pub all_idle : (count writer : ℕ) (phase : WriterPhase) → slice_get (replicate count Idle) writer ≡ Some phase → Idle ≡ phase
+all_idle zero writer phase at = absurd (cc)
+all_idle (suc count) zero phase at = same_Some Idle phase at
+all_idle (suc count) (suc writer) phase at = all_idle count writer phase at
 
-pub cleared-idle : (n : ℕ) → cleared (replicate n Idle) ≡ 0
+pub cleared-idle : (count : ℕ) → cleared (replicate count Idle) ≡ 0
 cleared-idle zero = refl
-cleared-idle (suc n) = omega (arith, cleared-idle n)
+cleared-idle (suc count) = omega (arith, cleared-idle count)

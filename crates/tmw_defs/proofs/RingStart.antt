@@ -8,7 +8,7 @@ use Rattle.tmw_defs.specs.RingSound.{cleared, Sound}
 use Rattle.tmw_defs.specs.declared.ring_cell.RingCell.{RingCell}
 use Rattle.tmw_defs.specs.declared.ring_phase.WriterPhase.TheVariants.{Idle, Looked, Claimed}
 use Rattle.tmw_defs.specs.declared.ring_size.RingSize.{RingSize}
-use Rattle.tmw_defs.proofs.RingPhases.{idle_only, cleared-idle}
+use Rattle.tmw_defs.proofs.RingPhases.{all_idle, cleared-idle}
 
 pub new_core-sound : (size : RingSize) → IsSize size → Sound (new_core size)
 new_core-sound size is =
@@ -23,10 +23,10 @@ new_core-sound size is =
       order = omega arith;
       room = omega (arith, none_cleared);
       limited = omega (arith, none_cleared);
-      looks = λ writer front kind at. let same = idle_only size.writers writer (Looked kind front) at in absurd (cc);
+      looks = λ writer front kind at. let same = all_idle size.writers writer (Looked kind front) at in absurd (cc);
       places = λ place low high. absurd (omega (arith, high));
-      holds = λ writer place kind is_filled at. let same = idle_only size.writers writer (Claimed place kind is_filled) at in absurd (cc);
-      once = λ a b place kind other p q one two. let same = idle_only size.writers a (Claimed place kind p) one in absurd (cc);
+      holds = λ writer place kind is_filled at. let same = all_idle size.writers writer (Claimed place kind is_filled) at in absurd (cc);
+      once = λ a b place kind other p q one two. let same = all_idle size.writers a (Claimed place kind p) one in absurd (cc);
       stamps = All-replicate (λ (cell : RingCell). cell.stamp ≤ 0) size.cells empty_cell (omega arith);
       reads = tt;
     }
