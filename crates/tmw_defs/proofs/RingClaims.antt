@@ -1,5 +1,5 @@
 -- A claim from a sound state leaves a sound state: the new place is tail's, its event is the log's last, and its cell is free.
-use Rattle.std.proofs.Common.{◌≡◌, ◌≢◌, ◌+◌, ◌++◌, ◌<◌, ◌≤◌, ℕ, zero, suc, Bool, true, false, List, [], ◌∷◌, length, take, Some, refl, sym, ap, ◌∙◌, subst, inl, inr, ◌⊎◌, arith}
+use Rattle.std.proofs.Common.{◌≡◌, ◌≢◌, ◌+◌, ◌++◌, ◌<◌, ◌≤◌, ℕ, zero, suc, Bool, false, List, [], ◌∷◌, length, Some, refl, sym, ap, ◌∙◌, subst, inl, inr, ◌⊎◌, arith}
 use Rattle.std.specs.Prelude.{slice_get, slice_set}
 use Rattle.std.proofs.lemmas.Bool.{cases_lt}
 use Rattle.std.proofs.lemmas.List.{length-set, length_push, take-append-le}
@@ -17,11 +17,8 @@ use Rattle.tmw_defs.specs.declared.ring_phase.WriterPhase.TheVariants.{Idle, Loo
 use Rattle.tmw_defs.specs.declared.ring_step.Reply.{Reply}
 use Rattle.tmw_defs.specs.declared.ring_step.Reply.TheVariants.{Place}
 use Rattle.tmw_defs.proofs.RingPhases.{phase_set, phase_kept, phase_cases, two_writers, claimed_parts, cleared-set}
-use Rattle.tmw_defs.proofs.RingPlaces.{Logs, published_still, holds_still, read_still}
+use Rattle.tmw_defs.proofs.RingPlaces.{event_of, published_still, holds_still, read_still}
 use Rattle.tmw_defs.proofs.RingStores.{held_stands, stamp_low}
-
-abbrev event_of : Ix → Kind → Event
-event_of writer kind = record { thread = writer; kind = kind }
 
 -- the state after the claim
 abbrev with_claim : Ix → Kind → Core → Core
@@ -31,41 +28,42 @@ with_claim writer kind core = record core {
   log = core.log ++ event_of writer kind ∷ [];
 }
 
--- The log keeps its events.
+-- The longer log keeps its events
 logs_more : (log more : List Event) (place : ℕ) (event : Event) → slice_get log place ≡ Some event → slice_get (log ++ more) place ≡ Some event
 logs_more [] more place event logged = absurd (cc)
 logs_more (first ∷ log) more zero event logged = logged
 logs_more (first ∷ log) more (suc place) event logged = logs_more log more place event logged
 
--- and has one more
+-- and has the new one at its end.
 logs_last : (log : List Event) (event : Event) (place : ℕ) → place ≡ length log → slice_get (log ++ event ∷ []) place ≡ Some event
 logs_last [] event zero last = refl
 logs_last [] event (suc place) last = absurd (omega arith)
 logs_last (first ∷ log) event zero last = absurd (omega arith)
 logs_last (first ∷ log) event (suc place) last = logs_last log event place (omega arith)
 
+-- The writer holds the new place; all others are as before.
 claim-places : (writer : Ix) (kind : Kind) (old : Core) → Sound old → IsIn old writer.number (Cleared kind)
     → (place : ℕ) → old.front ≤ place → place < old.tail + 1
     → IsHeld (with_claim writer kind old) place ⊎ IsPublished (with_claim writer kind old) place
 claim-places writer kind old sound at place low high =
     elim (cases_lt place old.tail) [
       | inl below ↦ elim (sound.places place low below) [
-          | inl held ↦
-              let apart = two_writers old.writers held.writer writer.number (Claimed place held.kind held.is_filled) (Cleared kind) held.claimed at
-                  (λ same. absurd (cc)) in
-              inl (record {
-                writer = held.writer;
-                kind = held.kind;
-                is_filled = held.is_filled;
-                claimed = phase_kept old.writers writer.number held.writer (Claimed old.tail kind false) apart ∙ held.claimed;
-              })
-          | inr published ↦
-              inr (published_still old (with_claim writer kind old) place (logs_more old.log (event_of writer kind ∷ [])) refl published)
-        ]
+        | inl held ↦
+            let apart = two_writers old.writers held.writer writer.number (Claimed place held.kind held.is_filled) (Cleared kind) held.claimed at
+            (λ same. absurd (cc)) in
+            inl (record {
+              writer = held.writer;
+              kind = held.kind;
+              is_filled = held.is_filled;
+              claimed = phase_kept old.writers writer.number held.writer (Claimed old.tail kind false) apart ∙ held.claimed;
+            })
+        | inr published ↦
+            inr (published_still old (with_claim writer kind old) place (logs_more old.log (event_of writer kind ∷ [])) refl published)
+      ]
       | inr above ↦
           let last : old.tail ≡ place = omega arith in
           let set = phase_set old.writers writer.number (Claimed old.tail kind false)
-              (slice_get_within old.writers writer.number (Cleared kind) at) in
+          (slice_get_within old.writers writer.number (Cleared kind) at) in
           inl (record {
             writer = writer.number;
             kind = kind;
@@ -74,12 +72,13 @@ claim-places writer kind old sound at place low high =
           })
     ]
 
+-- The new place's cell isn't stamped for it, since no stamp was ahead of tail.
 claim-holds : (writer : Ix) (kind : Kind) (old : Core) → Sound old → IsIn old writer.number (Cleared kind)
     → (other place : ℕ) (found : Kind) (is_filled : Bool) → IsIn (with_claim writer kind old) other (Claimed place found is_filled)
     → Holds (with_claim writer kind old) other place found is_filled
 claim-holds writer kind old sound at other place found is_filled claimed =
     elim (phase_cases old.writers writer.number other (Claimed old.tail kind false) (Claimed place found is_filled)
-        (slice_get_within old.writers writer.number (Cleared kind) at) claimed) [
+    (slice_get_within old.writers writer.number (Cleared kind) at) claimed) [
       | inl set ↦
           let parts = claimed_parts old.tail place kind found false is_filled set.1 in
           record {
@@ -94,22 +93,23 @@ claim-holds writer kind old sound at other place found is_filled claimed =
       | inr kept ↦
           let was = sound.holds other place found is_filled kept.1 in
           holds_still old (with_claim writer kind old) other place found is_filled (logs_more old.log (event_of writer kind ∷ []))
-              was.standing refl was
+          was.standing refl was
     ]
 
+-- Nobody else holds it, since all places that were held are below tail.
 claim-once : (writer : Ix) (kind : Kind) (old : Core) → Sound old → IsIn old writer.number (Cleared kind)
     → (a b place : ℕ) (k l : Kind) (p q : Bool) → IsIn (with_claim writer kind old) a (Claimed place k p)
     → IsIn (with_claim writer kind old) b (Claimed place l q) → a ≡ b
 claim-once writer kind old sound at a b place k l p q at_a at_b =
     elim (cases a k p at_a) [
       | inl set_a ↦ elim (cases b l q at_b) [
-          | inl set_b ↦ set_a.0 ∙ sym set_b.0
-          | inr kept_b ↦ absurd (older b l q kept_b.1 (claimed_parts old.tail place kind k false p set_a.1).0)
-        ]
+        | inl set_b ↦ set_a.0 ∙ sym set_b.0
+        | inr kept_b ↦ absurd (older b l q kept_b.1 (claimed_parts old.tail place kind k false p set_a.1).0)
+      ]
       | inr kept_a ↦ elim (cases b l q at_b) [
-          | inl set_b ↦ absurd (older a k p kept_a.1 (claimed_parts old.tail place kind l false q set_b.1).0)
-          | inr kept_b ↦ sound.once a b place k l p q kept_a.1 kept_b.1
-        ]
+        | inl set_b ↦ absurd (older a k p kept_a.1 (claimed_parts old.tail place kind l false q set_b.1).0)
+        | inr kept_b ↦ sound.once a b place k l p q kept_a.1 kept_b.1
+      ]
     ]
   where
     cases : (other : ℕ) (found : Kind) (is_filled : Bool) → IsIn (with_claim writer kind old) other (Claimed place found is_filled)
@@ -117,7 +117,7 @@ claim-once writer kind old sound at a b place k l p q at_a at_b =
         ⊎ ((other ≢ writer.number) × IsIn old other (Claimed place found is_filled))
     cases other found is_filled claimed =
         phase_cases old.writers writer.number other (Claimed old.tail kind false) (Claimed place found is_filled)
-            (slice_get_within old.writers writer.number (Cleared kind) at) claimed
+        (slice_get_within old.writers writer.number (Cleared kind) at) claimed
 
     older : (other : ℕ) (found : Kind) (is_filled : Bool) → IsIn old other (Claimed place found is_filled) → old.tail ≡ place → ⊥
     older other found is_filled claimed last =

@@ -1,5 +1,5 @@
 -- A fill from a sound state leaves a sound state: the cell of the place has the event's value, and its stamp is as before.
-use Rattle.std.proofs.Common.{◌≡◌, ◌≢◌, ◌+◌, ℕ, Bool, true, false, Some, refl, sym, subst, inl}
+use Rattle.std.proofs.Common.{◌≡◌, ◌≢◌, ◌+◌, ℕ, true, false, Some, refl, sym, subst, inl}
 use Rattle.std.proofs.lemmas.Option.{none-some, some_pair_parts, slice_get_within}
 use Rattle.tmw_events.specs.Packing.{kind_value}
 use Rattle.tmw_events.specs.declared.event.Kind.{Kind}
@@ -61,6 +61,6 @@ fill_keeps writer old (Cleared kind) reply new sound at step = absurd (none-some
 fill_keeps writer old (Claimed place kind false) reply new sound at step =
     let parts = some_pair_parts Filled reply (with_fill writer.number place kind old) new step in
     subst (λ (core : Core). Sound core × Spares old core) parts.1
-        (store_keeps old writer.number place kind false (filled_at old place kind) (Claimed place kind true) sound at
-            (fill-fit writer.number place kind old sound at))
+    (store_keeps old writer.number place kind false (filled_at old place kind) (Claimed place kind true) sound at
+    (fill-fit writer.number place kind old sound at))
 fill_keeps writer old (Claimed place kind true) reply new sound at step = absurd (none-some (reply, new) step)

@@ -1,9 +1,10 @@
 -- What holds at a place holds in every state in which the log has the same event there and its cell the same words.
-use Rattle.std.proofs.Common.{◌≡◌, ◌≢◌, ◌+◌, ◌*◌, ◌≤◌, ℕ, Bool, true, Some, refl, sym, ap, ◌∙◌, subst}
+use Rattle.std.proofs.Common.{◌≡◌, ◌≢◌, ◌+◌, ◌*◌, ◌≤◌, ℕ, Bool, true, Some, sym, ap, ◌∙◌, subst}
 use Rattle.std.specs.Prelude.{slice_get}
 use Rattle.tmw_events.specs.Packing.{kind_code, kind_register, packed_header, kind_value}
 use Rattle.tmw_events.specs.declared.event.Event.{Event}
 use Rattle.tmw_events.specs.declared.event.Kind.{Kind}
+use Rattle.tmw_events.specs.declared.ix.Ix.{Ix}
 use Rattle.tmw_defs.specs.Ring.{Core}
 use Rattle.tmw_defs.specs.RingCells.{Shows}
 use Rattle.tmw_defs.specs.RingSound.{IsPublished, Holds, HasRead}
@@ -52,3 +53,7 @@ pub same_header : (a b : Event) → a.thread.number ≡ b.thread.number → a.ki
 same_header a b same_thread same_kind =
     ap (λ (thread : ℕ). kind_code a.kind * 64 + thread * 8 + kind_register a.kind) same_thread
     ∙ ap (λ (kind : Kind). kind_code kind * 64 + b.thread.number * 8 + kind_register kind) same_kind
+
+-- the writer's event of this kind
+abbrev pub event_of : Ix → Kind → Event
+event_of writer kind = record { thread = writer; kind = kind }

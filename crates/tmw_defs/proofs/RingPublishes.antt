@@ -1,5 +1,5 @@
 -- A publish from a sound state leaves a sound state: the cell of the place shows the log's event there.
-use Rattle.std.proofs.Common.{◌≡◌, ◌+◌, ◌≤◌, ℕ, Bool, true, false, Some, refl, sym, ap, ◌∙◌, subst, inr, arith}
+use Rattle.std.proofs.Common.{◌≡◌, ℕ, true, false, Some, refl, sym, ap, ◌∙◌, subst, inr, arith}
 use Rattle.std.proofs.lemmas.Option.{none-some, some_pair_parts}
 use Rattle.tmw_events.specs.Packing.{kind_value}
 use Rattle.tmw_events.specs.declared.event.Event.{Event}
@@ -14,12 +14,9 @@ use Rattle.tmw_defs.specs.declared.ring_phase.WriterPhase.{WriterPhase}
 use Rattle.tmw_defs.specs.declared.ring_phase.WriterPhase.TheVariants.{Idle, Looked, Cleared, Claimed}
 use Rattle.tmw_defs.specs.declared.ring_step.Reply.{Reply}
 use Rattle.tmw_defs.specs.declared.ring_step.Reply.TheVariants.{Published}
-use Rattle.tmw_defs.proofs.RingPlaces.{same_header}
+use Rattle.tmw_defs.proofs.RingPlaces.{event_of, same_header}
 use Rattle.tmw_defs.proofs.RingStores.{held_stands, cell_stored}
 use Rattle.tmw_defs.proofs.RingWrites.{stored, IsFit, store_keeps}
-
-abbrev event_of : Ix → Kind → Event
-event_of writer kind = record { thread = writer; kind = kind }
 
 abbrev published_at : Core → ℕ → Event → RingCell
 published_at core place event = published place event (cell_at core place)
@@ -64,5 +61,5 @@ publish_keeps writer old (Claimed place kind false) reply new sound at step = ab
 publish_keeps writer old (Claimed place kind true) reply new sound at step =
     let parts = some_pair_parts (Published place) reply (with_publish writer place kind old) new step in
     subst (λ (core : Core). Sound core × Spares old core) parts.1
-        (store_keeps old writer.number place kind true (published_at old place (event_of writer kind)) Idle sound at
-            (publish-fit writer place kind old sound at))
+    (store_keeps old writer.number place kind true (published_at old place (event_of writer kind)) Idle sound at
+    (publish-fit writer place kind old sound at))

@@ -1,11 +1,11 @@
 -- The cells of a ring after a store: the cell of the place has the new words, and that of any other place in the same turn is as before.
-use Rattle.std.proofs.Common.{◌≡◌, ◌≢◌, ◌+◌, ◌*◌, ◌/◌, ◌%◌, ◌<◌, ◌≤◌, ℕ, zero, suc, List, length, sym, ap, ◌∙◌, inl, inr, arith}
+use Rattle.std.proofs.Common.{◌≡◌, ◌≢◌, ◌+◌, ◌*◌, ◌/◌, ◌%◌, ◌<◌, ◌≤◌, ℕ, suc, Bool, List, length, Some, sym, ap, ◌∙◌, inl, inr, arith}
 use Rattle.std.proofs.Math.Nat.{mod-lt, mul-le-mul_right}
 use Rattle.std.proofs.lemmas.Bool.{cases_lt}
 use Rattle.std.proofs.lemmas.List.{get_or-set_same, get_or-set_other, length-set}
 use Rattle.std.proofs.lemmas.Nat.{div-add-mod'}
 use Rattle.std.proofs.lemmas.Option.{slice_get_within}
-use Rattle.std.specs.Prelude.{Bool, slice_get, Some}
+use Rattle.std.specs.Prelude.{slice_get}
 use Rattle.tmw_events.specs.declared.event.Event.{Event}
 use Rattle.tmw_events.specs.declared.event.Kind.{Kind}
 use Rattle.tmw_defs.specs.Ring.{Core}
@@ -33,7 +33,7 @@ length-set_cell count place cell cells = length-set cells (place % count) cell
 pub one_turn : (count a b : ℕ) → a ≤ b → b < a + count → a % count ≡ b % count → a ≡ b
 one_turn count a b above near same =
     turns (a / count) (b / count) (b % count) count a b (ap (λ (rest : ℕ). a / count * count + rest) (sym same) ∙ div-add-mod' a count)
-        (div-add-mod' b count) above near
+    (div-add-mod' b count) above near
   where
     turns : (p q rest count a b : ℕ) → p * count + rest ≡ a → q * count + rest ≡ b → a ≤ b → b < a + count → a ≡ b
     turns p q rest count a b is_a is_b above near =
@@ -84,4 +84,4 @@ pub cell_spared : (core : Core) (place other : ℕ) (cell : RingCell) → Sound 
     → cell_at (with_cell place cell core) other ≡ cell_at core other
 cell_spared core place other cell sound at_place at_other apart =
     cell_of-kept core.size.cells place other cell core.cells
-        (λ same. apart (one_standing core other place (omega (arith, sound.room)) at_other at_place same))
+    (λ same. apart (one_standing core other place (omega (arith, sound.room)) at_other at_place same))
