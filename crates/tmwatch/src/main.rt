@@ -14,12 +14,12 @@ mod words;
 use clap::Error;
 use clap::error::ErrorKind;
 use order::Order;
-use run::{answer_fault, run_judge};
+use run::run_judge;
 use std::io::ErrorKind as IoErrorKind;
 use std::process::ExitCode;
 use std::{env, io};
 use tmw_events::{Sink, StdSink, StdSource};
-use tmw_report::{FAULT_STATUS, Fault};
+use tmw_report::{FAULT_STATUS, Fault, answer_fault};
 use words::read_words;
 
 fn main(rt: HostRuntime) -> ExitCode {
