@@ -82,6 +82,7 @@ impl Sim {
             × GoesOnAsOneLog self.old.machine (take count steps.now) self.new.machine) }
         ensures sound { Sound self.new.machine.core }
     {
+        let _ = &self.state;
         let mut said = Vec::with_capacity(alloc, steps.len())?;
         for step in steps {
             said.push_reserved(self.step(*step)?);
