@@ -1,3 +1,2 @@
-mod Laws
 mod Runs
 mod SoundWords

@@ -3,7 +3,7 @@ use Rattle.tmw_defs.specs.Ring.{HasRoom, HasLimit}
 use Rattle.tmw_defs.specs.RingMachine.{Machine}
 use Rattle.tmw_defs.specs.RingSound.{Sound}
 use Rattle.tmw_defs.specs.declared.ring_size.RingSize.{RingSize}
-use Rattle.tmw_ring_steps.proofs.Laws.{start_sound}
+use Rattle.tmw_defs.proofs.RingStart.{new_core-sound}
 use Rattle.tmw_ring_steps.proofs.sim.Sim.new.Goals as goal
 
 pub invariant_of-result : goal.invariant_of-result
@@ -12,4 +12,4 @@ invariant_of-result c =
     let P : Machine → Type 0 = λ m. Sound m.core in
     let cells : HasRoom size = record { some = omega arith; few = omega arith; room = omega arith; small = omega arith } in
     let limit : HasLimit size = record { room = omega arith; small = omega arith } in
-    subst P (sym c.in_ok-state.ensures) (start_sound size (record { cells = cells; limit = limit }))
+    subst P (sym c.in_ok-state.ensures) (new_core-sound size (record { cells = cells; limit = limit }))
