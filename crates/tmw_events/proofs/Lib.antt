@@ -3,15 +3,15 @@ mod EventLines
 mod FirstLines
 mod HeaderLines
 mod HeldBytes
-mod Lengths
-mod LinesRead
+pub mod Lengths
+pub mod LinesRead
 mod LongLines
-mod NextLines
+pub mod NextLines
 mod Numbers
 mod Pieces
-mod Splits
+pub mod Splits
 pub mod TextNames
 pub mod ToldBytes
 pub mod TracesRead
 pub mod Unpacks
-mod ValueParts
+pub mod ValueParts
