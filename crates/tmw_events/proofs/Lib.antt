@@ -4,10 +4,11 @@ mod FirstLines
 mod HeaderLines
 mod HeldBytes
 pub mod Lengths
-pub mod LinesRead
+mod LinesRead
 mod LongLines
 pub mod NextLines
 mod Numbers
+pub mod PackedWords
 mod Pieces
 pub mod Splits
 pub mod TextNames
