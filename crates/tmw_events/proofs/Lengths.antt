@@ -14,10 +14,10 @@ use Rattle.tmw_events.specs.declared.header.Header.{Header}
 use Rattle.tmw_events.specs.declared.version.Version.{Version}
 use Rattle.tmw_events.specs.declared.version.Version.TheVariants.{One, Two}
 
-length-decimal : (n : ℕ) → n < 2 ^ 64 → length (decimal n) ≤ 20
+pub length-decimal : (n : ℕ) → n < 2 ^ 64 → length (decimal n) ≤ 20
 length-decimal n small = length-decimal-le 20 n (omega arith) (omega arith) small
 
-length-kind_text : (kind : Kind) → FitsKind kind → length (kind_text kind) ≤ 24
+pub length-kind_text : (kind : Kind) → FitsKind kind → length (kind_text kind) ≤ 24
 length-kind_text (R r) fits = omega arith
 length-kind_text (V v) fits = omega (arith, length-decimal v fits)
 length-kind_text (W r v) fits = omega (arith, length-decimal v fits)

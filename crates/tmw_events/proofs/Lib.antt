@@ -3,16 +3,16 @@ mod EventLines
 mod FirstLines
 mod HeaderLines
 mod HeldBytes
-mod Lengths
+pub mod Lengths
 mod LinesRead
 mod LongLines
-mod NextLines
+pub mod NextLines
 mod Numbers
 pub mod PackedWords
 mod Pieces
-mod Splits
+pub mod Splits
 pub mod TextNames
 pub mod ToldBytes
 pub mod TracesRead
 pub mod Unpacks
-mod ValueParts
+pub mod ValueParts

@@ -117,7 +117,7 @@ fn values_of(registers: Registers, bytes: &[u8]) -> Option<[u64; 8]>
 }
 
 /// The value after the space at the front, up to the next space or the end, and the length of both.
-fn first_value(bytes: &[u8]) -> Option<(u64, usize)>
+pub fn first_value(bytes: &[u8]) -> Option<(u64, usize)>
     ensures some { IfSome result (λ found. IsFirstValue found.0 found.1 bytes.now) }
     ensures none { IfNone result (IsNoFirstValue bytes.now) }
 {

@@ -1,0 +1,6 @@
+mod FirstSizes
+mod LongTexts
+mod NextSteps
+mod SizeNumbers
+mod StepNames
+mod StepsRead

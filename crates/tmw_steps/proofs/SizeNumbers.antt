@@ -1,0 +1,72 @@
+-- The three numbers of a size, one after the other, and when a text is the text of no size.
+use Rattle.std.proofs.Common.{◌≡◌, ◌≢◌, ℕ, ◌<◌, ◌≤◌, ◌^◌, true, List, [], ◌∷◌, ◌++◌, length, drop, sym, ap, ◌∙◌, length-drop, take-append-drop, arith}
+use Rattle.std.specs.Fmt.{decimal}
+use Rattle.std.proofs.lemmas.List.{drop_all}
+use Rattle.tmw_events.specs.Parts.{is_next}
+use Rattle.tmw_events.specs.Text.{values_text}
+use Rattle.tmw_events.specs.Values.{IsFirstValue, IsNoFirstValue}
+use Rattle.tmw_events.proofs.Splits.{free-decimal, split_free}
+use Rattle.tmw_events.proofs.ValueParts.{next-values}
+use Rattle.tmw_defs.specs.declared.ring_size.RingSize.{RingSize}
+use Rattle.tmw_steps.specs.StepText.{size_numbers, FitsSize}
+
+-- the first value, and what follows it
+value-split : (value count : ℕ) (bytes : List ℕ) → IsFirstValue value count bytes
+    → bytes ≡ (32 ∷ decimal value) ++ drop count bytes
+value-split value count bytes first = sym (rw first.text at (take-append-drop count bytes))
+
+-- only one list of bytes follows a value at the front
+value-rest : (value count : ℕ) (bytes : List ℕ) (other : ℕ) (rest : List ℕ) → IsFirstValue value count bytes
+    → other < 2 ^ 64 → is_next 32 rest ≡ true → bytes ≡ 32 ∷ decimal other ++ rest → drop count bytes ≡ rest
+value-rest value count bytes other rest first small next is =
+    (split_free 32 (decimal value) (decimal other) (drop count bytes) rest (free-decimal 32 value (omega arith) first.small)
+    (free-decimal 32 other (omega arith) small) first.parted next
+    (ap (λ xs. drop 1 xs) (sym (value-split value count bytes first) ∙ is))).1
+
+pub numbers-some : (bytes : List ℕ) (a b c n m k : ℕ) → IsFirstValue a n bytes → IsFirstValue b m (drop n bytes)
+    → IsFirstValue c k (drop m (drop n bytes)) → k ≡ length (drop m (drop n bytes))
+    → bytes ≡ values_text (a ∷ b ∷ c ∷ [])
+numbers-some bytes a b c n m k first second third all =
+    let last = drop_all k (drop m (drop n bytes)) (omega (arith, all)) in
+    value-split a n bytes first
+    ∙ ap (λ xs. (32 ∷ decimal a) ++ xs) (value-split b m (drop n bytes) second
+    ∙ ap (λ xs. (32 ∷ decimal b) ++ xs) (value-split c k (drop m (drop n bytes)) third
+    ∙ ap (λ xs. (32 ∷ decimal c) ++ xs) last))
+
+pub no_cells : (bytes : List ℕ) → IsNoFirstValue bytes → (size : RingSize) → FitsSize size
+    → bytes ≡ values_text (size_numbers size) → ⊥
+no_cells bytes none size fits is =
+    none size.cells (values_text (size.writers ∷ size.limit ∷ [])) fits.cells (next-values (size.writers ∷ size.limit ∷ [])) is
+
+after_cells : (bytes : List ℕ) (a n : ℕ) → IsFirstValue a n bytes → (size : RingSize) → FitsSize size
+    → bytes ≡ values_text (size_numbers size) → drop n bytes ≡ values_text (size.writers ∷ size.limit ∷ [])
+after_cells bytes a n first size fits is =
+    value-rest a n bytes size.cells (values_text (size.writers ∷ size.limit ∷ [])) first fits.cells
+    (next-values (size.writers ∷ size.limit ∷ [])) is
+
+pub no_writers : (bytes : List ℕ) (a n : ℕ) → IsFirstValue a n bytes → IsNoFirstValue (drop n bytes)
+    → (size : RingSize) → FitsSize size → bytes ≡ values_text (size_numbers size) → ⊥
+no_writers bytes a n first none size fits is =
+    none size.writers (values_text (size.limit ∷ [])) fits.writers (next-values (size.limit ∷ []))
+    (after_cells bytes a n first size fits is)
+
+after_writers : (bytes : List ℕ) (a b n m : ℕ) → IsFirstValue a n bytes → IsFirstValue b m (drop n bytes)
+    → (size : RingSize) → FitsSize size → bytes ≡ values_text (size_numbers size)
+    → drop m (drop n bytes) ≡ values_text (size.limit ∷ [])
+after_writers bytes a b n m first second size fits is =
+    value-rest b m (drop n bytes) size.writers (values_text (size.limit ∷ [])) second fits.writers
+    (next-values (size.limit ∷ [])) (after_cells bytes a n first size fits is)
+
+pub no_limit : (bytes : List ℕ) (a b n m : ℕ) → IsFirstValue a n bytes → IsFirstValue b m (drop n bytes)
+    → IsNoFirstValue (drop m (drop n bytes)) → (size : RingSize) → FitsSize size
+    → bytes ≡ values_text (size_numbers size) → ⊥
+no_limit bytes a b n m first second none size fits is =
+    none size.limit (values_text []) fits.limit (next-values []) (after_writers bytes a b n m first second size fits is)
+
+pub no_more : (bytes : List ℕ) (a b c n m k : ℕ) → IsFirstValue a n bytes → IsFirstValue b m (drop n bytes)
+    → IsFirstValue c k (drop m (drop n bytes)) → k ≢ length (drop m (drop n bytes)) → (size : RingSize) → FitsSize size
+    → bytes ≡ values_text (size_numbers size) → ⊥
+no_more bytes a b c n m k first second third more size fits is =
+    let last = value-rest c k (drop m (drop n bytes)) size.limit (values_text []) third fits.limit (next-values [])
+    (after_writers bytes a b n m first second size fits is) in
+    more (omega (arith, ap length last, length-drop k (drop m (drop n bytes)), third.within))

@@ -1,0 +1,20 @@
+-- A text whose writer is no digit from 0 to 7, or that begins as a step `front` and goes on otherwise, is no step's.
+use Rattle.std.proofs.Common.{◌≡◌, ℕ, Option, Some, None, IfNone, List, [], ◌∷◌, drop, get_or, ap, arith}
+use Rattle.tmw_events.specs.Text.{digit, kind_text, FitsKind}
+use Rattle.tmw_events.specs.declared.event.Kind.{Kind}
+use Rattle.tmw_events.specs.declared.ix.Ix.{Ix}
+use Rattle.tmw_defs.specs.declared.ring_step.Step.{Step}
+use Rattle.tmw_defs.specs.declared.ring_step.Step.TheVariants.{Front, Tail, Claim, Fill, Publish, Peek, Read, Free, Stop}
+use Rattle.tmw_steps.specs.StepText.{step_text, FitsStep}
+
+pub no_digit : (bytes : List ℕ) (found : Option Ix) → IfNone found ((ix : Ix) → get_or bytes 0 0 ≡ digit ix → ⊥)
+    → IfNone found ((writer : Ix) → bytes ≡ digit writer ∷ [] → ⊥)
+no_digit bytes None none = λ writer is. none writer (ap (λ xs. get_or xs 0 0) is)
+no_digit bytes (Some ix) none = tt
+
+pub no_front : (bytes : List ℕ) (step : Step) → get_or bytes 0 0 ≡ 102 → get_or bytes 2 0 ≡ 111
+    → ((writer : Ix) (kind : Kind) → FitsKind kind → drop 6 bytes ≡ digit writer ∷ 32 ∷ kind_text kind → ⊥)
+    → FitsStep step → bytes ≡ step_text step → ⊥
+no_front bytes (Front w k) first third none fits is = none w k fits (ap (λ xs. drop 6 xs) is)
+no_front bytes _ first third none fits is =
+    absurd (omega (arith, first, third, ap (λ xs. get_or xs 0 0) is, ap (λ xs. get_or xs 2 0) is))

@@ -1,0 +1,27 @@
+use Rattle.std.proofs.Common.{◌<◌, ◌^◌, arith}
+use Rattle.tmw_events.specs.Held.{bytes_of}
+use Rattle.tmw_steps.proofs.NextSteps.{long_step-feed, long_step-end, long_step-failed}
+use Rattle.tmw_steps.proofs.next_step.next_step.Goals as goal
+
+pub returns-in-Feed-clause-reads : goal.returns-in-Feed-clause-reads
+returns-in-Feed-clause-reads g c =
+    let few : c.args.count < 2 ^ 40 = omega arith in
+    long_step-feed g.S.Source.told (g.S.Source.ended c.skip_line.new.source) c.args.source.now c.next_piece.new.source
+    c.skip_line.new.source c.args.count (bytes_of c.args.held.now) (bytes_of c.next_piece.new.held)
+    (bytes_of c.skip_line.new.held) c.next_piece.ensures.reads c.in-Long.ensures.piece.0 c.in-Long.ensures.piece.1
+    c.in-Feed.ensures.skips few
+
+pub returns-in-End-skip_line-clause-reads : goal.returns-in-End-skip_line-clause-reads
+returns-in-End-skip_line-clause-reads g c =
+    let few : c.args.count < 2 ^ 40 = omega arith in
+    long_step-end g.S.Source.told (g.S.Source.ended c.skip_line.new.source) c.args.source.now c.next_piece.new.source
+    c.skip_line.new.source c.args.count (bytes_of c.args.held.now) (bytes_of c.next_piece.new.held)
+    (bytes_of c.skip_line.new.held) c.next_piece.ensures.reads c.in-Long.ensures.piece.0 c.in-Long.ensures.piece.1
+    c.in-End-skip_line.ensures.skips few
+
+pub returns-in-Failed-skip_line-clause-reads : goal.returns-in-Failed-skip_line-clause-reads
+returns-in-Failed-skip_line-clause-reads g c =
+    let few : c.args.count < 2 ^ 40 = omega arith in
+    long_step-failed g.S.Source.told (g.S.Source.ended c.skip_line.new.source) c.args.source.now c.next_piece.new.source
+    c.skip_line.new.source c.args.count (bytes_of c.args.held.now) (bytes_of c.next_piece.new.held)
+    (bytes_of c.skip_line.new.held) c.next_piece.ensures.reads c.in-Long.ensures.piece.1 c.in-Failed-skip_line.ensures.skips few

@@ -1,0 +1,3 @@
+pub mod StepFault
+pub mod StepLine
+pub mod StepText

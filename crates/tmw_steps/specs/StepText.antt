@@ -1,0 +1,51 @@
+-- The texts of a ring's size and of the steps in it. Numbers are decimal, without sign and without leading zeros.
+use Rattle.std.specs.Prelude.{ℕ, ◌<◌, ◌^◌, List, [], ◌∷◌, ◌++◌, codes, All}
+use Rattle.std.specs.List.{flat_map}
+use Rattle.tmw_events.specs.Text.{digit, kind_text, line, values_text, FitsKind}
+use Rattle.tmw_defs.specs.declared.ring_size.RingSize.{RingSize}
+use Rattle.tmw_defs.specs.declared.ring_step.Step.{Step}
+use Rattle.tmw_defs.specs.declared.ring_step.Step.TheVariants.{Front, Tail, Claim, Fill, Publish, Peek, Read, Free, Stop}
+
+-- a step's name, then its writer and the kind of its event, each after one space
+abbrev pub step_text : Step → List ℕ
+step_text (Front writer kind) = codes "front " ++ digit writer ∷ 32 ∷ kind_text kind
+step_text (Tail writer) = codes "tail " ++ digit writer ∷ []
+step_text (Claim writer) = codes "claim " ++ digit writer ∷ []
+step_text (Fill writer) = codes "fill " ++ digit writer ∷ []
+step_text (Publish writer) = codes "publish " ++ digit writer ∷ []
+step_text Peek = codes "peek"
+step_text Read = codes "read"
+step_text Free = codes "free"
+step_text (Stop writer) = codes "stop " ++ digit writer ∷ []
+
+-- a ring's cells, its writers and its places in all
+abbrev pub size_numbers : RingSize → List ℕ
+size_numbers size = size.cells ∷ size.writers ∷ size.limit ∷ []
+
+-- the first line without its line feed: the format's name and version, and each of the size's numbers after one space
+abbrev pub size_text : RingSize → List ℕ
+size_text size = codes "ring-steps 1" ++ values_text (size_numbers size)
+
+-- a line for each step
+abbrev pub lines_text : List Step → List ℕ
+lines_text steps = flat_map (λ step. line (step_text step)) steps
+
+-- the size's line, then a line for each step
+abbrev pub steps_text : RingSize → List Step → List ℕ
+steps_text size steps = line (size_text size) ++ lines_text steps
+
+-- the value of a step's event is a number of 64 bits
+abbrev pub FitsStep : Step → Type 0
+FitsStep (Front writer kind) = FitsKind kind
+FitsStep _ = Unit {0}
+
+-- the size's numbers have 64 bits
+pub record FitsSize (size : RingSize) : Type 0 where
+  pub cells : size.cells < 2 ^ 64
+  pub writers : size.writers < 2 ^ 64
+  pub limit : size.limit < 2 ^ 64
+
+-- these are the size and the steps of a text: their numbers have 64 bits
+pub record AreSteps (size : RingSize) (steps : List Step) : Type 0 where
+  pub size_fits : FitsSize size
+  pub fit : All FitsStep steps

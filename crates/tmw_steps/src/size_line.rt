@@ -1,0 +1,63 @@
+ghost use Rattle.std.specs.Prelude.{◌≡◌, IfSome, IfNone};
+ghost use Rattle.tmw_events.specs.Text.{values_text};
+ghost use Rattle.tmw_defs.specs.declared.ring_size.RingSize.{RingSize};
+ghost use Rattle.tmw_steps.specs.StepFault.{IsNoSize};
+ghost use Rattle.tmw_steps.specs.StepText.{size_numbers, size_text, FitsSize};
+
+use tmw_defs::RingSize;
+use tmw_events::first_value;
+
+/// The size that these bytes are the text of: the first line without its line feed. `None` for all other bytes. Whether a
+/// ring may have this size is not asked.
+pub fn size_of(bytes: &[u8]) -> Option<RingSize>
+    ensures some { IfSome result (λ size. bytes.now ≡ size_text size) }
+    ensures fits { IfSome result FitsSize }
+    ensures none { IfNone result (IsNoSize bytes.now) }
+{
+    match bytes {
+        [
+            b'r',
+            b'i',
+            b'n',
+            b'g',
+            b'-',
+            b's',
+            b't',
+            b'e',
+            b'p',
+            b's',
+            b' ',
+            b'1',
+            rest @ ..,
+        ] => { numbers_of(rest) }
+        _ => None,
+    }
+}
+
+/// The size whose numbers these bytes are the text of, each after one space.
+fn numbers_of(bytes: &[u8]) -> Option<RingSize>
+    ensures some { IfSome result (λ size. bytes.now ≡ values_text (size_numbers size)) }
+    ensures fits { IfSome result FitsSize }
+    ensures none { IfNone result ((size : RingSize) → FitsSize size → bytes.now ≡ values_text (size_numbers size) → ⊥) }
+{
+    let Some((cells, first)) = first_value(bytes) else {
+        return None;
+    };
+    let after_cells = &bytes[first..];
+    let Some((writers, second)) = first_value(after_cells) else {
+        return None;
+    };
+    let after_writers = &after_cells[second..];
+    let Some((limit, third)) = first_value(after_writers) else {
+        return None;
+    };
+    if third == after_writers.len() {
+        Some(RingSize {
+            cells,
+            writers,
+            limit,
+        })
+    } else {
+        None
+    }
+}

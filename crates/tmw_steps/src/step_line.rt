@@ -1,0 +1,102 @@
+ghost use Rattle.std.specs.Prelude.{◌≡◌, [], ◌∷◌, IfSome, IfNone};
+ghost use Rattle.tmw_events.specs.Text.{digit, kind_text, FitsKind};
+ghost use Rattle.tmw_events.specs.declared.event.Kind.{Kind};
+ghost use Rattle.tmw_events.specs.declared.ix.Ix.{Ix};
+ghost use Rattle.tmw_steps.specs.StepFault.{IsNoStep};
+ghost use Rattle.tmw_steps.specs.StepText.{step_text, FitsStep};
+
+use tmw_defs::Step;
+use tmw_events::{Ix, Kind, kind_of};
+
+/// The step that these bytes are the text of: a line without its line feed. `None` for all other bytes.
+pub fn step_of(bytes: &[u8]) -> Option<Step>
+    ensures some { IfSome result (λ step. bytes.now ≡ step_text step) }
+    ensures fits { IfSome result FitsStep }
+    ensures none { IfNone result (IsNoStep bytes.now) }
+{
+    match bytes {
+        [b'p', b'e', b'e', b'k'] => Some(Step::Peek),
+        [b'r', b'e', b'a', b'd'] => Some(Step::Read),
+        [b'f', b'r', b'e', b'e'] => Some(Step::Free),
+        [b'f', b'r', b'o', b'n', b't', b' ', rest @ ..] => {
+            let Some((writer, kind)) = front_of(rest) else {
+                return None;
+            };
+            Some(Step::Front(writer, kind))
+        }
+        [b't', b'a', b'i', b'l', b' ', rest @ ..] => {
+            let Some(writer) = writer_of(rest) else {
+                return None;
+            };
+            Some(Step::Tail(writer))
+        }
+        [b'c', b'l', b'a', b'i', b'm', b' ', rest @ ..] => {
+            let Some(writer) = writer_of(rest) else {
+                return None;
+            };
+            Some(Step::Claim(writer))
+        }
+        [b'f', b'i', b'l', b'l', b' ', rest @ ..] => {
+            let Some(writer) = writer_of(rest) else {
+                return None;
+            };
+            Some(Step::Fill(writer))
+        }
+        [b'p', b'u', b'b', b'l', b'i', b's', b'h', b' ', rest @ ..] => {
+            let Some(writer) = writer_of(rest) else {
+                return None;
+            };
+            Some(Step::Publish(writer))
+        }
+        [b's', b't', b'o', b'p', b' ', rest @ ..] => {
+            let Some(writer) = writer_of(rest) else {
+                return None;
+            };
+            Some(Step::Stop(writer))
+        }
+        _ => None,
+    }
+}
+
+/// The writer and the kind that these bytes are the text of, parted by one space.
+fn front_of(bytes: &[u8]) -> Option<(Ix, Kind)>
+    ensures some { IfSome result (λ front. bytes.now ≡ digit front.0 ∷ 32 ∷ kind_text front.1) }
+    ensures fits { IfSome result (λ front. FitsKind front.1) }
+    ensures none { IfNone result ((writer : Ix) (kind : Kind) → FitsKind kind
+        → bytes.now ≡ digit writer ∷ 32 ∷ kind_text kind → ⊥) }
+{
+    match bytes {
+        [writer, b' ', kind @ ..] => {
+            let Some(writer) = ix_of(*writer) else {
+                return None;
+            };
+            let Some(kind) = kind_of(kind) else {
+                return None;
+            };
+            Some((writer, kind))
+        }
+        _ => None,
+    }
+}
+
+/// The writer that these bytes are the text of: one digit.
+fn writer_of(bytes: &[u8]) -> Option<Ix>
+    ensures some { IfSome result (λ writer. bytes.now ≡ digit writer ∷ []) }
+    ensures none { IfNone result ((writer : Ix) → bytes.now ≡ digit writer ∷ [] → ⊥) }
+{
+    match bytes {
+        [byte] => ix_of(*byte),
+        _ => None,
+    }
+}
+
+/// The writer that this byte is the digit of.
+fn ix_of(byte: u8) -> Option<Ix>
+    ensures some { IfSome result (λ ix. byte ≡ digit ix) }
+    ensures none { IfNone result ((ix : Ix) → byte ≡ digit ix → ⊥) }
+{
+    if byte < b'0' {
+        return None;
+    }
+    Ix::new(byte - b'0')
+}
