@@ -1,6 +1,8 @@
+mod Answering
 mod FirstSizes
 mod LongTexts
 mod NextSteps
+mod ReplyLines
 mod SizeNumbers
 mod StepNames
 mod StepsRead

@@ -1,3 +1,5 @@
+pub mod ReplyText
+pub mod Running
 pub mod StepFault
 pub mod StepLine
 pub mod StepText

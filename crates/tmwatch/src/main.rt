@@ -20,6 +20,7 @@ use std::process::ExitCode;
 use std::{env, io};
 use tmw_events::{Sink, StdSink, StdSource};
 use tmw_report::{FAULT_STATUS, Fault, answer_fault};
+use tmw_steps::run_steps;
 use words::read_words;
 
 fn main(rt: HostRuntime) -> ExitCode {
@@ -28,7 +29,7 @@ fn main(rt: HostRuntime) -> ExitCode {
     let status = match words_of(&rt) {
         Ok(words) => match read_words(rt.alloc(), &words) {
             Ok(Order::Judge { bounds }) => run_judge(rt.alloc(), &mut source, &mut sink, bounds),
-            Ok(Order::Steps) => answer_fault(&mut sink, Fault::Usage),
+            Ok(Order::Steps) => run_steps(rt.alloc(), &mut source, &mut sink),
             Err(error) => answer(&rt, &mut sink, &error),
         },
         Err(fault) => answer_fault(&mut sink, fault),

@@ -1,7 +1,6 @@
 //! Texts that are cut, reads and writes that fail, and a long text.
 use super::*;
-use crate::run::answer_fault;
-use tmw_report::Fault;
+use tmw_report::{Fault, answer_fault};
 
 #[test]
 fn texts_that_are_cut(rt: HostRuntime) -> Result<(), Fail> {
