@@ -1,3 +1,4 @@
+pub mod ReplyText
 pub mod StepFault
 pub mod StepLine
 pub mod StepText

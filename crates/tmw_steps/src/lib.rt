@@ -4,11 +4,13 @@
 mod first_size;
 mod next_step;
 mod reader;
+mod reply_line;
 mod size_line;
 mod step_line;
 mod step_list;
 
 pub use reader::read_steps;
+pub use reply_line::put_replies;
 pub use size_line::size_of;
 pub use step_line::step_of;
 pub use step_list::StepList;

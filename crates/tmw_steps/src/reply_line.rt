@@ -1,0 +1,115 @@
+ghost use Rattle.std.specs.Prelude.{◌≡◌, ◌++◌, OnOk, OnErr, decimal};
+ghost use Rattle.tmw_events.specs.Text.{line};
+ghost use Rattle.tmw_events.specs.Told.{Adds, AddsBeginning, one_more};
+ghost use Rattle.tmw_defs.specs.declared.ring_step.Reply.TheVariants.{Taken};
+ghost use Rattle.tmw_steps.specs.ReplyText.{reply_text, counts_text, replies_text};
+
+use itoa::Buffer;
+use tmw_defs::Reply;
+use tmw_events::{Event, IoFault, Sink, put_all, put_event};
+
+/// Writes a line for each reply, and then the line that counts the places that were claimed, `log`, and the events that
+/// were taken. It takes no memory. After a failed write a beginning of the lines went out, and not all of them.
+pub fn put_replies<K: Sink>(
+    sink: &mut K,
+    replies: &[Reply],
+    log: u64,
+    taken: u64,
+) -> Result<(), IoFault>
+    ensures takes { OnOk result (Adds K.took sink.old (replies_text replies.now log taken) sink.new) }
+    ensures well { OnOk result (K.failures sink.new ≡ K.failures sink.old) }
+    ensures begun { OnErr result (AddsBeginning K.took sink.old (replies_text replies.now log taken) sink.new) }
+    ensures failed { OnErr result (K.failures sink.new ≡ one_more (K.failures sink.old)) }
+{
+    for reply in replies {
+        put_line(sink, *reply)?;
+    }
+    put_counts(sink, log, taken)
+}
+
+/// Writes the reply's line, with its line feed.
+fn put_line<K: Sink>(sink: &mut K, reply: Reply) -> Result<(), IoFault>
+    ensures takes { OnOk result (Adds K.took sink.old (line (reply_text reply)) sink.new) }
+    ensures well { OnOk result (K.failures sink.new ≡ K.failures sink.old) }
+    ensures begun { OnErr result (AddsBeginning K.took sink.old (line (reply_text reply)) sink.new) }
+    ensures failed { OnErr result (K.failures sink.new ≡ one_more (K.failures sink.old)) }
+{
+    put_reply(sink, reply)?;
+    put_all(sink, b"\n")
+}
+
+/// Writes the line of the two counts, with its line feed.
+fn put_counts<K: Sink>(sink: &mut K, log: u64, taken: u64) -> Result<(), IoFault>
+    ensures takes { OnOk result (Adds K.took sink.old (line (counts_text log taken)) sink.new) }
+    ensures well { OnOk result (K.failures sink.new ≡ K.failures sink.old) }
+    ensures begun { OnErr result (AddsBeginning K.took sink.old (line (counts_text log taken)) sink.new) }
+    ensures failed { OnErr result (K.failures sink.new ≡ one_more (K.failures sink.old)) }
+{
+    put_numbers(sink, b"log ", log, b" taken ", taken)?;
+    put_all(sink, b"\n")
+}
+
+/// Writes the reply's text.
+fn put_reply<K: Sink>(sink: &mut K, reply: Reply) -> Result<(), IoFault>
+    ensures takes { OnOk result (Adds K.took sink.old (reply_text reply) sink.new) }
+    ensures well { OnOk result (K.failures sink.new ≡ K.failures sink.old) }
+    ensures begun { OnErr result (AddsBeginning K.took sink.old (reply_text reply) sink.new) }
+    ensures failed { OnErr result (K.failures sink.new ≡ one_more (K.failures sink.old)) }
+{
+    match reply {
+        Reply::Saw(front) => put_number(sink, b"saw ", front),
+        Reply::Cleared => put_all(sink, b"cleared"),
+        Reply::Full { front, tail } => put_numbers(sink, b"full ", front, b" ", tail),
+        Reply::Spent { tail } => put_number(sink, b"spent ", tail),
+        Reply::Place(place) => put_number(sink, b"place ", place),
+        Reply::Filled => put_all(sink, b"filled"),
+        Reply::Published(place) => put_number(sink, b"published ", place),
+        Reply::Ready => put_all(sink, b"ready"),
+        Reply::NotReady => put_all(sink, b"not ready"),
+        Reply::Word(word) => put_number(sink, b"word ", word),
+        Reply::Taken(event) => put_taken(sink, event),
+        Reply::Stopped => put_all(sink, b"stopped"),
+        Reply::NotNow => put_all(sink, b"not now"),
+    }
+}
+
+/// Writes the text of an event that was taken.
+fn put_taken<K: Sink>(sink: &mut K, event: Event) -> Result<(), IoFault>
+    ensures takes { OnOk result (Adds K.took sink.old (reply_text (Taken event)) sink.new) }
+    ensures well { OnOk result (K.failures sink.new ≡ K.failures sink.old) }
+    ensures begun { OnErr result (AddsBeginning K.took sink.old (reply_text (Taken event)) sink.new) }
+    ensures failed { OnErr result (K.failures sink.new ≡ one_more (K.failures sink.old)) }
+{
+    put_all(sink, b"event ")?;
+    put_event(sink, &event)
+}
+
+/// Writes two numbers, each after a text.
+fn put_numbers<K: Sink>(
+    sink: &mut K,
+    before: &[u8],
+    first: u64,
+    between: &[u8],
+    second: u64,
+) -> Result<(), IoFault>
+    ensures takes { OnOk result (Adds K.took sink.old
+        ((before.now ++ decimal first) ++ (between.now ++ decimal second)) sink.new) }
+    ensures well { OnOk result (K.failures sink.new ≡ K.failures sink.old) }
+    ensures begun { OnErr result (AddsBeginning K.took sink.old
+        ((before.now ++ decimal first) ++ (between.now ++ decimal second)) sink.new) }
+    ensures failed { OnErr result (K.failures sink.new ≡ one_more (K.failures sink.old)) }
+{
+    put_number(sink, before, first)?;
+    put_number(sink, between, second)
+}
+
+/// Writes a text and then a number.
+fn put_number<K: Sink>(sink: &mut K, before: &[u8], number: u64) -> Result<(), IoFault>
+    ensures takes { OnOk result (Adds K.took sink.old (before.now ++ decimal number) sink.new) }
+    ensures well { OnOk result (K.failures sink.new ≡ K.failures sink.old) }
+    ensures begun { OnErr result (AddsBeginning K.took sink.old (before.now ++ decimal number) sink.new) }
+    ensures failed { OnErr result (K.failures sink.new ≡ one_more (K.failures sink.old)) }
+{
+    put_all(sink, before)?;
+    put_all(sink, Buffer::new().format(number).as_bytes())
+}
