@@ -4,7 +4,11 @@
 mod first_size;
 mod next_step;
 mod reader;
+#[cfg(test)]
+mod reader_tests;
 mod reply_line;
+#[cfg(test)]
+mod reply_tests;
 mod size_line;
 mod step_line;
 mod step_list;
