@@ -1,5 +1,5 @@
 -- The longest texts of a size and of a step, and that longer ones are no text of either.
-use Rattle.std.proofs.Common.{◌≡◌, ℕ, ◌+◌, ◌≤◌, List, [], ◌∷◌, ◌++◌, length, ap, length-append, arith}
+use Rattle.std.proofs.Common.{ℕ, ◌≤◌, List, [], ◌∷◌, length, ap, length-append, arith}
 use Rattle.std.specs.Fmt.{decimal}
 use Rattle.tmw_events.specs.Text.{values_text}
 use Rattle.tmw_events.proofs.Lengths.{length-decimal, length-kind_text}

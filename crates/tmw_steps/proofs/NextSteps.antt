@@ -1,5 +1,5 @@
 -- One line of a list of steps: held whole, or longer than can be held.
-use Rattle.std.proofs.Common.{◌≡◌, ℕ, ◌+◌, ◌<◌, ◌^◌, Option, Some, None, IfSome, IfNone, Err, List, [], ◌∷◌, ◌++◌, length, take, drop, refl, ap, ◌∙◌, length-append, append_assoc, arith}
+use Rattle.std.proofs.Common.{◌≡◌, ℕ, ◌+◌, ◌<◌, ◌^◌, Option, Some, None, IfSome, IfNone, Err, List, ◌∷◌, ◌++◌, length, take, drop, refl, ap, ◌∙◌, length-append, append_assoc, arith}
 use Rattle.tmw_events.specs.LongLine.{Skips}
 use Rattle.tmw_events.specs.Parts.{IsFree}
 use Rattle.tmw_events.specs.Piece.{Reads}

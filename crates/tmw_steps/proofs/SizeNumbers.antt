@@ -1,5 +1,5 @@
 -- The three numbers of a size, one after the other, and when a text is the text of no size.
-use Rattle.std.proofs.Common.{◌≡◌, ◌≢◌, ℕ, ◌<◌, ◌≤◌, ◌^◌, true, List, [], ◌∷◌, ◌++◌, length, drop, sym, ap, ◌∙◌, length-drop, take-append-drop, arith}
+use Rattle.std.proofs.Common.{◌≡◌, ◌≢◌, ℕ, ◌<◌, ◌^◌, true, List, [], ◌∷◌, ◌++◌, length, drop, sym, ap, ◌∙◌, length-drop, take-append-drop, arith}
 use Rattle.std.specs.Fmt.{decimal}
 use Rattle.std.proofs.lemmas.List.{drop_all}
 use Rattle.tmw_events.specs.Parts.{is_next}

@@ -1,11 +1,17 @@
-//! Lists of a ring's steps as text, read from a source, and the text of how they are answered.
+//! The command `steps`: a list of a ring's steps, read from its text, made on a new ring's machine, and its replies' text.
 #![tactic(auto)]
 
 mod first_size;
 mod next_step;
 mod reader;
+#[cfg(test)]
+mod reader_tests;
 mod reply_line;
+#[cfg(test)]
+mod reply_tests;
 mod run;
+#[cfg(test)]
+mod run_tests;
 mod size_line;
 mod step_line;
 mod step_list;

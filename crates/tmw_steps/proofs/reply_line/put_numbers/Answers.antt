@@ -1,5 +1,5 @@
 -- A beginning of the first text and number, or of the second ones after them.
-use Rattle.std.proofs.Common.{[], ◌∷◌, ◌++◌, decimal, codes}
+use Rattle.std.proofs.Common.{◌++◌, decimal}
 use Rattle.std.proofs.lemmas.Result.{on_err_weaker, err_from_is_err_and}
 use Rattle.tmw_events.proofs.Beginnings.{AddsBeginning-more, AddsBeginning-front}
 use Rattle.tmw_steps.proofs.reply_line.put_numbers.Goals as goal

@@ -1,6 +1,6 @@
-use Rattle.std.proofs.Common.{◌≡◌, length, drop}
+use Rattle.std.proofs.Common.{drop}
 use Rattle.std.proofs.lemmas.List.{take_rest}
-use Rattle.tmw_steps.proofs.SizeNumbers.{numbers-some, no_cells, no_writers, no_limit, no_more}
+use Rattle.tmw_steps.proofs.SizeNumbers.{numbers-some, no_writers, no_limit, no_more}
 use Rattle.tmw_steps.proofs.size_line.numbers_of.Goals as goal
 
 pub returns-in_default-first_value-clause-none : goal.returns-in_default-first_value-clause-none
