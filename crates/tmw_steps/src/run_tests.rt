@@ -6,10 +6,12 @@ use std::test::Fail;
 use tmw_events::{MemorySink, MemorySource};
 
 /// Two writers whose claims are published in the other order, in a ring that is full between them.
-const TWO_WRITERS: &str = "ring-steps 1 2 2 100, front 0 W 0 5, front 1 T, tail 0, tail 1, claim 0, claim 1, fill 1, publish 1, \
+const TWO_WRITERS: &str =
+    "ring-steps 1 2 2 100, front 0 W 0 5, front 1 T, tail 0, tail 1, claim 0, claim 1, fill 1, publish 1, \
     peek, front 1 X, tail 1, fill 0, publish 0, peek, read, free, peek, read, free";
 
-const TWO_WRITERS_REPLIES: &str = "saw 0, saw 0, cleared, cleared, place 0, place 1, filled, published 1, not ready, saw 0, \
+const TWO_WRITERS_REPLIES: &str =
+    "saw 0, saw 0, cleared, cleared, place 0, place 1, filled, published 1, not ready, saw 0, \
     full 0 2, filled, published 0, ready, word 5, event 0 W 0 5, ready, word 0, event 1 T, log 2 taken 2";
 
 /// The lines, which commas part, each with its line feed.
@@ -87,8 +89,8 @@ fn steps_that_are_not_next(rt: HostRuntime) -> Result<(), Fail> {
 fn a_spent_ring(rt: HostRuntime) -> Result<(), Fail> {
     expect(
         &rt,
-        "ring-steps 1 4 1 1, front 0 A, tail 0, claim 0, front 0 K, tail 0, front 0 K",
-        "saw 0, cleared, place 0, saw 0, spent 1, saw 0, log 1 taken 0",
+        "ring-steps 1 4 1 1, front 0 A, tail 0, claim 0, fill 0, publish 0, front 0 K, tail 0, front 0 K",
+        "saw 0, cleared, place 0, filled, published 0, saw 0, spent 1, saw 0, log 1 taken 0",
     )
 }
 
@@ -120,7 +122,10 @@ fn faults_of_the_text(rt: HostRuntime) {
         ("ring-steps 1 04 2 9\n", "{\"fault\":\"bad header\"}\n"),
         ("ring-steps 1 4 2 9", "{\"fault\":\"cut\",\"line\":1}\n"),
         // A fault of the text comes before the size's.
-        ("ring-steps 1 0 0 0\npeek", "{\"fault\":\"cut\",\"line\":2}\n"),
+        (
+            "ring-steps 1 0 0 0\npeek",
+            "{\"fault\":\"cut\",\"line\":2}\n",
+        ),
         (
             "ring-steps 1 0 0 0\npeek\npeak\n",
             "{\"fault\":\"bad line\",\"line\":3}\n",
@@ -140,8 +145,16 @@ fn reads_that_fail(rt: HostRuntime) -> Result<(), Fail> {
     for call in 1..text.len() as u64 + 2 {
         let mut source = MemorySource::limited(&text, 1, Some(call));
         let mut sink = MemorySink::new(rt.alloc());
-        assert_eq!(rt; run_steps(rt.alloc(), &mut source, &mut sink), 4, "at {call}");
-        assert_eq!(rt; sink.bytes(), b"{\"fault\":\"io\"}\n".as_slice(), "at {call}");
+        assert_eq!(rt;
+            run_steps(rt.alloc(), &mut source, &mut sink),
+            4,
+            "at {call}"
+        );
+        assert_eq!(rt;
+            sink.bytes(),
+            b"{\"fault\":\"io\"}\n".as_slice(),
+            "at {call}"
+        );
     }
     Ok(())
 }
@@ -153,7 +166,11 @@ fn writes_that_fail(rt: HostRuntime) -> Result<(), Fail> {
     for call in 1..output.len() as u64 + 1 {
         let mut source = MemorySource::new(&text);
         let mut sink = MemorySink::limited(rt.alloc(), 1, Some(call));
-        assert_eq!(rt; run_steps(rt.alloc(), &mut source, &mut sink), 4, "at {call}");
+        assert_eq!(rt;
+            run_steps(rt.alloc(), &mut source, &mut sink),
+            4,
+            "at {call}"
+        );
         assert_eq!(rt; sink.bytes(), &output[..call as usize - 1], "at {call}");
     }
     Ok(())
