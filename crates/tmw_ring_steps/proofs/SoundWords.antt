@@ -2,7 +2,7 @@
 use Rattle.std.proofs.Common.{◌≡◌, ◌+◌, ◌<◌, ◌^◌, ◌++◌, ℕ, Bool, [], ◌∷◌, length, sym, ap, ◌∙◌, subst, arith}
 use Rattle.std.proofs.lemmas.Option.{slice_get_within}
 use Rattle.tmw_events.proofs.Unpacks.{unpacked-pack}
-use Rattle.tmw_events.specs.Packing.{pack, packed_header, kind_value}
+use Rattle.tmw_events.specs.Packing.{pack, kind_value}
 use Rattle.tmw_events.specs.Text.{FitsKind}
 use Rattle.tmw_events.specs.Unpacking.{unpacked}
 use Rattle.tmw_events.specs.declared.event.Event.{Event}
@@ -12,7 +12,6 @@ use Rattle.tmw_defs.specs.Ring.{Core}
 use Rattle.tmw_defs.specs.RingMachine.{Machine, answered}
 use Rattle.tmw_defs.specs.RingSound.{Sound, IsIn, HasRead}
 use Rattle.tmw_defs.specs.RingSteps.{core_step}
-use Rattle.tmw_defs.specs.declared.ring_phase.ReaderPhase.{ReaderPhase}
 use Rattle.tmw_defs.specs.declared.ring_phase.ReaderPhase.TheVariants.{Waiting, Told}
 use Rattle.tmw_defs.specs.declared.ring_phase.WriterPhase.{WriterPhase}
 use Rattle.tmw_defs.specs.declared.ring_phase.WriterPhase.TheVariants.{Claimed}
