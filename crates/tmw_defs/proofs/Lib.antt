@@ -1,4 +1,5 @@
 pub mod Along
+pub mod Answered
 pub mod Apart
 pub mod Before
 pub mod BlindProof
@@ -6,12 +7,15 @@ pub mod CutsProof
 pub mod ForcedProof
 pub mod LastOfOrder
 pub mod LayersProof
+pub mod MachineProof
 pub mod Masks
 pub mod Places
 pub mod QuietProof
 pub mod QuietTexts
+pub mod RingSizes
 pub mod Removals
 pub mod DecisionProof
+pub mod OneLogProof
 pub mod OneMore
 pub mod TextsProof
 pub mod VerdictProof

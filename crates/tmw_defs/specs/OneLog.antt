@@ -2,7 +2,6 @@
 use Rattle.std.specs.Prelude.{◌≡◌, ◌==◌, ◌+◌, ◌++◌, ◌<◌, ℕ, List, [], ◌∷◌, length, take, Some, slice_get, All, if◌then◌else◌}
 use Rattle.tmw_events.specs.declared.event.Event.{Event}
 use Rattle.tmw_events.specs.declared.event.Kind.{Kind}
-use Rattle.tmw_events.specs.declared.event.Kind.TheVariants.{T}
 use Rattle.tmw_events.specs.declared.ix.Ix.{Ix}
 use Rattle.tmw_defs.specs.Ring.{Core, IsSize}
 use Rattle.tmw_defs.specs.RingMachine.{Machine, new_machine, after, replies}
@@ -63,13 +62,14 @@ sequential_of core = record { items = core.log; count = length core.taken }
 
 -- What a new ring's machine of this size has become by these steps, so answered.
 pub record IsOneLog (size : RingSize) (steps : List Step) (said : List Reply) (machine : Machine) : Type 0 where
-  -- Its state is sound.
+  -- Its state is sound, and of this size.
   pub sound : Sound machine.core
-  -- The answers are those of one log, at first empty. Before a writer announced anything its kind is of no account.
-  pub asked : AskInOrder (λ number. T) steps said empty_log (sequential_of machine.core)
+  pub sized : machine.core.size ≡ size
+  -- The answers are those of one log, at first empty, whatever kinds are taken for writers that have announced none.
+  pub asked : (kinds : Announced) → AskInOrder kinds steps said empty_log (sequential_of machine.core)
   -- The events taken begin the log.
   pub begins : (rest : List Event) × (machine.core.log ≡ machine.core.taken ++ rest)
-  -- No step stores to the cell of a published place that was not taken.
+  -- No step changes the cell of a published place that was not taken.
   pub spares : (count : ℕ) → count < length steps
       → Spares (after (take count steps) (new_machine size)).core (after (take (count + 1) steps) (new_machine size)).core
 

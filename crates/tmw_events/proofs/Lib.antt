@@ -8,6 +8,7 @@ mod LinesRead
 mod LongLines
 mod NextLines
 mod Numbers
+pub mod PackedWords
 mod Pieces
 mod Splits
 pub mod TextNames

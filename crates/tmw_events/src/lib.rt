@@ -3,6 +3,7 @@
 
 mod event;
 mod event_line;
+mod event_text;
 mod first_line;
 mod header;
 mod header_line;
@@ -14,6 +15,9 @@ mod memory_sink;
 mod memory_source;
 mod next_line;
 mod number;
+mod packing;
+#[cfg(test)]
+mod packing_tests;
 mod piece;
 mod reader;
 #[cfg(test)]
@@ -34,6 +38,7 @@ mod writing;
 
 pub use event::{Event, Kind};
 pub use event_line::{event_of, kind_of};
+pub use event_text::put_event;
 pub use header::Header;
 pub use header_line::header_of;
 pub use io_fault::IoFault;
@@ -41,6 +46,7 @@ pub use ix::Ix;
 pub use memory_sink::MemorySink;
 pub use memory_source::MemorySource;
 pub use number::number_of;
+pub use packing::{join, pack, split, unpack};
 pub use reader::read_trace;
 pub use registers::Registers;
 pub use sink::Sink;

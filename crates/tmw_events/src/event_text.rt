@@ -1,0 +1,68 @@
+ghost use Rattle.std.specs.Prelude.{◌≡◌, ◌++◌, OnOk, OnErr, decimal};
+ghost use Rattle.tmw_events.specs.Text.{digit, kind_text, event_text};
+ghost use Rattle.tmw_events.specs.Told.{Adds, AddsBeginning, one_more};
+
+use crate::event::{Event, Kind};
+use crate::io_fault::IoFault;
+use crate::ix::Ix;
+use crate::sink::Sink;
+use crate::writing::put_all;
+use itoa::Buffer;
+
+/// Writes the event's text, without a line feed. It takes no memory. After a failed write a beginning of the text went
+/// out, and not all of it.
+pub fn put_event<K: Sink>(sink: &mut K, event: &Event) -> Result<(), IoFault>
+    ensures takes { OnOk result (Adds K.took sink.old (event_text event.now) sink.new) }
+    ensures well { OnOk result (K.failures sink.new ≡ K.failures sink.old) }
+    ensures begun { OnErr result (AddsBeginning K.took sink.old (event_text event.now) sink.new) }
+    ensures failed { OnErr result (K.failures sink.new ≡ one_more (K.failures sink.old)) }
+{
+    put_all(sink, &[digit_of(event.thread), b' '])?;
+    put_kind(sink, event.kind)
+}
+
+/// Writes the kind's text.
+fn put_kind<K: Sink>(sink: &mut K, kind: Kind) -> Result<(), IoFault>
+    ensures takes { OnOk result (Adds K.took sink.old (kind_text kind) sink.new) }
+    ensures well { OnOk result (K.failures sink.new ≡ K.failures sink.old) }
+    ensures begun { OnErr result (AddsBeginning K.took sink.old (kind_text kind) sink.new) }
+    ensures failed { OnErr result (K.failures sink.new ≡ one_more (K.failures sink.old)) }
+{
+    match kind {
+        Kind::R(register) => put_all(sink, &[b'R', b' ', digit_of(register)]),
+        Kind::V(value) => put_valued(sink, b"V ", value),
+        Kind::W(register, value) => put_valued(
+            sink,
+            &[b'W', b' ', digit_of(register), b' '],
+            value,
+        ),
+        Kind::K => put_all(sink, b"K"),
+        Kind::T => put_all(sink, b"T"),
+        Kind::C => put_all(sink, b"C"),
+        Kind::X => put_all(sink, b"X"),
+        Kind::A => put_all(sink, b"A"),
+        Kind::N(register, value) => put_valued(
+            sink,
+            &[b'N', b' ', digit_of(register), b' '],
+            value,
+        ),
+    }
+}
+
+/// Writes bytes and then a value.
+fn put_valued<K: Sink>(sink: &mut K, before: &[u8], value: u64) -> Result<(), IoFault>
+    ensures takes { OnOk result (Adds K.took sink.old (before.now ++ decimal value) sink.new) }
+    ensures well { OnOk result (K.failures sink.new ≡ K.failures sink.old) }
+    ensures begun { OnErr result (AddsBeginning K.took sink.old (before.now ++ decimal value) sink.new) }
+    ensures failed { OnErr result (K.failures sink.new ≡ one_more (K.failures sink.old)) }
+{
+    put_all(sink, before)?;
+    put_all(sink, Buffer::new().format(value).as_bytes())
+}
+
+/// The digit that names the thread or register.
+fn digit_of(ix: Ix) -> u8
+    ensures { result ≡ digit ix }
+{
+    b'0' + ix.get()
+}
