@@ -1,0 +1,4 @@
+pub mod NewSim
+pub mod OneLogRuns
+pub mod Simulated
+pub mod State

@@ -1,0 +1,19 @@
+-- The machine that a state stands for.
+use Rattle.tmw_defs.specs.Ring.{Core}
+use Rattle.tmw_defs.specs.RingMachine.{Machine}
+use Rattle.tmw_ring_steps.specs.declared.state.State.{State}
+
+abbrev pub core_of : State → Core
+core_of state = record {
+  size = state.size;
+  front = state.front;
+  tail = state.tail;
+  cells = state.cells.items;
+  writers = state.writers.items;
+  reader = state.reader;
+  log = state.log.items;
+  taken = state.taken.items;
+}
+
+abbrev pub machine_of : State → Machine
+machine_of state = record { core = core_of state; stopped = state.stopped.items }

@@ -1,0 +1,17 @@
+//! The ring as a machine that a user steps: what each of its writers and its reader does next, and how that is answered.
+#![tactic(auto)]
+
+mod fault;
+mod reading;
+#[cfg(test)]
+mod seeded;
+mod sim;
+mod state;
+mod stepping;
+#[cfg(test)]
+mod tests;
+mod writing;
+
+pub use fault::RingFault;
+pub use sim::Sim;
+pub use tmw_defs::{Reply, RingSize, Step};

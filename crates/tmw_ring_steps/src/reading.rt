@@ -1,0 +1,67 @@
+ghost use Rattle.std.specs.Prelude.{◌≡◌, IfOk, OnErr};
+ghost use Rattle.tmw_defs.specs.RingMachine.{answered};
+ghost use Rattle.tmw_defs.specs.RingSound.{Sound};
+ghost use Rattle.tmw_defs.specs.RingSteps.{core_step};
+ghost use Rattle.tmw_ring_steps.specs.State.{core_of, machine_of};
+
+use crate::state::State;
+use std::alloc::AllocError;
+use tmw_defs::{ReaderPhase, Reply, Step};
+use tmw_events::unpack;
+
+impl State {
+    /// The reader loads the next place's stamp and header.
+    pub fn peek(&mut self) -> Reply
+        requires { Sound (core_of self.old) }
+        ensures { (result, machine_of self.new) ≡ answered (machine_of self.old) (core_step Step.Peek (core_of self.old)) }
+    {
+        match self.reader {
+            ReaderPhase::Waiting => {
+                let cell = self.cell_at(self.front);
+                if cell.stamp == self.front + 1 {
+                    self.reader = ReaderPhase::Ready {
+                        header: cell.header,
+                    };
+                    return Reply::Ready;
+                }
+                Reply::NotReady
+            }
+            _ => Reply::NotNow,
+        }
+    }
+
+    /// The reader loads the next place's value.
+    pub fn read(&mut self) -> Reply
+        requires { Sound (core_of self.old) }
+        ensures { (result, machine_of self.new) ≡ answered (machine_of self.old) (core_step Step.Read (core_of self.old)) }
+    {
+        match self.reader {
+            ReaderPhase::Ready { header } => {
+                let value = self.cell_at(self.front).value;
+                self.reader = ReaderPhase::Told { header, value };
+                Reply::Word(value)
+            }
+            _ => Reply::NotNow,
+        }
+    }
+
+    /// The reader stores the next front. It has taken the event.
+    pub fn free(&mut self) -> Result<Reply, AllocError>
+        requires { Sound (core_of self.old) }
+        ensures ok { IfOk result (λ reply. (reply, machine_of self.new) ≡ answered (machine_of self.old) (core_step Step.Free (core_of self.old))) }
+        ensures err { OnErr result (machine_of self.new ≡ machine_of self.old) }
+    {
+        match self.reader {
+            ReaderPhase::Told { header, value } => {
+                let Some(event) = unpack(header, value) else {
+                    return Ok(Reply::NotNow);
+                };
+                self.taken.push(event)?;
+                self.front += 1;
+                self.reader = ReaderPhase::Waiting;
+                Ok(Reply::Taken(event))
+            }
+            _ => Ok(Reply::NotNow),
+        }
+    }
+}

@@ -1,0 +1,157 @@
+//! Seeded steps of one to four writers and a reader, with what the replies tell beside a plain list.
+use super::*;
+use std::alloc::{AllocError, Global};
+use std::test::Fail;
+use tmw_events::{Event, Ix, Kind};
+
+/// The next number of a sequence that a seed begins.
+fn draw(seed: &mut u64) -> u64 {
+    let mut number = *seed;
+    number ^= number << 13;
+    number ^= number >> 7;
+    number ^= number << 17;
+    *seed = number;
+    number >> 8
+}
+
+/// One of so many writers.
+fn draw_writer(seed: &mut u64, writers: u64) -> Ix {
+    match draw(seed) % writers.max(1) {
+        0 => Ix { number: 0 },
+        1 => Ix { number: 1 },
+        2 => Ix { number: 2 },
+        _ => Ix { number: 3 },
+    }
+}
+
+fn draw_kind(seed: &mut u64, register: Ix) -> Kind {
+    let value = draw(seed);
+    match draw(seed) % 9 {
+        0 => Kind::R(register),
+        1 => Kind::V(value),
+        2 => Kind::W(register, value),
+        3 => Kind::K,
+        4 => Kind::T,
+        5 => Kind::C,
+        6 => Kind::X,
+        7 => Kind::A,
+        _ => Kind::N(register, value),
+    }
+}
+
+/// A step of one of so many writers or of the reader.
+fn draw_step(seed: &mut u64, writers: u64) -> Step {
+    let writer = draw_writer(seed, writers);
+    match draw(seed) % 64 {
+        0 => Step::Stop(writer),
+        1..=10 => {
+            let register = draw_writer(seed, 4);
+            Step::Front(writer, draw_kind(seed, register))
+        }
+        11..=20 => Step::Tail(writer),
+        21..=30 => Step::Claim(writer),
+        31..=40 => Step::Fill(writer),
+        41..=50 => Step::Publish(writer),
+        51..=55 => Step::Peek,
+        56..=59 => Step::Read,
+        _ => Step::Free,
+    }
+}
+
+fn draw_steps(
+    alloc: Global,
+    seed: &mut u64,
+    length: u64,
+    writers: u64,
+) -> Result<Vec<Step>, AllocError> {
+    let mut steps = Vec::new(alloc);
+    for _number in 0..length {
+        steps.push(draw_step(seed, writers))?;
+    }
+    Ok(steps)
+}
+
+/// What the replies have told: the kind that each writer last announced, the events that were claimed for in order, and how
+/// many events were taken; and how often there was no room, or no place.
+#[derive(Debug, Drop)]
+struct Told {
+    announced: [Kind; 8],
+    claimed: Vec<Event>,
+    taken: usize,
+    full: u64,
+    spent: u64,
+}
+
+impl Told {
+    fn new(alloc: Global) -> Told {
+        Told {
+            announced: [Kind::K; 8],
+            claimed: Vec::new(alloc),
+            taken: 0,
+            full: 0,
+            spent: 0,
+        }
+    }
+
+    /// Takes the reply to the step, and says whether one list could have answered so: by its length to a claim, and by its next
+    /// item to the reader.
+    fn tell(&mut self, step: Step, reply: Reply) -> Result<bool, AllocError> {
+        match (step, reply) {
+            (Step::Front(writer, kind), Reply::Saw(_)) => {
+                self.announced[usize::from(writer.get())] = kind;
+                Ok(true)
+            }
+            (Step::Claim(thread), Reply::Place(place)) => {
+                let next = self.claimed.len() as u64;
+                let kind = self.announced[usize::from(thread.get())];
+                self.claimed.push(Event { thread, kind })?;
+                Ok(place == next)
+            }
+            (_, Reply::Taken(event)) => {
+                let next = self.claimed.get(self.taken).copied();
+                self.taken = self.taken.saturating_add(1);
+                Ok(next == Some(event))
+            }
+            (_, Reply::Full { .. }) => {
+                self.full = self.full.saturating_add(1);
+                Ok(true)
+            }
+            (_, Reply::Spent { .. }) => {
+                self.spent = self.spent.saturating_add(1);
+                Ok(true)
+            }
+            _ => Ok(true),
+        }
+    }
+}
+
+#[test]
+fn the_replies_are_those_of_one_list(rt: HostRuntime) -> Result<(), Fail> {
+    let mut seed = 88172645463325252;
+    let mut claimed = 0usize;
+    let mut taken = 0usize;
+    let mut full = 0u64;
+    let mut spent = 0u64;
+    for number in 0..200u64 {
+        let writers = 1 + number % 4;
+        let cells = writers + draw(&mut seed) % (7 - writers);
+        let limit = writers + draw(&mut seed) % 12;
+        let mut sim = Sim::new(rt.alloc(), cells, writers, limit)?;
+        let steps = draw_steps(rt.alloc(), &mut seed, 150, writers)?;
+        let said = sim.run(rt.alloc(), &steps)?;
+        let mut told = Told::new(rt.alloc());
+        for (step, reply) in steps.iter().zip(said.iter()) {
+            let in_order = told.tell(*step, *reply)?;
+            assert!(rt; in_order, "{steps:?} {said:?}");
+        }
+        assert_eq!(rt; sim.log(), told.claimed.as_slice());
+        assert_eq!(rt; sim.taken().len(), told.taken);
+        claimed = claimed.saturating_add(told.claimed.len());
+        taken = taken.saturating_add(told.taken);
+        full = full.saturating_add(told.full);
+        spent = spent.saturating_add(told.spent);
+    }
+    let enough = claimed > 800 && taken > 300 && full > 40 && spent > 40;
+    assert!(rt; enough, "{claimed} {taken} {full} {spent}");
+    Ok(())
+}

@@ -1,0 +1,112 @@
+ghost use Rattle.std.specs.Prelude.{◌≡◌, ◌+◌, ◌<◌, ◌≤◌, ◌^◌, ℕ, length, take, IfOk, OnOk, OnErr};
+ghost use Rattle.tmw_defs.specs.RingMachine.{machine_step, after, replies};
+ghost use Rattle.tmw_defs.specs.RingSound.{Sound, Spares};
+ghost use Rattle.tmw_ring_steps.specs.NewSim.{IsNewSim};
+ghost use Rattle.tmw_ring_steps.specs.OneLogRuns.{GoesOnAsOneLog};
+
+use crate::fault::RingFault;
+use crate::state::State;
+use std::alloc::{AllocError, Global};
+use std::marker::Model;
+use tmw_defs::{Reply, RingSize, Step};
+use tmw_events::Event;
+
+/// A ring in which threads record events, as a machine that is stepped in whatever order its actors make their steps.
+#[derive(Debug, Drop)]
+pub struct Sim {
+    state: State,
+    made: u64,
+}
+
+impl Model for Sim {
+    ghost use Rattle.tmw_ring_steps.specs.Simulated.{Simulated};
+
+    ghost Value = { Simulated };
+
+    ghost use Rattle.tmw_defs.specs.RingSound.{Sound};
+    ghost use Rattle.tmw_ring_steps.specs.State.{core_of, machine_of};
+
+    ghost view = { λ sim. record { machine = machine_of sim.state; made = sim.made } };
+
+    ghost invariant = { λ sim. Sound (core_of sim.state) };
+}
+
+impl Sim {
+    /// A new ring of this size, at which nobody has made a step. The numbers of its cells and its writers are tested before its
+    /// limit.
+    pub fn new(alloc: Global, cells: u64, writers: u64, limit: u64) -> Result<Sim, RingFault>
+        ensures { IsNewSim (record { cells = cells; writers = writers; limit = limit }) result }
+    {
+        if writers < 1 || 8 < writers || cells < writers || 4096 < cells {
+            return Err(RingFault::BadSize);
+        }
+        if limit < writers || 1 << 40 < limit {
+            return Err(RingFault::BadLimit);
+        }
+        let state = State::new(
+            alloc,
+            RingSize {
+                cells,
+                writers,
+                limit,
+            },
+        )?;
+        Ok(Sim { state, made: 0 })
+    }
+
+    /// Makes the step, and answers it. Where memory for the log is refused, nothing has changed.
+    pub fn step(&mut self, step: Step) -> Result<Reply, AllocError>
+        requires { self.old.made + 1 < 2 ^ 64 }
+        ensures reply { IfOk result (λ reply. reply ≡ (machine_step step self.old.machine).0) }
+        ensures machine { OnOk result (self.new.machine ≡ (machine_step step self.old.machine).1) }
+        ensures made { OnOk result (self.new.made ≡ self.old.made + 1) }
+        ensures err { OnErr result (self.new ≡ self.old) }
+        // The state stays sound, and no published place is stored to before it is taken.
+        ensures sound { Sound self.new.machine.core }
+        ensures spares { Spares self.old.machine.core self.new.machine.core }
+    {
+        let reply = self.state.step(step)?;
+        self.made += 1;
+        Ok(reply)
+    }
+
+    /// Makes the steps in order, and answers each. Where memory is refused, the steps before were made and no more.
+    pub fn run(&mut self, alloc: Global, steps: &[Step]) -> Result<Vec<Reply>, AllocError>
+        requires { self.old.made + length steps.now < 2 ^ 64 }
+        ensures replies { IfOk result (λ said. said.items ≡ replies steps.now self.old.machine) }
+        ensures machine { OnOk result (self.new.machine ≡ after steps.now self.old.machine) }
+        ensures made { OnOk result (self.new.made ≡ self.old.made + length steps.now) }
+        ensures one_log { OnOk result (GoesOnAsOneLog self.old.machine steps.now self.new.machine) }
+        ensures err { OnErr result ((count : ℕ) × (count ≤ length steps.now) × (self.new.made ≡ self.old.made + count)
+            × (self.new.machine ≡ after (take count steps.now) self.old.machine)
+            × GoesOnAsOneLog self.old.machine (take count steps.now) self.new.machine) }
+        ensures sound { Sound self.new.machine.core }
+    {
+        let mut said = Vec::with_capacity(alloc, steps.len())?;
+        for step in steps {
+            said.push_reserved(self.step(*step)?);
+        }
+        Ok(said)
+    }
+
+    /// The events for which a place was claimed, in the order of their places.
+    pub fn log(&self) -> &[Event]
+        ensures { result.now ≡ self.now.machine.core.log }
+    {
+        &self.state.log
+    }
+
+    /// The events that were taken, in order.
+    pub fn taken(&self) -> &[Event]
+        ensures { result.now ≡ self.now.machine.core.taken }
+    {
+        &self.state.taken
+    }
+
+    /// How many steps were made.
+    pub fn made(&self) -> u64
+        ensures { result ≡ self.now.made }
+    {
+        self.made
+    }
+}

@@ -1,0 +1,164 @@
+ghost use Rattle.std.specs.Prelude.{◌≡◌, IfOk, OnErr};
+ghost use Rattle.tmw_defs.specs.RingMachine.{answered};
+ghost use Rattle.tmw_defs.specs.RingSound.{Sound, IsIn};
+ghost use Rattle.tmw_defs.specs.RingSteps.{core_step, room_step};
+ghost use Rattle.tmw_ring_steps.specs.State.{core_of, machine_of};
+
+use crate::state::State;
+use std::alloc::AllocError;
+use tmw_defs::{Reply, RingCell, Step, WriterPhase};
+use tmw_events::{Event, Ix, Kind, pack};
+
+impl State {
+    /// The writer, which has an event of this kind to record, loads front.
+    pub fn see_front(&mut self, writer: Ix, kind: Kind) -> Reply
+        ensures { (result, machine_of self.new) ≡ answered (machine_of self.old) (core_step (Step.Front writer kind) (core_of self.old)) }
+    {
+        match self.phase_of(writer) {
+            Some(WriterPhase::Idle) => {
+                let front = self.front;
+                self.set_phase(writer, WriterPhase::Looked { kind, front });
+                Reply::Saw(front)
+            }
+            _ => Reply::NotNow,
+        }
+    }
+
+    /// The writer loads tail, and sees whether there is room.
+    pub fn see_tail(&mut self, writer: Ix) -> Reply
+        requires { Sound (core_of self.old) }
+        ensures { (result, machine_of self.new) ≡ answered (machine_of self.old) (core_step (Step.Tail writer) (core_of self.old)) }
+    {
+        let Some(phase) = self.phase_of(writer) else {
+            return Reply::NotNow;
+        };
+        match phase {
+            WriterPhase::Looked { kind, front } => self.look_for_room(writer, kind, front),
+            _ => Reply::NotNow,
+        }
+    }
+
+    /// There is room where every writer has it, with tail as it is now.
+    fn look_for_room(&mut self, writer: Ix, kind: Kind, front: u64) -> Reply
+        requires sound { Sound (core_of self.old) }
+        requires looked { IsIn (core_of self.old) writer.number (WriterPhase.Looked kind front) }
+        ensures { (result, machine_of self.new) ≡ answered (machine_of self.old) (Some (room_step writer.number kind front (core_of self.old))) }
+    {
+        let tail = self.tail;
+        if self.size.limit < tail + self.size.writers {
+            self.set_phase(writer, WriterPhase::Idle);
+            return Reply::Spent { tail };
+        }
+        if self.size.cells - self.size.writers < tail - front {
+            self.set_phase(writer, WriterPhase::Idle);
+            return Reply::Full { front, tail };
+        }
+        self.set_phase(writer, WriterPhase::Cleared { kind });
+        Reply::Cleared
+    }
+
+    /// The writer adds 1 to tail, and its event joins the log.
+    pub fn claim(&mut self, writer: Ix) -> Result<Reply, AllocError>
+        requires { Sound (core_of self.old) }
+        ensures ok { IfOk result (λ reply. (reply, machine_of self.new) ≡ answered (machine_of self.old) (core_step (Step.Claim writer) (core_of self.old))) }
+        ensures err { OnErr result (machine_of self.new ≡ machine_of self.old) }
+    {
+        let Some(phase) = self.phase_of(writer) else {
+            return Ok(Reply::NotNow);
+        };
+        match phase {
+            WriterPhase::Cleared { kind } => {
+                let place = self.tail;
+                self.log.push(Event {
+                    thread: writer,
+                    kind,
+                })?;
+                self.tail = place + 1;
+                self.set_phase(
+                    writer,
+                    WriterPhase::Claimed {
+                        place,
+                        kind,
+                        filled: false,
+                    },
+                );
+                Ok(Reply::Place(place))
+            }
+            _ => Ok(Reply::NotNow),
+        }
+    }
+
+    /// The writer stores its event's value in the place's cell.
+    pub fn fill(&mut self, writer: Ix) -> Reply
+        requires { Sound (core_of self.old) }
+        ensures { (result, machine_of self.new) ≡ answered (machine_of self.old) (core_step (Step.Fill writer) (core_of self.old)) }
+    {
+        let Some(phase) = self.phase_of(writer) else {
+            return Reply::NotNow;
+        };
+        match phase {
+            WriterPhase::Claimed {
+                place,
+                kind,
+                filled,
+            } => {
+                if filled {
+                    return Reply::NotNow;
+                }
+                let (_, value) = pack(Event {
+                    thread: writer,
+                    kind,
+                });
+                let cell = self.cell_at(place);
+                self.set_cell(place, RingCell { value, ..cell });
+                self.set_phase(
+                    writer,
+                    WriterPhase::Claimed {
+                        place,
+                        kind,
+                        filled: true,
+                    },
+                );
+                Reply::Filled
+            }
+            _ => Reply::NotNow,
+        }
+    }
+
+    /// The writer stores the place's stamp, with its event's header, in the place's cell.
+    pub fn publish(&mut self, writer: Ix) -> Reply
+        requires { Sound (core_of self.old) }
+        ensures { (result, machine_of self.new) ≡ answered (machine_of self.old) (core_step (Step.Publish writer) (core_of self.old)) }
+    {
+        let Some(phase) = self.phase_of(writer) else {
+            return Reply::NotNow;
+        };
+        match phase {
+            WriterPhase::Claimed {
+                place,
+                kind,
+                filled,
+            } => {
+                if !filled {
+                    return Reply::NotNow;
+                }
+                let (header, _) = pack(Event {
+                    thread: writer,
+                    kind,
+                });
+                let cell = self.cell_at(place);
+                self.set_cell(
+                    place,
+                    RingCell {
+                        stamp: place + 1,
+                        header,
+                        ..cell
+                    },
+                );
+                self.set_phase(writer, WriterPhase::Idle);
+                Reply::Published(place)
+            }
+            _ => Reply::NotNow,
+        }
+    }
+}
