@@ -14,6 +14,17 @@ pub mod QuietProof
 pub mod QuietTexts
 pub mod RingSizes
 pub mod Removals
+pub mod RingClaims
+pub mod RingFills
+pub mod RingLaw
+pub mod RingLooks
+pub mod RingPhases
+pub mod RingPlaces
+pub mod RingPublishes
+pub mod RingStart
+pub mod RingStores
+pub mod RingTakes
+pub mod RingWrites
 pub mod DecisionProof
 pub mod OneLogProof
 pub mod OneMore
