@@ -1,0 +1,9 @@
+//! A running ring in which threads record events: words that change in single steps, with what each writer and the reader know
+//! of them.
+#![tactic(auto)]
+
+mod part;
+mod rule;
+
+pub use part::{Look, Made, Part, ReaderPart, WriterPart};
+pub use rule::{RingRule, RingSeat, RingTable};
