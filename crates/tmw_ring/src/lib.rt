@@ -2,8 +2,12 @@
 //! of them.
 #![tactic(auto)]
 
+mod ends;
+mod make;
 mod part;
 mod rule;
 
+pub use ends::{Reader, Ring, Writer};
+pub use make::ring;
 pub use part::{Look, Made, Part, ReaderPart, WriterPart};
 pub use rule::{RingRule, RingSeat, RingTable};
