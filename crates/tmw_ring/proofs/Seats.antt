@@ -34,16 +34,48 @@ from_this seat to place = rw (eq-eqb seat seat refl) refl
 from_other : (seat : ℕ) (to : ℕ → ℕ × ℕ) (other place : ℕ) → other ≢ seat → from_seat seat to (other, place) ≡ (other, place)
 from_other seat to other place apart = rw (ne_eqb other seat apart) refl
 
-module _ {S : Type 0} where
-  -- Each part of the two halves was the seat's, and `to` says where it lies now.
-  pub record Cut (view left right : Parts) (seat other : ℕ) (to : ℕ → ℕ × ℕ) : Type 0 where
-    pub kept : (place : ℕ) (part : Part) → get_elem? left place ≡ some part
-        → (from : ℕ) × (get_elem? view from ≡ some part) × (to from ≡ (seat, place))
-    pub given : (place : ℕ) (part : Part) → get_elem? right place ≡ some part
-        → (from : ℕ) × (get_elem? view from ≡ some part) × (to from ≡ (other, place))
+-- Each part of the two halves was the seat's, and `to` says where it lies now.
+pub record Cut (view left right : Parts) (seat other : ℕ) (to : ℕ → ℕ × ℕ) : Type 0 where
+  pub kept : (place : ℕ) (part : Part) → get_elem? left place ≡ some part
+      → (from : ℕ) × (get_elem? view from ≡ some part) × (to from ≡ (seat, place))
+  pub given : (place : ℕ) (part : Part) → get_elem? right place ≡ some part
+      → (from : ℕ) × (get_elem? view from ≡ some part) × (to from ≡ (other, place))
 
+-- Where each part goes when the second is cut off.
+abbrev second_to : ℕ → ℕ → ℕ → ℕ × ℕ
+second_to seat other zero = (seat, 0)
+second_to seat other (suc zero) = (other, 0)
+second_to seat other (suc (suc place)) = (seat, suc place)
+
+second_cut : (view : Parts) (seat other : ℕ) → Cut view (without_second view) (second_alone view) seat other (second_to seat other)
+second_cut [] seat other = record {
+  kept = λ place part at. absurd (some-ne-none part (sym at));
+  given = λ place part at. absurd (some-ne-none part (sym at));
+}
+second_cut (first ∷ []) seat other = record {
+  kept = kept;
+  given = λ place part at. absurd (some-ne-none part (sym at));
+}
+  where
+    kept : (place : ℕ) (part : Part) → get_elem? (first ∷ []) place ≡ some part
+        → (from : ℕ) × (get_elem? (first ∷ []) from ≡ some part) × (second_to seat other from ≡ (seat, place))
+    kept zero part at = (0, at, refl)
+    kept (suc place) part at = absurd (some-ne-none part (sym at))
+second_cut (first ∷ second ∷ rest) seat other = record { kept = kept; given = given }
+  where
+    kept : (place : ℕ) (part : Part) → get_elem? (first ∷ rest) place ≡ some part
+        → (from : ℕ) × (get_elem? (first ∷ second ∷ rest) from ≡ some part) × (second_to seat other from ≡ (seat, place))
+    kept zero part at = (0, at, refl)
+    kept (suc place) part at = (suc (suc place), at, refl)
+
+    given : (place : ℕ) (part : Part) → get_elem? (second ∷ []) place ≡ some part
+        → (from : ℕ) × (get_elem? (first ∷ second ∷ rest) from ≡ some part) × (second_to seat other from ≡ (other, place))
+    given zero part at = (1, at, refl)
+    given (suc place) part at = absurd (some-ne-none part (sym at))
+
+module _ {S : Type 0} where
   cut_lies : (state : State S Parts) (seat : ℕ) (view left right : Parts) (to : ℕ → ℕ × ℕ) → get_elem? state.views seat ≡ some view
-      → Cut {S = S} view left right seat (length state.views) to
+      → Cut view left right seat (length state.views) to
       → Rearranged state (set state.views seat left ++ right ∷ []) (from_seat seat to)
   cut_lies state seat view left right to seated cut at place found part is_at placed =
       elim (at_push (set state.views seat left) right found at is_at) [
@@ -62,42 +94,10 @@ module _ {S : Type 0} where
                 from_this seat to from ∙ now ∙ ap (λ (n : ℕ). let pair : ℕ × ℕ = (n, place) in pair) (sym (last.0 ∙ is)))
       ]
 
-  -- Where each part goes when the second is cut off.
-  abbrev second_to : ℕ → ℕ → ℕ → ℕ × ℕ
-  second_to seat other zero = (seat, 0)
-  second_to seat other (suc zero) = (other, 0)
-  second_to seat other (suc (suc place)) = (seat, suc place)
-
-  second_cut : (view : Parts) (seat other : ℕ) → Cut {S = S} view (without_second view) (second_alone view) seat other (second_to {S = S} seat other)
-  second_cut [] seat other = record {
-    kept = λ place part at. absurd (some-ne-none part (sym at));
-    given = λ place part at. absurd (some-ne-none part (sym at));
-  }
-  second_cut (first ∷ []) seat other = record {
-    kept = kept;
-    given = λ place part at. absurd (some-ne-none part (sym at));
-  }
-    where
-      kept : (place : ℕ) (part : Part) → get_elem? (first ∷ []) place ≡ some part
-          → (from : ℕ) × (get_elem? (first ∷ []) from ≡ some part) × (second_to {S = S} seat other from ≡ (seat, place))
-      kept zero part at = (0, at, refl)
-      kept (suc place) part at = absurd (some-ne-none part (sym at))
-  second_cut (first ∷ second ∷ rest) seat other = record { kept = kept; given = given }
-    where
-      kept : (place : ℕ) (part : Part) → get_elem? (first ∷ rest) place ≡ some part
-          → (from : ℕ) × (get_elem? (first ∷ second ∷ rest) from ≡ some part) × (second_to {S = S} seat other from ≡ (seat, place))
-      kept zero part at = (0, at, refl)
-      kept (suc place) part at = (suc (suc place), at, refl)
-
-      given : (place : ℕ) (part : Part) → get_elem? (second ∷ []) place ≡ some part
-          → (from : ℕ) × (get_elem? (first ∷ second ∷ rest) from ≡ some part) × (second_to {S = S} seat other from ≡ (other, place))
-      given zero part at = (1, at, refl)
-      given (suc place) part at = absurd (some-ne-none part (sym at))
-
   -- The second part may be cut off.
   pub splits_second : (size : RingSize) (seat : ℕ) (view : Parts) → Splits (Shown {S = S} size) seat view (without_second view) (second_alone view)
   splits_second size seat view state shown seated =
       rearrange size state (set state.views seat (without_second view) ++ second_alone view ∷ [])
-      (from_seat seat (second_to {S = S} seat (length state.views))) shown
-      (cut_lies state seat view (without_second view) (second_alone view) (second_to {S = S} seat (length state.views)) seated
+      (from_seat seat (second_to seat (length state.views))) shown
+      (cut_lies state seat view (without_second view) (second_alone view) (second_to seat (length state.views)) seated
           (second_cut view seat (length state.views)))

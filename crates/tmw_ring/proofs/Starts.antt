@@ -59,22 +59,22 @@ new_writer-fits size number is within =
     } in
     (fits, omega (arith, same))
 
+part_at : (size : RingSize) → IsSize size → (place : ℕ) (part : Part) → get_elem? (new_parts size) place ≡ some part
+    → Fits (new_core size) part × (key part ≡ place)
+part_at size is zero part at =
+    subst (λ (found : Part). Fits (new_core size) found × (key found ≡ 0)) (some-injective (Reads (new_reader size)) part at)
+    (record { sized = refl; phase = refl; taken = refl }, refl)
+part_at size is (suc place) part at =
+    let (within, new) = writers_at size 0 size.writers place part at in
+    let from : 0 + place ≡ place = omega arith in
+    let known = new_writer-fits size place is within in
+    subst (λ (found : Part). Fits (new_core size) found × (key found ≡ suc place))
+    (ap (λ (n : ℕ). Writes (new_writer size n)) (sym from) ∙ sym new) known
+
 module _ {S : Type 0} where
   -- The words and the one seat of a new table.
   abbrev opened : RingSize → State S Parts
   opened size = opening (replicate (word_count size.cells) 0) [] (new_parts size)
-
-  part_at : (size : RingSize) → IsSize size → (place : ℕ) (part : Part) → get_elem? (new_parts size) place ≡ some part
-      → Fits (new_core size) part × (key part ≡ place)
-  part_at size is zero part at =
-      subst (λ (found : Part). Fits (new_core size) found × (key found ≡ 0)) (some-injective (Reads (new_reader size)) part at)
-      (record { sized = refl; phase = refl; taken = refl }, refl)
-  part_at size is (suc place) part at =
-      let (within, new) = writers_at size 0 size.writers place part at in
-      let from : 0 + place ≡ place = omega arith in
-      let known = new_writer-fits size place is within in
-      subst (λ (found : Part). Fits (new_core size) found × (key found ≡ suc place))
-      (ap (λ (n : ℕ). Writes (new_writer size n)) (sym from) ∙ sym new) known
 
   pub starts : (size : RingSize) → IsSize size → Shown size (opened size)
   starts size is = record {
@@ -88,9 +88,9 @@ module _ {S : Type 0} where
   }
     where
       each : (seat place : ℕ) (part : Part) → Lies (opened size) seat place part
-          → Fits (new_core size) part × ((0, key part) ≡ (seat, place))
+          → Fits (new_core size) part × (◌≡◌ {A = ℕ × ℕ} (0, key part) (seat, place))
       each zero place part lies =
-          let known = part_at {S = S} size is place part
+          let known = part_at size is place part
           (subst (λ (view : Parts). get_elem? view place ≡ some part) (sym (some-injective (new_parts size) lies.view lies.seated)) lies.placed) in
           (known.0, ap (λ (n : ℕ). let pair : ℕ × ℕ = (0, n) in pair) known.1)
       each (suc seat) place part lies = absurd (some-ne-none lies.view (sym lies.seated))
