@@ -1,0 +1,18 @@
+use Rattle.std.proofs.Common.{◌≡◌, ◌∙◌, List, ℕ, [], subst, sym, arith}
+use Rattle.atomic_table.specs.Table.{opening}
+use Rattle.tmw_defs.specs.Ring.{IsSize}
+use Rattle.tmw_defs.specs.declared.ring_size.RingSize.{RingSize}
+use Rattle.tmw_ring.specs.Parts.{new_parts}
+use Rattle.tmw_ring.specs.Rule.{Shown}
+use Rattle.tmw_ring.proofs.Starts.{starts}
+use Rattle.tmw_ring.proofs.make.ring.Goals as goal
+
+pub of_words-requires : goal.of_words-requires
+of_words-requires c =
+    let a = c.if-writers-lt1.false in
+    let b = c.if-limit.false in
+    let items = c.in_ok-words.ensures.items in
+    let size : RingSize = record { cells = c.args.cells; writers = c.args.writers; limit = c.args.limit } in
+    let is : IsSize size = ? in
+    subst (λ (words : List ℕ). Shown size (opening words [] (new_parts size))) (sym (c.as_slice.ensures.value ∙ c.in_ok-words.ensures.items))
+    (starts size is)
