@@ -36,11 +36,11 @@ pub enum Fault {
     /// A thread was not started.
     #[error("a thread was not started")]
     Spawn,
-    /// A size is out of its range.
-    #[error("a size is out of its range")]
+    /// The size of a ring is out of its range.
+    #[error("the size of a ring is out of its range")]
     Size,
-    /// A limit was passed.
-    #[error("a limit was passed")]
+    /// A limit of places is out of its range.
+    #[error("a limit of places is out of its range")]
     Limit,
     /// The command line is none that the program knows.
     #[error("the command line is not known")]

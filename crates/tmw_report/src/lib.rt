@@ -1,6 +1,7 @@
 //! What the program writes: the line that reports a verdict, the line of a fault, and the exit status that goes with each.
 #![tactic(auto)]
 
+mod answer;
 mod fault;
 mod fault_line;
 mod report;
@@ -8,6 +9,7 @@ mod status;
 #[cfg(test)]
 mod tests;
 
+pub use answer::{answer_fault, fault_of};
 pub use fault::Fault;
 pub use fault_line::write_fault;
 pub use report::report_text;

@@ -1,4 +1,4 @@
 pub mod NewSim
-pub mod OneLogRuns
+pub mod Runs
 pub mod Simulated
 pub mod State

@@ -96,32 +96,37 @@ impl Told {
     /// Takes the reply to the step, and says whether one list could have answered so: by its length to a claim, and by its next
     /// item to the reader.
     fn tell(&mut self, step: Step, reply: Reply) -> Result<bool, AllocError> {
-        match (step, reply) {
-            (Step::Front(writer, kind), Reply::Saw(_)) => {
-                self.announced[usize::from(writer.get())] = kind;
-                Ok(true)
-            }
-            (Step::Claim(thread), Reply::Place(place)) => {
-                let next = self.claimed.len() as u64;
-                let kind = self.announced[usize::from(thread.get())];
-                self.claimed.push(Event { thread, kind })?;
-                Ok(place == next)
-            }
-            (_, Reply::Taken(event)) => {
-                let next = self.claimed.get(self.taken).copied();
-                self.taken = self.taken.saturating_add(1);
-                Ok(next == Some(event))
-            }
-            (_, Reply::Full { .. }) => {
-                self.full = self.full.saturating_add(1);
-                Ok(true)
-            }
-            (_, Reply::Spent { .. }) => {
-                self.spent = self.spent.saturating_add(1);
-                Ok(true)
-            }
-            _ => Ok(true),
+        match reply {
+            Reply::Saw(_) => self.announce(step),
+            Reply::Place(place) => return self.claim(step, place),
+            Reply::Taken(event) => return Ok(self.take(event)),
+            Reply::Full { .. } => self.full = self.full.saturating_add(1),
+            Reply::Spent { .. } => self.spent = self.spent.saturating_add(1),
+            _ => {}
         }
+        Ok(true)
+    }
+
+    fn announce(&mut self, step: Step) {
+        if let Step::Front(writer, kind) = step {
+            self.announced[usize::from(writer.get())] = kind;
+        }
+    }
+
+    fn claim(&mut self, step: Step, place: u64) -> Result<bool, AllocError> {
+        let Step::Claim(thread) = step else {
+            return Ok(false);
+        };
+        let next = self.claimed.len() as u64;
+        let kind = self.announced[usize::from(thread.get())];
+        self.claimed.push(Event { thread, kind })?;
+        Ok(place == next)
+    }
+
+    fn take(&mut self, event: Event) -> bool {
+        let next = self.claimed.get(self.taken).copied();
+        self.taken = self.taken.saturating_add(1);
+        next == Some(event)
     }
 }
 
@@ -132,7 +137,7 @@ fn the_replies_are_those_of_one_list(rt: HostRuntime) -> Result<(), Fail> {
     let mut taken = 0usize;
     let mut full = 0u64;
     let mut spent = 0u64;
-    for number in 0..200u64 {
+    for number in 0..300u64 {
         let writers = 1 + number % 4;
         let cells = writers + draw(&mut seed) % (7 - writers);
         let limit = writers + draw(&mut seed) % 12;
@@ -151,7 +156,7 @@ fn the_replies_are_those_of_one_list(rt: HostRuntime) -> Result<(), Fail> {
         full = full.saturating_add(told.full);
         spent = spent.saturating_add(told.spent);
     }
-    let enough = claimed > 800 && taken > 300 && full > 40 && spent > 40;
+    let enough = claimed > 400 && taken > 150 && full > 100 && spent > 60;
     assert!(rt; enough, "{claimed} {taken} {full} {spent}");
     Ok(())
 }

@@ -1,8 +1,8 @@
-ghost use Rattle.std.specs.Prelude.{◌≡◌, ◌+◌, ◌<◌, ◌≤◌, ◌^◌, ℕ, length, take, IfOk, OnOk, OnErr};
+ghost use Rattle.std.specs.Prelude.{◌≡◌, ◌+◌, ◌<◌, ◌^◌, length, IfOk, OnOk, OnErr};
 ghost use Rattle.tmw_defs.specs.RingMachine.{machine_step, after, replies};
 ghost use Rattle.tmw_defs.specs.RingSound.{Sound, Spares};
 ghost use Rattle.tmw_ring_steps.specs.NewSim.{IsNewSim};
-ghost use Rattle.tmw_ring_steps.specs.OneLogRuns.{GoesOnAsOneLog};
+ghost use Rattle.tmw_ring_steps.specs.Runs.{GoesOnAsOneLog, RanFirst};
 
 use crate::fault::RingFault;
 use crate::state::State;
@@ -77,11 +77,10 @@ impl Sim {
         ensures machine { OnOk result (self.new.machine ≡ after steps.now self.old.machine) }
         ensures made { OnOk result (self.new.made ≡ self.old.made + length steps.now) }
         ensures one_log { OnOk result (GoesOnAsOneLog self.old.machine steps.now self.new.machine) }
-        ensures err { OnErr result ((count : ℕ) × (count ≤ length steps.now) × (self.new.made ≡ self.old.made + count)
-            × (self.new.machine ≡ after (take count steps.now) self.old.machine)
-            × GoesOnAsOneLog self.old.machine (take count steps.now) self.new.machine) }
+        ensures err { OnErr result (RanFirst self.old steps.now self.new) }
         ensures sound { Sound self.new.machine.core }
     {
+        let _ = &self.state;
         let mut said = Vec::with_capacity(alloc, steps.len())?;
         for step in steps {
             said.push_reserved(self.step(*step)?);

@@ -18,7 +18,8 @@ use Rattle.tmw_monitor.specs.Fitting.{Fits, rules_of}
 use Rattle.tmw_report.specs.declared.fault.Fault.{Fault}
 use Rattle.tmw_report.specs.declared.fault.Fault.TheVariants.{Memory as WantsMemory}
 use Rattle.tmwatch.specs.declared.report.Report.{Report}
-use Rattle.tmwatch.specs.Judging.{IsAnswer, IsReportOf, fault_of, failures_behind}
+use Rattle.tmw_report.specs.Putting.{fault_of}
+use Rattle.tmwatch.specs.Judging.{IsAnswer, IsReportOf, failures_behind}
 
 pub record HasFed {S : Type 0} (Told : S → List ℕ → Type 0) (old new : S) (lines : TraceLines) (bounds : Bounds) (monitor : Monitor)
     : Type 0 where

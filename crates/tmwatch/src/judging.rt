@@ -1,12 +1,12 @@
 ghost use Rattle.std.specs.Prelude.{◌≡◌, ℕ, List};
 ghost use Rattle.tmw_events.specs.Told.{Adds};
-ghost use Rattle.tmwatch.specs.Judging.{IsAnswer, failures_behind, fault_of};
+ghost use Rattle.tmwatch.specs.Judging.{IsAnswer, failures_behind};
 
 use crate::report::Report;
 use std::alloc::Global;
-use tmw_events::{Source, TraceFault, TraceLines};
+use tmw_events::{Source, TraceLines};
 use tmw_monitor::{Bounds, Monitor};
-use tmw_report::Fault;
+use tmw_report::{Fault, fault_of};
 
 /// Reads a trace up to the source's end, and judges each event as its line is read. Of the past nothing is kept, so a trace of
 /// any length is judged in the same memory. Where memory is refused, nothing is read after it.
@@ -38,19 +38,5 @@ pub fn judge<S: Source>(alloc: Global, source: &mut S, bounds: Bounds) -> Result
             }
             Err(fault) => return Err(fault_of(fault)),
         }
-    }
-}
-
-/// The fault by which a fault of the trace is answered.
-fn fault_of(fault: TraceFault) -> Fault
-    ensures { result ≡ fault_of fault }
-{
-    match fault {
-        TraceFault::BadHeader => Fault::BadHeader,
-        TraceFault::BadLine(line) => Fault::BadLine(line),
-        TraceFault::Cut(line) => Fault::Cut(line),
-        TraceFault::Memory => Fault::Memory,
-        TraceFault::Io => Fault::Io,
-        TraceFault::TooLong => Fault::TooLong,
     }
 }

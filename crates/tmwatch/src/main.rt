@@ -1,5 +1,6 @@
 //! `tmwatch judge`: reads a recorded run of a transactional memory from standard input, and writes one line on standard
-//! output: whether it is opaque, or which of its prefixes is the first that is not.
+//! output: whether it is opaque, or which of its prefixes is the first that is not. `tmwatch steps`: reads a list of a
+//! ring's steps, and writes what each of them answers.
 #![tactic(auto)]
 
 mod judging;
@@ -13,26 +14,21 @@ mod words;
 use clap::Error;
 use clap::error::ErrorKind;
 use order::Order;
-use run::{answer_fault, run_judge};
+use run::run_judge;
 use std::io::ErrorKind as IoErrorKind;
 use std::process::ExitCode;
 use std::{env, io};
 use tmw_events::{Sink, StdSink, StdSource};
-use tmw_report::{FAULT_STATUS, Fault};
+use tmw_report::{FAULT_STATUS, Fault, answer_fault};
 use words::read_words;
 
 fn main(rt: HostRuntime) -> ExitCode {
+    let mut source = StdSource::new(rt.stdin());
     let mut sink = StdSink::new(rt.stdout());
     let status = match words_of(&rt) {
         Ok(words) => match read_words(rt.alloc(), &words) {
-            Ok(Order::Judge { bounds }) => {
-                run_judge(
-                    rt.alloc(),
-                    &mut StdSource::new(rt.stdin()),
-                    &mut sink,
-                    bounds,
-                )
-            }
+            Ok(Order::Judge { bounds }) => run_judge(rt.alloc(), &mut source, &mut sink, bounds),
+            Ok(Order::Steps) => answer_fault(&mut sink, Fault::Usage),
             Err(error) => answer(&rt, &mut sink, &error),
         },
         Err(fault) => answer_fault(&mut sink, fault),

@@ -7,7 +7,7 @@ use crate::report::Report;
 use std::alloc::Global;
 use tmw_events::{Sink, Source, put_all};
 use tmw_monitor::Bounds;
-use tmw_report::{FAULT_STATUS, Fault, report_text, status_of, write_fault};
+use tmw_report::{FAULT_STATUS, Fault, answer_fault, report_text, status_of};
 
 /// Judges the trace that the source tells within these bounds, and writes the line that answers it. The result is the exit
 /// status: 0 for a history that is opaque so far, 1 for one that is violated, 2 for one that is undecided, 3 for one that is
@@ -24,14 +24,6 @@ pub fn run_judge<S: Source, K: Sink>(
         Ok(report) => answer_report(alloc, sink, report),
         Err(fault) => answer_fault(sink, fault),
     }
-}
-
-/// Writes the fault's line and answers its exit status.
-pub fn answer_fault<K: Sink>(sink: &mut K, fault: Fault) -> u8
-    ensures { IsPut K.took K.failures sink.old sink.new (Err fault) result }
-{
-    let _written = write_fault(sink, &fault);
-    FAULT_STATUS
 }
 
 /// Writes the report's line and answers its exit status. Where memory for the line is refused, that fault stands in its

@@ -1,6 +1,6 @@
 ghost use Rattle.std.specs.Prelude.{◌≡◌, ◌∷◌, [], IfErr, IfOk, IfSome, OnOk, false, map};
-ghost use Rattle.clap.specs.Words.{HasKind, app_of, fault_of, rule_of, subcommand_rows_of};
-ghost use Rattle.tmwatch.specs.Words.{Asks, IsOrder, judge, number_rule, program};
+ghost use Rattle.clap.specs.Words.{HasKind, app_of, fault_of, found_of, rows_of, rule_of, subcommand_rows_of};
+ghost use Rattle.tmwatch.specs.Words.{Asks, HasBounds, IsOrder, judge, number_rule, program, steps};
 
 use crate::order::Order;
 use clap::builder::ValueParser;
@@ -29,9 +29,20 @@ pub fn read_words<'a, S: AsStr>(alloc: Global, words: &'a [S]) -> Result<Order, 
 fn order_of(matches: &ArgMatches<'_>) -> Option<Order>
     ensures { IfSome result (IsOrder (subcommand_rows_of matches.now)) }
 {
-    let Some(judge) = matches.subcommand_matches("judge") else {
-        return None;
-    };
+    match matches.subcommand() {
+        Some(("judge", judge)) => match bounds_of(judge) {
+            Some(bounds) => Some(Order::Judge { bounds }),
+            None => None,
+        },
+        Some(("steps", _)) => Some(Order::Steps),
+        _ => None,
+    }
+}
+
+/// The bounds that the matches of `judge` hold.
+fn bounds_of(judge: &ArgMatches<'_>) -> Option<Bounds>
+    ensures { IfSome result (HasBounds (rows_of (found_of judge.now))) }
+{
     let Some(window) = judge.get_one::<u8>("window") else {
         return None;
     };
@@ -39,7 +50,7 @@ fn order_of(matches: &ArgMatches<'_>) -> Option<Order>
         return None;
     };
     match Bounds::new(window, states) {
-        Ok(bounds) => Some(Order::Judge { bounds }),
+        Ok(bounds) => Some(bounds),
         Err(_) => None,
     }
 }
@@ -49,9 +60,12 @@ fn new_program<'a>(alloc: Global) -> Result<Command<'a>, AllocError>
     ensures { IfOk result (λ command. app_of command ≡ program) }
 {
     Command::new(alloc, "tmwatch")
-        .about("A monitor of opacity for transactional memories")
+        .about(
+            "A monitor of opacity for transactional memories, and the ring that events reach it by",
+        )
         .subcommand_required(true)
-        .subcommand(new_judge(alloc)?)
+        .subcommand(new_judge(alloc)?)?
+        .subcommand(new_steps(alloc))
 }
 
 /// The command `judge`.
@@ -78,6 +92,15 @@ fn new_judge<'a>(alloc: Global) -> Result<Command<'a>, AllocError>
         )
         .arg(window)?
         .arg(states)
+}
+
+/// The command `steps`.
+fn new_steps<'a>(alloc: Global) -> Command<'a>
+    ensures { app_of result ≡ steps }
+{
+    Command::new(alloc, "steps").about(
+        "Take the ring's steps that standard input lists, one by one, and write what each of them answers",
+    )
 }
 
 /// An option that takes one number.

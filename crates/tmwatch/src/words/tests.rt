@@ -31,6 +31,20 @@ fn bounds_of_judge(rt: HostRuntime) {
                 assert_eq!(rt; bounds.window, window, "of {words:?}");
                 assert_eq!(rt; bounds.states, states, "of {words:?}");
             }
+            Ok(order) => assert!(rt; false, "{words:?} was read as {order:?}"),
+            Err(error) => assert!(rt; false, "{words:?} was refused: {error}"),
+        }
+    }
+}
+
+#[test]
+fn order_of_steps(rt: HostRuntime) {
+    for words in [
+        ["tmwatch", "steps"].as_slice(),
+        ["judge", "steps"].as_slice(),
+    ] {
+        match read_words(rt.alloc(), words) {
+            Ok(order) => assert_eq!(rt; order, Order::Steps, "of {words:?}"),
             Err(error) => assert!(rt; false, "{words:?} was refused: {error}"),
         }
     }
@@ -101,6 +115,19 @@ fn words_that_are_refused(rt: HostRuntime) {
             ["tmwatch", "--window", "3", "judge"].as_slice(),
             ErrorKind::UnknownArgument,
         ),
+        (
+            ["tmwatch", "steps", "--window", "3"].as_slice(),
+            ErrorKind::UnknownArgument,
+        ),
+        (
+            ["tmwatch", "steps", "x"].as_slice(),
+            ErrorKind::UnknownArgument,
+        ),
+        (
+            ["tmwatch", "steps", "judge"].as_slice(),
+            ErrorKind::UnknownArgument,
+        ),
+        (["tmwatch", "step"].as_slice(), ErrorKind::InvalidSubcommand),
     ] {
         match read_words(rt.alloc(), words) {
             Ok(_) => assert!(rt; false, "{words:?} was taken"),
@@ -121,6 +148,8 @@ fn words_that_ask_for_help(rt: HostRuntime) {
         ["tmwatch", "help", "judge"].as_slice(),
         ["tmwatch", "judge", "--help"].as_slice(),
         ["tmwatch", "judge", "--window", "3", "--help"].as_slice(),
+        ["tmwatch", "help", "steps"].as_slice(),
+        ["tmwatch", "steps", "--help"].as_slice(),
     ] {
         match read_words(rt.alloc(), words) {
             Ok(_) => assert!(rt; false, "{words:?} was taken"),

@@ -11,7 +11,10 @@ pub returns : goal.returns
 returns c =
     let top : app_of c.subcommand_required.result ≡ wanting (new_app (codes "tmwatch")) =
     ap app_of_fields c.subcommand_required.ensures ∙ ap wanting (ap app_of_fields c.about.ensures ∙ c.new.ensures.app) in
-    let below = c.in_ok-new_judge.ensures in
-    let local = plain_fields c.in_ok-new_judge.field-0 (ap (λ (app : App). app.top.is_plain) below) in
-    IfOk-weaker c.subcommand.result _ _
-    (λ command added. added.shape local.globals ∙ ap₂ with_subcommand top (ap (λ (app : App). app.top) below)) c.subcommand.ensures
+    let judges = c.in_ok-new_judge.ensures in
+    let takes_steps = c.new_steps.ensures in
+    let judge_local = plain_fields c.in_ok-new_judge.field-0 (ap (λ (app : App). app.top.is_plain) judges) in
+    let steps_local = plain_fields c.new_steps.result (ap (λ (app : App). app.top.is_plain) takes_steps) in
+    let first = c.in_ok-subcommand.ensures.shape judge_local.globals ∙ ap₂ with_subcommand top (ap (λ (app : App). app.top) judges) in
+    IfOk-weaker c.subcommand-2.result _ _
+    (λ command added. added.shape steps_local.globals ∙ ap₂ with_subcommand first (ap (λ (app : App). app.top) takes_steps)) c.subcommand-2.ensures

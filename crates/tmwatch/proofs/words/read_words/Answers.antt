@@ -1,12 +1,13 @@
 -- The program is a simple command, so clap says by which kinds a parse of any words fails.
 use Rattle.std.proofs.Common.{◌≡◌, ◌∙◌, List, [], ◌∷◌, Option, Some, codes, option_map, true, ap, subst, sym, refl, map, inl, inr}
-use Rattle.clap.specs.Words.{App, HasKind, Kinds, Text, fault_of, is_simple_and_free, one_of, subcommand_of}
+use Rattle.clap.specs.Words.{App, HasKind, Kinds, Row, Text, fault_of, is_simple, is_simple_and_free, one_of, subcommand_of, subcommand_rows_of}
 use Rattle.clap.specs.declared.error.Error.{Error}
 use Rattle.clap.specs.declared.error.kind.ErrorKind.{ErrorKind}
-use Rattle.clap.specs.declared.error.kind.ErrorKind.TheVariants.{ArgumentConflict, InvalidSubcommand, MissingSubcommand, ValueValidation}
+use Rattle.clap.specs.declared.error.kind.ErrorKind.TheVariants.{ArgumentConflict, InvalidSubcommand, MissingSubcommand, UnknownArgument, ValueValidation}
 use Rattle.clap.proofs.OnLiterals.{clap_on_literals}
 use Rattle.clap.proofs.TakesLemmas.{passed_up}
-use Rattle.tmwatch.specs.Words.{program}
+use Rattle.clap.proofs.WalkLemmas.{both}
+use Rattle.tmwatch.specs.Words.{IsOrder, program}
 use Rattle.tmwatch.proofs.words.read_words.Goals as goal
 
 is_free : is_simple_and_free program ≡ true
@@ -45,6 +46,23 @@ no_command : fault_of program (codes "tmwatch" ∷ []) ≡ MissingSubcommand ∷
 unfolding clap_on_literals
 no_command = refl
 
+-- `steps` has no row, and takes no word
+by_itself : subcommand_of program (codes "tmwatch" ∷ codes "steps" ∷ []) ≡ Some (codes "steps", [])
+unfolding clap_on_literals
+by_itself = refl
+
+steps_taken : fault_of program (codes "tmwatch" ∷ codes "steps" ∷ []) ≡ []
+unfolding clap_on_literals
+steps_taken = refl
+
+no_option : fault_of program (codes "tmwatch" ∷ codes "steps" ∷ codes "--window" ∷ codes "3" ∷ []) ≡ UnknownArgument ∷ []
+unfolding clap_on_literals
+no_option = refl
+
+no_further_word : fault_of program (codes "tmwatch" ∷ codes "steps" ∷ codes "x" ∷ []) ≡ UnknownArgument ∷ []
+unfolding clap_on_literals
+no_further_word = refl
+
 one_more : (kind : ErrorKind) (kinds : Kinds) (error : Error) → HasKind kinds error → HasKind (kind ∷ kinds) error
 one_more kind kinds error has = elim has [
   | inl memory ↦ inl memory
@@ -65,3 +83,12 @@ returns-in-Some-clause-taken g c =
     let app = c.in_ok-command.ensures in
     let words = map g.S.AsStr.text c.args.words.now in
     sym (ap (λ (a : App). fault_of a words) app) ∙ c.in_ok-matches.ensures.kinds (ap is_simple_and_free app ∙ is_free)
+
+pub returns-in-Some-clause-order : goal.returns-in-Some-clause-order
+returns-in-Some-clause-order g c =
+    let app = c.in_ok-command.ensures in
+    let words = map g.S.AsStr.text c.args.words.now in
+    let rows = c.in_ok-matches.ensures.ok.2 (ap is_simple app ∙ (both (is_simple program) _ is_free).0) in
+    let found : subcommand_rows_of c.in_ok-matches.matches ≡ subcommand_of program words =
+    rows.1 ∙ ap (λ (a : App). subcommand_of a words) app in
+    subst (λ (given : Option (Text × List Row)). IsOrder given c.in-Some.order) found c.in-Some.ensures

@@ -1,0 +1,40 @@
+-- What a sink takes as an answer, and the exit status that goes with it.
+use Rattle.std.specs.Prelude.{◌≡◌, ◌⊎◌, ℕ, List}
+use Rattle.tmw_events.specs.Told.{Adds, AddsBeginning, one_more}
+use Rattle.tmw_events.specs.declared.trace_fault.TraceFault.{TraceFault}
+use Rattle.tmw_events.specs.declared.trace_fault.TraceFault.TheVariants.{BadHeader as IsBadHeader, BadLine as IsBadLine, Cut as IsCut, Memory as WantsMemory, Io as IsIo, TooLong as IsTooLong}
+use Rattle.tmw_report.specs.declared.fault.Fault.{Fault}
+use Rattle.tmw_report.specs.declared.fault.Fault.TheVariants.{BadHeader, BadLine, Cut, Memory, Io, TooLong}
+
+-- The sink took the text, and the status is the one that goes with it.
+pub record IsWritten {K : Type 0} (Took : K → List ℕ → Type 0) (failures : K → ℕ) (old new : K) (text : List ℕ) (wanted status : ℕ)
+    : Type 0 where
+  pub line : Adds Took old text new
+  pub well : failures new ≡ failures old
+  pub exit : status ≡ wanted
+
+-- A write failed: the sink took a beginning of the text, less than the whole, and the status is 4.
+pub record IsCutShort {K : Type 0} (Took : K → List ℕ → Type 0) (failures : K → ℕ) (old new : K) (text : List ℕ) (status : ℕ)
+    : Type 0 where
+  pub beginning : AddsBeginning Took old text new
+  pub failed : failures new ≡ one_more (failures old)
+  pub exit : status ≡ 4
+
+abbrev pub IsPut : {K : Type 0} → (K → List ℕ → Type 0) → (K → ℕ) → K → K → List ℕ → ℕ → ℕ → Type 0
+IsPut Took failures old new text wanted status =
+    IsWritten Took failures old new text wanted status ⊎ IsCutShort Took failures old new text status
+
+-- The fault by which a fault of a text is answered.
+abbrev pub fault_of : TraceFault → Fault
+fault_of IsBadHeader = BadHeader
+fault_of (IsBadLine line) = BadLine line
+fault_of (IsCut line) = Cut line
+fault_of WantsMemory = Memory
+fault_of IsIo = Io
+fault_of IsTooLong = TooLong
+
+-- A source's count of failures after this fault was answered: one more for a failed read, which is answered by `Io`, else as
+-- before.
+abbrev pub failures_behind : Fault → ℕ → ℕ
+failures_behind Io count = one_more count
+failures_behind _ count = count

@@ -1,0 +1,30 @@
+ghost use Rattle.std.specs.Prelude.{◌≡◌};
+ghost use Rattle.tmw_report.specs.Lines.{fault_line};
+ghost use Rattle.tmw_report.specs.Putting.{IsPut, fault_of};
+
+use crate::fault::Fault;
+use crate::fault_line::write_fault;
+use crate::status::FAULT_STATUS;
+use tmw_events::{Sink, TraceFault};
+
+/// Writes the fault's line and answers its exit status. It takes no memory.
+pub fn answer_fault<K: Sink>(sink: &mut K, fault: Fault) -> u8
+    ensures { IsPut K.took K.failures sink.old sink.new (fault_line fault) 4 result }
+{
+    let _written = write_fault(sink, &fault);
+    FAULT_STATUS
+}
+
+/// The fault by which a fault of a text is answered.
+pub const fn fault_of(fault: TraceFault) -> Fault
+    ensures { result ≡ fault_of fault }
+{
+    match fault {
+        TraceFault::BadHeader => Fault::BadHeader,
+        TraceFault::BadLine(line) => Fault::BadLine(line),
+        TraceFault::Cut(line) => Fault::Cut(line),
+        TraceFault::Memory => Fault::Memory,
+        TraceFault::Io => Fault::Io,
+        TraceFault::TooLong => Fault::TooLong,
+    }
+}

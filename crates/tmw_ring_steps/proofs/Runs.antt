@@ -1,0 +1,68 @@
+-- A run of steps so far, one step more, and that it goes on as one log.
+use Rattle.std.proofs.Common.{◌≡◌, ◌+◌, ◌++◌, ◌≤◌, ℕ, List, [], ◌∷◌, length, take, length-append, refl, sym, ap, ◌∙◌, subst, arith}
+use Rattle.std.proofs.lemmas.List.{length-take-le}
+use Rattle.tmw_defs.proofs.MachineProof.{machine_step-sound, after-append, replies-append}
+use Rattle.tmw_defs.proofs.OneLogProof.{one_log_law}
+use Rattle.tmw_defs.proofs.RingLaw.{step_law}
+use Rattle.tmw_defs.proofs.RingSizes.{after-size}
+use Rattle.tmw_defs.proofs.RingStart.{new_core-sound}
+use Rattle.tmw_defs.specs.OneLog.{IsOneLog}
+use Rattle.tmw_defs.specs.Ring.{IsSize}
+use Rattle.tmw_defs.specs.RingMachine.{Machine, new_machine, machine_step, after, replies}
+use Rattle.tmw_defs.specs.RingSound.{Sound, Spares}
+use Rattle.tmw_defs.specs.declared.ring_step.Reply.{Reply}
+use Rattle.tmw_defs.specs.declared.ring_step.Step.{Step}
+use Rattle.tmw_ring_steps.specs.Runs.{GoesOnAsOneLog, RanFirst}
+use Rattle.tmw_ring_steps.specs.Simulated.{Simulated}
+
+-- a machine that a step made, so answered
+pub made_sound : (step : Step) (old new : Machine) (reply : Reply) → (reply, new) ≡ machine_step step old → Sound old.core
+    → Sound new.core × Spares old.core new.core
+made_sound step old new reply is sound =
+    let P : Reply × Machine → Type 0 = λ r. Sound r.1.core × Spares old.core r.1.core in
+    subst P (sym is) (machine_step-sound step_law step old sound)
+
+-- These steps were made, so answered.
+pub record HasRun (old : Simulated) (steps : List Step) (said : List Reply) (new : Simulated) : Type 0 where
+  pub counted : new.made ≡ old.made + length steps
+  pub reached : new.machine ≡ after steps old.machine
+  pub answered : said ≡ replies steps old.machine
+
+pub run-more : (old : Simulated) (steps : List Step) (said : List Reply) (new : Simulated) (step : Step) (reply : Reply) (next : Simulated)
+    → HasRun old steps said new → reply ≡ (machine_step step new.machine).0 → next.machine ≡ (machine_step step new.machine).1
+    → next.made ≡ new.made + 1 → HasRun old (steps ++ step ∷ []) (said ++ reply ∷ []) next
+run-more old steps said new step reply next run is_reply moved more =
+    let one : List Step = step ∷ [] in
+    let one_said : Machine → List Reply = λ m. (machine_step step m).0 ∷ [] in
+    let stepped : Machine → Machine = λ m. (machine_step step m).1 in
+    record {
+      counted = omega (arith, run.counted, more, length-append steps one);
+      reached = moved ∙ ap stepped run.reached ∙ sym (after-append steps one old.machine);
+      answered = ap (λ r. said ++ r ∷ []) (is_reply ∙ ap (λ m. (machine_step step m).0) run.reached)
+          ∙ ap (λ s. s ++ one_said (after steps old.machine)) run.answered
+          ∙ sym (replies-append steps one old.machine);
+    }
+
+-- A sound machine goes on as one log.
+pub goes_on : (old : Machine) (steps : List Step) (new : Machine) → Sound old.core → new ≡ after steps old → GoesOnAsOneLog old steps new
+goes_on old steps new sound is size past from =
+    let start = new_machine size in
+    let same : old.core.size ≡ size = ap (λ m. m.core.size) from ∙ after-size past start in
+    let reached : after (past ++ steps) start ≡ new = after-append past steps start ∙ ap (after steps) (sym from) ∙ sym is in
+    subst (IsOneLog size (past ++ steps) (replies (past ++ steps) start)) reached
+    (one_log_law step_law new_core-sound size (past ++ steps) (subst IsSize same sound.sized))
+
+-- the first of these steps, which were made before memory was refused
+pub ran_first : (old : Simulated) (steps : List Step) (count : ℕ) (said : List Reply) (new : Simulated) → Sound old.machine.core
+    → count ≤ length steps → HasRun old (take count steps) said new → RanFirst old steps new
+ran_first old steps count said new sound within run = record {
+  count = count;
+  within = within;
+  made = omega (arith, run.counted, length-take-le count steps within);
+  machine = run.reached;
+  one_log = goes_on old.machine (take count steps) new.machine sound run.reached;
+}
+
+-- before the first step
+pub run-none : (old : Simulated) → HasRun old [] [] old
+run-none old = record { counted = omega arith; reached = refl; answered = refl }

@@ -1,0 +1,92 @@
+-- What the words of a sound ring are: a claimed place is small, and what the reader has read is an event's.
+use Rattle.std.proofs.Common.{◌≡◌, ◌+◌, ◌<◌, ◌^◌, ◌++◌, ℕ, Bool, [], ◌∷◌, length, sym, ap, ◌∙◌, subst, arith}
+use Rattle.std.proofs.lemmas.Option.{slice_get_within}
+use Rattle.tmw_events.proofs.Unpacks.{unpacked-pack}
+use Rattle.tmw_events.specs.Packing.{pack, kind_value}
+use Rattle.tmw_events.specs.Text.{FitsKind}
+use Rattle.tmw_events.specs.Unpacking.{unpacked}
+use Rattle.tmw_events.specs.declared.event.Event.{Event}
+use Rattle.tmw_events.specs.declared.event.Kind.{Kind}
+use Rattle.tmw_events.specs.declared.event.Kind.TheVariants.{R, V, W, K, T, C, X, A, N}
+use Rattle.tmw_defs.specs.Ring.{Core}
+use Rattle.tmw_defs.specs.RingMachine.{Machine, answered}
+use Rattle.tmw_defs.specs.RingSound.{Sound, IsIn, HasRead}
+use Rattle.tmw_defs.specs.RingSteps.{core_step}
+use Rattle.tmw_defs.specs.declared.ring_phase.ReaderPhase.TheVariants.{Waiting, Told}
+use Rattle.tmw_defs.specs.declared.ring_phase.WriterPhase.{WriterPhase}
+use Rattle.tmw_defs.specs.declared.ring_phase.WriterPhase.TheVariants.{Claimed}
+use Rattle.tmw_defs.specs.declared.ring_step.Reply.{Reply}
+use Rattle.tmw_defs.specs.declared.ring_step.Reply.TheVariants.{Taken}
+use Rattle.tmw_defs.specs.declared.ring_step.Step.TheVariants.{Free}
+
+-- no place reaches the limit
+pub claimed_small : (core : Core) (writer place : ℕ) (kind : Kind) (is_filled : Bool) → Sound core
+    → IsIn core writer (Claimed place kind is_filled) → place < 2 ^ 40
+claimed_small core writer place kind is_filled sound claimed =
+    let held = sound.holds writer place kind is_filled claimed in
+    let logged = slice_get_within core.log place held.event held.logged in
+    omega (arith, logged, sound.tail, sound.limited, sound.sized.limit.small)
+
+-- a writer that is so far is one of the ring's
+pub has_writer : (core : Core) (writer : ℕ) (phase : WriterPhase) → IsIn core writer phase → writer < length core.writers
+has_writer core writer phase at = slice_get_within core.writers writer phase at
+
+kind_fits : (kind : Kind) → kind_value kind < 2 ^ 64 → FitsKind kind
+kind_fits (R register) small = tt
+kind_fits (V value) small = small
+kind_fits (W register value) small = small
+kind_fits K small = tt
+kind_fits T small = tt
+kind_fits C small = tt
+kind_fits X small = tt
+kind_fits A small = tt
+kind_fits (N register value) small = small
+
+-- the event whose words the reader has read
+pub record IsTold (header value : ℕ) : Type 0 where
+  pub event : Event
+  pub fits : FitsKind event.kind
+  pub words : pack event ≡ (header, value)
+
+pub has_told : (core : Core) (header value : ℕ) → Sound core → core.reader ≡ Told header value → value < 2 ^ 64 → IsTold header value
+has_told core header value sound told small =
+    let read : HasRead core (Told header value) = subst (HasRead core) told sound.reads in
+    let event = read.0.event in
+    let both : ℕ → ℕ → ℕ × ℕ = λ h v. (h, v) in
+    record {
+      event = event;
+      fits = kind_fits event.kind (subst (λ (v : ℕ). v < 2 ^ 64) read.2 small);
+      words = ap (λ h. both h (kind_value event.kind)) (sym read.1) ∙ ap (both header) (sym read.2);
+    }
+
+-- the words of an event tell it
+told_event : (header value : ℕ) (event : Event) → pack event ≡ (header, value) → unpacked header value ≡ event
+told_event header value event words =
+    let tell : ℕ × ℕ → Event = λ w. unpacked w.0 w.1 in ap tell (sym words) ∙ unpacked-pack event
+
+-- the reader takes the event whose words it has read
+pub free-told : (machine : Machine) (header value : ℕ) (event : Event) → machine.core.reader ≡ Told header value
+    → pack event ≡ (header, value)
+    → answered machine (core_step Free machine.core)
+    ≡ (
+      Taken event,
+      record machine {
+        core = record machine.core {
+          front = machine.core.front + 1;
+          reader = Waiting;
+          taken = machine.core.taken ++ event ∷ [];
+        };
+      },
+    )
+free-told machine header value event told words =
+    let freed : Event → Reply × Machine = λ e. (
+      Taken e,
+      record machine {
+        core = record machine.core {
+          front = machine.core.front + 1;
+          reader = Waiting;
+          taken = machine.core.taken ++ e ∷ [];
+        };
+      },
+    ) in
+    rw told (ap freed (told_event header value event words))

@@ -1,0 +1,10 @@
+-- The steps so far were made and answered, and there is room for the other replies.
+use Rattle.std.proofs.Common.{◌≡◌, ◌≤◌, length, take, vec_len, vec_capacity}
+use Rattle.tmw_defs.specs.RingSound.{Sound}
+use Rattle.tmw_ring_steps.proofs.Runs.{HasRun}
+use Rattle.tmw_ring_steps.proofs.sim.Sim.run.Given as goal
+
+abbrev pub invariant-loop-step : goal.invariant-loop-step
+invariant-loop-step l =
+    HasRun l.fn.self (take l.step-index l.steps) l.said.items l.self
+    × (vec_len l.said ≡ l.step-index) × (length l.steps ≤ vec_capacity l.said) × Sound l.self.machine.core
