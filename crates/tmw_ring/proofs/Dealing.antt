@@ -12,6 +12,7 @@ use Rattle.tmw_ring.specs.NewRing.{IsNewWriter, AreNewWriters}
 use Rattle.tmw_ring.specs.Parts.{Parts, new_writer, new_writers, new_reader}
 use Rattle.tmw_ring.specs.Seats.{second_alone, without_second, writer_in, writer_is, IsWriter, IsIdleWriter}
 use Rattle.tmw_ring.specs.declared.part.Part.TheVariants.{Writes, Reads}
+use Rattle.tmw_ring.specs.declared.part.WriterPart.{WriterPart}
 
 -- the parts that are left when the writers below this number have theirs
 abbrev pub left_parts : RingSize → ℕ → Parts
@@ -62,7 +63,7 @@ get_or_push (first ∷ items) item fallback (suc place) within =
     ]
 
 -- One more new writer.
-pub new_writers-push : (ring : RingIs) (writers : List WriterIs) (writer : WriterIs) (number : ℕ) → AreNewWriters ring writers
+new_writers-push : (ring : RingIs) (writers : List WriterIs) (writer : WriterIs) (number : ℕ) → AreNewWriters ring writers
     → length writers ≡ number → WriterOf ring writer → IsNewWriter number writer → AreNewWriters ring (writers ++ writer ∷ [])
 new_writers-push ring writers writer number are count of new = record {
   of_ring = All-push (WriterOf ring) writers writer are.of_ring of;
@@ -75,6 +76,17 @@ new_writers-push ring writers writer number are count of new = record {
 }
 
 -- What callers see of a new writer.
-pub new_writer_is : (table : TableId) (size : RingSize) (number : ℕ) → number < 8
+new_writer_is : (table : TableId) (size : RingSize) (number : ℕ) → number < 8
     → IsNewWriter number (writer_is table (new_writer size number))
 new_writer_is table size number within = record { numbered = omega (arith, within); made = refl; seen = refl; looks = refl }
+
+module _ {S : Type 0} where
+  -- One more writer, by whose seat it is new.
+  pub new_writers-dealt : (ring : RingIs) (writers : List WriterIs) (number : ℕ) (table : TableId) (own : Me S Parts)
+      → AreNewWriters ring writers → length writers ≡ number → number < 8 → table ≡ ring.table → IsWriter (new_writer ring.size number) own
+      → AreNewWriters ring (writers ++ writer_is table (writer_in own.0) ∷ [])
+  new_writers-dealt ring writers number table own are count small same is =
+      let part : writer_in own.0 ≡ new_writer ring.size number = ap (λ (m : Me S Parts). writer_in m.0) is in
+      new_writers-push ring writers (writer_is table (writer_in own.0)) number are count
+      (same, ap (λ (w : WriterPart). w.size) part)
+      (subst (λ (w : WriterPart). IsNewWriter number (writer_is table w)) (sym part) (new_writer_is table ring.size number small))

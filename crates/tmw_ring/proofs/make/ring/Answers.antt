@@ -9,10 +9,15 @@ use Rattle.tmw_ring.proofs.make.ring.Goals as goal
 
 pub of_words-requires : goal.of_words-requires
 of_words-requires c =
-    let a = c.if-writers-lt1.false in
-    let b = c.if-limit.false in
-    let items = c.in_ok-words.ensures.items in
     let size : RingSize = record { cells = c.args.cells; writers = c.args.writers; limit = c.args.limit } in
-    let is : IsSize size = ? in
-    subst (λ (words : List ℕ). Shown size (opening words [] (new_parts size))) (sym (c.as_slice.ensures.value ∙ c.in_ok-words.ensures.items))
-    (starts size is)
+    let is : IsSize size = record {
+      cells = record {
+        some = c.if-writers-lt1.false;
+        few = c.if-writers-gt8.false;
+        room = c.if-cells-writers.false;
+        small = c.if-cells-gt4096.false;
+      };
+      limit = record { room = c.if-limit-writers.false; small = c.if-limit.false };
+    } in
+    let zeros = c.as_slice.ensures.value ∙ c.in_ok-words.ensures.items_if_clones_equal (λ y same. same) in
+    subst (λ (words : List ℕ). Shown size (opening words [] (new_parts size))) (sym zeros) (starts size is)
