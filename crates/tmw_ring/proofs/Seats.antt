@@ -1,5 +1,5 @@
 -- A seat's parts may be cut off into a new seat, and a seat may take in another's.
-use Rattle.std.proofs.Common.{◌≡◌, ◌≢◌, ◌⊎◌, ◌+◌, ◌<◌, ◌≤◌, ℕ, zero, suc, Bool, true, false, eqb, eq-eqb, ne_eqb, List, [], ◌∷◌, ◌++◌, length, set, refl, sym, ap, ◌∙◌, subst, inl, inr, arith, if◌then◌else◌}
+use Rattle.std.proofs.Common.{◌≡◌, ◌≢◌, ◌⊎◌, ℕ, zero, suc, eqb, eq-eqb, ne_eqb, List, [], ◌∷◌, ◌++◌, length, set, refl, sym, ap, ◌∙◌, subst, inl, inr, arith, if◌then◌else◌}
 use Rattle.std.proofs.lemmas.List.{length-set}
 use mathlib.Core.Option.{some, some-injective, some-ne-none}
 use lib.ListN.{get_elem?}
@@ -7,7 +7,7 @@ use Rattle.atomic_table.proofs.Lists.{at_set}
 use Rattle.atomic_table.specs.Table.{State, Splits}
 use Rattle.tmw_defs.specs.declared.ring_size.RingSize.{RingSize}
 use Rattle.tmw_ring.specs.Parts.{Parts}
-use Rattle.tmw_ring.specs.Rule.{Lies, Shown}
+use Rattle.tmw_ring.specs.Rule.{Shown}
 use Rattle.tmw_ring.specs.Seats.{second_alone, without_second}
 use Rattle.tmw_ring.specs.declared.part.Part.{Part}
 use Rattle.tmw_ring.proofs.Moves.{Rearranged, rearrange}
@@ -81,17 +81,21 @@ module _ {S : Type 0} where
       elim (at_push (set state.views seat left) right found at is_at) [
         | inl before ↦ elim (at_set state.views seat at left found before) [
           | inl here ↦
-              let (from, was, now) = cut.kept place part (subst (λ (v : Parts). get_elem? v place ≡ some part) (sym here.1) placed) in
-              ((seat, from), record { view = view; seated = seated; placed = was },
-                  from_this seat to from ∙ now ∙ ap (λ (n : ℕ). let pair : ℕ × ℕ = (n, place) in pair) (sym here.0))
+              let (from, was, now) = cut.kept place part (subst (λ (v : Parts). get_elem? v place ≡ some part) (sym here.1) placed) in (
+                (seat, from),
+                record { view = view; seated = seated; placed = was },
+                from_this seat to from ∙ now ∙ ap (λ (n : ℕ). let pair : ℕ × ℕ = (n, place) in pair) (sym here.0),
+              )
           | inr there ↦
               ((at, place), record { view = found; seated = there.1; placed = placed }, from_other seat to at place there.0)
         ]
         | inr last ↦
             let (from, was, now) = cut.given place part (subst (λ (v : Parts). get_elem? v place ≡ some part) (sym last.1) placed) in
-            let is : length (set state.views seat left) ≡ length state.views = length-set state.views seat left in
-            ((seat, from), record { view = view; seated = seated; placed = was },
-                from_this seat to from ∙ now ∙ ap (λ (n : ℕ). let pair : ℕ × ℕ = (n, place) in pair) (sym (last.0 ∙ is)))
+            let is : length (set state.views seat left) ≡ length state.views = length-set state.views seat left in (
+              (seat, from),
+              record { view = view; seated = seated; placed = was },
+              from_this seat to from ∙ now ∙ ap (λ (n : ℕ). let pair : ℕ × ℕ = (n, place) in pair) (sym (last.0 ∙ is)),
+            )
       ]
 
   -- The second part may be cut off.
@@ -100,4 +104,4 @@ module _ {S : Type 0} where
       rearrange size state (set state.views seat (without_second view) ++ second_alone view ∷ [])
       (from_seat seat (second_to seat (length state.views))) shown
       (cut_lies state seat view (without_second view) (second_alone view) (second_to seat (length state.views)) seated
-          (second_cut view seat (length state.views)))
+      (second_cut view seat (length state.views)))

@@ -6,8 +6,12 @@ mod ends;
 mod make;
 mod part;
 mod rule;
+#[cfg(test)]
+mod tests;
 
 pub use ends::{Reader, Ring, Writer};
 pub use make::ring;
 pub use part::{Look, Made, Part, ReaderPart, WriterPart};
 pub use rule::{RingRule, RingSeat, RingTable};
+pub use tmw_defs::RingSize;
+pub use tmw_ring_steps::RingFault;
