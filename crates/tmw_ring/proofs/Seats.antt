@@ -1,4 +1,4 @@
--- A seat's parts may be cut off into a new seat, and a seat may take in another's.
+-- A seat's parts may be cut off into a new seat.
 use Rattle.std.proofs.Common.{◌≡◌, ◌≢◌, ◌⊎◌, ℕ, zero, suc, eqb, eq-eqb, ne_eqb, List, [], ◌∷◌, ◌++◌, length, set, refl, sym, ap, ◌∙◌, subst, inl, inr, arith, if◌then◌else◌}
 use Rattle.std.proofs.lemmas.List.{length-set}
 use mathlib.Core.Option.{some, some-injective, some-ne-none}
@@ -28,10 +28,10 @@ at_push (first ∷ items) item found (suc place) at =
 abbrev pub from_seat : ℕ → (ℕ → ℕ × ℕ) → ℕ × ℕ → ℕ × ℕ
 from_seat seat to from = if eqb from.0 seat then to from.1 else from
 
-from_this : (seat : ℕ) (to : ℕ → ℕ × ℕ) (place : ℕ) → from_seat seat to (seat, place) ≡ to place
+pub from_this : (seat : ℕ) (to : ℕ → ℕ × ℕ) (place : ℕ) → from_seat seat to (seat, place) ≡ to place
 from_this seat to place = rw (eq-eqb seat seat refl) refl
 
-from_other : (seat : ℕ) (to : ℕ → ℕ × ℕ) (other place : ℕ) → other ≢ seat → from_seat seat to (other, place) ≡ (other, place)
+pub from_other : (seat : ℕ) (to : ℕ → ℕ × ℕ) (other place : ℕ) → other ≢ seat → from_seat seat to (other, place) ≡ (other, place)
 from_other seat to other place apart = rw (ne_eqb other seat apart) refl
 
 -- Each part of the two halves was the seat's, and `to` says where it lies now.
@@ -105,3 +105,12 @@ module _ {S : Type 0} where
       (from_seat seat (second_to seat (length state.views))) shown
       (cut_lies state seat view (without_second view) (second_alone view) (second_to seat (length state.views)) seated
       (second_cut view seat (length state.views)))
+
+  -- So may all parts.
+  pub splits_all : (size : RingSize) (seat : ℕ) (view : Parts) → Splits (Shown {S = S} size) seat view [] view
+  splits_all size seat view state shown seated =
+      rearrange size state (set state.views seat [] ++ view ∷ []) (from_seat seat (λ place. (length state.views, place))) shown
+      (cut_lies state seat view [] view (λ place. (length state.views, place)) seated (record {
+        kept = λ place part at. absurd (some-ne-none part (sym at));
+        given = λ place part at. (place, at, refl);
+      }))

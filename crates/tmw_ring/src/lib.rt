@@ -2,6 +2,7 @@
 //! of them.
 #![tactic(auto)]
 
+mod cuts;
 mod ends;
 mod make;
 mod part;
@@ -9,6 +10,7 @@ mod rule;
 #[cfg(test)]
 mod tests;
 
+pub use cuts::{AllParts, BothParts, SecondPart};
 pub use ends::{Reader, Ring, Writer};
 pub use make::ring;
 pub use part::{Look, Made, Part, ReaderPart, WriterPart};
