@@ -1,0 +1,92 @@
+-- The parts of a new ring are dealt to its writers, one after another.
+use Rattle.std.proofs.Common.{◌≡◌, ◌⊎◌, ◌+◌, ◌-◌, ◌<◌, ℕ, zero, suc, List, [], ◌∷◌, ◌++◌, length, get_or, refl, sym, ap, ◌∙◌, subst, inl, inr, arith}
+use Rattle.std.proofs.lemmas.List.Elements.{All-push}
+use Rattle.atomic_table.specs.Seated.{TableId}
+use Rattle.atomic_table.specs.Table.{Me}
+use Rattle.tmw_events.proofs.TextNames.{same_ix}
+use Rattle.tmw_events.specs.Unpacking.{ix_of}
+use Rattle.tmw_events.specs.declared.ix.Ix.{Ix}
+use Rattle.tmw_defs.specs.declared.ring_size.RingSize.{RingSize}
+use Rattle.tmw_ring.specs.Ends.{RingIs, WriterIs, WriterOf}
+use Rattle.tmw_ring.specs.NewRing.{IsNewWriter, AreNewWriters}
+use Rattle.tmw_ring.specs.Parts.{Parts, new_writer, new_writers, new_reader}
+use Rattle.tmw_ring.specs.Seats.{second_alone, without_second, writer_in, writer_is, IsWriter, IsIdleWriter}
+use Rattle.tmw_ring.specs.declared.part.Part.TheVariants.{Writes, Reads}
+use Rattle.tmw_ring.specs.declared.part.WriterPart.{WriterPart}
+
+-- the parts that are left when the writers below this number have theirs
+abbrev pub left_parts : RingSize → ℕ → Parts
+left_parts size number = Reads (new_reader size) ∷ new_writers size number (size.writers - number)
+
+next_writers : (size : RingSize) (number : ℕ) → number < size.writers
+    → left_parts size number
+    ≡ Reads (new_reader size) ∷ Writes (new_writer size number) ∷ new_writers size (number + 1) (size.writers - (number + 1))
+next_writers size number within =
+    let count : size.writers - number ≡ suc (size.writers - (number + 1)) = omega arith in
+    ap (λ (n : ℕ). Reads (new_reader size) ∷ new_writers size number n) count
+
+module _ {S : Type 0} where
+  -- The second of these parts is the next writer's.
+  pub dealt : (size : RingSize) (number : ℕ) (me own : Me S Parts) → number < size.writers → me ≡ (left_parts size number, [])
+      → own ≡ (second_alone me.0, []) → IsWriter (new_writer size number) own
+  dealt size number me own within had is =
+      is ∙ ap (λ (parts : Parts). let m : Me S Parts = (second_alone parts, []) in m)
+      (ap (λ (m : Me S Parts). m.0) had ∙ next_writers size number within)
+
+  -- The others are left.
+  pub left_over : (size : RingSize) (number : ℕ) (me kept : Me S Parts) → number < size.writers → me ≡ (left_parts size number, [])
+      → kept ≡ (without_second me.0, me.1) → kept ≡ (left_parts size (number + 1), [])
+  left_over size number me kept within had is =
+      is ∙ ap (λ (m : Me S Parts). let n : Me S Parts = (without_second m.0, m.1) in n) had
+      ∙ ap (λ (parts : Parts). let m : Me S Parts = (without_second parts, []) in m) (next_writers size number within)
+
+  -- The new writer's seat is that of an idle writer.
+  pub new_writer-idle : (size : RingSize) (number : Ix) (own : Me S Parts) → IsWriter (new_writer size number.number) own
+      → IsIdleWriter number own
+  new_writer-idle size number own is =
+      subst (λ (m : Me S Parts). IsIdleWriter number m) (sym is) (record {
+        seated = refl;
+        idle = refl;
+        numbered = let below = number.below in same_ix (ix_of number.number) number (omega (arith, below));
+      })
+
+get_or_push : {A : Type 0} (items : List A) (item fallback : A) (place : ℕ) → place < length (items ++ item ∷ [])
+    → ((place < length items) × (get_or (items ++ item ∷ []) place fallback ≡ get_or items place fallback))
+    ⊎ ((place ≡ length items) × (get_or (items ++ item ∷ []) place fallback ≡ item))
+get_or_push [] item fallback zero within = inr (refl, refl)
+get_or_push [] item fallback (suc place) within = absurd (omega arith)
+get_or_push (first ∷ items) item fallback zero within = inl (omega arith, refl)
+get_or_push (first ∷ items) item fallback (suc place) within =
+    elim (get_or_push items item fallback place (omega arith)) [
+      | inl before ↦ inl (omega (arith, before.0), before.1)
+      | inr last ↦ inr (omega (arith, last.0), last.1)
+    ]
+
+-- One more new writer.
+new_writers-push : (ring : RingIs) (writers : List WriterIs) (writer : WriterIs) (number : ℕ) → AreNewWriters ring writers
+    → length writers ≡ number → WriterOf ring writer → IsNewWriter number writer → AreNewWriters ring (writers ++ writer ∷ [])
+new_writers-push ring writers writer number are count of new = record {
+  of_ring = All-push (WriterOf ring) writers writer are.of_ring of;
+  each = λ place fallback within.
+      elim (get_or_push writers writer fallback place within) [
+        | inl before ↦ subst (IsNewWriter place) (sym before.1) (are.each place fallback before.0)
+        | inr last ↦
+            subst (IsNewWriter place) (sym last.1) (subst (λ (n : ℕ). IsNewWriter n writer) (sym (last.0 ∙ count)) new)
+      ];
+}
+
+-- What callers see of a new writer.
+new_writer_is : (table : TableId) (size : RingSize) (number : ℕ) → number < 8
+    → IsNewWriter number (writer_is table (new_writer size number))
+new_writer_is table size number within = record { numbered = omega (arith, within); made = refl; seen = refl; looks = refl }
+
+module _ {S : Type 0} where
+  -- One more writer, by whose seat it is new.
+  pub new_writers-dealt : (ring : RingIs) (writers : List WriterIs) (number : ℕ) (table : TableId) (own : Me S Parts)
+      → AreNewWriters ring writers → length writers ≡ number → number < 8 → table ≡ ring.table → IsWriter (new_writer ring.size number) own
+      → AreNewWriters ring (writers ++ writer_is table (writer_in own.0) ∷ [])
+  new_writers-dealt ring writers number table own are count small same is =
+      let part : writer_in own.0 ≡ new_writer ring.size number = ap (λ (m : Me S Parts). writer_in m.0) is in
+      new_writers-push ring writers (writer_is table (writer_in own.0)) number are count
+      (same, ap (λ (w : WriterPart). w.size) part)
+      (subst (λ (w : WriterPart). IsNewWriter number (writer_is table w)) (sym part) (new_writer_is table ring.size number small))

@@ -1,0 +1,94 @@
+-- A new ring keeps the rule of its table.
+use Rattle.std.proofs.Common.{◌≡◌, ◌+◌, ◌%◌, ◌<◌, ℕ, zero, suc, [], Some, replicate, refl, sym, ap, ◌∙◌, subst, arith}
+use Rattle.std.proofs.lemmas.List.Elements.{All-replicate}
+use Rattle.std.specs.Prelude.{slice_get}
+use mathlib.Core.Option.{some, some-injective, some-ne-none}
+use lib.ListN.{get_elem?}
+use Rattle.atomic_table.specs.Table.{State, opening}
+use Rattle.tmw_defs.specs.Ring.{IsSize, new_core}
+use Rattle.tmw_defs.specs.RingCells.{empty_cell}
+use Rattle.tmw_defs.specs.declared.ring_cell.RingCell.{RingCell}
+use Rattle.tmw_defs.specs.declared.ring_phase.WriterPhase.TheVariants.{Idle}
+use Rattle.tmw_defs.specs.declared.ring_size.RingSize.{RingSize}
+use Rattle.tmw_defs.proofs.RingPhases.{all_idle}
+use Rattle.tmw_defs.proofs.RingStart.{new_core-sound}
+use Rattle.tmw_ring.specs.Parts.{Parts, key, new_writer, new_writers, new_reader, new_parts}
+use Rattle.tmw_ring.specs.Rule.{Fits, FitsPhase, IsReal, Lies, Shown, WriterFits}
+use Rattle.tmw_ring.specs.Words.{word_count}
+use Rattle.tmw_ring.specs.declared.part.Part.{Part}
+use Rattle.tmw_ring.specs.declared.part.Part.TheVariants.{Writes, Reads}
+use Rattle.tmw_ring.proofs.Words.{new_words}
+
+idle_at : (count writer : ℕ) → writer < count → slice_get (replicate count Idle) writer ≡ Some Idle
+idle_at zero writer within = absurd (omega arith)
+idle_at (suc count) zero within = refl
+idle_at (suc count) (suc writer) within = idle_at count writer (omega arith)
+
+-- Whoever stands among the parts of new writers is the new writer of the number of its place.
+writers_at : (size : RingSize) (from count place : ℕ) (part : Part) → get_elem? (new_writers size from count) place ≡ some part
+    → (place < count) × (part ≡ Writes (new_writer size (from + place)))
+writers_at size from zero place part at = absurd (some-ne-none part (sym at))
+writers_at size from (suc count) zero part at =
+    let same : from + 0 ≡ from = omega arith in
+    (omega arith, sym (some-injective (Writes (new_writer size from)) part at) ∙ ap (λ (n : ℕ). Writes (new_writer size n)) (sym same))
+writers_at size from (suc count) (suc place) part at =
+    let later = writers_at size (from + 1) count place part at in
+    let same : from + 1 + place ≡ from + suc place = omega arith in
+    (omega (arith, later.0), later.1 ∙ ap (λ (n : ℕ). Writes (new_writer size n)) same)
+
+new_core-real : (size : RingSize) → IsReal (new_core size)
+new_core-real size = record {
+  headers = All-replicate (λ (cell : RingCell). cell.header < 1024) size.cells empty_cell (omega arith);
+  events = λ place event at. absurd (cc);
+  phases = λ writer phase at. subst FitsPhase (all_idle size.writers writer phase at) tt;
+}
+
+-- A new writer knows what is so.
+new_writer-fits : (size : RingSize) (number : ℕ) → IsSize size → number < size.writers
+    → Fits (new_core size) (Writes (new_writer size number)) × (key (Writes (new_writer size number)) ≡ suc number)
+new_writer-fits size number is within =
+    let few = is.cells.few in
+    let same : number % 8 ≡ number = omega (arith, few) in
+    let fits : WriterFits (new_core size) (new_writer size number) = record {
+      sized = refl;
+      phase = idle_at size.writers (number % 8) (omega (arith, same));
+      made = refl;
+      seen = omega arith;
+    } in
+    (fits, omega (arith, same))
+
+part_at : (size : RingSize) → IsSize size → (place : ℕ) (part : Part) → get_elem? (new_parts size) place ≡ some part
+    → Fits (new_core size) part × (key part ≡ place)
+part_at size is zero part at =
+    subst (λ (found : Part). Fits (new_core size) found × (key found ≡ 0)) (some-injective (Reads (new_reader size)) part at)
+    (record { sized = refl; phase = refl; taken = refl }, refl)
+part_at size is (suc place) part at =
+    let (within, new) = writers_at size 0 size.writers place part at in
+    let from : 0 + place ≡ place = omega arith in
+    let known = new_writer-fits size place is within in
+    subst (λ (found : Part). Fits (new_core size) found × (key found ≡ suc place))
+    (ap (λ (n : ℕ). Writes (new_writer size n)) (sym from) ∙ sym new) known
+
+module _ {S : Type 0} where
+  -- The words and the one seat of a new table.
+  abbrev opened : RingSize → State S Parts
+  opened size = opening (replicate (word_count size.cells) 0) [] (new_parts size)
+
+  pub starts : (size : RingSize) → IsSize size → Shown size (opened size)
+  starts size is = record {
+    core = new_core size;
+    sized = refl;
+    sound = new_core-sound size is;
+    real = new_core-real size;
+    words = new_words size;
+    where_is = λ actor. (0, actor);
+    each = each;
+  }
+    where
+      each : (seat place : ℕ) (part : Part) → Lies (opened size) seat place part
+          → Fits (new_core size) part × (◌≡◌ {A = ℕ × ℕ} (0, key part) (seat, place))
+      each zero place part lies =
+          let known = part_at size is place part
+          (subst (λ (view : Parts). get_elem? view place ≡ some part) (sym (some-injective (new_parts size) lies.view lies.seated)) lies.placed) in
+          (known.0, ap (λ (n : ℕ). let pair : ℕ × ℕ = (0, n) in pair) known.1)
+      each (suc seat) place part lies = absurd (some-ne-none lies.view (sym lies.seated))

@@ -1,0 +1,6 @@
+pub mod Ends
+pub mod NewRing
+pub mod Parts
+pub mod Rule
+pub mod Seats
+pub mod Words

@@ -1,0 +1,45 @@
+-- What the ring's actors know, in parts, and which part is whose.
+use Rattle.std.specs.Prelude.{◌==◌, ◌+◌, ℕ, zero, suc, List, [], ◌∷◌, if◌then◌else◌}
+use Rattle.tmw_events.specs.Unpacking.{ix_of}
+use Rattle.tmw_events.specs.declared.event.Event.{Event}
+use Rattle.tmw_defs.specs.declared.ring_phase.ReaderPhase.TheVariants.{Waiting}
+use Rattle.tmw_defs.specs.declared.ring_phase.WriterPhase.TheVariants.{Idle}
+use Rattle.tmw_defs.specs.declared.ring_size.RingSize.{RingSize}
+use Rattle.tmw_ring.specs.declared.part.Made.{Made}
+use Rattle.tmw_ring.specs.declared.part.Part.{Part}
+use Rattle.tmw_ring.specs.declared.part.Part.TheVariants.{Writes, Reads}
+use Rattle.tmw_ring.specs.declared.part.ReaderPart.{ReaderPart}
+use Rattle.tmw_ring.specs.declared.part.WriterPart.{WriterPart}
+
+-- what a seat knows: the parts that lie in it
+abbrev pub Parts : Type 0
+Parts = List Part
+
+-- the actor whose part this is: 0 for the reader, and one more than its number for a writer
+abbrev pub key : Part → ℕ
+key (Writes part) = part.number.number + 1
+key (Reads part) = 0
+
+-- of these events, which have the places from this one on, the writer's, each with its place
+abbrev pub made_from : ℕ → ℕ → List Event → List Made
+made_from writer place [] = []
+made_from writer place (event ∷ events) =
+    if event.thread.number == writer
+    then record { place = place; event = event } ∷ made_from writer (place + 1) events
+    else made_from writer (place + 1) events
+
+-- At the start a writer is idle, and knows nothing.
+abbrev pub new_writer : RingSize → ℕ → WriterPart
+new_writer size number = record { size = size; number = ix_of number; phase = Idle; made = []; seen = 0; looks = [] }
+
+-- the parts of so many writers, whose numbers rise from this one
+abbrev pub new_writers : RingSize → ℕ → ℕ → Parts
+new_writers size number zero = []
+new_writers size number (suc count) = Writes (new_writer size number) ∷ new_writers size (number + 1) count
+
+abbrev pub new_reader : RingSize → ReaderPart
+new_reader size = record { size = size; phase = Waiting; taken = []; looks = [] }
+
+-- the parts of a new ring, all in one seat
+abbrev pub new_parts : RingSize → Parts
+new_parts size = Reads (new_reader size) ∷ new_writers size 0 size.writers
