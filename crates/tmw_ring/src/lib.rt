@@ -6,6 +6,9 @@ mod ends;
 mod make;
 mod part;
 mod rule;
+mod take;
+#[cfg(test)]
+mod take_tests;
 
 pub use ends::{Reader, Ring, Writer};
 pub use make::ring;
