@@ -7,6 +7,9 @@ mod ends;
 mod make;
 mod part;
 mod rule;
+mod take;
+#[cfg(test)]
+mod take_tests;
 #[cfg(test)]
 mod tests;
 

@@ -1,0 +1,92 @@
+//! Taking the next event, in three steps of the reader.
+ghost use Rattle.std.specs.Prelude.{◌≡◌, ◌-◌, ◌<◌, ◌^◌, IfSome, IfNone};
+ghost use Rattle.tmw_ring.specs.Ends.{ReaderOf};
+ghost use Rattle.tmw_ring.specs.Seats.{IsWaitingReader};
+ghost use Rattle.tmw_ring.specs.Takes.{IsReadyReader, IsToldReader, StampSeen, ValueRead, PlaceFreed, HasTaken, HasFoundNone};
+
+use crate::ends::{Reader, Ring};
+use crate::part::Part;
+use crate::rule::RingSeat;
+use atomic_table::Play;
+use std::collections::LinkedList;
+use tmw_events::{Event, split, unpack};
+
+impl Ring {
+    /// The next event, which is then taken; `None` where the next place is not published yet.
+    pub fn take(&self, reader: &mut Reader) -> Option<Event>
+        requires { ReaderOf self.now reader.old }
+        ensures same { ReaderOf self.now reader.new }
+        ensures some { IfSome result (λ event. HasTaken reader.old event reader.new) }
+        ensures none { IfNone result (HasFoundNone reader.old reader.new) }
+    {
+        let front = reader.front;
+        let word = self.see_stamp(&mut reader.seat, front);
+        let (stamp, header) = split(word);
+        if stamp != front + 1 {
+            return None;
+        }
+        let value = self.read(&mut reader.seat, front);
+        let Some(event) = unpack(header, value) else {
+            return None;
+        };
+        self.free(&mut reader.seat, front);
+        reader.front = front + 1;
+        Some(event)
+    }
+
+    /// Loads the first word of the next place's cell, which tells its stamp and its event's header.
+    fn see_stamp(&self, seat: &mut RingSeat, front: u64) -> u64
+        requires table { seat.old.table_id ≡ self.now.table }
+        requires waiting { IsWaitingReader front seat.old.me }
+        ensures table { seat.new.table_id ≡ seat.old.table_id }
+        ensures seen { StampSeen seat.old.me result seat.new.me }
+    {
+        self.table
+            .shared
+            .load::<SeesStamp>(seat, 2 + 2 * (front % self.size.cells) as usize)
+    }
+
+    /// Loads the second word, which is its event's value.
+    fn read(&self, seat: &mut RingSeat, front: u64) -> u64
+        requires table { seat.old.table_id ≡ self.now.table }
+        requires ready { IsReadyReader front seat.old.me }
+        ensures table { seat.new.table_id ≡ seat.old.table_id }
+        ensures read { ValueRead seat.old.me result seat.new.me }
+    {
+        self.table
+            .shared
+            .load::<ReadsValue>(seat, 3 + 2 * (front % self.size.cells) as usize)
+    }
+
+    /// Stores the next front. The event is taken.
+    fn free(&self, seat: &mut RingSeat, front: u64)
+        requires table { seat.old.table_id ≡ self.now.table }
+        requires small { front < 2 ^ 64 - 1 }
+        requires told { IsToldReader front seat.old.me }
+        ensures table { seat.new.table_id ≡ seat.old.table_id }
+        ensures freed { PlaceFreed seat.old.me seat.new.me }
+    {
+        self.table.shared.store::<FreesPlace>(seat, 1, front + 1);
+    }
+}
+
+/// The reader sees the stamp of the next place's cell.
+pub struct SeesStamp;
+
+impl Play<(), LinkedList<Part>> for SeesStamp {
+    ghost then = { λ step me word after. StampSeen me word after };
+}
+
+/// The reader reads the value in the next place's cell.
+pub struct ReadsValue;
+
+impl Play<(), LinkedList<Part>> for ReadsValue {
+    ghost then = { λ step me value after. ValueRead me value after };
+}
+
+/// The reader frees the next place.
+pub struct FreesPlace;
+
+impl Play<(), LinkedList<Part>> for FreesPlace {
+    ghost then = { λ step me front after. PlaceFreed me after };
+}
