@@ -5,9 +5,12 @@
 mod ends;
 mod make;
 mod part;
+mod record;
+mod refused;
 mod rule;
 
 pub use ends::{Reader, Ring, Writer};
 pub use make::ring;
 pub use part::{Look, Made, Part, ReaderPart, WriterPart};
+pub use refused::Refused;
 pub use rule::{RingRule, RingSeat, RingTable};
