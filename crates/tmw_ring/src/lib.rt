@@ -6,6 +6,8 @@ mod ends;
 mod make;
 mod part;
 mod record;
+#[cfg(test)]
+mod record_tests;
 mod refused;
 mod rule;
 
