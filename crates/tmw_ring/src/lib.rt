@@ -2,6 +2,7 @@
 //! of them.
 #![tactic(auto)]
 
+mod cuts;
 mod ends;
 mod make;
 mod part;
@@ -10,9 +11,14 @@ mod record;
 mod record_tests;
 mod refused;
 mod rule;
+#[cfg(test)]
+mod tests;
 
+pub use cuts::{AllParts, BothParts, SecondPart};
 pub use ends::{Reader, Ring, Writer};
 pub use make::ring;
 pub use part::{Look, Made, Part, ReaderPart, WriterPart};
 pub use refused::Refused;
 pub use rule::{RingRule, RingSeat, RingTable};
+pub use tmw_defs::RingSize;
+pub use tmw_ring_steps::RingFault;
