@@ -1,5 +1,5 @@
 -- A seat may take in the parts of another.
-use Rattle.std.proofs.Common.{◌≡◌, ◌≢◌, ◌⊎◌, ◌+◌, ℕ, zero, suc, List, [], ◌∷◌, ◌++◌, length, set, refl, sym, ap, ◌∙◌, subst, inl, inr, arith}
+use Rattle.std.proofs.Common.{◌≡◌, ◌≢◌, ◌⊎◌, ◌+◌, ℕ, zero, suc, List, [], ◌∷◌, ◌++◌, length, set, sym, ap, ◌∙◌, subst, inl, inr, arith}
 use mathlib.Core.Option.{some, some-ne-none}
 use lib.ListN.{get_elem?}
 use Rattle.atomic_table.proofs.Lists.{at_set, set_else}
@@ -7,7 +7,6 @@ use Rattle.atomic_table.specs.Table.{State, Joins}
 use Rattle.tmw_defs.specs.declared.ring_size.RingSize.{RingSize}
 use Rattle.tmw_ring.specs.Parts.{Parts}
 use Rattle.tmw_ring.specs.Rule.{Shown}
-use Rattle.tmw_ring.specs.declared.part.Part.{Part}
 use Rattle.tmw_ring.proofs.Moves.{Rearranged, rearrange}
 use Rattle.tmw_ring.proofs.Seats.{from_seat, from_this, from_other}
 

@@ -5,6 +5,7 @@
 mod cuts;
 mod ends;
 mod make;
+mod meet;
 mod part;
 mod rule;
 #[cfg(test)]
