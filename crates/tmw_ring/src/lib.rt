@@ -6,6 +6,8 @@ mod cuts;
 mod ends;
 mod make;
 mod meet;
+#[cfg(test)]
+mod meet_tests;
 mod part;
 mod rule;
 #[cfg(test)]

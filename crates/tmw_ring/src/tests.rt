@@ -29,18 +29,3 @@ fn sizes_in_the_order_of_their_tests(rt: HostRuntime) {
         assert_eq!(rt; ring(rt.alloc(), cells, writers, limit).err(), fault);
     }
 }
-
-#[test]
-fn meetings_of_new_ends(rt: HostRuntime) -> Result<(), Fail> {
-    let (ring, mut writers, mut reader) = ring(rt.alloc(), 8, 2, 100)?;
-    let (Some(mut last), Some(mut first)) = (writers.pop(), writers.pop()) else {
-        panic!(rt; "fewer than two writers");
-    };
-    ring.meet(&mut first, &mut reader);
-    ring.meet(&mut last, &mut reader);
-    ring.meet_writers(&mut first, &mut last);
-    ring.meet_writers(&mut last, &mut first);
-    assert_eq!(rt; first.number().get(), 0);
-    assert_eq!(rt; last.number().get(), 1);
-    Ok(())
-}
