@@ -1,4 +1,5 @@
 pub mod Ends
+pub mod Meeting
 pub mod NewRing
 pub mod Parts
 pub mod Recording

@@ -5,6 +5,9 @@
 mod cuts;
 mod ends;
 mod make;
+mod meet;
+#[cfg(test)]
+mod meet_tests;
 mod part;
 mod record;
 #[cfg(test)]
