@@ -3,4 +3,5 @@ pub mod NewRing
 pub mod Parts
 pub mod Rule
 pub mod Seats
+pub mod Settling
 pub mod Words
