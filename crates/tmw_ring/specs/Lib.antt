@@ -5,6 +5,7 @@ pub mod Parts
 pub mod Recording
 pub mod Rule
 pub mod Seats
+pub mod Settling
 pub mod Takes
 pub mod Words
 pub mod WriterSteps

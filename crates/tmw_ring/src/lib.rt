@@ -14,6 +14,8 @@ mod record;
 mod record_tests;
 mod refused;
 mod rule;
+mod settle;
+mod settled;
 mod take;
 #[cfg(test)]
 mod take_tests;
@@ -26,5 +28,6 @@ pub use make::ring;
 pub use part::{Look, Made, Part, ReaderPart, WriterPart};
 pub use refused::Refused;
 pub use rule::{RingRule, RingSeat, RingTable};
+pub use settled::Settled;
 pub use tmw_defs::RingSize;
 pub use tmw_ring_steps::RingFault;
