@@ -16,6 +16,7 @@ use Rattle.tmw_ring.specs.declared.part.Part.{Part}
 use Rattle.tmw_ring.specs.declared.part.Part.TheVariants.{Writes, Reads}
 use Rattle.tmw_ring.proofs.Moves.{Follows, moves_each}
 
+-- What stands in a mapped list is the image of what stood there.
 at_mapped : {A B : Type 0} (f : A → B) (items : List A) (found : B) (place : ℕ) → get_elem? (map f items) place ≡ some found
     → (was : A) × (get_elem? items place ≡ some was) × (found ≡ f was)
 at_mapped f [] found place at = absurd (some-ne-none found (sym at))
@@ -53,6 +54,7 @@ all_follow core old fit place part placed =
     (was, at, ap key is ∙ same_key core.tail was, subst (Fits core) (sym is) (fits_still core was (fit place was at)))
 
 module _ {S : Type 0} where
+  -- The load changes no word, so the ring stays as it was.
   pub finds_tail : (size : RingSize) (slots seat : ℕ) (me : Me S Parts)
       → Allows (Shown {S = S} size) slots seat me tail_word (λ n. n) (HasFoundTail (step slots tail_word 0 0 none) me)
   finds_tail size slots seat me state shown counted seated small =

@@ -15,14 +15,14 @@ abbrev pub with_tail : ℕ → Part → Part
 with_tail tail (Writes part) = Writes (record part { seen = tail; looks = part.looks ++ Tail tail ∷ [] })
 with_tail tail (Reads part) = Reads part
 
--- What the part knows is of this log: a writer has claimed the places of its events there, and has seen no more places than it
--- has; and it begins with what the reader has taken.
+-- What the part knows is of this log: a writer has claimed the places of its events there and seen no more places than the log
+-- has, and the reader has taken the log's first events.
 abbrev pub IsOfLog : List Event → Part → Type 0
 IsOfLog log (Writes part) = (part.made ≡ made_from part.number.number 0 log) × (part.seen ≤ length log)
 IsOfLog log (Reads part) = (rest : List Event) × (log ≡ part.taken ++ rest)
 
 module _ {S : Type 0} where
-  -- The seat has found this tail: what its parts know is of one log, which has so many events.
+  -- The seat has found this tail: there is a log of so many events, and what each of its parts knew is of it.
   abbrev pub HasFoundTail : Step S → Me S Parts → ℕ → Me S Parts → Type 0
   HasFoundTail step before tail after =
       (after ≡ (map (with_tail tail) before.0, before.1)) × (log : List Event) × (tail ≡ length log)
