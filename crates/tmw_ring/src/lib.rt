@@ -15,6 +15,8 @@ mod record_tests;
 mod refused;
 mod rule;
 mod settle;
+#[cfg(test)]
+mod settle_tests;
 mod settled;
 mod take;
 #[cfg(test)]
