@@ -48,13 +48,14 @@ module _ {S : Type 0} where
                 let before = shown.each seat place was (record { view = old; seated = seated; placed = placed }) in
                 (fits, ap shown.where_is same ∙ before.1 ∙ ap (λ (n : ℕ). let pair : ℕ × ℕ = (n, place) in pair) (sym here.0))
             | inr there ↦
-                let before = shown.each at place part (record { view = lies.view; seated = there.1; placed = lies.placed }) in
-                (others part
-                    (λ other was placed same. there.0 (ap (λ (pair : ℕ × ℕ). pair.0)
-                        (sym before.1 ∙ ap shown.where_is same
-                        ∙ (shown.each seat other was (record { view = old; seated = seated; placed = placed })).1)))
-                    before.0,
-                before.1)
+                let before = shown.each at place part (record { view = lies.view; seated = there.1; placed = lies.placed }) in (
+                  others part
+                      (λ other was placed same. there.0 (ap (λ (pair : ℕ × ℕ). pair.0)
+                      (sym before.1 ∙ ap shown.where_is same
+                      ∙ (shown.each seat other was (record { view = old; seated = seated; placed = placed })).1)))
+                      before.0,
+                  before.1,
+                )
           ]
 
   -- The same of a seat that has one part.

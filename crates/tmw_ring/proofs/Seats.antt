@@ -1,5 +1,5 @@
--- A seat's parts may be cut off into a new seat, and a seat may take in another's.
-use Rattle.std.proofs.Common.{◌≡◌, ◌≢◌, ◌⊎◌, ◌+◌, ◌<◌, ◌≤◌, ℕ, zero, suc, Bool, true, false, eqb, eq-eqb, ne_eqb, List, [], ◌∷◌, ◌++◌, length, set, refl, sym, ap, ◌∙◌, subst, inl, inr, arith, if◌then◌else◌}
+-- A seat's parts may be cut off into a new seat.
+use Rattle.std.proofs.Common.{◌≡◌, ◌≢◌, ◌⊎◌, ℕ, zero, suc, eqb, eq-eqb, ne_eqb, List, [], ◌∷◌, ◌++◌, length, set, refl, sym, ap, ◌∙◌, subst, inl, inr, arith, if◌then◌else◌}
 use Rattle.std.proofs.lemmas.List.{length-set}
 use mathlib.Core.Option.{some, some-injective, some-ne-none}
 use lib.ListN.{get_elem?}
@@ -7,7 +7,7 @@ use Rattle.atomic_table.proofs.Lists.{at_set}
 use Rattle.atomic_table.specs.Table.{State, Splits}
 use Rattle.tmw_defs.specs.declared.ring_size.RingSize.{RingSize}
 use Rattle.tmw_ring.specs.Parts.{Parts}
-use Rattle.tmw_ring.specs.Rule.{Lies, Shown}
+use Rattle.tmw_ring.specs.Rule.{Shown}
 use Rattle.tmw_ring.specs.Seats.{second_alone, without_second}
 use Rattle.tmw_ring.specs.declared.part.Part.{Part}
 use Rattle.tmw_ring.proofs.Moves.{Rearranged, rearrange}
@@ -28,10 +28,10 @@ at_push (first ∷ items) item found (suc place) at =
 abbrev pub from_seat : ℕ → (ℕ → ℕ × ℕ) → ℕ × ℕ → ℕ × ℕ
 from_seat seat to from = if eqb from.0 seat then to from.1 else from
 
-from_this : (seat : ℕ) (to : ℕ → ℕ × ℕ) (place : ℕ) → from_seat seat to (seat, place) ≡ to place
+pub from_this : (seat : ℕ) (to : ℕ → ℕ × ℕ) (place : ℕ) → from_seat seat to (seat, place) ≡ to place
 from_this seat to place = rw (eq-eqb seat seat refl) refl
 
-from_other : (seat : ℕ) (to : ℕ → ℕ × ℕ) (other place : ℕ) → other ≢ seat → from_seat seat to (other, place) ≡ (other, place)
+pub from_other : (seat : ℕ) (to : ℕ → ℕ × ℕ) (other place : ℕ) → other ≢ seat → from_seat seat to (other, place) ≡ (other, place)
 from_other seat to other place apart = rw (ne_eqb other seat apart) refl
 
 -- Each part of the two halves was the seat's, and `to` says where it lies now.
@@ -81,17 +81,21 @@ module _ {S : Type 0} where
       elim (at_push (set state.views seat left) right found at is_at) [
         | inl before ↦ elim (at_set state.views seat at left found before) [
           | inl here ↦
-              let (from, was, now) = cut.kept place part (subst (λ (v : Parts). get_elem? v place ≡ some part) (sym here.1) placed) in
-              ((seat, from), record { view = view; seated = seated; placed = was },
-                  from_this seat to from ∙ now ∙ ap (λ (n : ℕ). let pair : ℕ × ℕ = (n, place) in pair) (sym here.0))
+              let (from, was, now) = cut.kept place part (subst (λ (v : Parts). get_elem? v place ≡ some part) (sym here.1) placed) in (
+                (seat, from),
+                record { view = view; seated = seated; placed = was },
+                from_this seat to from ∙ now ∙ ap (λ (n : ℕ). let pair : ℕ × ℕ = (n, place) in pair) (sym here.0),
+              )
           | inr there ↦
               ((at, place), record { view = found; seated = there.1; placed = placed }, from_other seat to at place there.0)
         ]
         | inr last ↦
             let (from, was, now) = cut.given place part (subst (λ (v : Parts). get_elem? v place ≡ some part) (sym last.1) placed) in
-            let is : length (set state.views seat left) ≡ length state.views = length-set state.views seat left in
-            ((seat, from), record { view = view; seated = seated; placed = was },
-                from_this seat to from ∙ now ∙ ap (λ (n : ℕ). let pair : ℕ × ℕ = (n, place) in pair) (sym (last.0 ∙ is)))
+            let is : length (set state.views seat left) ≡ length state.views = length-set state.views seat left in (
+              (seat, from),
+              record { view = view; seated = seated; placed = was },
+              from_this seat to from ∙ now ∙ ap (λ (n : ℕ). let pair : ℕ × ℕ = (n, place) in pair) (sym (last.0 ∙ is)),
+            )
       ]
 
   -- The second part may be cut off.
@@ -100,4 +104,13 @@ module _ {S : Type 0} where
       rearrange size state (set state.views seat (without_second view) ++ second_alone view ∷ [])
       (from_seat seat (second_to seat (length state.views))) shown
       (cut_lies state seat view (without_second view) (second_alone view) (second_to seat (length state.views)) seated
-          (second_cut view seat (length state.views)))
+      (second_cut view seat (length state.views)))
+
+  -- So may all parts.
+  pub splits_all : (size : RingSize) (seat : ℕ) (view : Parts) → Splits (Shown {S = S} size) seat view [] view
+  splits_all size seat view state shown seated =
+      rearrange size state (set state.views seat [] ++ view ∷ []) (from_seat seat (λ place. (length state.views, place))) shown
+      (cut_lies state seat view [] view (λ place. (length state.views, place)) seated (record {
+        kept = λ place part at. absurd (some-ne-none part (sym at));
+        given = λ place part at. (place, at, refl);
+      }))

@@ -1,15 +1,13 @@
 -- A new ring keeps the rule of its table.
-use Rattle.std.proofs.Common.{◌≡◌, ◌+◌, ◌*◌, ◌%◌, ◌<◌, ◌≤◌, ℕ, zero, suc, List, [], ◌∷◌, Some, replicate, refl, sym, ap, ◌∙◌, subst, arith}
+use Rattle.std.proofs.Common.{◌≡◌, ◌+◌, ◌%◌, ◌<◌, ℕ, zero, suc, [], Some, replicate, refl, sym, ap, ◌∙◌, subst, arith}
 use Rattle.std.proofs.lemmas.List.Elements.{All-replicate}
 use Rattle.std.specs.Prelude.{slice_get}
 use mathlib.Core.Option.{some, some-injective, some-ne-none}
 use lib.ListN.{get_elem?}
 use Rattle.atomic_table.specs.Table.{State, opening}
-use Rattle.tmw_events.specs.Unpacking.{ix_of}
 use Rattle.tmw_defs.specs.Ring.{IsSize, new_core}
 use Rattle.tmw_defs.specs.RingCells.{empty_cell}
 use Rattle.tmw_defs.specs.declared.ring_cell.RingCell.{RingCell}
-use Rattle.tmw_defs.specs.declared.ring_phase.WriterPhase.{WriterPhase}
 use Rattle.tmw_defs.specs.declared.ring_phase.WriterPhase.TheVariants.{Idle}
 use Rattle.tmw_defs.specs.declared.ring_size.RingSize.{RingSize}
 use Rattle.tmw_defs.proofs.RingPhases.{all_idle}

@@ -9,7 +9,6 @@ use Rattle.tmw_events.specs.declared.event.Event.{Event}
 use Rattle.tmw_events.specs.declared.event.Kind.{Kind}
 use Rattle.tmw_defs.specs.Ring.{Core, new_core}
 use Rattle.tmw_defs.specs.RingCells.{empty_cell, filled, published}
-use Rattle.tmw_defs.specs.RingSound.{Sound}
 use Rattle.tmw_defs.specs.RingSteps.{with_cell, cell_at}
 use Rattle.tmw_defs.specs.declared.ring_cell.RingCell.{RingCell}
 use Rattle.tmw_defs.specs.declared.ring_size.RingSize.{RingSize}

@@ -1,5 +1,5 @@
 -- What a seat of a ring's table knows, as its writer or its reader, and how what it knows is cut in two.
-use Rattle.std.specs.Prelude.{◌≡◌, ℕ, List, [], ◌∷◌, length}
+use Rattle.std.specs.Prelude.{◌≡◌, ℕ, [], ◌∷◌, length}
 use Rattle.atomic_table.specs.Seated.{TableId}
 use Rattle.atomic_table.specs.Table.{Me}
 use Rattle.tmw_events.specs.declared.ix.Ix.{Ix}
@@ -10,7 +10,6 @@ use Rattle.tmw_defs.specs.declared.ring_size.RingSize.{RingSize}
 use Rattle.tmw_ring.specs.Ends.{WriterIs, ReaderIs}
 use Rattle.tmw_ring.specs.Parts.{Parts, new_writer, new_reader}
 use Rattle.tmw_ring.specs.Words.{word_count}
-use Rattle.tmw_ring.specs.declared.part.Part.{Part}
 use Rattle.tmw_ring.specs.declared.part.Part.TheVariants.{Writes, Reads}
 use Rattle.tmw_ring.specs.declared.part.ReaderPart.{ReaderPart}
 use Rattle.tmw_ring.specs.declared.part.WriterPart.{WriterPart}

@@ -2,15 +2,23 @@
 //! of them.
 #![tactic(auto)]
 
+mod cuts;
 mod ends;
 mod make;
 mod part;
 mod rule;
 mod settle;
+#[cfg(test)]
+mod settle_tests;
 mod settled;
+#[cfg(test)]
+mod tests;
 
+pub use cuts::{AllParts, BothParts, SecondPart};
 pub use ends::{Reader, Ring, Writer};
 pub use make::ring;
 pub use part::{Look, Made, Part, ReaderPart, WriterPart};
 pub use rule::{RingRule, RingSeat, RingTable};
 pub use settled::Settled;
+pub use tmw_defs::RingSize;
+pub use tmw_ring_steps::RingFault;

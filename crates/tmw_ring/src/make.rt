@@ -2,14 +2,13 @@
 ghost use Rattle.std.specs.Prelude.{◌≡◌, [], ◌∷◌, length, IfOk, IfErr, OnOk};
 ghost use Rattle.tmw_ring.specs.NewRing.{AreNewWriters, IsNewRing, IsRefused};
 ghost use Rattle.tmw_ring.specs.Parts.{new_parts, new_reader};
-ghost use Rattle.tmw_ring.specs.Seats.{IsReader, second_alone, without_second};
+ghost use Rattle.tmw_ring.specs.Seats.{IsReader};
 
+use crate::cuts::SecondPart;
 use crate::ends::{Reader, Ring, Writer};
-use crate::part::Part;
 use crate::rule::RingSeat;
-use atomic_table::{Split, Table};
+use atomic_table::Table;
 use std::alloc::{AllocError, Global};
-use std::collections::LinkedList;
 use tmw_defs::RingSize;
 use tmw_events::Ix;
 use tmw_ring_steps::RingFault;
@@ -62,13 +61,4 @@ fn deal(alloc: Global, ring: &Ring, seat: &mut RingSeat) -> Result<Vec<Writer>, 
         });
     }
     Ok(writers)
-}
-
-/// The second part goes to a seat of its own.
-pub struct SecondPart;
-
-impl Split<LinkedList<Part>> for SecondPart {
-    ghost left = { without_second };
-
-    ghost right = { second_alone };
 }

@@ -1,4 +1,4 @@
-use Rattle.std.proofs.Common.{◌≡◌, ◌+◌, ◌<◌, ◌≤◌, ℕ, List, length, sym, ap, ◌∙◌, subst, arith}
+use Rattle.std.proofs.Common.{◌+◌, ◌<◌, ℕ, List, length, sym, ap, ◌∙◌, subst, arith}
 use Rattle.std.proofs.lemmas.List.{length_push}
 use Rattle.tmw_ring.specs.Ends.{RingIs, WriterIs}
 use Rattle.tmw_ring.specs.NewRing.{AreNewWriters}
@@ -7,17 +7,18 @@ use Rattle.tmw_ring.proofs.Seats.{splits_second}
 use Rattle.tmw_ring.proofs.make.deal.Goals as goal
 
 pub split_seat-own-requires : goal.split_seat-own-requires
-split_seat-own-requires c =
-    (c.loop-number.invariant.0 ∙ c.requires.table ∙ sym (ap (λ (ring : RingIs). ring.table) c.ring.view_is),
-        omega (arith, c.ring.invariant.words),
-        splits_second c.ring.inside.table.shared.key c.loop-number.seat.id c.loop-number.seat.me.0)
+split_seat-own-requires c = (
+  c.loop-number.invariant.0 ∙ c.requires.table ∙ sym (ap (λ (ring : RingIs). ring.table) c.ring.view_is),
+  omega (arith, c.ring.invariant.words),
+  splits_second c.ring.inside.table.shared.key c.loop-number.seat.id c.loop-number.seat.me.0,
+)
 
 pub invariant_of-push_reserved-in-loop-number : goal.invariant_of-push_reserved-in-loop-number
 invariant_of-push_reserved-in-loop-number c =
     let within = subst (λ (ring : RingIs). c.loop-number.number < ring.size.writers) c.ring.view_is c.loop-number-test.true in
     new_writer-idle c.args.ring.now.size _ c.split_seat-own.result.me
     (dealt c.args.ring.now.size c.loop-number.number c.loop-number.seat.me c.split_seat-own.result.me within c.loop-number.invariant.1
-        c.split_seat-own.ensures.4)
+    c.split_seat-own.ensures.4)
 
 pub loop-number-preserved : goal.loop-number-preserved
 loop-number-preserved c =
@@ -25,14 +26,15 @@ loop-number-preserved c =
     let small : c.loop-number.number < 8 = omega (arith, c.loop-number-test.true, c.ring.invariant.sized.cells.few) in
     let own =
     dealt c.args.ring.now.size c.loop-number.number c.loop-number.seat.me c.split_seat-own.result.me within c.loop-number.invariant.1
-    c.split_seat-own.ensures.4 in
-    (c.split_seat-own.ensures.0 ∙ c.loop-number.invariant.0,
-        left_over c.args.ring.now.size c.loop-number.number c.loop-number.seat.me c.split_seat-own.new.seat.me within
-            c.loop-number.invariant.1 c.split_seat-own.ensures.2,
-        ap (λ (writers : List WriterIs). length writers) c.push_reserved.ensures.items ∙ length_push c.loop-number.writers.items _
-        ∙ ap (λ (n : ℕ). n + 1) c.loop-number.invariant.2,
-        c.push_reserved.ensures.capacity ∙ c.loop-number.invariant.3,
-        subst (AreNewWriters c.args.ring.now) (sym c.push_reserved.ensures.items)
-            (new_writers-dealt c.args.ring.now c.loop-number.writers.items c.loop-number.number c.split_seat-own.result.table_id
-                c.split_seat-own.result.me c.loop-number.invariant.4 c.loop-number.invariant.2 small
-                (c.split_seat-own.ensures.3 ∙ c.loop-number.invariant.0 ∙ c.requires.table) own))
+    c.split_seat-own.ensures.4 in (
+      c.split_seat-own.ensures.0 ∙ c.loop-number.invariant.0,
+      left_over c.args.ring.now.size c.loop-number.number c.loop-number.seat.me c.split_seat-own.new.seat.me within
+          c.loop-number.invariant.1 c.split_seat-own.ensures.2,
+      ap (λ (writers : List WriterIs). length writers) c.push_reserved.ensures.items ∙ length_push c.loop-number.writers.items _
+          ∙ ap (λ (n : ℕ). n + 1) c.loop-number.invariant.2,
+      c.push_reserved.ensures.capacity ∙ c.loop-number.invariant.3,
+      subst (AreNewWriters c.args.ring.now) (sym c.push_reserved.ensures.items)
+          (new_writers-dealt c.args.ring.now c.loop-number.writers.items c.loop-number.number c.split_seat-own.result.table_id
+          c.split_seat-own.result.me c.loop-number.invariant.4 c.loop-number.invariant.2 small
+          (c.split_seat-own.ensures.3 ∙ c.loop-number.invariant.0 ∙ c.requires.table) own),
+    )

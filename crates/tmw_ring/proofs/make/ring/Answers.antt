@@ -1,4 +1,4 @@
-use Rattle.std.proofs.Common.{◌≡◌, ◌∙◌, List, ℕ, [], subst, sym, arith}
+use Rattle.std.proofs.Common.{◌∙◌, List, ℕ, [], subst, sym}
 use Rattle.atomic_table.specs.Table.{opening}
 use Rattle.tmw_defs.specs.Ring.{IsSize}
 use Rattle.tmw_defs.specs.declared.ring_size.RingSize.{RingSize}

@@ -1,0 +1,34 @@
+//! How the parts of a seat are cut off, and put with another's.
+ghost use Rattle.std.specs.Prelude.{[], ◌++◌};
+ghost use Rattle.tmw_ring.specs.Seats.{second_alone, without_second};
+
+use crate::part::Part;
+use atomic_table::{Join, Split};
+use std::collections::LinkedList;
+
+/// The second part goes to a seat of its own.
+pub struct SecondPart;
+
+impl Split<LinkedList<Part>> for SecondPart {
+    ghost left = { without_second };
+
+    ghost right = { second_alone };
+}
+
+/// All parts go to a seat of their own.
+pub struct AllParts;
+
+impl Split<LinkedList<Part>> for AllParts {
+    ghost left = { λ _. [] };
+
+    ghost right = { λ parts. parts };
+}
+
+/// A seat takes in the parts of another, behind its own.
+pub struct BothParts;
+
+impl Join<LinkedList<Part>> for BothParts {
+    ghost both = { λ parts others. parts ++ others };
+
+    ghost spent = { [] };
+}
