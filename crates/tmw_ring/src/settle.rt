@@ -1,14 +1,12 @@
 //! The end of a running ring, at which all its ends come back.
-ghost use Rattle.std.specs.Prelude.{◌≡◌, ◌++◌, [], map, length, All};
+ghost use Rattle.std.specs.Prelude.{◌≡◌, ◌++◌, map, length, All};
 ghost use Rattle.tmw_ring.specs.Ends.{ReaderOf, WriterOf};
 ghost use Rattle.tmw_ring.specs.Settling.{AreInOrder, IsSettled, part_of};
 
+use crate::cuts::BothParts;
 use crate::ends::{Reader, Ring, Writer};
-use crate::part::Part;
 use crate::rule::RingSeat;
 use crate::settled::Settled;
-use atomic_table::Join;
-use std::collections::LinkedList;
 
 impl Ring {
     /// Ends the ring, once its reader and all its writers have come back, with writer i at place i. What nobody has taken is left.
@@ -45,15 +43,6 @@ fn join_all(ring: &Ring, seat: &mut RingSeat, writers: Vec<Writer>)
             number: _,
             seat: own,
         } = writer;
-        ring.table.shared.join_seat::<AllParts>(seat, own);
+        ring.table.shared.join_seat::<BothParts>(seat, own);
     }
-}
-
-/// One seat has the parts of both, and the other none.
-pub struct AllParts;
-
-impl Join<LinkedList<Part>> for AllParts {
-    ghost both = { λ parts more. parts ++ more };
-
-    ghost spent = { [] };
 }

@@ -71,3 +71,12 @@ fn writers_that_have_met(rt: HostRuntime) -> Result<(), Fail> {
     assert_eq!(rt; ring.record(&mut second, Kind::A), Ok(3));
     Ok(())
 }
+
+#[test]
+fn a_new_ring_leaves_nothing(rt: HostRuntime) -> Result<(), Fail> {
+    let (whole, writers, reader) = ring(rt.alloc(), 4, 2, 4)?;
+    let mut settled = whole.settle(reader, writers);
+    assert_eq!(rt; settled.take(), None);
+    assert_eq!(rt; settled.take(), None);
+    Ok(())
+}

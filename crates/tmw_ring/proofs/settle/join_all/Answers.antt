@@ -4,7 +4,8 @@ use Rattle.atomic_table.specs.Table.{Me}
 use Rattle.tmw_ring.specs.Ends.{RingIs, WriterIs}
 use Rattle.tmw_ring.specs.Parts.{Parts}
 use Rattle.tmw_ring.specs.Settling.{part_of}
-use Rattle.tmw_ring.proofs.Joining.{joins_all, joined_more, of_all, part_of_writer}
+use Rattle.tmw_ring.proofs.Joins.{joins_both}
+use Rattle.tmw_ring.proofs.Returned.{joined_more, of_all, part_of_writer}
 use Rattle.tmw_ring.proofs.settle.join_all.Goals as goal
 
 pub join_seat-requires : goal.join_seat-requires
@@ -19,7 +20,7 @@ join_seat-requires c =
       ap (λ (writer : WriterIs). writer.table) c.writer.view_is ∙ of.0 ∙ sym table,
       ap (λ (m : Me (Unit {0}) Parts). m.1) c.writer.invariant.seated,
       omega (arith, c.ring.invariant.words),
-      joins_all c.ring.inside.table.shared.key c.loop-writer.seat.id c.writer.inside.seat.id c.loop-writer.seat.me.0
+      joins_both c.ring.inside.table.shared.key c.loop-writer.seat.id c.writer.inside.seat.id c.loop-writer.seat.me.0
           c.writer.inside.seat.me.0,
     )
 

@@ -4,7 +4,8 @@ use Rattle.tmw_events.specs.declared.event.Event.{Event}
 use Rattle.tmw_ring.specs.Ends.{ReaderIs, RingIs}
 use Rattle.tmw_ring.specs.Seats.{reader_in}
 use Rattle.tmw_ring.specs.Settling.{IsSettled, events_from}
-use Rattle.tmw_ring.proofs.Settling.{Counted, ended_joined, leaves, settles}
+use Rattle.tmw_ring.proofs.LastStates.{ended_joined}
+use Rattle.tmw_ring.proofs.Settling.{Counted, leaves, settles}
 use Rattle.tmw_ring.proofs.ends.Ring.settle.Goals as goal
 
 pub invariant_of-result : goal.invariant_of-result

@@ -1,7 +1,7 @@
 use Rattle.std.proofs.Common.{sym, ◌∙◌, arith}
 use Rattle.std.proofs.lemmas.Option.{IfSome_then}
 use Rattle.std.specs.Mem.Slots.{slots_items}
-use Rattle.tmw_ring.proofs.Taking.{Found, next_left, some_event, none_then}
+use Rattle.tmw_ring.proofs.NextLeft.{Found, next_left, some_event, none_then}
 use Rattle.tmw_ring.proofs.settled.Settled.take.Goals as goal
 
 pub returns-clause-some : goal.returns-clause-some
