@@ -18,6 +18,8 @@ mod settle;
 #[cfg(test)]
 mod settle_tests;
 mod settled;
+#[cfg(test)]
+mod settled_thread_tests;
 mod take;
 #[cfg(test)]
 mod take_tests;
