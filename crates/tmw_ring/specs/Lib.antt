@@ -1,7 +1,9 @@
 pub mod Ends
 pub mod NewRing
 pub mod Parts
+pub mod Recording
 pub mod Rule
 pub mod Seats
 pub mod Takes
 pub mod Words
+pub mod WriterSteps

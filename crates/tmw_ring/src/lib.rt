@@ -6,6 +6,8 @@ mod cuts;
 mod ends;
 mod make;
 mod part;
+mod record;
+mod refused;
 mod rule;
 mod take;
 #[cfg(test)]
@@ -17,6 +19,7 @@ pub use cuts::{AllParts, BothParts, SecondPart};
 pub use ends::{Reader, Ring, Writer};
 pub use make::ring;
 pub use part::{Look, Made, Part, ReaderPart, WriterPart};
+pub use refused::Refused;
 pub use rule::{RingRule, RingSeat, RingTable};
 pub use tmw_defs::RingSize;
 pub use tmw_ring_steps::RingFault;

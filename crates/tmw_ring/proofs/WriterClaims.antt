@@ -1,0 +1,151 @@
+-- A writer may claim a place.
+use Rattle.std.proofs.Common.{◌≡◌, ◌≢◌, ◌==◌, ◌+◌, ◌++◌, ◌%◌, ◌≤◌, ◌<◌, ℕ, zero, suc, Bool, true, false, eq-eqb, ne_eqb, if◌then◌else◌, List, [], ◌∷◌, length, Some, set, slice_set, refl, sym, ap, ◌∙◌, subst, inl, inr, arith}
+use Rattle.std.proofs.Math.Nat.{mod-eq_of_lt}
+use Rattle.std.proofs.lemmas.Option.{slice_get_within}
+use Rattle.std.specs.Prelude.{slice_get, slice_index}
+use mathlib.Core.Option.{some}
+use lib.ListN.{get_elem?}
+use Rattle.atomic_table.specs.Table.{State, Me, Allows, keeps, stepped}
+use Rattle.tmw_events.specs.Text.{FitsKind}
+use Rattle.tmw_events.specs.declared.event.Event.{Event}
+use Rattle.tmw_events.specs.declared.event.Kind.{Kind}
+use Rattle.tmw_events.specs.declared.ix.Ix.{Ix}
+use Rattle.tmw_defs.specs.Ring.{Core}
+use Rattle.tmw_defs.specs.RingSound.{IsIn, Sound, cleared}
+use Rattle.tmw_defs.specs.declared.ring_phase.WriterPhase.{WriterPhase}
+use Rattle.tmw_defs.specs.declared.ring_phase.WriterPhase.TheVariants.{Idle, Looked, Cleared, Claimed}
+use Rattle.tmw_defs.specs.declared.ring_size.RingSize.{RingSize}
+use Rattle.tmw_defs.specs.declared.ring_step.Reply.TheVariants.{Place}
+use Rattle.tmw_defs.proofs.RingClaims.{claim_keeps}
+use Rattle.tmw_ring.specs.Parts.{Parts, made_from}
+use Rattle.tmw_ring.specs.Recording.{made_at}
+use Rattle.tmw_ring.specs.Rule.{FitsPhase, Shown, WriterFits, IsReal, IsRecorded}
+use Rattle.tmw_ring.specs.Seats.{writer_in, IsWriter}
+use Rattle.tmw_ring.specs.Words.{words_of}
+use Rattle.tmw_ring.specs.WriterSteps.{claimed, IsSeatOf, HasClaimed}
+use Rattle.tmw_ring.specs.declared.part.Made.{Made}
+use Rattle.tmw_ring.specs.declared.part.Part.TheVariants.{Writes}
+use Rattle.tmw_ring.specs.declared.part.WriterPart.{WriterPart}
+use Rattle.tmw_ring.proofs.Writing.{Goes, writer_fits, writer_moves}
+
+-- the writer's event of this kind
+abbrev event_by : Ix → Kind → Event
+event_by writer kind = record { thread = writer; kind = kind }
+
+-- the state after the claim
+abbrev with_claim : Ix → Kind → Core → Core
+with_claim writer kind core = record core {
+  tail = core.tail + 1;
+  writers = slice_set core.writers writer.number (Claimed core.tail kind false);
+  log = core.log ++ event_by writer kind ∷ [];
+}
+
+-- Places of a longer log: the writer's own event stands at its end,
+made_from-own : (writer : Ix) (kind : Kind) (from : ℕ) (log : List Event)
+    → made_from writer.number from (log ++ event_by writer kind ∷ [])
+    ≡ made_from writer.number from log ++ made_at writer kind (from + length log) ∷ []
+made_from-own writer kind from [] =
+    let last : from + 0 ≡ from = omega arith in
+    rw (eq-eqb writer.number writer.number refl) (ap (λ (place : ℕ). made_at writer kind place ∷ []) (sym last))
+made_from-own writer kind from (event ∷ log) =
+    let next : from + 1 + length log ≡ from + suc (length log) = omega arith in
+    let later : made_from writer.number (from + 1) (log ++ event_by writer kind ∷ [])
+        ≡ made_from writer.number (from + 1) log ++ made_at writer kind (from + suc (length log)) ∷ [] =
+    made_from-own writer kind (from + 1) log
+    ∙ ap (λ (place : ℕ). made_from writer.number (from + 1) log ++ made_at writer kind place ∷ []) next in
+    by_test (event.thread.number == writer.number) (made_from writer.number (from + 1) (log ++ event_by writer kind ∷ []))
+    (made_from writer.number (from + 1) log) (made_at writer kind (from + suc (length log))) later
+  where
+    by_test : (test : Bool) (longer rest : List Made) (last : Made) → longer ≡ rest ++ last ∷ []
+        → (if test then record { place = from; event = event } ∷ longer else longer)
+        ≡ (if test then record { place = from; event = event } ∷ rest else rest) ++ last ∷ []
+    by_test true longer rest last later = ap (λ (all : List Made). record { place = from; event = event } ∷ all) later
+    by_test false longer rest last later = later
+
+-- and another's adds nothing.
+made_from-other : (writer : Ix) (kind : Kind) (other from : ℕ) (log : List Event) → other ≢ writer.number
+    → made_from other from (log ++ event_by writer kind ∷ []) ≡ made_from other from log
+made_from-other writer kind other from [] apart = rw (ne_eqb writer.number other (λ same. apart (sym same))) refl
+made_from-other writer kind other from (event ∷ log) apart =
+    ap (λ (rest : List Made). if event.thread.number == other then record { place = from; event = event } ∷ rest else rest)
+    (made_from-other writer kind other (from + 1) log apart)
+
+-- The longer log has its events, and the new one.
+log_cases : (log : List Event) (last : Event) (place : ℕ) (event : Event) → (P : Event → Type 0)
+    → ((at : ℕ) (found : Event) → slice_get log at ≡ Some found → P found) → P last
+    → slice_get (log ++ last ∷ []) place ≡ Some event → P event
+log_cases [] last zero event P before now at = subst P (cc) now
+log_cases [] last (suc place) event P before now at = absurd (cc)
+log_cases (first ∷ log) last zero event P before now at = before 0 event at
+log_cases (first ∷ log) last (suc place) event P before now at =
+    log_cases log last place event P (λ later found is. before (suc later) found is) now at
+
+claim_goes : (kind : Kind) (core : Core) (part : WriterPart) → Sound core → IsReal core → WriterFits core part
+    → part.phase ≡ Cleared kind → Goes core (with_claim part.number kind core) part (claimed kind core.tail part)
+claim_goes kind core part sound real fits is_cleared =
+    let at : IsIn core part.number.number (Cleared kind) = fits.phase ∙ ap Some is_cleared in
+    let next : Core = with_claim part.number kind core in
+    let sound_next : Sound next = (claim_keeps part.number core (Cleared kind) (Place core.tail) next sound at refl).0 in
+    let within = slice_get_within core.writers part.number.number (Cleared kind) at in
+    let fits_kind : FitsKind kind = real.phases part.number.number (Cleared kind) at in
+    let last : 0 + length core.log ≡ core.tail = omega (arith, sound.tail) in
+    record {
+      sized = refl;
+      sound = sound_next;
+      same_size = refl;
+      same_number = refl;
+      writers = refl;
+      reader = refl;
+      taken = refl;
+      made = ap (λ (made : List Made). made ++ made_at part.number kind core.tail ∷ []) fits.made
+          ∙ ap (λ (place : ℕ). made_from part.number.number 0 core.log ++ made_at part.number kind place ∷ []) (sym last)
+          ∙ sym (made_from-own part.number kind 0 core.log);
+      others = λ other apart. made_from-other part.number kind other 0 core.log apart;
+      seen = omega arith;
+      later = omega arith;
+      headers = real.headers;
+      events = λ place event found.
+          log_cases core.log (event_by part.number kind) place event (IsRecorded core.size) real.events
+          (record { thread = omega (arith, within, sound.writers); value = fits_kind }) found;
+      phase_fits = fits_kind;
+    }
+
+-- Where a writer is cleared there is one at least.
+cleared-some : (phases : List WriterPhase) (writer : ℕ) (kind : Kind) → slice_get phases writer ≡ Some (Cleared kind) → 0 < cleared phases
+cleared-some [] writer kind at = absurd (cc)
+cleared-some (first ∷ phases) zero kind at = let same : first ≡ Cleared kind = cc in rw same (omega arith)
+cleared-some (first ∷ phases) (suc writer) kind at = omega (arith, cleared-some phases writer kind at)
+
+module _ {S : Type 0} where
+  claim_allowed : (size : RingSize) (slots seat : ℕ) (kind : Kind) (part : WriterPart) → part.phase ≡ Cleared kind
+      → Allows {S = S} {V = Parts} (Shown size) slots seat (Writes part ∷ [], []) 0 (λ found. (found + 1) % 18446744073709551616)
+      (HasClaimed kind (Writes part ∷ [], []))
+  claim_allowed size slots seat kind part is_cleared state shown none_lent seated small =
+      let core = shown.core in
+      let fits = writer_fits size state shown seat part seated in
+      let goes = claim_goes kind core part shown.sound shown.real fits is_cleared in
+      let at : IsIn core part.number.number (Cleared kind) = fits.phase ∙ ap Some is_cleared in
+      let found : slice_index state.words 0 ≡ core.tail = ap (λ (words : List ℕ). slice_index words 0) shown.words in
+      let more : core.tail + cleared core.writers ≤ core.size.limit = shown.sound.limited in
+      let some_cleared : 0 < cleared core.writers = cleared-some core.writers part.number.number kind at in
+      let below : core.tail < core.size.limit = omega (arith, more, some_cleared) in
+      let few = shown.sound.sized.limit.small in
+      let sum : (slice_index state.words 0 + 1) % 18446744073709551616 ≡ core.tail + 1 = omega (arith, found, below, few) in
+      let new : WriterPart = claimed kind (slice_index state.words 0) part in
+      let next : Core = with_claim part.number kind core in
+      let words : set state.words 0 ((slice_index state.words 0 + 1) % 18446744073709551616) ≡ words_of next =
+      ap (λ (words : List ℕ). set words 0 ((slice_index state.words 0 + 1) % 18446744073709551616)) shown.words
+      ∙ ap (λ (tail : ℕ). set (words_of core) 0 tail) sum in
+      let limit : part.size.limit ≡ core.size.limit = ap (λ (z : RingSize). z.limit) fits.sized in
+      (Writes new ∷ [], keeps, tt,
+          writer_moves size state shown seat 0 ((slice_index state.words 0 + 1) % 18446744073709551616) part new next seated words
+              (subst (λ (tail : ℕ). Goes core next part (claimed kind tail part)) (sym found) goes),
+          (refl, omega (arith, found, fits.seen), omega (arith, found, limit, below)))
+
+  -- A cleared writer may claim a place.
+  pub claims : (size own : RingSize) (slots seat : ℕ) (kind : Kind) (me : Me S Parts) → IsSeatOf own (Cleared kind) me
+      → Allows {S = S} {V = Parts} (Shown size) slots seat me 0 (λ found. (found + 1) % 18446744073709551616) (HasClaimed kind me)
+  claims size own slots seat kind me is =
+      subst (λ (m : Me S Parts). Allows {S = S} {V = Parts} (Shown size) slots seat m 0 (λ found. (found + 1) % 18446744073709551616)
+      (HasClaimed kind m)) (sym is.seated)
+      (claim_allowed size slots seat kind (writer_in me.0) is.phase_is)

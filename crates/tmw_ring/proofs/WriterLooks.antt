@@ -1,0 +1,148 @@
+-- A writer may look at front and at tail.
+use Rattle.std.proofs.Common.{◌≡◌, ◌≢◌, ◌+◌, ◌-◌, ◌≤◌, ◌<◌, ℕ, Bool, true, false, nat_lt, if◌then◌else◌, List, [], ◌∷◌, Some, set, slice_set, refl, sym, ap, ◌∙◌, subst, arith}
+use Rattle.std.specs.Prelude.{slice_index}
+use mathlib.Core.Option.{some}
+use lib.ListN.{get_elem?}
+use Rattle.atomic_table.specs.Table.{State, Me, Allows, keeps, stepped}
+use Rattle.tmw_events.specs.Text.{FitsKind}
+use Rattle.tmw_events.specs.declared.event.Kind.{Kind}
+use Rattle.tmw_defs.specs.Ring.{Core}
+use Rattle.tmw_defs.specs.RingSound.{IsIn, Sound}
+use Rattle.tmw_defs.specs.RingSteps.{with_phase, front_step, room_step, tail_step}
+use Rattle.tmw_defs.specs.declared.ring_phase.WriterPhase.{WriterPhase}
+use Rattle.tmw_defs.specs.declared.ring_phase.WriterPhase.TheVariants.{Idle, Looked, Cleared, Claimed}
+use Rattle.tmw_defs.specs.declared.ring_size.RingSize.{RingSize}
+use Rattle.tmw_defs.specs.declared.ring_step.Reply.TheVariants.{Saw, Spent, Full, Cleared as IsCleared}
+use Rattle.tmw_defs.specs.declared.ring_step.Reply.{Reply}
+use Rattle.tmw_defs.proofs.RingLooks.{front_keeps, tail_keeps}
+use Rattle.tmw_ring.specs.Parts.{Parts, made_from}
+use Rattle.tmw_ring.specs.Rule.{FitsPhase, Shown, WriterFits, IsReal}
+use Rattle.tmw_ring.specs.Seats.{writer_in, IsWriter}
+use Rattle.tmw_ring.specs.Words.{words_of, front_word, tail_word}
+use Rattle.tmw_ring.specs.WriterSteps.{front_seen, tail_seen, front_in, room_phase, IsSeatOf, HasSeenFront, HasSeenTail}
+use Rattle.tmw_ring.specs.declared.part.Part.TheVariants.{Writes}
+use Rattle.tmw_ring.specs.declared.part.WriterPart.{WriterPart}
+use Rattle.tmw_ring.proofs.Writing.{Goes, writer_fits, writer_moves}
+
+-- A writer goes on to another phase, and nothing else changes.
+phase_goes : (core : Core) (old new : WriterPart) → WriterFits core old → IsReal core → Sound (with_phase old.number.number new.phase core)
+    → new.size ≡ old.size → new.number ≡ old.number → new.made ≡ old.made → new.seen ≤ core.tail → FitsPhase new.phase
+    → Goes core (with_phase old.number.number new.phase core) old new
+phase_goes core old new fits real sound same_size same_number made seen phase_fits = record {
+  sized = refl;
+  sound = sound;
+  same_size = same_size;
+  same_number = same_number;
+  writers = refl;
+  reader = refl;
+  taken = refl;
+  made = made ∙ fits.made;
+  others = λ other apart. refl;
+  seen = seen;
+  later = omega arith;
+  headers = real.headers;
+  events = real.events;
+  phase_fits = phase_fits;
+}
+
+front_goes : (kind : Kind) (core : Core) (part : WriterPart) → Sound core → IsReal core → WriterFits core part → part.phase ≡ Idle
+    → FitsKind kind → Goes core (with_phase part.number.number (Looked kind core.front) core) part (front_seen kind core.front part)
+front_goes kind core part sound real fits idle fits_kind =
+    let at : IsIn core part.number.number Idle = fits.phase ∙ ap Some idle in
+    let next : Core = with_phase part.number.number (Looked kind core.front) core in
+    let sound_next : Sound next = (front_keeps part.number kind core Idle (Saw core.front) next sound at refl).0 in
+    phase_goes core part (front_seen kind core.front part) fits real sound_next refl refl refl fits.seen fits_kind
+
+-- The state after a look at tail is the one with the phase that the tests lead to.
+room_core : (writer : ℕ) (kind : Kind) (front : ℕ) (core : Core)
+    → (room_step writer kind front core).1 ≡ with_phase writer (room_phase core.size kind front core.tail) core
+room_core writer kind front core =
+    by_tests (nat_lt core.size.limit (core.tail + core.size.writers)) (nat_lt (core.size.cells - core.size.writers) (core.tail - front))
+  where
+    by_tests : (spent full : Bool)
+        → (let answer : Reply × Core =
+            if spent then (Spent core.tail, with_phase writer Idle core)
+            else if full then (Full front core.tail, with_phase writer Idle core)
+            else (IsCleared, with_phase writer (Cleared kind) core) in answer.1)
+        ≡ with_phase writer (if spent then Idle else if full then Idle else Cleared kind) core
+    by_tests true full = refl
+    by_tests false true = refl
+    by_tests false false = refl
+
+room_fits : (size : RingSize) (kind : Kind) (front tail : ℕ) → FitsKind kind → FitsPhase (room_phase size kind front tail)
+room_fits size kind front tail fits_kind =
+    by_tests (nat_lt size.limit (tail + size.writers)) (nat_lt (size.cells - size.writers) (tail - front))
+  where
+    by_tests : (spent full : Bool) → FitsPhase (if spent then Idle else if full then Idle else Cleared kind)
+    by_tests true full = tt
+    by_tests false true = tt
+    by_tests false false = fits_kind
+
+tail_goes : (kind : Kind) (front : ℕ) (core : Core) (part : WriterPart) → Sound core → IsReal core → WriterFits core part
+    → part.phase ≡ Looked kind front
+    → Goes core (with_phase part.number.number (tail_seen kind core.tail part).phase core) part (tail_seen kind core.tail part)
+tail_goes kind front core part sound real fits looked =
+    let at : IsIn core part.number.number (Looked kind front) = fits.phase ∙ ap Some looked in
+    let step : Reply × Core = room_step part.number.number kind front core in
+    let sound_step : Sound step.1 = (tail_keeps part.number core (Looked kind front) step.0 step.1 sound at refl).0 in
+    let same : room_phase core.size kind front core.tail ≡ (tail_seen kind core.tail part).phase =
+    sym (ap (λ (size : RingSize). room_phase size kind (front_in part.phase) core.tail) fits.sized
+    ∙ ap (λ (phase : WriterPhase). room_phase core.size kind (front_in phase) core.tail) looked) in
+    let sound_next : Sound (with_phase part.number.number (tail_seen kind core.tail part).phase core) =
+    subst Sound (room_core part.number.number kind front core ∙ ap (λ (phase : WriterPhase). with_phase part.number.number phase core) same)
+    sound_step in
+    phase_goes core part (tail_seen kind core.tail part) fits real sound_next refl refl refl (omega arith)
+    (room_fits part.size kind (front_in part.phase) core.tail (real.phases part.number.number (Looked kind front) at))
+
+module _ {S : Type 0} where
+  front_allowed : (size : RingSize) (slots seat : ℕ) (kind : Kind) (part : WriterPart) → part.phase ≡ Idle → FitsKind kind
+      → Allows {S = S} {V = Parts} (Shown size) slots seat (Writes part ∷ [], []) 1 (λ found. found)
+      (HasSeenFront kind (Writes part ∷ [], []))
+  front_allowed size slots seat kind part idle fits_kind state shown none_lent seated small =
+      let fits = writer_fits size state shown seat part seated in
+      let goes = front_goes kind shown.core part shown.sound shown.real fits idle fits_kind in
+      let next : Core = with_phase part.number.number (Looked kind shown.core.front) shown.core in
+      let found : slice_index state.words 1 ≡ shown.core.front = ap (λ (words : List ℕ). slice_index words 1) shown.words in
+      let words : set state.words 1 (slice_index state.words 1) ≡ words_of next =
+      ap (λ (words : List ℕ). set words 1 (slice_index words 1)) shown.words in
+      let new : WriterPart = front_seen kind (slice_index state.words 1) part in
+      (Writes new ∷ [], keeps, tt,
+          writer_moves size state shown seat 1 (slice_index state.words 1) part new next seated words
+              (subst (λ (front : ℕ). Goes shown.core next part (front_seen kind front part)) (sym found) goes),
+          refl)
+
+  -- An idle writer may look at front.
+  pub sees_front : (size own : RingSize) (slots seat : ℕ) (kind : Kind) (me : Me S Parts) → IsSeatOf own Idle me → FitsKind kind
+      → Allows {S = S} {V = Parts} (Shown size) slots seat me 1 (λ found. found) (HasSeenFront kind me)
+  sees_front size own slots seat kind me is fits_kind =
+      subst (λ (m : Me S Parts). Allows {S = S} {V = Parts} (Shown size) slots seat m 1 (λ found. found) (HasSeenFront kind m)) (sym is.seated)
+      (front_allowed size slots seat kind (writer_in me.0) is.phase_is fits_kind)
+
+  tail_allowed : (size : RingSize) (slots seat : ℕ) (kind : Kind) (front : ℕ) (part : WriterPart) → part.phase ≡ Looked kind front
+      → Allows {S = S} {V = Parts} (Shown size) slots seat (Writes part ∷ [], []) 0 (λ found. found)
+      (HasSeenTail kind (Writes part ∷ [], []))
+  tail_allowed size slots seat kind front part looked state shown none_lent seated small =
+      let fits = writer_fits size state shown seat part seated in
+      let goes = tail_goes kind front shown.core part shown.sound shown.real fits looked in
+      let at : IsIn shown.core part.number.number (Looked kind front) = fits.phase ∙ ap Some looked in
+      let found : slice_index state.words 0 ≡ shown.core.tail = ap (λ (words : List ℕ). slice_index words 0) shown.words in
+      let new : WriterPart = tail_seen kind (slice_index state.words 0) part in
+      let next : Core = with_phase part.number.number new.phase shown.core in
+      let words : set state.words 0 (slice_index state.words 0) ≡ words_of next =
+      ap (λ (words : List ℕ). set words 0 (slice_index words 0)) shown.words in
+      let low : front ≤ shown.core.front = shown.sound.looks part.number.number front kind at in
+      let same : front_in part.phase ≡ front = ap front_in looked in
+      let limit : part.size.limit ≡ shown.core.size.limit = ap (λ (z : RingSize). z.limit) fits.sized in
+      (Writes new ∷ [], keeps, tt,
+          writer_moves size state shown seat 0 (slice_index state.words 0) part new next seated words
+              (subst (λ (tail : ℕ). Goes shown.core (with_phase part.number.number (tail_seen kind tail part).phase shown.core) part
+                  (tail_seen kind tail part)) (sym found) goes),
+          (refl, omega (arith, found, fits.seen), omega (arith, found, low, same, shown.sound.order),
+              omega (arith, found, limit, shown.sound.limited)))
+
+  -- A writer that has found a front may look at tail.
+  pub sees_tail : (size own : RingSize) (slots seat : ℕ) (kind : Kind) (front : ℕ) (me : Me S Parts) → IsSeatOf own (Looked kind front) me
+      → Allows {S = S} {V = Parts} (Shown size) slots seat me 0 (λ found. found) (HasSeenTail kind me)
+  sees_tail size own slots seat kind front me is =
+      subst (λ (m : Me S Parts). Allows {S = S} {V = Parts} (Shown size) slots seat m 0 (λ found. found) (HasSeenTail kind m)) (sym is.seated)
+      (tail_allowed size slots seat kind front (writer_in me.0) is.phase_is)

@@ -1,0 +1,98 @@
+-- A writer's step keeps the rule of a ring's table, if what the writer then knows is so.
+use Rattle.std.proofs.Common.{◌≡◌, ◌≢◌, ◌+◌, ◌≤◌, ◌<◌, ℕ, List, [], ◌∷◌, Some, slice_set, set, All, refl, sym, ap, ◌∙◌, subst, inl, inr, arith}
+use Rattle.std.proofs.lemmas.Bool.{cases_eq}
+use Rattle.std.proofs.lemmas.Option.{slice_get_within}
+use Rattle.std.specs.Prelude.{slice_get}
+use mathlib.Core.Option.{some}
+use lib.ListN.{get_elem?}
+use Rattle.atomic_table.specs.Table.{State, keeps, stepped}
+use Rattle.tmw_events.specs.declared.event.Event.{Event}
+use Rattle.tmw_defs.specs.Ring.{Core}
+use Rattle.tmw_defs.specs.RingSound.{IsIn, Sound}
+use Rattle.tmw_defs.specs.declared.ring_cell.RingCell.{RingCell}
+use Rattle.tmw_defs.specs.declared.ring_phase.WriterPhase.{WriterPhase}
+use Rattle.tmw_defs.specs.declared.ring_size.RingSize.{RingSize}
+use Rattle.tmw_defs.proofs.RingPhases.{phase_set, phase_kept, phase_cases}
+use Rattle.tmw_ring.specs.Parts.{Parts, key, made_from}
+use Rattle.tmw_ring.specs.Rule.{Fits, FitsPhase, IsReal, IsRecorded, Lies, Shown, WriterFits, ReaderFits}
+use Rattle.tmw_ring.specs.Words.{words_of}
+use Rattle.tmw_ring.specs.declared.part.Part.{Part}
+use Rattle.tmw_ring.specs.declared.part.Part.TheVariants.{Writes, Reads}
+use Rattle.tmw_ring.specs.declared.part.WriterPart.{WriterPart}
+use Rattle.tmw_ring.proofs.Moves.{moves}
+
+-- By a step of the writer with this part the ring goes on to the next state, in which the writer knows the new part.
+pub record Goes (core next : Core) (old new : WriterPart) : Type 0 where
+  pub sized : next.size ≡ core.size
+  pub sound : Sound next
+  pub same_size : new.size ≡ old.size
+  pub same_number : new.number ≡ old.number
+  pub writers : next.writers ≡ slice_set core.writers old.number.number new.phase
+  pub reader : next.reader ≡ core.reader
+  pub taken : next.taken ≡ core.taken
+  pub made : new.made ≡ made_from old.number.number 0 next.log
+  pub others : (other : ℕ) → other ≢ old.number.number → made_from other 0 next.log ≡ made_from other 0 core.log
+  pub seen : new.seen ≤ next.tail
+  pub later : core.tail ≤ next.tail
+  pub headers : All (λ cell. cell.header < 1024) next.cells
+  pub events : (place : ℕ) (event : Event) → slice_get next.log place ≡ Some event → IsRecorded core.size event
+  pub phase_fits : FitsPhase new.phase
+
+next-real : (core next : Core) (old new : WriterPart) → WriterFits core old → IsReal core → Goes core next old new → IsReal next
+next-real core next old new fits real goes = record {
+  headers = goes.headers;
+  events = λ place event at. subst (λ (size : RingSize). IsRecorded size event) (sym goes.sized) (goes.events place event at);
+  phases = λ writer phase at.
+      let within = slice_get_within core.writers old.number.number old.phase fits.phase in
+      let found : slice_get (slice_set core.writers old.number.number new.phase) writer ≡ Some phase =
+      ap (λ phases. slice_get phases writer) (sym goes.writers) ∙ at in
+      elim (phase_cases core.writers old.number.number writer new.phase phase within found) [
+        | inl set ↦ subst FitsPhase set.1 goes.phase_fits
+        | inr kept ↦ real.phases writer phase kept.1
+      ];
+}
+
+new-fits : (core next : Core) (old new : WriterPart) → WriterFits core old → Goes core next old new → WriterFits next new
+new-fits core next old new fits goes =
+    let within = slice_get_within core.writers old.number.number old.phase fits.phase in
+    record {
+      sized = goes.same_size ∙ fits.sized ∙ sym goes.sized;
+      phase = ap (λ phases. slice_get phases new.number.number) goes.writers
+          ∙ ap (λ ix. slice_get (slice_set core.writers old.number.number new.phase) ix.number) goes.same_number
+          ∙ phase_set core.writers old.number.number new.phase within;
+      made = goes.made ∙ ap (λ ix. made_from ix.number 0 next.log) (sym goes.same_number);
+      seen = goes.seen;
+    }
+
+others-fit : (core next : Core) (old new : WriterPart) → Goes core next old new → (other : Part) → key other ≢ key (Writes old)
+    → Fits core other → Fits next other
+others-fit core next old new goes (Writes part) apart fits =
+    let another : part.number.number ≢ old.number.number = λ same. apart (ap (λ (n : ℕ). n + 1) same) in
+    record {
+      sized = fits.sized ∙ sym goes.sized;
+      phase = ap (λ phases. slice_get phases part.number.number) goes.writers
+          ∙ phase_kept core.writers old.number.number part.number.number new.phase another ∙ fits.phase;
+      made = fits.made ∙ sym (goes.others part.number.number another);
+      seen = omega (arith, fits.seen, goes.later);
+    }
+others-fit core next old new goes (Reads part) apart fits = record {
+  sized = fits.sized ∙ sym goes.sized;
+  phase = fits.phase ∙ sym goes.reader;
+  taken = fits.taken ∙ sym goes.taken;
+}
+
+module _ {S : Type 0} where
+  -- What the writer of a seat knows is so.
+  pub writer_fits : (size : RingSize) (state : State S Parts) (shown : Shown size state) (seat : ℕ) (part : WriterPart)
+      → get_elem? state.views seat ≡ some (Writes part ∷ []) → WriterFits shown.core part
+  writer_fits size state shown seat part seated =
+      (shown.each seat 0 (Writes part) (record { view = Writes part ∷ []; seated = seated; placed = refl })).0
+
+  pub writer_moves : (size : RingSize) (state : State S Parts) (shown : Shown size state) (seat word value : ℕ) (old new : WriterPart)
+      (next : Core) → get_elem? state.views seat ≡ some (Writes old ∷ []) → set state.words word value ≡ words_of next
+      → Goes shown.core next old new → Shown size (stepped state word value seat [] (Writes new ∷ []) keeps)
+  writer_moves size state shown seat word value old new next seated words goes =
+      let fits = writer_fits size state shown seat old seated in
+      moves size state shown seat word value (Writes old) (Writes new) next seated goes.sized goes.sound
+      (next-real shown.core next old new fits shown.real goes) words (ap (λ ix. ix.number + 1) goes.same_number)
+      (new-fits shown.core next old new fits goes) (others-fit shown.core next old new goes)

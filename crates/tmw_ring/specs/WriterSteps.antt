@@ -1,0 +1,84 @@
+-- What each step of a writer tells it: the words that it finds, and what it then knows.
+use Rattle.std.specs.Prelude.{◌≡◌, ◌+◌, ◌-◌, ◌++◌, ◌≤◌, ◌<◌, ℕ, true, false, nat_lt, List, [], ◌∷◌, if◌then◌else◌}
+use Rattle.atomic_table.specs.Table.{Me}
+use Rattle.tmw_events.specs.Packing.{packed_header, kind_value, joined}
+use Rattle.tmw_events.specs.declared.event.Kind.{Kind}
+use Rattle.tmw_defs.specs.declared.ring_phase.WriterPhase.{WriterPhase}
+use Rattle.tmw_defs.specs.declared.ring_phase.WriterPhase.TheVariants.{Idle, Looked, Cleared, Claimed}
+use Rattle.tmw_defs.specs.declared.ring_size.RingSize.{RingSize}
+use Rattle.tmw_ring.specs.Parts.{Parts}
+use Rattle.tmw_ring.specs.Recording.{made_at}
+use Rattle.tmw_ring.specs.Seats.{writer_in, IsWriter}
+use Rattle.tmw_ring.specs.declared.part.Look.TheVariants.{Front, Tail}
+use Rattle.tmw_ring.specs.declared.part.WriterPart.{WriterPart}
+
+-- what a writer knows after it found this front
+abbrev pub front_seen : Kind → ℕ → WriterPart → WriterPart
+front_seen kind front part = record part { phase = Looked kind front; looks = part.looks ++ Front front ∷ [] }
+
+-- the front that a writer found, and the place that it claimed
+abbrev pub front_in : WriterPhase → ℕ
+front_in Idle = 0
+front_in (Looked kind front) = front
+front_in (Cleared kind) = 0
+front_in (Claimed place kind is_filled) = 0
+
+abbrev pub place_in : WriterPhase → ℕ
+place_in Idle = 0
+place_in (Looked kind front) = 0
+place_in (Cleared kind) = 0
+place_in (Claimed place kind is_filled) = place
+
+-- With this front and this tail a writer is cleared only where every writer has room.
+abbrev pub room_phase : RingSize → Kind → ℕ → ℕ → WriterPhase
+room_phase size kind front tail =
+    if nat_lt size.limit (tail + size.writers) then Idle
+    else if nat_lt (size.cells - size.writers) (tail - front) then Idle
+    else Cleared kind
+
+abbrev pub tail_seen : Kind → ℕ → WriterPart → WriterPart
+tail_seen kind tail part = record part {
+  phase = room_phase part.size kind (front_in part.phase) tail;
+  seen = tail;
+  looks = part.looks ++ Tail tail ∷ [];
+}
+
+abbrev pub claimed : Kind → ℕ → WriterPart → WriterPart
+claimed kind place part = record part {
+  phase = Claimed place kind false;
+  made = part.made ++ made_at part.number kind place ∷ [];
+  seen = place + 1;
+}
+
+abbrev pub value_filled : Kind → WriterPart → WriterPart
+value_filled kind part = record part { phase = Claimed (place_in part.phase) kind true }
+
+abbrev pub done : WriterPart → WriterPart
+done part = record part { phase = Idle }
+
+module _ {S : Type 0} where
+  -- It is the seat of a writer that has come so far, in a ring of this size.
+  pub record IsSeatOf (size : RingSize) (phase : WriterPhase) (me : Me S Parts) : Type 0 where
+    pub seated : IsWriter (writer_in me.0) me
+    pub sized : (writer_in me.0).size ≡ size
+    pub phase_is : (writer_in me.0).phase ≡ phase
+
+  abbrev pub HasSeenFront : Kind → Me S Parts → ℕ → Me S Parts → Type 0
+  HasSeenFront kind old front new = IsWriter (front_seen kind front (writer_in old.0)) new
+
+  -- Tail is not below what it was before, nor below front, nor above the limit.
+  abbrev pub HasSeenTail : Kind → Me S Parts → ℕ → Me S Parts → Type 0
+  HasSeenTail kind old tail new =
+      IsWriter (tail_seen kind tail (writer_in old.0)) new
+      × ((writer_in old.0).seen ≤ tail) × (front_in (writer_in old.0).phase ≤ tail) × (tail ≤ (writer_in old.0).size.limit)
+
+  -- The place is not below what tail was before, and below the limit.
+  abbrev pub HasClaimed : Kind → Me S Parts → ℕ → Me S Parts → Type 0
+  HasClaimed kind old place new =
+      IsWriter (claimed kind place (writer_in old.0)) new × ((writer_in old.0).seen ≤ place) × (place < (writer_in old.0).size.limit)
+
+  abbrev pub HasFilled : Kind → Me S Parts → Me S Parts → Type 0
+  HasFilled kind old new = IsWriter (value_filled kind (writer_in old.0)) new
+
+  abbrev pub HasPublished : Me S Parts → Me S Parts → Type 0
+  HasPublished old new = IsWriter (done (writer_in old.0)) new

@@ -1,0 +1,128 @@
+//! A writer records an event: it looks at front and at tail, claims a place, fills in the value and publishes the place.
+ghost use Rattle.std.specs.Prelude.{◌≡◌, ◌<◌, ◌^◌, true, false};
+ghost use Rattle.tmw_defs.specs.declared.ring_phase.WriterPhase.TheVariants.{Idle, Looked, Cleared, Claimed};
+ghost use Rattle.tmw_events.specs.Packing.{packed_header, kind_value};
+ghost use Rattle.tmw_events.specs.Text.{FitsKind};
+ghost use Rattle.tmw_ring.specs.Seats.{writer_in};
+ghost use Rattle.tmw_ring.specs.WriterSteps.{IsSeatOf, HasSeenFront, HasSeenTail, HasClaimed, HasFilled, HasPublished};
+
+use crate::ends::Ring;
+use crate::part::Part;
+use crate::rule::RingSeat;
+use atomic_table::Play;
+use std::collections::LinkedList;
+use std::marker::{Brand, PhantomData};
+use tmw_events::join;
+
+/// The kind of the event that is being recorded, which each call picks.
+pub trait Choice {
+    ghost use Rattle.tmw_events.specs.declared.event.Kind.{Kind};
+
+    ghost kind: { Kind };
+}
+
+impl Choice for Brand {
+    ghost use Rattle.tmw_events.specs.declared.event.Kind.TheVariants.{K};
+
+    ghost kind = { K };
+}
+
+/// A writer looks at front.
+pub struct SeesFront<C> {
+    marker: PhantomData<C>,
+}
+
+impl<C: Choice> Play<(), LinkedList<Part>> for SeesFront<C> {
+    ghost then = { λ _ old front new. HasSeenFront C.kind old front new };
+}
+
+/// A writer looks at tail.
+pub struct SeesTail<C> {
+    marker: PhantomData<C>,
+}
+
+impl<C: Choice> Play<(), LinkedList<Part>> for SeesTail<C> {
+    ghost then = { λ _ old tail new. HasSeenTail C.kind old tail new };
+}
+
+/// A writer claims the place that tail was.
+pub struct Claims<C> {
+    marker: PhantomData<C>,
+}
+
+impl<C: Choice> Play<(), LinkedList<Part>> for Claims<C> {
+    ghost then = { λ _ old place new. HasClaimed C.kind old place new };
+}
+
+/// A writer fills in the value of its event.
+pub struct Fills<C> {
+    marker: PhantomData<C>,
+}
+
+impl<C: Choice> Play<(), LinkedList<Part>> for Fills<C> {
+    ghost then = { λ _ old _ new. HasFilled C.kind old new };
+}
+
+/// A writer publishes its place.
+pub struct Publishes;
+
+impl Play<(), LinkedList<Part>> for Publishes {
+    ghost then = { λ _ old _ new. HasPublished old new };
+}
+
+/// An idle writer looks at front.
+fn see_front<C: Choice>(ring: &Ring, seat: &mut RingSeat) -> u64
+    requires table { seat.old.table_id ≡ ring.now.table }
+    requires writer { IsSeatOf ring.now.size Idle seat.old.me }
+    requires kind { FitsKind C.kind }
+    ensures table { seat.new.table_id ≡ seat.old.table_id }
+    ensures seen { HasSeenFront C.kind seat.old.me result seat.new.me }
+{
+    ring.table.shared.load::<SeesFront<C>>(seat, 1)
+}
+
+/// A writer that has found this front looks at tail.
+fn see_tail<C: Choice>(ring: &Ring, seat: &mut RingSeat, front: u64) -> u64
+    requires table { seat.old.table_id ≡ ring.now.table }
+    requires writer { IsSeatOf ring.now.size (Looked C.kind front) seat.old.me }
+    ensures table { seat.new.table_id ≡ seat.old.table_id }
+    ensures seen { HasSeenTail C.kind seat.old.me result seat.new.me }
+{
+    ring.table.shared.load::<SeesTail<C>>(seat, 0)
+}
+
+/// A cleared writer claims a place.
+fn claim<C: Choice>(ring: &Ring, seat: &mut RingSeat) -> u64
+    requires table { seat.old.table_id ≡ ring.now.table }
+    requires writer { IsSeatOf ring.now.size (Cleared C.kind) seat.old.me }
+    ensures table { seat.new.table_id ≡ seat.old.table_id }
+    ensures claimed { HasClaimed C.kind seat.old.me result seat.new.me }
+{
+    ring.table.shared.fetch_add::<Claims<C>>(seat, 0, 1)
+}
+
+/// A writer that has claimed this place fills in its event's value.
+fn fill<C: Choice>(ring: &Ring, seat: &mut RingSeat, place: u64, value: u64)
+    requires table { seat.old.table_id ≡ ring.now.table }
+    requires writer { IsSeatOf ring.now.size (Claimed place C.kind false) seat.old.me }
+    requires value { value ≡ kind_value C.kind }
+    ensures table { seat.new.table_id ≡ seat.old.table_id }
+    ensures filled { HasFilled C.kind seat.old.me seat.new.me }
+{
+    let word = 3 + 2 * (place % ring.size.cells) as usize;
+    ring.table.shared.store::<Fills<C>>(seat, word, value);
+}
+
+/// A writer that has filled this place publishes it with its event's header.
+fn publish<C: Choice>(ring: &Ring, seat: &mut RingSeat, place: u64, header: u64)
+    requires table { seat.old.table_id ≡ ring.now.table }
+    requires writer { IsSeatOf ring.now.size (Claimed place C.kind true) seat.old.me }
+    requires place { place < 2 ^ 40 }
+    requires header { header ≡ packed_header (record { thread = (writer_in seat.old.me.0).number; kind = C.kind }) }
+    requires small { header < 1024 }
+    ensures table { seat.new.table_id ≡ seat.old.table_id }
+    ensures published { HasPublished seat.old.me seat.new.me }
+{
+    let word = 2 + 2 * (place % ring.size.cells) as usize;
+    ring.table.shared.store::<Publishes>(seat, word, join(place, header));
+}
