@@ -1,11 +1,8 @@
 -- A writer may claim a place.
-use Rattle.std.proofs.Common.{◌≡◌, ◌≢◌, ◌==◌, ◌+◌, ◌++◌, ◌%◌, ◌≤◌, ◌<◌, ℕ, zero, suc, Bool, true, false, eq-eqb, ne_eqb, if◌then◌else◌, List, [], ◌∷◌, length, Some, set, slice_set, refl, sym, ap, ◌∙◌, subst, inl, inr, arith}
-use Rattle.std.proofs.Math.Nat.{mod-eq_of_lt}
+use Rattle.std.proofs.Common.{◌≡◌, ◌≢◌, ◌==◌, ◌+◌, ◌++◌, ◌%◌, ◌≤◌, ◌<◌, ℕ, zero, suc, Bool, true, false, eq-eqb, ne_eqb, if◌then◌else◌, List, [], ◌∷◌, length, Some, set, slice_set, refl, sym, ap, ◌∙◌, subst, arith}
 use Rattle.std.proofs.lemmas.Option.{slice_get_within}
 use Rattle.std.specs.Prelude.{slice_get, slice_index}
-use mathlib.Core.Option.{some}
-use lib.ListN.{get_elem?}
-use Rattle.atomic_table.specs.Table.{State, Me, Allows, keeps, stepped}
+use Rattle.atomic_table.specs.Table.{Me, Allows, keeps}
 use Rattle.tmw_events.specs.Text.{FitsKind}
 use Rattle.tmw_events.specs.declared.event.Event.{Event}
 use Rattle.tmw_events.specs.declared.event.Kind.{Kind}
@@ -13,14 +10,14 @@ use Rattle.tmw_events.specs.declared.ix.Ix.{Ix}
 use Rattle.tmw_defs.specs.Ring.{Core}
 use Rattle.tmw_defs.specs.RingSound.{IsIn, Sound, cleared}
 use Rattle.tmw_defs.specs.declared.ring_phase.WriterPhase.{WriterPhase}
-use Rattle.tmw_defs.specs.declared.ring_phase.WriterPhase.TheVariants.{Idle, Looked, Cleared, Claimed}
+use Rattle.tmw_defs.specs.declared.ring_phase.WriterPhase.TheVariants.{Cleared, Claimed}
 use Rattle.tmw_defs.specs.declared.ring_size.RingSize.{RingSize}
 use Rattle.tmw_defs.specs.declared.ring_step.Reply.TheVariants.{Place}
 use Rattle.tmw_defs.proofs.RingClaims.{claim_keeps}
 use Rattle.tmw_ring.specs.Parts.{Parts, made_from}
 use Rattle.tmw_ring.specs.Recording.{made_at}
-use Rattle.tmw_ring.specs.Rule.{FitsPhase, Shown, WriterFits, IsReal, IsRecorded}
-use Rattle.tmw_ring.specs.Seats.{writer_in, IsWriter}
+use Rattle.tmw_ring.specs.Rule.{Shown, WriterFits, IsReal, IsRecorded}
+use Rattle.tmw_ring.specs.Seats.{writer_in}
 use Rattle.tmw_ring.specs.Words.{words_of}
 use Rattle.tmw_ring.specs.WriterSteps.{claimed, IsSeatOf, HasClaimed}
 use Rattle.tmw_ring.specs.declared.part.Made.{Made}
@@ -50,7 +47,7 @@ made_from-own writer kind from [] =
 made_from-own writer kind from (event ∷ log) =
     let next : from + 1 + length log ≡ from + suc (length log) = omega arith in
     let later : made_from writer.number (from + 1) (log ++ event_by writer kind ∷ [])
-        ≡ made_from writer.number (from + 1) log ++ made_at writer kind (from + suc (length log)) ∷ [] =
+    ≡ made_from writer.number (from + 1) log ++ made_at writer kind (from + suc (length log)) ∷ [] =
     made_from-own writer kind (from + 1) log
     ∙ ap (λ (place : ℕ). made_from writer.number (from + 1) log ++ made_at writer kind place ∷ []) next in
     by_test (event.thread.number == writer.number) (made_from writer.number (from + 1) (log ++ event_by writer kind ∷ []))
@@ -136,11 +133,14 @@ module _ {S : Type 0} where
       let words : set state.words 0 ((slice_index state.words 0 + 1) % 18446744073709551616) ≡ words_of next =
       ap (λ (words : List ℕ). set words 0 ((slice_index state.words 0 + 1) % 18446744073709551616)) shown.words
       ∙ ap (λ (tail : ℕ). set (words_of core) 0 tail) sum in
-      let limit : part.size.limit ≡ core.size.limit = ap (λ (z : RingSize). z.limit) fits.sized in
-      (Writes new ∷ [], keeps, tt,
-          writer_moves size state shown seat 0 ((slice_index state.words 0 + 1) % 18446744073709551616) part new next seated words
-              (subst (λ (tail : ℕ). Goes core next part (claimed kind tail part)) (sym found) goes),
-          (refl, omega (arith, found, fits.seen), omega (arith, found, limit, below)))
+      let limit : part.size.limit ≡ core.size.limit = ap (λ (z : RingSize). z.limit) fits.sized in (
+        Writes new ∷ [],
+        keeps,
+        tt,
+        writer_moves size state shown seat 0 ((slice_index state.words 0 + 1) % 18446744073709551616) part new next seated words
+            (subst (λ (tail : ℕ). Goes core next part (claimed kind tail part)) (sym found) goes),
+        (refl, omega (arith, found, fits.seen), omega (arith, found, limit, below)),
+      )
 
   -- A cleared writer may claim a place.
   pub claims : (size own : RingSize) (slots seat : ℕ) (kind : Kind) (me : Me S Parts) → IsSeatOf own (Cleared kind) me

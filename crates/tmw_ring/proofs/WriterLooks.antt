@@ -1,24 +1,22 @@
 -- A writer may look at front and at tail.
-use Rattle.std.proofs.Common.{◌≡◌, ◌≢◌, ◌+◌, ◌-◌, ◌≤◌, ◌<◌, ℕ, Bool, true, false, nat_lt, if◌then◌else◌, List, [], ◌∷◌, Some, set, slice_set, refl, sym, ap, ◌∙◌, subst, arith}
+use Rattle.std.proofs.Common.{◌≡◌, ◌+◌, ◌-◌, ◌≤◌, ℕ, Bool, true, false, nat_lt, if◌then◌else◌, List, [], ◌∷◌, Some, set, refl, sym, ap, ◌∙◌, subst, arith}
 use Rattle.std.specs.Prelude.{slice_index}
-use mathlib.Core.Option.{some}
-use lib.ListN.{get_elem?}
-use Rattle.atomic_table.specs.Table.{State, Me, Allows, keeps, stepped}
+use Rattle.atomic_table.specs.Table.{Me, Allows, keeps}
 use Rattle.tmw_events.specs.Text.{FitsKind}
 use Rattle.tmw_events.specs.declared.event.Kind.{Kind}
 use Rattle.tmw_defs.specs.Ring.{Core}
 use Rattle.tmw_defs.specs.RingSound.{IsIn, Sound}
-use Rattle.tmw_defs.specs.RingSteps.{with_phase, front_step, room_step, tail_step}
+use Rattle.tmw_defs.specs.RingSteps.{with_phase, room_step}
 use Rattle.tmw_defs.specs.declared.ring_phase.WriterPhase.{WriterPhase}
-use Rattle.tmw_defs.specs.declared.ring_phase.WriterPhase.TheVariants.{Idle, Looked, Cleared, Claimed}
+use Rattle.tmw_defs.specs.declared.ring_phase.WriterPhase.TheVariants.{Idle, Looked, Cleared}
 use Rattle.tmw_defs.specs.declared.ring_size.RingSize.{RingSize}
 use Rattle.tmw_defs.specs.declared.ring_step.Reply.TheVariants.{Saw, Spent, Full, Cleared as IsCleared}
 use Rattle.tmw_defs.specs.declared.ring_step.Reply.{Reply}
 use Rattle.tmw_defs.proofs.RingLooks.{front_keeps, tail_keeps}
-use Rattle.tmw_ring.specs.Parts.{Parts, made_from}
+use Rattle.tmw_ring.specs.Parts.{Parts}
 use Rattle.tmw_ring.specs.Rule.{FitsPhase, Shown, WriterFits, IsReal}
-use Rattle.tmw_ring.specs.Seats.{writer_in, IsWriter}
-use Rattle.tmw_ring.specs.Words.{words_of, front_word, tail_word}
+use Rattle.tmw_ring.specs.Seats.{writer_in}
+use Rattle.tmw_ring.specs.Words.{words_of}
 use Rattle.tmw_ring.specs.WriterSteps.{front_seen, tail_seen, front_in, room_phase, IsSeatOf, HasSeenFront, HasSeenTail}
 use Rattle.tmw_ring.specs.declared.part.Part.TheVariants.{Writes}
 use Rattle.tmw_ring.specs.declared.part.WriterPart.{WriterPart}
@@ -61,9 +59,9 @@ room_core writer kind front core =
   where
     by_tests : (spent full : Bool)
         → (let answer : Reply × Core =
-            if spent then (Spent core.tail, with_phase writer Idle core)
-            else if full then (Full front core.tail, with_phase writer Idle core)
-            else (IsCleared, with_phase writer (Cleared kind) core) in answer.1)
+        if spent then (Spent core.tail, with_phase writer Idle core)
+        else if full then (Full front core.tail, with_phase writer Idle core)
+        else (IsCleared, with_phase writer (Cleared kind) core) in answer.1)
         ≡ with_phase writer (if spent then Idle else if full then Idle else Cleared kind) core
     by_tests true full = refl
     by_tests false true = refl
@@ -105,11 +103,14 @@ module _ {S : Type 0} where
       let found : slice_index state.words 1 ≡ shown.core.front = ap (λ (words : List ℕ). slice_index words 1) shown.words in
       let words : set state.words 1 (slice_index state.words 1) ≡ words_of next =
       ap (λ (words : List ℕ). set words 1 (slice_index words 1)) shown.words in
-      let new : WriterPart = front_seen kind (slice_index state.words 1) part in
-      (Writes new ∷ [], keeps, tt,
-          writer_moves size state shown seat 1 (slice_index state.words 1) part new next seated words
-              (subst (λ (front : ℕ). Goes shown.core next part (front_seen kind front part)) (sym found) goes),
-          refl)
+      let new : WriterPart = front_seen kind (slice_index state.words 1) part in (
+        Writes new ∷ [],
+        keeps,
+        tt,
+        writer_moves size state shown seat 1 (slice_index state.words 1) part new next seated words
+            (subst (λ (front : ℕ). Goes shown.core next part (front_seen kind front part)) (sym found) goes),
+        refl,
+      )
 
   -- An idle writer may look at front.
   pub sees_front : (size own : RingSize) (slots seat : ℕ) (kind : Kind) (me : Me S Parts) → IsSeatOf own Idle me → FitsKind kind
@@ -132,13 +133,20 @@ module _ {S : Type 0} where
       ap (λ (words : List ℕ). set words 0 (slice_index words 0)) shown.words in
       let low : front ≤ shown.core.front = shown.sound.looks part.number.number front kind at in
       let same : front_in part.phase ≡ front = ap front_in looked in
-      let limit : part.size.limit ≡ shown.core.size.limit = ap (λ (z : RingSize). z.limit) fits.sized in
-      (Writes new ∷ [], keeps, tt,
-          writer_moves size state shown seat 0 (slice_index state.words 0) part new next seated words
-              (subst (λ (tail : ℕ). Goes shown.core (with_phase part.number.number (tail_seen kind tail part).phase shown.core) part
-                  (tail_seen kind tail part)) (sym found) goes),
-          (refl, omega (arith, found, fits.seen), omega (arith, found, low, same, shown.sound.order),
-              omega (arith, found, limit, shown.sound.limited)))
+      let limit : part.size.limit ≡ shown.core.size.limit = ap (λ (z : RingSize). z.limit) fits.sized in (
+        Writes new ∷ [],
+        keeps,
+        tt,
+        writer_moves size state shown seat 0 (slice_index state.words 0) part new next seated words
+            (subst (λ (tail : ℕ). Goes shown.core (with_phase part.number.number (tail_seen kind tail part).phase shown.core) part
+            (tail_seen kind tail part)) (sym found) goes),
+        (
+          refl,
+          omega (arith, found, fits.seen),
+          omega (arith, found, low, same, shown.sound.order),
+          omega (arith, found, limit, shown.sound.limited),
+        ),
+      )
 
   -- A writer that has found a front may look at tail.
   pub sees_tail : (size own : RingSize) (slots seat : ℕ) (kind : Kind) (front : ℕ) (me : Me S Parts) → IsSeatOf own (Looked kind front) me

@@ -1,14 +1,10 @@
 -- A writer may fill and publish the place that it has claimed.
-use Rattle.std.proofs.Common.{◌≡◌, ◌≢◌, ◌+◌, ◌%◌, ◌<◌, ◌≤◌, ℕ, true, false, All, List, [], ◌∷◌, length, Some, set, slice_set, refl, sym, ap, ◌∙◌, subst, arith}
+use Rattle.std.proofs.Common.{◌≡◌, ◌%◌, ◌<◌, ℕ, true, false, List, [], ◌∷◌, Some, set, refl, sym, ap, ◌∙◌, subst, arith}
 use Rattle.std.proofs.lemmas.List.Elements.{All-set}
-use Rattle.std.specs.Prelude.{slice_index}
-use mathlib.Core.Option.{some}
-use lib.ListN.{get_elem?}
-use Rattle.atomic_table.specs.Table.{State, Me, Allows, keeps, stepped}
+use Rattle.atomic_table.specs.Table.{Me, Allows, keeps}
 use Rattle.tmw_events.proofs.PackedWords.{packed_header-small}
 use Rattle.tmw_events.specs.Packing.{packed_header, kind_value, joined}
 use Rattle.tmw_events.specs.declared.event.Kind.{Kind}
-use Rattle.tmw_events.specs.declared.ix.Ix.{Ix}
 use Rattle.tmw_defs.specs.Ring.{Core}
 use Rattle.tmw_defs.specs.RingCells.{empty_cell, filled, published}
 use Rattle.tmw_defs.specs.RingSound.{IsIn, Sound}
@@ -22,9 +18,9 @@ use Rattle.tmw_defs.proofs.RingFills.{fill_keeps}
 use Rattle.tmw_defs.proofs.RingPlaces.{event_of}
 use Rattle.tmw_defs.proofs.RingPublishes.{publish_keeps}
 use Rattle.tmw_defs.proofs.RingStores.{has_cell}
-use Rattle.tmw_ring.specs.Parts.{Parts, made_from}
+use Rattle.tmw_ring.specs.Parts.{Parts}
 use Rattle.tmw_ring.specs.Rule.{FitsPhase, Shown, WriterFits, IsReal}
-use Rattle.tmw_ring.specs.Seats.{writer_in, IsWriter}
+use Rattle.tmw_ring.specs.Seats.{writer_in}
 use Rattle.tmw_ring.specs.Words.{words_of, stamp_word, value_word}
 use Rattle.tmw_ring.specs.WriterSteps.{place_in, value_filled, done, IsSeatOf, HasFilled, HasPublished}
 use Rattle.tmw_ring.specs.declared.part.Part.TheVariants.{Writes}

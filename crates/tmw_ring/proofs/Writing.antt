@@ -1,6 +1,5 @@
 -- A writer's step keeps the rule of a ring's table, if what the writer then knows is so.
-use Rattle.std.proofs.Common.{◌≡◌, ◌≢◌, ◌+◌, ◌≤◌, ◌<◌, ℕ, List, [], ◌∷◌, Some, slice_set, set, All, refl, sym, ap, ◌∙◌, subst, inl, inr, arith}
-use Rattle.std.proofs.lemmas.Bool.{cases_eq}
+use Rattle.std.proofs.Common.{◌≡◌, ◌≢◌, ◌+◌, ◌≤◌, ◌<◌, ℕ, [], ◌∷◌, Some, slice_set, set, All, refl, sym, ap, ◌∙◌, subst, inl, inr, arith}
 use Rattle.std.proofs.lemmas.Option.{slice_get_within}
 use Rattle.std.specs.Prelude.{slice_get}
 use mathlib.Core.Option.{some}
@@ -8,13 +7,11 @@ use lib.ListN.{get_elem?}
 use Rattle.atomic_table.specs.Table.{State, keeps, stepped}
 use Rattle.tmw_events.specs.declared.event.Event.{Event}
 use Rattle.tmw_defs.specs.Ring.{Core}
-use Rattle.tmw_defs.specs.RingSound.{IsIn, Sound}
-use Rattle.tmw_defs.specs.declared.ring_cell.RingCell.{RingCell}
-use Rattle.tmw_defs.specs.declared.ring_phase.WriterPhase.{WriterPhase}
+use Rattle.tmw_defs.specs.RingSound.{Sound}
 use Rattle.tmw_defs.specs.declared.ring_size.RingSize.{RingSize}
 use Rattle.tmw_defs.proofs.RingPhases.{phase_set, phase_kept, phase_cases}
 use Rattle.tmw_ring.specs.Parts.{Parts, key, made_from}
-use Rattle.tmw_ring.specs.Rule.{Fits, FitsPhase, IsReal, IsRecorded, Lies, Shown, WriterFits, ReaderFits}
+use Rattle.tmw_ring.specs.Rule.{Fits, FitsPhase, IsReal, IsRecorded, Shown, WriterFits}
 use Rattle.tmw_ring.specs.Words.{words_of}
 use Rattle.tmw_ring.specs.declared.part.Part.{Part}
 use Rattle.tmw_ring.specs.declared.part.Part.TheVariants.{Writes, Reads}

@@ -1,9 +1,11 @@
 pub mod Ends
+pub mod Meeting
 pub mod NewRing
 pub mod Parts
 pub mod Recording
 pub mod Rule
 pub mod Seats
+pub mod Settling
 pub mod Takes
 pub mod Words
 pub mod WriterSteps

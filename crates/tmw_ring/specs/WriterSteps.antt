@@ -1,7 +1,6 @@
 -- What each step of a writer tells it: the words that it finds, and what it then knows.
-use Rattle.std.specs.Prelude.{◌≡◌, ◌+◌, ◌-◌, ◌++◌, ◌≤◌, ◌<◌, ℕ, true, false, nat_lt, List, [], ◌∷◌, if◌then◌else◌}
+use Rattle.std.specs.Prelude.{◌≡◌, ◌+◌, ◌-◌, ◌++◌, ◌≤◌, ◌<◌, ℕ, true, false, nat_lt, [], ◌∷◌, if◌then◌else◌}
 use Rattle.atomic_table.specs.Table.{Me}
-use Rattle.tmw_events.specs.Packing.{packed_header, kind_value, joined}
 use Rattle.tmw_events.specs.declared.event.Kind.{Kind}
 use Rattle.tmw_defs.specs.declared.ring_phase.WriterPhase.{WriterPhase}
 use Rattle.tmw_defs.specs.declared.ring_phase.WriterPhase.TheVariants.{Idle, Looked, Cleared, Claimed}

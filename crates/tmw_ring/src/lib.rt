@@ -5,10 +5,19 @@
 mod cuts;
 mod ends;
 mod make;
+mod meet;
+#[cfg(test)]
+mod meet_tests;
 mod part;
 mod record;
+#[cfg(test)]
+mod record_tests;
 mod refused;
 mod rule;
+mod settle;
+#[cfg(test)]
+mod settle_tests;
+mod settled;
 mod take;
 #[cfg(test)]
 mod take_tests;
@@ -21,5 +30,6 @@ pub use make::ring;
 pub use part::{Look, Made, Part, ReaderPart, WriterPart};
 pub use refused::Refused;
 pub use rule::{RingRule, RingSeat, RingTable};
+pub use settled::Settled;
 pub use tmw_defs::RingSize;
 pub use tmw_ring_steps::RingFault;

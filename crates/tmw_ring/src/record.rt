@@ -1,18 +1,21 @@
 //! A writer records an event: it looks at front and at tail, claims a place, fills in the value and publishes the place.
-ghost use Rattle.std.specs.Prelude.{◌≡◌, ◌<◌, ◌^◌, true, false};
+ghost use Rattle.std.specs.Prelude.{◌≡◌, ◌<◌, ◌^◌, true, false, IfOk, IfErr};
 ghost use Rattle.tmw_defs.specs.declared.ring_phase.WriterPhase.TheVariants.{Idle, Looked, Cleared, Claimed};
 ghost use Rattle.tmw_events.specs.Packing.{packed_header, kind_value};
 ghost use Rattle.tmw_events.specs.Text.{FitsKind};
-ghost use Rattle.tmw_ring.specs.Seats.{writer_in};
+ghost use Rattle.tmw_ring.specs.Ends.{WriterOf};
+ghost use Rattle.tmw_ring.specs.Recording.{HasRecorded, IsRefusal};
+ghost use Rattle.tmw_ring.specs.Seats.{writer_in, writer_is};
 ghost use Rattle.tmw_ring.specs.WriterSteps.{IsSeatOf, HasSeenFront, HasSeenTail, HasClaimed, HasFilled, HasPublished};
 
-use crate::ends::Ring;
+use crate::ends::{Ring, Writer};
 use crate::part::Part;
+use crate::refused::Refused;
 use crate::rule::RingSeat;
 use atomic_table::Play;
 use std::collections::LinkedList;
 use std::marker::{Brand, PhantomData};
-use tmw_events::join;
+use tmw_events::{Event, Ix, Kind, join, pack};
 
 /// The kind of the event that is being recorded, which each call picks.
 pub trait Choice {
@@ -124,5 +127,56 @@ fn publish<C: Choice>(ring: &Ring, seat: &mut RingSeat, place: u64, header: u64)
     ensures published { HasPublished seat.old.me seat.new.me }
 {
     let word = 2 + 2 * (place % ring.size.cells) as usize;
-    ring.table.shared.store::<Publishes>(seat, word, join(place, header));
+    ring.table
+        .shared
+        .store::<Publishes>(seat, word, join(place, header));
+}
+
+/// The writer of this number records an event of the kind.
+fn record_as<C: Choice>(
+    ring: &Ring,
+    seat: &mut RingSeat,
+    number: Ix,
+    kind: Kind,
+) -> Result<u64, Refused>
+    requires table { seat.old.table_id ≡ ring.now.table }
+    requires writer { IsSeatOf ring.now.size Idle seat.old.me }
+    requires number { (writer_in seat.old.me.0).number ≡ number }
+    requires kind { kind ≡ C.kind }
+    ensures table { seat.new.table_id ≡ seat.old.table_id }
+    ensures writer { IsSeatOf ring.now.size Idle seat.new.me }
+    ensures number { (writer_in seat.new.me.0).number ≡ (writer_in seat.old.me.0).number }
+    ensures ok { IfOk result (λ place. HasRecorded kind place (writer_is seat.old.table_id (writer_in seat.old.me.0)) (writer_is seat.new.table_id (writer_in seat.new.me.0))) }
+    ensures err { IfErr result (λ refused. IsRefusal (writer_is seat.old.table_id (writer_in seat.old.me.0)) refused (writer_is seat.new.table_id (writer_in seat.new.me.0))) }
+{
+    let (header, value) = pack(Event {
+        thread: number,
+        kind,
+    });
+    let front = see_front::<C>(ring, seat);
+    let tail = see_tail::<C>(ring, seat, front);
+    if ring.size.limit < tail + ring.size.writers {
+        return Err(Refused::Spent { tail });
+    }
+    if ring.size.cells - ring.size.writers < tail - front {
+        return Err(Refused::Full { front, tail });
+    }
+    let place = claim::<C>(ring, seat);
+    fill::<C>(ring, seat, place, value);
+    publish::<C>(ring, seat, place, header);
+    Ok(place)
+}
+
+impl Ring {
+    /// Records an event of the writer's thread, and answers with its place. It waits for nothing: where the ring may lack room
+    /// for an event of each writer, it answers so.
+    pub fn record(&self, writer: &mut Writer, kind: Kind) -> Result<u64, Refused>
+        requires of_ring { WriterOf self.now writer.old }
+        ensures still_of_ring { WriterOf self.now writer.new }
+        ensures number { writer.new.number ≡ writer.old.number }
+        ensures ok { IfOk result (λ place. HasRecorded kind place writer.old writer.new) }
+        ensures err { IfErr result (λ refused. IsRefusal writer.old refused writer.new) }
+    {
+        record_as::<Brand>(self, &mut writer.seat, writer.number, kind)
+    }
 }

@@ -1,0 +1,72 @@
+-- A seat with any parts may load tail, and what its parts know is of one log.
+use Rattle.std.proofs.Common.{◌≡◌, ◌++◌, ℕ, zero, suc, List, [], ◌∷◌, map, set, drop, slice_index, refl, sym, ap, ◌∙◌, subst, arith}
+use Rattle.std.proofs.lemmas.List.{take-append-drop}
+use mathlib.Core.Option.{none, some, some-injective, some-ne-none}
+use lib.ListN.{get_elem?}
+use Rattle.atomic_table.specs.Table.{Me, Allows, keeps, step}
+use Rattle.tmw_events.specs.declared.event.Event.{Event}
+use Rattle.tmw_defs.specs.Ring.{Core}
+use Rattle.tmw_defs.specs.RingSound.{Sound}
+use Rattle.tmw_defs.specs.declared.ring_size.RingSize.{RingSize}
+use Rattle.tmw_ring.specs.Meeting.{with_tail, IsOfLog, HasFoundTail}
+use Rattle.tmw_ring.specs.Parts.{Parts, key}
+use Rattle.tmw_ring.specs.Rule.{Fits, Shown}
+use Rattle.tmw_ring.specs.Words.{words_of, tail_word}
+use Rattle.tmw_ring.specs.declared.part.Part.{Part}
+use Rattle.tmw_ring.specs.declared.part.Part.TheVariants.{Writes, Reads}
+use Rattle.tmw_ring.proofs.Moves.{Follows, moves_each}
+
+-- What stands in a mapped list is the image of what stood there.
+at_mapped : {A B : Type 0} (f : A → B) (items : List A) (found : B) (place : ℕ) → get_elem? (map f items) place ≡ some found
+    → (was : A) × (get_elem? items place ≡ some was) × (found ≡ f was)
+at_mapped f [] found place at = absurd (some-ne-none found (sym at))
+at_mapped f (item ∷ items) found zero at = (item, refl, sym (some-injective (f item) found at))
+at_mapped f (item ∷ items) found (suc place) at = at_mapped f items found place at
+
+-- A load leaves the words as they were.
+loaded_words : (core : Core) (words : List ℕ) → words ≡ words_of core
+    → (slice_index words tail_word ≡ core.tail) × (set words tail_word (slice_index words tail_word) ≡ words_of core)
+loaded_words core words are =
+    subst (λ (w : List ℕ). (slice_index w tail_word ≡ core.tail) × (set w tail_word (slice_index w tail_word) ≡ words_of core)) (sym are)
+    (refl, refl)
+
+-- A part that has found tail fits the ring still.
+fits_still : (core : Core) (part : Part) → Fits core part → Fits core (with_tail core.tail part)
+fits_still core (Writes part) fits = record { sized = fits.sized; phase = fits.phase; made = fits.made; seen = omega arith }
+fits_still core (Reads part) fits = fits
+
+same_key : (tail : ℕ) (part : Part) → key (with_tail tail part) ≡ key part
+same_key tail (Writes part) = refl
+same_key tail (Reads part) = refl
+
+-- What a part that fits knows is of the ring's log.
+of_log : (core : Core) → Sound core → (part : Part) → Fits core part → IsOfLog core.log part
+of_log core sound (Writes part) fits = (fits.made, let seen = fits.seen in let tail = sound.tail in omega (arith, seen, tail))
+of_log core sound (Reads part) fits =
+    let begins : core.log ≡ core.taken ++ drop core.front core.log =
+    sym (take-append-drop core.front core.log) ∙ ap (λ (first : List Event). first ++ drop core.front core.log) (sym sound.begins) in
+    (drop core.front core.log, begins ∙ ap (λ (taken : List Event). taken ++ drop core.front core.log) (sym fits.taken))
+
+all_follow : (core : Core) (old : Parts) → ((place : ℕ) (part : Part) → get_elem? old place ≡ some part → Fits core part)
+    → Follows core old (map (with_tail core.tail) old)
+all_follow core old fit place part placed =
+    let (was, at, is) = at_mapped (with_tail core.tail) old part place placed in
+    (was, at, ap key is ∙ same_key core.tail was, subst (Fits core) (sym is) (fits_still core was (fit place was at)))
+
+module _ {S : Type 0} where
+  -- The load changes no word, so the ring stays as it was.
+  pub finds_tail : (size : RingSize) (slots seat : ℕ) (me : Me S Parts)
+      → Allows (Shown {S = S} size) slots seat me tail_word (λ n. n) (HasFoundTail (step slots tail_word 0 0 none) me)
+  finds_tail size slots seat me state shown counted seated small =
+      let loaded = loaded_words shown.core state.words shown.words in
+      let fit : (place : ℕ) (part : Part) → get_elem? me.0 place ≡ some part → Fits shown.core part =
+      λ place part at. (shown.each seat place part (record { view = me.0; seated = seated; placed = at })).0 in
+      let follow = subst (λ (n : ℕ). Follows shown.core me.0 (map (with_tail n) me.0)) (sym loaded.0) (all_follow shown.core me.0 fit) in (
+        map (with_tail (slice_index state.words tail_word)) me.0,
+        keeps,
+        tt,
+        moves_each size state shown seat tail_word (slice_index state.words tail_word) me.0
+            (map (with_tail (slice_index state.words tail_word)) me.0) shown.core seated refl shown.sound shown.real loaded.1 follow
+            (λ other apart fits. fits),
+        (refl, shown.core.log, loaded.0 ∙ shown.sound.tail, λ place part at. of_log shown.core shown.sound part (fit place part at)),
+      )

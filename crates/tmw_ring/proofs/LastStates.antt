@@ -1,0 +1,96 @@
+-- What the last state of a ring's table tells, when all its ends are in one seat: every place that nobody took is published.
+use Rattle.std.proofs.Common.{◌≡◌, ◌≤◌, ◌<◌, ℕ, zero, suc, List, [], ◌∷◌, ◌++◌, length, get_or, map, Some, refl, sym, ap, ◌∙◌, subst, inl, inr, arith}
+use Rattle.std.proofs.lemmas.Option.{slice_get_within}
+use Rattle.std.specs.Prelude.{slice_get}
+use mathlib.Core.Option.{some}
+use lib.ListN.{get_elem?}
+use Rattle.atomic_table.specs.Table.{Me, Final, Seen}
+use Rattle.tmw_defs.specs.Ring.{Core}
+use Rattle.tmw_defs.specs.RingSound.{Sound, IsHeld, IsPublished}
+use Rattle.tmw_defs.specs.declared.ring_phase.WriterPhase.TheVariants.{Idle, Claimed}
+use Rattle.tmw_defs.specs.declared.ring_size.RingSize.{RingSize}
+use Rattle.tmw_ring.specs.Ends.{WriterIs}
+use Rattle.tmw_ring.specs.Parts.{Parts}
+use Rattle.tmw_ring.specs.Rule.{Fits, IsReal, ReaderFits, Shown}
+use Rattle.tmw_ring.specs.Seats.{reader_in, IsReader}
+use Rattle.tmw_ring.specs.Settling.{AreInOrder, part_of}
+use Rattle.tmw_ring.specs.Words.{words_of}
+use Rattle.tmw_ring.specs.declared.part.Part.TheVariants.{Reads}
+use Rattle.tmw_ring.specs.declared.part.ReaderPart.{ReaderPart}
+
+-- The ring at its end, when its ends knew this.
+pub record Ended (size : RingSize) (reader : ReaderPart) (writers : List WriterIs) (words : List ℕ) : Type 0 where
+  pub core : Core
+  pub sized : core.size ≡ size
+  pub sound : Sound core
+  pub real : IsReal core
+  pub shown : words ≡ words_of core
+  pub reads : ReaderFits core reader
+  pub writes : (number : ℕ) (fallback : WriterIs) → number < length writers → Fits core (part_of (get_or writers number fallback))
+
+-- A writer's part stands where the writer does.
+part_at : (writers : List WriterIs) (number : ℕ) (fallback : WriterIs) → number < length writers
+    → get_elem? (map part_of writers) number ≡ some (part_of (get_or writers number fallback))
+part_at [] number fallback within = absurd (omega arith)
+part_at (writer ∷ writers) zero fallback within = refl
+part_at (writer ∷ writers) (suc number) fallback within = part_at writers number fallback (omega arith)
+
+module _ {S : Type 0} where
+  pub ended : (size : RingSize) (reader : ReaderPart) (writers : List WriterIs) (seat : ℕ) (parts : Parts) (words : List ℕ) (slots : List S)
+      → parts ≡ Reads reader ∷ map part_of writers → Final (Seen (Shown {S = S} size) seat parts) words slots
+      → Ended size reader writers words
+  ended size reader writers seat parts words slots are final =
+      let state = final.0 in
+      let shown = final.1.0 in
+      let seated = final.1.1 ∙ ap some are in
+      record {
+        core = shown.core;
+        sized = shown.sized;
+        sound = shown.sound;
+        real = shown.real;
+        shown = sym final.2 ∙ shown.words;
+        reads = (shown.each seat 0 (Reads reader) (record { view = Reads reader ∷ map part_of writers; seated = seated; placed = refl })).0;
+        writes = λ number fallback within.
+            (shown.each seat (suc number) (part_of (get_or writers number fallback)) (record {
+              view = Reads reader ∷ map part_of writers;
+              seated = seated;
+              placed = part_at writers number fallback within;
+            })).0;
+      }
+
+  -- The same of the reader's seat, once it has taken in all writers' parts.
+  pub ended_joined : (told size : RingSize) (writers : List WriterIs) (seat : ℕ) (old new : Me S Parts) (words : List ℕ) (slots : List S)
+      → told ≡ size → IsReader (reader_in old.0) old → new ≡ (old.0 ++ map part_of writers, old.1)
+      → Final (Seen (Shown {S = S} told) seat new.0) words slots → Ended size (reader_in old.0) writers words
+  ended_joined told size writers seat old new words slots same is joined final =
+      subst (λ (s : RingSize). Ended s (reader_in old.0) writers words) same
+      (ended told (reader_in old.0) writers seat new.0 words slots
+      (ap (λ (m : Me S Parts). m.0) joined ∙ ap (λ (m : Me S Parts). m.0 ++ map part_of writers) is) final)
+
+-- Nothing is held when all writers are idle.
+pub none_held : (size : RingSize) (reader : ReaderPart) (writers : List WriterIs) (words : List ℕ)
+    → (ends : Ended size reader writers words) → length writers ≡ size.writers → AreInOrder writers
+    → (place : ℕ) → IsHeld ends.core place → ⊥
+none_held size reader [] words ends count order place held =
+    let below = slice_get_within ends.core.writers held.writer (Claimed place held.kind held.is_filled) held.claimed in
+    let are = ends.sound.writers ∙ ap (λ (s : RingSize). s.writers) ends.sized in
+    absurd (omega (arith, below, are, count))
+none_held size reader (first ∷ rest) words ends count order place held =
+    let below = slice_get_within ends.core.writers held.writer (Claimed place held.kind held.is_filled) held.claimed in
+    let are = ends.sound.writers ∙ ap (λ (s : RingSize). s.writers) ends.sized in
+    let within : held.writer < length (first ∷ rest) = omega (arith, below, are, count) in
+    let fits = ends.writes held.writer first within in
+    let idle : slice_get ends.core.writers held.writer ≡ Some Idle =
+    subst (λ (n : ℕ). slice_get ends.core.writers n ≡ Some Idle) (order held.writer first within) fits.phase in
+    let claimed = held.claimed in
+    absurd (cc)
+
+-- So all places from front to tail are published.
+pub all_published : (size : RingSize) (reader : ReaderPart) (writers : List WriterIs) (words : List ℕ)
+    → (ends : Ended size reader writers words) → length writers ≡ size.writers → AreInOrder writers
+    → (place : ℕ) → ends.core.front ≤ place → place < ends.core.tail → IsPublished ends.core place
+all_published size reader writers words ends count order place low high =
+    elim (ends.sound.places place low high) [
+      | inl held ↦ absurd (none_held size reader writers words ends count order place held)
+      | inr published ↦ published
+    ]

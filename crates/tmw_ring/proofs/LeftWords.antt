@@ -1,0 +1,74 @@
+-- What the words of published places' cells tell: the log's events.
+use Rattle.std.proofs.Common.{◌≡◌, ◌+◌, ◌%◌, ◌≤◌, ◌<◌, ℕ, zero, suc, List, [], ◌∷◌, drop, Some, sym, ap, ◌∙◌, subst, arith}
+use Rattle.std.proofs.lemmas.List.{drop_all}
+use Rattle.std.proofs.lemmas.Option.{same_Some}
+use Rattle.std.specs.Prelude.{slice_get}
+use Rattle.tmw_events.proofs.Unpacks.{unpacked-pack}
+use Rattle.tmw_events.specs.Packing.{packed_header, kind_value, pack}
+use Rattle.tmw_events.specs.Text.{FitsKind}
+use Rattle.tmw_events.specs.Unpacking.{unpacked}
+use Rattle.tmw_events.specs.declared.event.Event.{Event}
+use Rattle.tmw_defs.specs.Ring.{Core}
+use Rattle.tmw_defs.specs.RingCells.{empty_cell}
+use Rattle.tmw_defs.specs.RingSound.{Sound, IsPublished}
+use Rattle.tmw_defs.specs.RingSteps.{cell_at}
+use Rattle.tmw_defs.proofs.RingStores.{has_cell}
+use Rattle.tmw_ring.specs.Rule.{IsReal}
+use Rattle.tmw_ring.specs.Settling.{HasEvent, header_at, value_at, event_at, events_from}
+use Rattle.tmw_ring.specs.Words.{words_of}
+use Rattle.tmw_ring.proofs.Words.{stamped-parts, stamp_found, value_found}
+
+-- The words of a published place's cell are its event's.
+pub record Read (core : Core) (place : ℕ) (event : Event) : Type 0 where
+  pub header : header_at (words_of core) core.size.cells place ≡ packed_header event
+  pub value : value_at (words_of core) core.size.cells place ≡ kind_value event.kind
+  pub told : event_at (words_of core) core.size.cells place ≡ event
+
+read_published : (core : Core) (place : ℕ) → Sound core → IsReal core → (published : IsPublished core place) → Read core place published.event
+read_published core place sound real published =
+    let small = real.headers (place % core.size.cells) empty_cell (has_cell core place sound) in
+    let cell = cell_at core place in
+    let header : header_at (words_of core) core.size.cells place ≡ packed_header published.event =
+    ap (λ (word : ℕ). word % 1024) (stamp_found core place) ∙ (stamped-parts cell.stamp cell.header small).1 ∙ published.shown.header in
+    let value : value_at (words_of core) core.size.cells place ≡ kind_value published.event.kind =
+    value_found core place ∙ published.shown.value in
+    record {
+      header = header;
+      value = value;
+      told = ap (λ (h : ℕ). unpacked h (value_at (words_of core) core.size.cells place)) header
+          ∙ ap (unpacked (packed_header published.event)) value ∙ unpacked-pack published.event;
+    }
+
+pub has_event : (core : Core) (place : ℕ) → Sound core → IsReal core → IsPublished core place
+    → HasEvent (words_of core) core.size.cells place
+has_event core place sound real published =
+    let event = published.event in
+    let read = read_published core place sound real published in
+    record {
+      packed = ap pack read.told
+          ∙ ap (λ (h : ℕ). let words : ℕ × ℕ = (h, kind_value event.kind) in words) (sym read.header)
+          ∙ ap (λ (v : ℕ). let words : ℕ × ℕ = (header_at (words_of core) core.size.cells place, v) in words) (sym read.value);
+      fits = subst (λ (e : Event). FitsKind e.kind) (sym read.told) (real.events place event published.logged).value;
+    }
+
+drop_next : (items : List Event) (place : ℕ) (item : Event) → slice_get items place ≡ Some item
+    → drop place items ≡ item ∷ drop (suc place) items
+drop_next [] place item at = absurd (cc)
+drop_next (first ∷ items) zero item at = ap (λ (e : Event). e ∷ items) (same_Some first item at)
+drop_next (first ∷ items) (suc place) item at = drop_next items place item at
+
+-- The events that the words have are the log's from there on.
+pub events_logged : (core : Core) (place count : ℕ) → Sound core → IsReal core → core.front ≤ place → place + count ≡ core.tail
+    → ((at : ℕ) → core.front ≤ at → at < core.tail → IsPublished core at)
+    → events_from (words_of core) core.size.cells place count ≡ drop place core.log
+events_logged core place zero sound real low is published =
+    sym (drop_all place core.log (omega (arith, is, sound.tail)))
+events_logged core place (suc count) sound real low is published =
+    let at = published place low (omega (arith, is)) in
+    let read = read_published core place sound real at in
+    let next : place + 1 ≡ suc place = omega arith in
+    ap (λ (event : Event). event ∷ events_from (words_of core) core.size.cells (place + 1) count) read.told
+    ∙ ap (λ (events : List Event). at.event ∷ events)
+    (events_logged core (place + 1) count sound real (omega (arith, low)) (omega (arith, is)) published
+    ∙ ap (λ (n : ℕ). drop n core.log) next)
+    ∙ sym (drop_next core.log place at.event at.logged)

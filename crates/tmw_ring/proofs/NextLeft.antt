@@ -1,0 +1,55 @@
+-- The next event that is left of a ring is the one whose words are read.
+use Rattle.std.proofs.Common.{◌≡◌, ◌≢◌, ◌+◌, ◌-◌, ◌%◌, ◌/◌, ◌≤◌, ℕ, suc, List, ◌∷◌, Option, Some, None, sym, ap, ◌∙◌, arith}
+use Rattle.std.specs.Prelude.{IfNone}
+use mathlib.Core.Option.{some}
+use lib.ListN.{get_elem?}
+use Rattle.tmw_events.proofs.Unpacks.{unpacked-pack}
+use Rattle.tmw_events.specs.Packing.{pack}
+use Rattle.tmw_events.specs.Text.{FitsKind}
+use Rattle.tmw_events.specs.Unpacking.{unpacked}
+use Rattle.tmw_events.specs.declared.event.Event.{Event}
+use Rattle.tmw_ring.specs.Settling.{HasEvent, header_at, value_at, event_at, events_from}
+use Rattle.tmw_ring.specs.Words.{stamp_word, value_word}
+use Rattle.tmw_ring.proofs.Words.{word_read}
+
+-- The two words of the place's cell, the first of them split, were found.
+pub record Found (words : List ℕ) (cells place first value : ℕ) (halves : ℕ × ℕ) : Type 0 where
+  pub at_first : get_elem? words (stamp_word cells place) ≡ some first
+  pub at_second : get_elem? words (value_word cells place) ≡ some value
+  pub split : halves ≡ (first / 1024, first % 1024)
+
+found_words : (words : List ℕ) (cells place first value : ℕ) (halves : ℕ × ℕ) → Found words cells place first value halves
+    → (halves.1 ≡ header_at words cells place) × (value ≡ value_at words cells place)
+found_words words cells place first value halves found = (
+  ap (λ (h : ℕ × ℕ). h.1) found.split
+      ∙ ap (λ (word : ℕ). word % 1024) (sym (word_read words (stamp_word cells place) first found.at_first)),
+  sym (word_read words (value_word cells place) value found.at_second),
+)
+
+-- The event that the words tell is the first that is left.
+pub next_left : (words : List ℕ) (cells front tail first value : ℕ) (halves : ℕ × ℕ) (event : Event)
+    → Found words cells front first value halves → front ≤ tail → front ≢ tail → pack event ≡ (halves.1, value)
+    → events_from words cells front (tail - front) ≡ event ∷ events_from words cells (front + 1) (tail - (front + 1))
+next_left words cells front tail first value halves event found order apart packed =
+    let is = found_words words cells front first value halves found in
+    let count : tail - front ≡ suc (tail - (front + 1)) = omega (arith, order, apart) in
+    let tell : ℕ × ℕ → Event = λ w. unpacked w.0 w.1 in
+    let told : event_at words cells front ≡ event =
+    ap (λ (h : ℕ). unpacked h (value_at words cells front)) (sym is.0) ∙ ap (λ (v : ℕ). unpacked halves.1 v) (sym is.1)
+    ∙ ap tell (sym packed) ∙ unpacked-pack event in
+    ap (λ (n : ℕ). events_from words cells front n) count
+    ∙ ap (λ (e : Event). e ∷ events_from words cells (front + 1) (tail - (front + 1))) told
+
+-- They do tell an event.
+pub some_event : (words : List ℕ) (cells front first value : ℕ) (halves : ℕ × ℕ) → Found words cells front first value halves
+    → HasEvent words cells front → ((event : Event) → FitsKind event.kind → pack event ≡ (halves.1, value) → ⊥) → ⊥
+some_event words cells front first value halves found has none =
+    let is = found_words words cells front first value halves found in
+    none (event_at words cells front) has.fits
+    (has.packed ∙ ap (λ (h : ℕ). let pair : ℕ × ℕ = (h, value_at words cells front) in pair) (sym is.0)
+    ∙ ap (λ (v : ℕ). let pair : ℕ × ℕ = (halves.1, v) in pair) (sym is.1))
+
+-- what follows from what a clause says where there is none
+pub none_then : {X : Type 0} (found : Option X) {P Q : Type 0} → IfNone found P → (P → Q) → IfNone found Q
+none_then None holds then = then holds
+none_then (Some item) holds then = tt

@@ -1,0 +1,91 @@
+-- A ring that has all its ends back has the rest of the log in its words.
+use Rattle.std.proofs.Common.{◌≡◌, ◌-◌, ◌^◌, ◌≤◌, ◌<◌, ℕ, List, ◌++◌, length, drop, sym, ap, ◌∙◌, subst, arith}
+use Rattle.std.proofs.lemmas.List.{take-append-drop}
+use Rattle.std.specs.Prelude.{slice_index}
+use mathlib.Core.Option.{some}
+use lib.ListN.{get_elem?}
+use Rattle.tmw_events.specs.declared.event.Event.{Event}
+use Rattle.tmw_defs.specs.Ring.{Core}
+use Rattle.tmw_defs.specs.RingSound.{Sound}
+use Rattle.tmw_defs.specs.declared.ring_size.RingSize.{RingSize}
+use Rattle.tmw_ring.specs.Ends.{WriterIs}
+use Rattle.tmw_ring.specs.Parts.{made_from}
+use Rattle.tmw_ring.specs.Settling.{AreInOrder, IsSettled, HasEvent, events_from}
+use Rattle.tmw_ring.specs.Words.{words_of}
+use Rattle.tmw_ring.specs.declared.part.ReaderPart.{ReaderPart}
+use Rattle.tmw_ring.proofs.Words.{word_read}
+use Rattle.tmw_ring.proofs.LastStates.{Ended, all_published}
+use Rattle.tmw_ring.proofs.LeftWords.{has_event, events_logged}
+
+-- what the words say of front and tail
+pub record Counted (reader : ReaderPart) (words : List ℕ) (front tail : ℕ) : Type 0 where
+  pub front_is : length reader.taken ≡ front
+  pub tail_is : get_elem? words 0 ≡ some tail
+
+counts : (size : RingSize) (reader : ReaderPart) (writers : List WriterIs) (words : List ℕ) (front tail : ℕ)
+    → (ends : Ended size reader writers words) → Counted reader words front tail → (ends.core.front ≡ front) × (ends.core.tail ≡ tail)
+counts size reader writers words front tail ends counted = (
+  ends.sound.front ∙ ap (λ (events : List Event). length events) (sym ends.reads.taken) ∙ counted.front_is,
+  ap (λ (all : List ℕ). slice_index all 0) (sym ends.shown) ∙ word_read words 0 tail counted.tail_is,
+)
+
+few_claimed : (core : Core) → Sound core → core.tail ≤ 2 ^ 40
+few_claimed core sound = omega (arith, sound.limited, sound.sized.limit.small)
+
+-- The log is what was taken and what is left.
+pub settles : (size : RingSize) (reader : ReaderPart) (writers : List WriterIs) (words : List ℕ) (front tail : ℕ)
+    → Ended size reader writers words → length writers ≡ size.writers → AreInOrder writers → Counted reader words front tail
+    → IsSettled reader.taken writers (events_from words size.cells front (tail - front))
+settles size reader writers words front tail ends count order counted =
+    let core = ends.core in
+    let is = counts size reader writers words front tail ends counted in
+    let few = few_claimed core ends.sound in
+    let order_is = ends.sound.order in
+    let published = all_published size reader writers words ends count order in
+    let rest : events_from words size.cells front (tail - front) ≡ drop core.front core.log =
+    ap (λ (all : List ℕ). events_from all size.cells front (tail - front)) ends.shown
+    ∙ ap (λ (s : RingSize). events_from (words_of core) s.cells front (tail - front)) (sym ends.sized)
+    ∙ ap (λ (n : ℕ). events_from (words_of core) core.size.cells n (tail - n)) (sym is.0)
+    ∙ events_logged core core.front (tail - core.front) ends.sound ends.real (omega arith) (omega (arith, is.1, order_is)) published in
+    record {
+      log = core.log;
+      few = omega (arith, few, ends.sound.tail);
+      rest = sym (take-append-drop core.front core.log)
+          ∙ ap (λ (events : List Event). events ++ drop core.front core.log) (sym (ends.reads.taken ∙ ends.sound.begins))
+          ∙ ap (λ (events : List Event). reader.taken ++ events) (sym rest);
+      made = λ number fallback within.
+          let fits = ends.writes number fallback within in
+          fits.made ∙ ap (λ (n : ℕ). made_from n 0 core.log) (order number fallback within);
+      seen = λ number fallback within.
+          let fits = ends.writes number fallback within in
+          omega (arith, fits.seen, ends.sound.tail);
+    }
+
+-- What is left stands in the words.
+pub record Left (words : List ℕ) (cells front tail : ℕ) : Type 0 where
+  pub some : 0 < cells
+  pub small : cells ≤ 4096
+  pub few : tail ≤ 2 ^ 40
+  pub order : front ≤ tail
+  pub events : (place : ℕ) → front ≤ place → place < tail → HasEvent words cells place
+
+pub leaves : (size : RingSize) (reader : ReaderPart) (writers : List WriterIs) (words : List ℕ) (front tail : ℕ)
+    → Ended size reader writers words → length writers ≡ size.writers → AreInOrder writers → Counted reader words front tail
+    → Left words size.cells front tail
+leaves size reader writers words front tail ends count order counted =
+    let core = ends.core in
+    let is = counts size reader writers words front tail ends counted in
+    let few = few_claimed core ends.sound in
+    let order_is = ends.sound.order in
+    let cells : core.size.cells ≡ size.cells = ap (λ (s : RingSize). s.cells) ends.sized in
+    let room = ends.sound.sized.cells in
+    record {
+      some = omega (arith, cells, room.some, room.room);
+      small = omega (arith, cells, room.small);
+      few = omega (arith, few, is.1);
+      order = omega (arith, order_is, is.0, is.1);
+      events = λ place low high.
+          let at = all_published size reader writers words ends count order place (omega (arith, low, is.0)) (omega (arith, high, is.1)) in
+          subst (λ (all : List ℕ). HasEvent all size.cells place) (sym ends.shown)
+          (subst (λ (n : ℕ). HasEvent (words_of core) n place) cells (has_event core place ends.sound ends.real at));
+    }

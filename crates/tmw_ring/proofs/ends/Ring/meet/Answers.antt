@@ -1,0 +1,33 @@
+use Rattle.tmw_ring.specs.Seats.{writer_in, reader_in}
+use Rattle.tmw_ring.specs.declared.part.Part.TheVariants.{Writes, Reads}
+use Rattle.tmw_ring.proofs.Meetings.{idle_still, waiting_still, writer_met, reader_met}
+use Rattle.tmw_ring.proofs.ends.Ring.meet.Goals as goal
+
+pub invariant_of-writer : goal.invariant_of-writer
+invariant_of-writer c =
+    let met =
+    c.meet_seats.ensures.met (Writes (writer_in c.writer.inside.seat.me.0)) (Reads (reader_in c.reader.inside.seat.me.0))
+    c.writer.invariant.seated c.reader.invariant.seated in
+    idle_still c.writer.inside.number _ c.writer.inside.seat.me c.meet_seats.new.one.me c.writer.invariant met.one_after
+
+pub invariant_of-reader : goal.invariant_of-reader
+invariant_of-reader c =
+    let met =
+    c.meet_seats.ensures.met (Writes (writer_in c.writer.inside.seat.me.0)) (Reads (reader_in c.reader.inside.seat.me.0))
+    c.writer.invariant.seated c.reader.invariant.seated in
+    waiting_still c.reader.inside.front c.reader.inside.seat.me c.meet_seats.new.other.me c.reader.invariant met.other_after
+
+pub returns : goal.returns
+returns c =
+    let met =
+    c.meet_seats.ensures.met (Writes (writer_in c.writer.inside.seat.me.0)) (Reads (reader_in c.reader.inside.seat.me.0))
+    c.writer.invariant.seated c.reader.invariant.seated in
+    record {
+      log = met.log;
+      writer_meets =
+          writer_met met.log c.writer.inside.seat.table_id c.meet_seats.new.one.table_id c.writer.inside.seat.me c.meet_seats.new.one.me
+          c.args.writer.now c.meet_seats.ensures.tables.0 met.one_of met.one_after c.writer.view_is;
+      reader_meets =
+          reader_met met.log c.reader.inside.seat.table_id c.meet_seats.new.other.table_id c.reader.inside.seat.me
+          c.meet_seats.new.other.me c.args.reader.now c.meet_seats.ensures.tables.1 met.other_of met.other_after c.reader.view_is;
+    }

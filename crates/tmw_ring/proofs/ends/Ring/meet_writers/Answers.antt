@@ -1,0 +1,33 @@
+use Rattle.tmw_ring.specs.Seats.{writer_in}
+use Rattle.tmw_ring.specs.declared.part.Part.TheVariants.{Writes}
+use Rattle.tmw_ring.proofs.Meetings.{idle_still, writer_met}
+use Rattle.tmw_ring.proofs.ends.Ring.meet_writers.Goals as goal
+
+pub invariant_of-one : goal.invariant_of-one
+invariant_of-one c =
+    let met =
+    c.meet_seats.ensures.met (Writes (writer_in c.one.inside.seat.me.0)) (Writes (writer_in c.other.inside.seat.me.0))
+    c.one.invariant.seated c.other.invariant.seated in
+    idle_still c.one.inside.number _ c.one.inside.seat.me c.meet_seats.new.one.me c.one.invariant met.one_after
+
+pub invariant_of-other : goal.invariant_of-other
+invariant_of-other c =
+    let met =
+    c.meet_seats.ensures.met (Writes (writer_in c.one.inside.seat.me.0)) (Writes (writer_in c.other.inside.seat.me.0))
+    c.one.invariant.seated c.other.invariant.seated in
+    idle_still c.other.inside.number _ c.other.inside.seat.me c.meet_seats.new.other.me c.other.invariant met.other_after
+
+pub returns : goal.returns
+returns c =
+    let met =
+    c.meet_seats.ensures.met (Writes (writer_in c.one.inside.seat.me.0)) (Writes (writer_in c.other.inside.seat.me.0))
+    c.one.invariant.seated c.other.invariant.seated in
+    record {
+      log = met.log;
+      one_meets =
+          writer_met met.log c.one.inside.seat.table_id c.meet_seats.new.one.table_id c.one.inside.seat.me c.meet_seats.new.one.me
+          c.args.one.now c.meet_seats.ensures.tables.0 met.one_of met.one_after c.one.view_is;
+      other_meets =
+          writer_met met.log c.other.inside.seat.table_id c.meet_seats.new.other.table_id c.other.inside.seat.me
+          c.meet_seats.new.other.me c.args.other.now c.meet_seats.ensures.tables.1 met.other_of met.other_after c.other.view_is;
+    }

@@ -1,0 +1,49 @@
+use Rattle.std.proofs.Common.{◌-◌, List, sym, ap, ◌∙◌, subst}
+use Rattle.std.specs.Mem.Slots.{slots_items}
+use Rattle.tmw_events.specs.declared.event.Event.{Event}
+use Rattle.tmw_ring.specs.Ends.{ReaderIs, RingIs}
+use Rattle.tmw_ring.specs.Seats.{reader_in}
+use Rattle.tmw_ring.specs.Settling.{IsSettled, events_from}
+use Rattle.tmw_ring.proofs.LastStates.{ended_joined}
+use Rattle.tmw_ring.proofs.Settling.{Counted, leaves, settles}
+use Rattle.tmw_ring.proofs.ends.Ring.settle.Goals as goal
+
+pub invariant_of-result : goal.invariant_of-result
+invariant_of-result c =
+    let closed = c.close_with-closed.result in
+    let reader = reader_in c.reader.inside.seat.me.0 in
+    let ends =
+    ended_joined c.self.inside.table.shared.key c.self.inside.size c.args.writers.items c.join_all.new.seat.id c.reader.inside.seat.me
+    c.join_all.new.seat.me (slots_items closed.words) (slots_items closed.slots) c.self.invariant.told_it c.reader.invariant.seated
+    c.join_all.ensures.parts c.close_with-closed.ensures.values.2 in
+    let counted : Counted reader (slots_items closed.words) c.reader.inside.front c.word-tail.result =
+    record { front_is = c.reader.invariant.counted; tail_is = c.word-tail.ensures } in
+    let left =
+    leaves c.self.inside.size reader c.args.writers.items (slots_items closed.words) c.reader.inside.front c.word-tail.result ends
+    (c.requires.count ∙ ap (λ (ring : RingIs). ring.size.writers) (sym c.self.view_is)) c.requires.order counted in
+    record {
+      full = c.close_with-closed.ensures.values.0;
+      words = c.close_with-closed.ensures.counts.0 ∙ c.self.invariant.words;
+      slots = c.close_with-closed.ensures.counts.1 ∙ c.self.invariant.slots;
+      some = left.some;
+      small = left.small;
+      few = left.few;
+      order = left.order;
+      events = left.events;
+    }
+
+pub returns : goal.returns
+returns c =
+    let closed = c.close_with-closed.result in
+    let reader = reader_in c.reader.inside.seat.me.0 in
+    let ends =
+    ended_joined c.self.inside.table.shared.key c.self.inside.size c.args.writers.items c.join_all.new.seat.id c.reader.inside.seat.me
+    c.join_all.new.seat.me (slots_items closed.words) (slots_items closed.slots) c.self.invariant.told_it c.reader.invariant.seated
+    c.join_all.ensures.parts c.close_with-closed.ensures.values.2 in
+    let counted : Counted reader (slots_items closed.words) c.reader.inside.front c.word-tail.result =
+    record { front_is = c.reader.invariant.counted; tail_is = c.word-tail.ensures } in
+    let left : List Event =
+    events_from (slots_items closed.words) c.self.inside.size.cells c.reader.inside.front (c.word-tail.result - c.reader.inside.front) in
+    subst (λ (taken : List Event). IsSettled taken c.args.writers.items left) (ap (λ (r : ReaderIs). r.taken) c.reader.view_is)
+    (settles c.self.inside.size reader c.args.writers.items (slots_items closed.words) c.reader.inside.front c.word-tail.result ends
+    (c.requires.count ∙ ap (λ (ring : RingIs). ring.size.writers) (sym c.self.view_is)) c.requires.order counted)

@@ -1,0 +1,52 @@
+//! Two ends of a ring meet: each then knows that the other's places and its own are of one log.
+ghost use Rattle.std.specs.Prelude.{◌≡◌, [], ◌∷◌};
+ghost use Rattle.tmw_ring.specs.Ends.{WriterOf, ReaderOf};
+ghost use Rattle.tmw_ring.specs.Meeting.{HasFoundTail, SeatsHaveMet, HaveMet, WritersHaveMet};
+
+use crate::cuts::{AllParts, BothParts, SecondPart};
+use crate::ends::{Reader, Ring, Writer};
+use crate::part::Part;
+use crate::rule::RingSeat;
+use atomic_table::Play;
+use std::collections::LinkedList;
+
+impl Ring {
+    /// A writer meets the reader: its next event comes after all that both had seen.
+    pub fn meet(&self, writer: &mut Writer, reader: &mut Reader)
+        requires writer { WriterOf self.now writer.old }
+        requires reader { ReaderOf self.now reader.old }
+        ensures { HaveMet writer.old writer.new reader.old reader.new }
+    {
+        self.meet_seats(&mut writer.seat, &mut reader.seat);
+    }
+
+    /// Two writers meet: the next event of each comes after all that both had seen.
+    pub fn meet_writers(&self, one: &mut Writer, other: &mut Writer)
+        requires one { WriterOf self.now one.old }
+        requires other { WriterOf self.now other.old }
+        ensures { WritersHaveMet one.old one.new other.old other.new }
+    {
+        self.meet_seats(&mut one.seat, &mut other.seat);
+    }
+
+    /// One seat takes in the other's parts, finds tail for both, and gives them back.
+    fn meet_seats(&self, one: &mut RingSeat, other: &mut RingSeat)
+        requires one { one.old.table_id ≡ self.now.table }
+        requires other { other.old.table_id ≡ self.now.table }
+        ensures tables { (one.new.table_id ≡ one.old.table_id) × (other.new.table_id ≡ other.old.table_id) }
+        ensures met { (first second : Part) → one.old.me ≡ (first ∷ [], []) → other.old.me ≡ (second ∷ [], []) → SeatsHaveMet first second one.new.me other.new.me }
+    {
+        let shared = &self.table.shared;
+        let given = shared.split_seat::<AllParts>(other);
+        shared.join_seat::<BothParts>(one, given);
+        shared.load::<FoundTail>(one, 0);
+        *other = shared.split_seat::<SecondPart>(one);
+    }
+}
+
+/// A seat with any parts has found tail.
+pub struct FoundTail;
+
+impl Play<(), LinkedList<Part>> for FoundTail {
+    ghost then = { HasFoundTail };
+}
