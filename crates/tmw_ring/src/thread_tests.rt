@@ -3,10 +3,9 @@ ghost use Rattle.std.specs.Prelude.{All};
 ghost use Rattle.tmw_ring.specs.Ends.{ReaderOf, WriterOf};
 
 use super::*;
-use std::sync::Wait;
 use std::test::Fail;
 use std::thread;
-use std::thread::{Scope, Threads};
+use std::thread::Scope;
 use tmw_events::{Event, Ix, Kind};
 
 /// So often a record or a take is tried before its thread gives up.
@@ -56,23 +55,22 @@ fn take_soon(ring: &Ring, reader: &mut Reader) -> Option<Event>
     None
 }
 
-/// Takes so many events, and counts those of each writer. It stops at one that is not the next of its writer.
+/// Takes so many events, and counts for each writer those that were its next.
 fn take_in_order(ring: &Ring, reader: &mut Reader, count: u64) -> [u64; 8]
     requires { ReaderOf ring.now reader.old }
     ensures { ReaderOf ring.now reader.new }
 {
-    let mut taken = [0; 8];
+    let mut in_order = [0; 8];
     for _ in 0..count {
         let Some(event) = take_soon(ring, reader) else {
             break;
         };
-        let of_writer = &mut taken[usize::from(event.thread.get())];
-        if event.kind != nth(*of_writer) {
-            break;
+        let next = &mut in_order[usize::from(event.thread.get())];
+        if event.kind == nth(*next) {
+            *next = next.saturating_add(1);
         }
-        *of_writer = of_writer.saturating_add(1);
     }
-    taken
+    in_order
 }
 
 /// Gives each writer a thread that records so many events, and tells whether there were threads for all.
