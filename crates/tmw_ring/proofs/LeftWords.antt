@@ -24,7 +24,8 @@ pub record Read (core : Core) (place : ℕ) (event : Event) : Type 0 where
   pub value : value_at (words_of core) core.size.cells place ≡ kind_value event.kind
   pub told : event_at (words_of core) core.size.cells place ≡ event
 
-read_published : (core : Core) (place : ℕ) → Sound core → IsReal core → (published : IsPublished core place) → Read core place published.event
+read_published : (core : Core) (place : ℕ) → Sound core → IsReal core → (published : IsPublished core place)
+    → Read core place published.event
 read_published core place sound real published =
     let small = real.headers (place % core.size.cells) empty_cell (has_cell core place sound) in
     let cell = cell_at core place in
@@ -51,6 +52,7 @@ has_event core place sound real published =
       fits = subst (λ (e : Event). FitsKind e.kind) (sym read.told) (real.events place event published.logged).value;
     }
 
+-- what is left from a place on begins with the item there
 drop_next : (items : List Event) (place : ℕ) (item : Event) → slice_get items place ≡ Some item
     → drop place items ≡ item ∷ drop (suc place) items
 drop_next [] place item at = absurd (cc)

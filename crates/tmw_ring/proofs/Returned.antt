@@ -10,6 +10,7 @@ use Rattle.tmw_ring.specs.Seats.{writer_in, writer_is, IsIdleWriter}
 use Rattle.tmw_ring.specs.Settling.{part_of}
 use Rattle.tmw_ring.specs.declared.part.Part.TheVariants.{Writes}
 
+-- the parts of writers in two lists in a row
 map_append : (xs ys : List WriterIs) → map part_of (xs ++ ys) ≡ map part_of xs ++ map part_of ys
 map_append [] ys = refl
 map_append (x ∷ xs) ys = ap (λ (parts : Parts). part_of x ∷ parts) (map_append xs ys)
@@ -32,11 +33,13 @@ module _ {S : Type 0} where
       (ap (λ (parts : Parts). (first ++ map part_of joined) ++ parts) is ∙ append_assoc first (map part_of joined) (part_of writer ∷ [])
       ∙ ap (λ (parts : Parts). first ++ parts) (sym (map_append joined (writer ∷ []))))
 
--- What holds of all holds of one of them.
-middle : {A : Type 0} (before : List A) (item : A) (after : List A) → (length before < length (before ++ item ∷ after)) × (get_or (before ++ item ∷ after) (length before) item ≡ item)
+-- The item between two parts of a list stands at the first part's length.
+middle : {A : Type 0} (before : List A) (item : A) (after : List A)
+    → (length before < length (before ++ item ∷ after)) × (get_or (before ++ item ∷ after) (length before) item ≡ item)
 middle [] item after = (omega arith, refl)
 middle (first ∷ before) item after = let rest = middle before item after in (omega (arith, rest.0), rest.1)
 
+-- What holds of all writers holds of the one between those that came before and those that are left.
 pub of_all : (ring : RingIs) (writers before after : List WriterIs) (writer : WriterIs) → All (WriterOf ring) writers
     → writers ≡ before ++ writer ∷ after → WriterOf ring writer
 of_all ring writers before after writer all is =

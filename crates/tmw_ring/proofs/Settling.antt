@@ -1,6 +1,7 @@
 -- A ring that has all its ends back has the rest of the log in its words.
-use Rattle.std.proofs.Common.{◌≡◌, ◌-◌, ◌^◌, ◌≤◌, ◌<◌, ℕ, List, ◌++◌, length, drop, sym, ap, ◌∙◌, subst, arith}
+use Rattle.std.proofs.Common.{◌≡◌, ◌-◌, ◌^◌, ◌≤◌, ◌<◌, ℕ, List, ◌++◌, length, get_or, drop, sym, ap, ◌∙◌, subst, arith}
 use Rattle.std.proofs.lemmas.List.{take-append-drop}
+use Rattle.std.proofs.lemmas.Option.{slice_get-get_or}
 use Rattle.std.specs.Prelude.{slice_index}
 use mathlib.Core.Option.{some}
 use lib.ListN.{get_elem?}
@@ -53,6 +54,10 @@ settles size reader writers words front tail ends count order counted =
       rest = sym (take-append-drop core.front core.log)
           ∙ ap (λ (events : List Event). events ++ drop core.front core.log) (sym (ends.reads.taken ∙ ends.sound.begins))
           ∙ ap (λ (events : List Event). reader.taken ++ events) (sym rest);
+      own = λ place fallback within.
+          let real =
+          ends.real.events place (get_or core.log place fallback) (slice_get-get_or core.log place fallback within) in
+          omega (arith, real.thread, ap (λ (s : RingSize). s.writers) ends.sized, count);
       made = λ number fallback within.
           let fits = ends.writes number fallback within in
           fits.made ∙ ap (λ (n : ℕ). made_from n 0 core.log) (order number fallback within);

@@ -1,5 +1,5 @@
 -- What is left of a ring when all its ends have come back.
-use Rattle.std.specs.Prelude.{◌≡◌, ◌++◌, ◌+◌, ◌%◌, ◌≤◌, ◌<◌, ◌^◌, ℕ, zero, suc, List, [], ◌∷◌, length, get_or, slice_index}
+use Rattle.std.specs.Prelude.{◌≡◌, ◌++◌, ◌+◌, ◌%◌, ◌≤◌, ◌<◌, ◌^◌, ℕ, zero, suc, List, [], ◌∷◌, length, get_or, slice_index, All}
 use Rattle.std.specs.Mem.Slots.{slots_items, slots_len, IsFull}
 use Rattle.atomic_table.specs.declared.owned.Closed.{Closed}
 use Rattle.tmw_events.specs.Packing.{pack}
@@ -17,11 +17,13 @@ use Rattle.tmw_ring.specs.declared.part.Part.TheVariants.{Writes}
 abbrev pub AreInOrder : List WriterIs → Type 0
 AreInOrder writers = (place : ℕ) (fallback : WriterIs) → place < length writers → (get_or writers place fallback).number.number ≡ place
 
--- One list of events, of which some were taken and the rest is left, has each writer's events at the places that it has claimed.
+-- One list of events, of which some were taken and the rest is left, has each writer's events at the places that it has claimed,
+-- and no other.
 pub record IsSettled (taken : List Event) (writers : List WriterIs) (left : List Event) : Type 0 where
   pub log : List Event
   pub few : length log ≤ 2 ^ 40
   pub rest : log ≡ taken ++ left
+  pub own : All (λ event. event.thread.number < length writers) log
   pub made : (number : ℕ) (fallback : WriterIs) → number < length writers → (get_or writers number fallback).made ≡ made_from number 0 log
   pub seen : (number : ℕ) (fallback : WriterIs) → number < length writers → (get_or writers number fallback).seen ≤ length log
 

@@ -25,6 +25,8 @@ mod take;
 mod take_tests;
 #[cfg(test)]
 mod tests;
+#[cfg(test)]
+mod thread_tests;
 
 pub use cuts::{AllParts, BothParts, SecondPart};
 pub use ends::{Reader, Ring, Writer};
