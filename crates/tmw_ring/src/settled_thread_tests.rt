@@ -4,25 +4,18 @@ ghost use Rattle.tmw_ring.specs.Ends.{ReaderOf, WriterOf};
 ghost use Rattle.tmw_ring.specs.Settling.{AreInOrder};
 
 use super::*;
+use crate::thread_tests::{TRIES, nth, take_soon};
 use std::alloc::Global;
 use std::test::Fail;
 use std::thread;
 use std::thread::{Promise, PromisedHandle, Scope, Threads};
 use tmw_events::{Event, Ix, Kind};
 
-/// So often a record or a take is tried before its thread gives up.
-const TRIES: u64 = 1_000_000_000;
-
 /// So many events each writer records.
 const EACH: u64 = 10_000;
 
 /// So many of all are taken from the running ring. Two stay in it: a writer records while there is at most 8 - 7 in the ring.
 const TAKEN: u64 = 69_998;
-
-/// The event of a writer that has recorded so many before it.
-fn nth(count: u64) -> Kind {
-    Kind::W(Ix { number: 0 }, count)
-}
 
 /// A thread gives back the writer of this number of this ring.
 #[derive(Clone, Copy)]
@@ -64,20 +57,6 @@ fn record_all(ring: &Ring, mut writer: Writer) -> Writer
     writer
 }
 
-/// Takes the next event as soon as there is one.
-fn take_soon(ring: &Ring, reader: &mut Reader) -> Option<Event>
-    requires { ReaderOf ring.now reader.old }
-    ensures { ReaderOf ring.now reader.new }
-{
-    for _ in 0..TRIES {
-        if let Some(event) = ring.take(reader) {
-            return Some(event);
-        }
-        thread::yield_now();
-    }
-    None
-}
-
 /// The events that came, of each writer.
 #[derive(Clone, Copy, PartialEq, Eq, Debug)]
 struct Came {
@@ -86,7 +65,7 @@ struct Came {
 }
 
 impl Came {
-    /// Counts one more, and tells of it if it is not the next of its writer.
+    /// Counts one more, and remembers where one was not the next of its writer.
     fn add(&mut self, event: Event) {
         let count = &mut self.counts[usize::from(event.thread.get())];
         if event.kind != nth(*count) {

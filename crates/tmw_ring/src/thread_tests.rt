@@ -9,10 +9,10 @@ use std::thread::Scope;
 use tmw_events::{Event, Ix, Kind};
 
 /// So often a record or a take is tried before its thread gives up.
-const TRIES: u64 = 1_000_000_000;
+pub(crate) const TRIES: u64 = 1_000_000_000;
 
 /// The event of a writer that has recorded so many before it.
-fn nth(count: u64) -> Kind {
+pub(crate) fn nth(count: u64) -> Kind {
     Kind::W(Ix { number: 0 }, count)
 }
 
@@ -42,7 +42,7 @@ fn record_all(ring: &Ring, mut writer: Writer, count: u64)
 }
 
 /// Takes the next event as soon as there is one.
-fn take_soon(ring: &Ring, reader: &mut Reader) -> Option<Event>
+pub(crate) fn take_soon(ring: &Ring, reader: &mut Reader) -> Option<Event>
     requires { ReaderOf ring.now reader.old }
     ensures { ReaderOf ring.now reader.new }
 {
