@@ -1,5 +1,5 @@
--- The words of a ring's table: tail, front, and two for each cell. Nothing else knows where a word stands, or how a cell's first
--- word holds a stamp and a header.
+-- The words of a ring's table: tail, front, and two for each cell, where they stand, and how a cell's first word holds a stamp
+-- and a header. Who reads a first word takes it apart by 1,024: specs/Takes.antt, specs/Settling.antt.
 use Rattle.std.specs.Prelude.{◌+◌, ◌*◌, ◌%◌, ℕ, List, [], ◌∷◌}
 use Rattle.tmw_defs.specs.Ring.{Core}
 use Rattle.tmw_defs.specs.declared.ring_cell.RingCell.{RingCell}
