@@ -1,0 +1,26 @@
+-- What a monitor was fed before and after it is fed the held event.
+use Rattle.std.proofs.Common.{◌≡◌, ◌+◌, ◌<◌, ◌≤◌, ◌^◌, List, ◌∷◌, [], length, Option, Some, subst, arith}
+use Rattle.std.proofs.Math.Bridge.{le_prop}
+use Rattle.std.proofs.Math.Logic.{∥∥₁_elim, ∥∥₁_map}
+use Rattle.tmw_events.specs.declared.event.Event.{Event}
+use Rattle.tmw_defs.specs.Verdict.{Rules}
+use Rattle.tmw_monitor.specs.Fitting.{Fits}
+use Rattle.tmw_monitor.specs.declared.monitor.Monitor.{Monitor}
+use Rattle.tmw_pump.specs.Held.{listed, WasFed}
+
+-- A held event leaves room for one more to be judged.
+pub few-held : (judged : List Event) (held : Option Event) (event : Event) → held ≡ Some event
+    → length judged + length (listed held) ≤ 2 ^ 40 → length judged < 2 ^ 40
+few-held judged held event is few =
+    let one : length judged + length (listed (Some event)) ≤ 2 ^ 40 =
+    subst (λ (h : Option Event). length judged + length (listed h) ≤ 2 ^ 40) is few in
+    omega (arith, one)
+
+-- The monitor has counted what was judged.
+pub room-fed : (judged : List Event) (monitor : Monitor) → ∥ WasFed judged monitor ∥₁ → length judged < 2 ^ 40 → monitor.count < 2 ^ 40
+room-fed judged monitor fed few = ∥∥₁_elim fed le_prop (λ was. let counted = was.1.counted in omega (arith, counted, few))
+
+-- What keeps the fit keeps that there are rules for it.
+pub fed_on : (old new : List Event) (before after : Monitor) → ∥ WasFed old before ∥₁
+    → ((rules : Rules) → Fits rules old before → Fits rules new after) → ∥ WasFed new after ∥₁
+fed_on old new before after fed keeps = ∥∥₁_map fed (λ was. (was.0, keeps was.0 was.1))

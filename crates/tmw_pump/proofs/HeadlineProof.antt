@@ -1,0 +1,49 @@
+-- The headline, from the monitor's fit to the judged front.
+use Rattle.std.proofs.Common.{◌≡◌, ◌++◌, ◌↔◌, ℕ, List, refl, sym, ap, ◌∙◌, subst, append_assoc}
+use Rattle.tmw_events.specs.declared.event.Event.{Event}
+use Rattle.tmw_defs.specs.Opaque.{IsOpaque}
+use Rattle.tmw_defs.specs.Verdict.{Rules, IsViolated, IsFirst, IsVerdict}
+use Rattle.tmw_defs.specs.declared.verdict.Verdict.{Verdict}
+use Rattle.tmw_defs.specs.declared.verdict.Verdict.TheVariants.{OpaqueSoFar, Violated, Undecided, Malformed}
+use Rattle.tmw_defs.specs.declared.verdict.Why.TheVariants.{Transactions, States}
+use Rattle.tmw_ring.specs.Ends.{WriterIs}
+use Rattle.tmw_pump.specs.Fronts.{KeepsFit, came}
+use Rattle.tmw_pump.specs.Held.{listed}
+use Rattle.tmw_pump.specs.declared.front.Front.{Front}
+use Rattle.tmw_pump.specs.Headline.{IsLogOf, Headline, GivesHeadline}
+use Rattle.tmw_pump.proofs.Verdicts.{opaque-fine, fine-opaque, violation-first, first-violation, verdict-is}
+
+-- A log that begins with what came begins with what was judged of it.
+front_of : (log : List Event) (writers : List WriterIs) (judged held : List Event) → IsLogOf log writers (judged ++ held)
+    → IsLogOf log writers judged
+front_of log writers judged held is = record {
+  rest = held ++ is.rest;
+  begins = is.begins ∙ append_assoc judged held is.rest;
+  pairs = is.pairs;
+}
+
+headline-verdict : (rules : Rules) (log : List Event) (writers : List WriterIs) (judged : List Event) (verdict : Verdict)
+    → IsLogOf log writers judged → IsVerdict rules judged verdict → Headline rules log writers judged verdict
+headline-verdict rules log writers judged verdict one_log exact = record {
+  one_log = one_log;
+  opaque = let is = verdict-is rules judged verdict OpaqueSoFar exact in
+      (λ same. opaque-fine rules judged (is.0 same), λ fine. is.1 (fine-opaque rules judged fine));
+  violated = λ m. let is = verdict-is rules judged verdict (Violated m) exact in
+      (λ same. violation-first rules judged m (is.0 same), λ first. is.1 (first-violation rules judged m first));
+  wide = λ m. verdict-is rules judged verdict (Undecided m Transactions) exact;
+  many = λ m. verdict-is rules judged verdict (Undecided m States) exact;
+  malformed = λ m. verdict-is rules judged verdict (Malformed m) exact;
+}
+
+-- What keeps the monitor's fit gives the headline.
+pub gives_headline : (old : Front) (taken : List Event) (new : Front) → KeepsFit old new → came new ≡ taken
+    → GivesHeadline old taken new
+gives_headline old taken new keeps all rules log writers fits one_log =
+    headline-verdict rules log writers new.judged.items new.monitor.verdict
+    (front_of log writers new.judged.items (listed new.held) (subst (IsLogOf log writers) (sym all) one_log)) (keeps rules fits).judged
+
+-- The same for a log that goes on with what is left.
+pub gives_rest : (old new : Front) (left : List Event) → KeepsFit old new → GivesHeadline old (came new ++ left) new
+gives_rest old new left keeps by log writers fits one_log =
+    let all = came new in
+    gives_headline old all new keeps refl by log writers fits (front_of log writers all left one_log)

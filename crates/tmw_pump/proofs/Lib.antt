@@ -1,0 +1,4 @@
+pub mod Feeding
+pub mod HeadlineProof
+pub mod Turns
+pub mod Verdicts

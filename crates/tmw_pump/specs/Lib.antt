@@ -1,0 +1,5 @@
+pub mod Fronts
+pub mod Headline
+pub mod Held
+pub mod Pumping
+pub mod Resting

@@ -1,0 +1,33 @@
+-- What a call to pump has done with what a settled ring has left.
+use Rattle.std.specs.Prelude.{◌≡◌, ◌++◌, ◌≤◌, ◌<◌, ℕ, List, [], Option, Some, None}
+use Rattle.tmw_events.specs.declared.event.Event.{Event}
+use Rattle.tmw_pump.specs.Fronts.{came, HasJudged}
+use Rattle.tmw_pump.specs.declared.pumped.Pumped.{Pumped}
+use Rattle.tmw_pump.specs.declared.rest.Rest.{Rest}
+
+-- all events of the ring's log: those judged, the one that is held, and those that are left
+abbrev pub all_of : Rest → List Event
+all_of rest = came rest.front ++ rest.settled
+
+-- So many events more were judged, and none was lost.
+pub record HasRested (count : ℕ) (old new : Rest) : Type 0 where
+  pub all : all_of new ≡ all_of old
+  pub judged : HasJudged count old.front new.front
+
+-- The call has judged up to so many events, and fewer only where none is left. It holds none, and has done nothing where it was to
+-- judge none.
+pub record IsRested (max : ℕ) (pumped : Pumped) (old new : Rest) : Type 0 where
+  pub counted : HasRested pumped.judged old new
+  pub within : pumped.judged ≤ max
+  pub verdict : pumped.verdict ≡ new.front.monitor.verdict
+  pub held : 0 < max → new.front.held ≡ None
+  pub idle : max ≡ 0 → new ≡ old
+  pub dry : pumped.judged < max → new.settled ≡ []
+
+-- The call has judged fewer events than it might, and holds the next one, for which memory was refused.
+pub record HasStopped (max : ℕ) (old new : Rest) : Type 0 where
+  pub count : ℕ
+  pub within : count < max
+  pub counted : HasRested count old new
+  pub event : Event
+  pub held : new.front.held ≡ Some event

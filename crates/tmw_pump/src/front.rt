@@ -1,0 +1,109 @@
+ghost use Rattle.std.specs.Prelude.{◌≡◌, ◌∷◌, ◌++◌, ◌+◌, ◌<◌, ◌≤◌, ◌^◌, [], length, Some, None, OnOk, OnErr};
+ghost use Rattle.tmw_monitor.specs.Fitting.{Fits};
+ghost use Rattle.tmw_defs.specs.Verdict.{Rules, IsVerdict};
+ghost use Rattle.tmw_pump.specs.Held.{listed, WasFed};
+
+use crate::pumped::Pumped;
+use std::alloc::{AllocError, Global};
+use tmw_defs::Verdict;
+use tmw_events::Event;
+use tmw_monitor::Monitor;
+
+/// The judged front, and at most one event that came behind it and waits for memory.
+#[derive(Drop)]
+pub struct Front {
+    monitor: Monitor,
+    judged: Vec<Event>,
+    held: Option<Event>,
+    pub ghost fed: { ∥ WasFed judged.items monitor ∥₁ },
+    pub ghost few: { length judged.items + length (listed held) ≤ 2 ^ 40 },
+}
+
+impl Front {
+    ghost use Rattle.tmw_pump.specs.Fronts.{KeepsFit};
+
+    /// Before the first event, over a monitor that was fed none.
+    pub(crate) fn new(alloc: Global, monitor: Monitor) -> Front
+        requires { WasFed [] monitor }
+        ensures judged { result.judged.items ≡ [] }
+        ensures held { result.held ≡ None }
+        ensures monitor { result.monitor ≡ monitor }
+    {
+        Front {
+            monitor,
+            judged: Vec::new(alloc),
+            held: None,
+        }
+    }
+
+    /// An event came.
+    pub(crate) fn hold(&mut self, event: Event)
+        requires few { length self.old.judged.items < 2 ^ 40 }
+        ensures judged { self.new.judged ≡ self.old.judged }
+        ensures held { self.new.held ≡ Some event }
+        ensures monitor { self.new.monitor ≡ self.old.monitor }
+    {
+        self.held = Some(event);
+    }
+
+    /// Judges the event that came, and keeps it. Where memory is refused, the event is still held.
+    pub(crate) fn judge(&mut self, event: Event) -> Result<(), AllocError>
+        requires { self.old.held ≡ Some event }
+        ensures fits { KeepsFit self.old self.new }
+        ensures judged { OnOk result (self.new.judged.items ≡ self.old.judged.items ++ event ∷ []) }
+        ensures free { OnOk result (self.new.held ≡ None) }
+        ensures stays { OnErr result (self.new.judged.items ≡ self.old.judged.items) }
+        ensures held { OnErr result (self.new.held ≡ self.old.held) }
+    {
+        self.judged.reserve(1)?;
+        self.monitor.feed(event)?;
+        self.judged.push_reserved(event);
+        self.held = None;
+        Ok(())
+    }
+
+    /// The events that were judged.
+    pub(crate) fn judged(&self) -> &[Event]
+        ensures { result.now ≡ self.now.judged.items }
+    {
+        &self.judged
+    }
+
+    /// The event that is held, if any.
+    pub(crate) fn held(&self) -> Option<Event>
+        ensures { result ≡ self.now.held }
+    {
+        self.held
+    }
+
+    /// The verdict on the events that were judged.
+    pub(crate) fn verdict(&self) -> Verdict
+        ensures shown { result ≡ self.now.monitor.verdict }
+        ensures fits { (rules : Rules) → Fits rules self.now.judged.items self.now.monitor → IsVerdict rules self.now.judged.items result }
+    {
+        self.monitor.verdict()
+    }
+
+    /// A call to pump has judged so many events.
+    pub(crate) fn pumped(&self, judged: u64) -> Pumped
+        ensures { result ≡ record { judged = judged; verdict = self.now.monitor.verdict } }
+    {
+        Pumped {
+            judged,
+            verdict: self.monitor.verdict(),
+        }
+    }
+
+    /// The events that were judged, and the verdict on them.
+    pub(crate) fn finish(self) -> (Vec<Event>, Verdict)
+        ensures judged { result.0.items ≡ self.judged.items }
+        ensures verdict { result.1 ≡ self.monitor.verdict }
+    {
+        let Front {
+            monitor,
+            judged,
+            held: _,
+        } = self;
+        (judged, monitor.verdict())
+    }
+}

@@ -1,0 +1,12 @@
+//! Takes events from a running ring, as they come, and judges them.
+#![tactic(auto)]
+
+mod front;
+mod pump;
+mod pumped;
+mod rest;
+
+pub use front::Front;
+pub use pump::Pump;
+pub use pumped::Pumped;
+pub use rest::Rest;

@@ -1,0 +1,132 @@
+//! Judging the events of a running ring.
+ghost use Rattle.std.specs.Prelude.{◌≡◌, ◌++◌, [], length, All, Some, None, IfOk, OnErr, IfNone, IsSome, IsTrue, ◌↔◌};
+ghost use Rattle.tmw_defs.specs.Verdict.{Rules, IsVerdict};
+ghost use Rattle.tmw_monitor.specs.Fitting.{Fits};
+ghost use Rattle.tmw_pump.specs.Held.{listed, WasFed};
+ghost use Rattle.tmw_ring.specs.Ends.{ReaderOf, WriterOf};
+ghost use Rattle.tmw_ring.specs.Meeting.{HaveMet};
+ghost use Rattle.tmw_ring.specs.Settling.{AreInOrder, IsSettled};
+ghost use Rattle.tmw_ring.specs.Takes.{HasFoundNone};
+
+use crate::front::Front;
+use crate::pumped::Pumped;
+use crate::rest::Rest;
+use std::alloc::{AllocError, Global};
+use tmw_defs::Verdict;
+use tmw_events::Event;
+use tmw_monitor::Monitor;
+use tmw_ring::{Reader, Ring, Writer};
+
+/// Takes events from a running ring and judges them, by the definition of opacity (Guerraoui and Kapalka 2008, section 5) at each
+/// prefix. What it has judged is a beginning of the ring's one log: what its reader has taken, less one event where a growth of
+/// memory was refused.
+#[derive(Drop)]
+pub struct Pump {
+    reader: Reader,
+    front: Front,
+    // The reader has taken what was judged, and behind it the event that is held.
+    pub ghost all: { front.judged.items ++ listed front.held ≡ reader.taken },
+}
+
+impl Pump {
+    ghost use Rattle.tmw_pump.specs.Headline.{GivesHeadline};
+    ghost use Rattle.tmw_pump.specs.Pumping.{HasRead, IsPumped, HasStopped};
+
+    /// A pump from the ring of a reader that has taken nothing, to a monitor that was fed nothing.
+    pub fn new(alloc: Global, reader: Reader, monitor: Monitor) -> Pump
+        requires taken { reader.taken ≡ [] }
+        requires fed { WasFed [] monitor }
+        ensures reader { result.reader ≡ reader }
+        ensures judged { result.front.judged.items ≡ [] }
+        ensures held { result.front.held ≡ None }
+        ensures monitor { result.front.monitor ≡ monitor }
+    {
+        Pump {
+            reader,
+            front: Front::new(alloc, monitor),
+        }
+    }
+
+    /// Takes and judges up to `max` events: fewer only where no more are there. Where a growth of memory is refused, the event that
+    /// was to be judged is held, and is judged first by the next call; those judged before it in this call stay judged.
+    pub fn pump(&mut self, ring: &Ring, max: u64) -> Result<Pumped, AllocError>
+        requires { ReaderOf ring.now self.old.reader }
+        ensures of_ring { ReaderOf ring.now self.new.reader }
+        ensures ok { IfOk result (λ pumped. IsPumped max pumped self.old self.new) }
+        ensures err { OnErr result (HasStopped max self.old self.new) }
+        ensures headline { GivesHeadline self.old.front self.new.reader.taken self.new.front }
+    {
+        for judged in 0..max {
+            let Some(event) = self.next(ring) else {
+                return Ok(self.front.pumped(judged));
+            };
+            self.front.judge(event)?;
+        }
+        Ok(self.front.pumped(max))
+    }
+
+    /// The event to be judged next: the one that is held, or else the next of the ring, which is held from now on.
+    fn next(&mut self, ring: &Ring) -> Option<Event>
+        requires { ReaderOf ring.now self.old.reader }
+        ensures of_ring { ReaderOf ring.now self.new.reader }
+        ensures judged { self.new.front.judged ≡ self.old.front.judged }
+        ensures held { self.new.front.held ≡ result }
+        ensures monitor { self.new.front.monitor ≡ self.old.front.monitor }
+        ensures read { HasRead self.old.reader self.new.reader }
+        ensures none { IfNone result (HasFoundNone self.old.reader self.new.reader) }
+    {
+        if let Some(event) = self.front.held() {
+            return Some(event);
+        }
+        let Some(event) = ring.take(&mut self.reader) else {
+            return None;
+        };
+        self.front.hold(event);
+        Some(event)
+    }
+
+    /// The judged front: the events that were judged, in the order of the log.
+    pub fn judged(&self) -> &[Event]
+        ensures { result.now ≡ self.now.front.judged.items }
+    {
+        self.front.judged()
+    }
+
+    /// Whether an event was taken that is not judged yet, since memory was refused.
+    pub fn held(&self) -> bool
+        ensures { IsTrue result ↔ IsSome self.now.front.held }
+    {
+        self.front.held().is_some()
+    }
+
+    /// The verdict on the judged front.
+    pub fn verdict(&self) -> Verdict
+        ensures shown { result ≡ self.now.front.monitor.verdict }
+        ensures fits { (rules : Rules) → Fits rules self.now.front.judged.items self.now.front.monitor → IsVerdict rules self.now.front.judged.items result }
+    {
+        self.front.verdict()
+    }
+
+    /// The reader meets a writer: the writer's next event comes after all that both had seen. Nothing is judged.
+    pub fn meet(&mut self, ring: &Ring, writer: &mut Writer)
+        requires reader { ReaderOf ring.now self.old.reader }
+        requires writer { WriterOf ring.now writer.old }
+        ensures met { HaveMet writer.old writer.new self.old.reader self.new.reader }
+        ensures same { self.new.front ≡ self.old.front }
+    {
+        ring.meet(writer, &mut self.reader);
+    }
+
+    /// Ends the ring, once all its writers have come back, with writer i at place i. What was not taken is left to be judged.
+    pub fn settle(self, ring: Ring, writers: Vec<Writer>) -> Rest
+        requires reader { ReaderOf ring self.reader }
+        requires writers { All (WriterOf ring) writers.items }
+        requires count { length writers.items ≡ ring.size.writers }
+        requires order { AreInOrder writers.items }
+        ensures settled { IsSettled self.reader.taken writers.items result.settled }
+        ensures front { result.front ≡ self.front }
+    {
+        let Pump { reader, front } = self;
+        Rest::new(ring.settle(reader, writers), front)
+    }
+}
