@@ -5,6 +5,8 @@ mod front;
 mod pump;
 mod pumped;
 mod rest;
+#[cfg(test)]
+mod thread_tests;
 
 pub use front::Front;
 pub use pump::Pump;
