@@ -1,0 +1,79 @@
+use Rattle.std.proofs.Common.{◌≡◌, ◌+◌, ◌<◌, ◌≤◌, refl, sym, ap, ◌∙◌, subst, arith, Some, None}
+use Rattle.std.proofs.lemmas.Result.{err_from_is_err_and}
+use Rattle.tmw_pump.proofs.HeadlineProof.{gives_headline}
+use Rattle.tmw_pump.proofs.Turns.{came-same, pumped-none, pumped-next, pumped-same, pumped-more}
+use Rattle.tmw_pump.proofs.pump.Pump.pump.Goals as goal
+use Rattle.tmw_pump.specs.Pumping.{IsPumped}
+use Rattle.tmw_pump.specs.declared.pumped.Pumped.{Pumped}
+
+pub loop-judged-init : goal.loop-judged-init
+loop-judged-init c = (pumped-none c.args.self.now, c.requires, λ below. absurd (omega (arith, below)), λ _. refl)
+
+pub returns-in_default-clause-ok : goal.returns-in_default-clause-ok
+returns-in_default-clause-ok c =
+    let old = c.args.self.now in
+    let mid = c.loop-judged.self in
+    let next = c.next.new.self in
+    let found = c.next.ensures in
+    let done = c.loop-judged.invariant.0 in
+    let below = c.loop-judged-test.true in
+    subst (λ (p : Pumped). IsPumped c.args.max p old next) (sym c.pumped.ensures) (record {
+      counted = pumped-next c.loop-judged.judged old mid next done found.read found.judged found.monitor;
+      within = omega (arith, below);
+      verdict = refl;
+      held = λ _. found.held ∙ c.in_default.is;
+      idle = λ zero. absurd (omega (arith, zero, below));
+      dry = λ _. record { last = mid.reader; read = done.read; none = c.in_default.ensures.none };
+    })
+
+pub returns-in_default-clause-headline : goal.returns-in_default-clause-headline
+returns-in_default-clause-headline c =
+    let old = c.args.self.now in
+    let next = c.next.new.self in
+    let found = c.next.ensures in
+    let done = pumped-next c.loop-judged.judged old c.loop-judged.self next c.loop-judged.invariant.0 found.read found.judged found.monitor in
+    gives_headline old.front next.reader.taken next.front done.judged.fits next.all
+
+pub returns-in_err-judge-clause-err : goal.returns-in_err-judge-clause-err
+returns-in_err-judge-clause-err c =
+    let p = err_from_is_err_and c.from_residual.result c.from_residual.ensures.1 in
+    let old = c.args.self.now in
+    let next = c.next.new.self in
+    let found = c.next.ensures in
+    let done = pumped-next c.loop-judged.judged old c.loop-judged.self next c.loop-judged.invariant.0 found.read found.judged found.monitor in
+    rw p.1 (record {
+      count = c.loop-judged.judged;
+      within = c.loop-judged-test.true;
+      counted = pumped-same c.loop-judged.judged old next _ done refl c.in_err-judge.ensures.stays c.in_err-judge.ensures.fits;
+      event = c.in-Some.event;
+      held = c.in_err-judge.ensures.held ∙ found.held ∙ c.in-Some.is;
+    })
+
+pub returns-in_err-judge-clause-headline : goal.returns-in_err-judge-clause-headline
+returns-in_err-judge-clause-headline c =
+    let old = c.args.self.now in
+    let next = c.next.new.self in
+    let found = c.next.ensures in
+    let err = c.in_err-judge.ensures in
+    let done = pumped-next c.loop-judged.judged old c.loop-judged.self next c.loop-judged.invariant.0 found.read found.judged found.monitor in
+    gives_headline old.front next.reader.taken c.judge.new.self (λ by fits. err.fits by (done.judged.fits by fits))
+    (came-same next.front c.judge.new.self err.stays err.held ∙ next.all)
+
+pub loop-judged-preserved : goal.loop-judged-preserved
+loop-judged-preserved c =
+    let old = c.args.self.now in
+    let next = c.next.new.self in
+    let found = c.next.ensures in
+    let ok = c.in_ok-judge.ensures in
+    let done = pumped-next c.loop-judged.judged old c.loop-judged.self next c.loop-judged.invariant.0 found.read found.judged found.monitor in (
+      pumped-more c.loop-judged.judged old next _ c.in-Some.event done refl ok.judged ok.fits,
+      found.of_ring,
+      λ _. ok.free,
+      λ zero. absurd (omega (arith, zero)),
+    )
+
+pub returns-clause-headline : goal.returns-clause-headline
+returns-clause-headline c =
+    let old = c.args.self.now in
+    let new = c.loop-judged.self in
+    gives_headline old.front new.reader.taken new.front c.loop-judged.invariant.0.judged.fits new.all
