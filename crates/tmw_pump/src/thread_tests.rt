@@ -199,6 +199,22 @@ fn judge_rest(mut rest: Rest) -> Option<(Vec<Event>, Verdict)> {
     Some(rest.finish())
 }
 
+/// A ring of three writers, with a pump that has judged nothing.
+fn new_pump(alloc: Global) -> Option<(Ring, Vec<Writer>, Pump)>
+    ensures reader { IfSome result (λ made. ReaderOf made.0 made.2.reader) }
+    ensures writers { IfSome result (λ made. All (WriterOf made.0) made.1.items) }
+    ensures count { IfSome result (λ made. length made.1.items ≡ made.0.size.writers) }
+    ensures order { IfSome result (λ made. AreInOrder made.1.items) }
+{
+    let Ok((ring, writers, reader)) = ring(alloc, 16, 3, 1 << 40) else {
+        return None;
+    };
+    let Ok(monitor) = Monitor::new(alloc, ONE, BOUNDS) else {
+        return None;
+    };
+    Some((ring, writers, Pump::new(alloc, reader, monitor)))
+}
+
 /// All events of a run of three threads, and the verdict on them, if there were threads and memory.
 fn judged_run<R: Threads + Wait + Sync>(
     rt: &R,
@@ -209,11 +225,9 @@ fn judged_run<R: Threads + Wait + Sync>(
         register: Mutex::new(0),
         broken,
     };
-    let (ring, writers, reader) = ring(alloc, 16, 3, 1 << 40).ok()?;
-    let monitor = Monitor::new(alloc, ONE, BOUNDS).ok()?;
-    let pump = Pump::new(alloc, reader, monitor);
+    let (ring, writers, pump) = new_pump(alloc)?;
     let (within, shared) = (&memory, &ring);
-    let (pump, writers) = thread::scope(
+    let back = thread::scope(
         thread::scope_env(),
         rt,
         move |scope| -> Option<(Pump, Vec<Writer>)>
@@ -225,7 +239,10 @@ fn judged_run<R: Threads + Wait + Sync>(
             ensures count { IfSome result (λ back. length back.1.items ≡ length writers.items) }
             ensures order { IfSome result (λ back. AreInOrder back.1.items) }
         { run(rt, scope, alloc, within, shared, pump, writers) },
-    )?;
+    );
+    let Some((pump, writers)) = back else {
+        return None;
+    };
     judge_rest(pump.settle(ring, writers))
 }
 
