@@ -1,4 +1,5 @@
 pub mod Feeding
 pub mod HeadlineProof
+pub mod OneLog
 pub mod Turns
 pub mod Verdicts

@@ -1,6 +1,7 @@
 //! Judging the events of a running ring.
-ghost use Rattle.std.specs.Prelude.{◌≡◌, ◌++◌, [], length, All, Some, None, IfOk, OnErr, IfNone, IsSome, IsTrue, ◌↔◌};
+ghost use Rattle.std.specs.Prelude.{◌≡◌, ◌++◌, List, [], ◌∷◌, length, All, Some, None, IfOk, OnErr, IfNone, IsSome, IsTrue, ◌↔◌};
 ghost use Rattle.tmw_defs.specs.Verdict.{Rules, IsVerdict};
+ghost use Rattle.tmw_events.specs.declared.event.Event.{Event};
 ghost use Rattle.tmw_monitor.specs.Fitting.{Fits};
 ghost use Rattle.tmw_pump.specs.Held.{listed, WasFed};
 ghost use Rattle.tmw_ring.specs.Ends.{ReaderOf, WriterOf};
@@ -29,8 +30,9 @@ pub struct Pump {
 }
 
 impl Pump {
-    ghost use Rattle.tmw_pump.specs.Headline.{GivesHeadline};
+    ghost use Rattle.tmw_pump.specs.Headline.{IsLogOf, GivesHeadline};
     ghost use Rattle.tmw_pump.specs.Pumping.{HasRead, IsPumped, HasStopped};
+    ghost use Rattle.tmw_pump.specs.Resting.{all_of};
 
     /// A pump from the ring of a reader that has taken nothing, to a monitor that was fed nothing.
     pub fn new(alloc: Global, reader: Reader, monitor: Monitor) -> Pump
@@ -113,6 +115,7 @@ impl Pump {
         requires writer { WriterOf ring.now writer.old }
         ensures met { HaveMet writer.old writer.new self.old.reader self.new.reader }
         ensures same { self.new.front ≡ self.old.front }
+        ensures one_log { (log : List Event) × IsLogOf log (writer.new ∷ []) self.new.reader.taken }
     {
         ring.meet(writer, &mut self.reader);
     }
@@ -125,6 +128,7 @@ impl Pump {
         requires order { AreInOrder writers.items }
         ensures settled { IsSettled self.reader.taken writers.items result.settled }
         ensures front { result.front ≡ self.front }
+        ensures one_log { IsLogOf (all_of result) writers.items (all_of result) }
     {
         let Pump { reader, front } = self;
         Rest::new(ring.settle(reader, writers), front)

@@ -15,7 +15,7 @@ use Rattle.tmw_defs.specs.RingSteps.{cell_at}
 use Rattle.tmw_defs.proofs.RingStores.{has_cell}
 use Rattle.tmw_ring.specs.Rule.{IsReal}
 use Rattle.tmw_ring.specs.Settling.{HasEvent, header_at, value_at, event_at, events_from}
-use Rattle.tmw_ring.specs.Words.{words_of}
+use Rattle.tmw_ring.specs.Words.{header_of, words_of}
 use Rattle.tmw_ring.proofs.Words.{stamped-parts, stamp_found, value_found}
 
 -- The words of a published place's cell are its event's.
@@ -30,7 +30,7 @@ read_published core place sound real published =
     let small = real.headers (place % core.size.cells) empty_cell (has_cell core place sound) in
     let cell = cell_at core place in
     let header : header_at (words_of core) core.size.cells place ≡ packed_header published.event =
-    ap (λ (word : ℕ). word % 1024) (stamp_found core place) ∙ (stamped-parts cell.stamp cell.header small).1 ∙ published.shown.header in
+    ap header_of (stamp_found core place) ∙ (stamped-parts cell.stamp cell.header small).1 ∙ published.shown.header in
     let value : value_at (words_of core) core.size.cells place ≡ kind_value published.event.kind =
     value_found core place ∙ published.shown.value in
     record {

@@ -1,5 +1,5 @@
 -- The next event that is left of a ring is the one whose words are read.
-use Rattle.std.proofs.Common.{◌≡◌, ◌≢◌, ◌+◌, ◌-◌, ◌%◌, ◌/◌, ◌≤◌, ℕ, suc, List, ◌∷◌, Option, Some, None, sym, ap, ◌∙◌, arith}
+use Rattle.std.proofs.Common.{◌≡◌, ◌≢◌, ◌+◌, ◌-◌, ◌≤◌, ℕ, suc, List, ◌∷◌, Option, Some, None, sym, ap, ◌∙◌, arith}
 use Rattle.std.specs.Prelude.{IfNone}
 use mathlib.Core.Option.{some}
 use lib.ListN.{get_elem?}
@@ -9,20 +9,20 @@ use Rattle.tmw_events.specs.Text.{FitsKind}
 use Rattle.tmw_events.specs.Unpacking.{unpacked}
 use Rattle.tmw_events.specs.declared.event.Event.{Event}
 use Rattle.tmw_ring.specs.Settling.{HasEvent, header_at, value_at, event_at, events_from}
-use Rattle.tmw_ring.specs.Words.{stamp_word, value_word}
+use Rattle.tmw_ring.specs.Words.{stamp_of, header_of, stamp_word, value_word}
 use Rattle.tmw_ring.proofs.Words.{word_read}
 
 -- The two words of the place's cell, the first of them split, were found.
 pub record Found (words : List ℕ) (cells place first value : ℕ) (halves : ℕ × ℕ) : Type 0 where
   pub at_first : get_elem? words (stamp_word cells place) ≡ some first
   pub at_second : get_elem? words (value_word cells place) ≡ some value
-  pub split : halves ≡ (first / 1024, first % 1024)
+  pub split : halves ≡ (stamp_of first, header_of first)
 
 found_words : (words : List ℕ) (cells place first value : ℕ) (halves : ℕ × ℕ) → Found words cells place first value halves
     → (halves.1 ≡ header_at words cells place) × (value ≡ value_at words cells place)
 found_words words cells place first value halves found = (
   ap (λ (h : ℕ × ℕ). h.1) found.split
-      ∙ ap (λ (word : ℕ). word % 1024) (sym (word_read words (stamp_word cells place) first found.at_first)),
+      ∙ ap header_of (sym (word_read words (stamp_word cells place) first found.at_first)),
   sym (word_read words (value_word cells place) value found.at_second),
 )
 

@@ -14,7 +14,7 @@ use Rattle.tmw_defs.proofs.RingPhases.{all_idle}
 use Rattle.tmw_defs.proofs.RingStart.{new_core-sound}
 use Rattle.tmw_ring.specs.Parts.{Parts, key, new_writer, new_writers, new_reader, new_parts}
 use Rattle.tmw_ring.specs.Rule.{Fits, FitsPhase, IsReal, Lies, Shown, WriterFits}
-use Rattle.tmw_ring.specs.Words.{word_count}
+use Rattle.tmw_ring.specs.Words.{IsHeader, word_count}
 use Rattle.tmw_ring.specs.declared.part.Part.{Part}
 use Rattle.tmw_ring.specs.declared.part.Part.TheVariants.{Writes, Reads}
 use Rattle.tmw_ring.proofs.Words.{new_words}
@@ -38,7 +38,7 @@ writers_at size from (suc count) (suc place) part at =
 
 new_core-real : (size : RingSize) → IsReal (new_core size)
 new_core-real size = record {
-  headers = All-replicate (λ (cell : RingCell). cell.header < 1024) size.cells empty_cell (omega arith);
+  headers = All-replicate (λ (cell : RingCell). IsHeader cell.header) size.cells empty_cell (omega arith);
   events = λ place event at. absurd (cc);
   phases = λ writer phase at. subst FitsPhase (all_idle size.writers writer phase at) tt;
 }

@@ -1,5 +1,5 @@
 -- Each step of the reader keeps the rule of a ring's table, and tells the reader what it finds.
-use Rattle.std.proofs.Common.{◌≡◌, ◌≢◌, ◌==◌, ◌+◌, ◌/◌, ◌%◌, ◌<◌, ◌≤◌, ◌^◌, ℕ, Bool, true, false, List, [], ◌∷◌, ◌++◌, Some, length, set, refl, sym, ap, ◌∙◌, subst, arith, if◌then◌else◌}
+use Rattle.std.proofs.Common.{◌≡◌, ◌≢◌, ◌==◌, ◌+◌, ◌%◌, ◌≤◌, ◌^◌, ℕ, Bool, true, false, List, [], ◌∷◌, ◌++◌, Some, length, set, refl, sym, ap, ◌∙◌, subst, arith, if◌then◌else◌}
 use Rattle.std.proofs.lemmas.List.{set-get_or}
 use Rattle.std.specs.Prelude.{slice_index}
 use mathlib.Core.Option.{some}
@@ -23,7 +23,7 @@ use Rattle.tmw_ring.specs.Parts.{Parts, key}
 use Rattle.tmw_ring.specs.Rule.{Fits, IsReal, ReaderFits, Shown}
 use Rattle.tmw_ring.specs.Seats.{reader_in, IsWaitingReader}
 use Rattle.tmw_ring.specs.Takes.{phase_after, after_look, phase_with, after_read, next_event, after_free, IsToldEvent, IsReadyReader, IsToldReader, StampSeen, ValueRead, PlaceFreed}
-use Rattle.tmw_ring.specs.Words.{cell_words, words_of, front_word, stamp_word, value_word}
+use Rattle.tmw_ring.specs.Words.{stamp_of, header_of, IsHeader, cell_words, words_of, front_word, stamp_word, value_word}
 use Rattle.tmw_ring.specs.declared.part.Look.{Look}
 use Rattle.tmw_ring.specs.declared.part.Look.TheVariants.{Stamp}
 use Rattle.tmw_ring.specs.declared.part.Part.{Part}
@@ -136,32 +136,31 @@ module _ {S : Type 0} where
       let is_word : word ≡ stamp_word core.size.cells core.front =
       ap (λ (s : RingSize). stamp_word s.cells front) (sym shown.sized)
       ∙ ap (λ (n : ℕ). stamp_word core.size.cells n) (sym counted ∙ is_front) in
-      let header_small : cell.header < 1024 =
+      let header_small : IsHeader cell.header =
       shown.real.headers (core.front % core.size.cells) empty_cell (has_cell core core.front shown.sound) in
       let parts = stamped-parts cell.stamp cell.header header_small in
       let is_found = ap (λ (words : List ℕ). slice_index words word) shown.words ∙ ap (slice_index (words_of core)) is_word
       ∙ stamp_found core core.front in
-      let is_stamp : cell.stamp ≡ found / 1024 = sym (ap (λ (n : ℕ). n / 1024) is_found ∙ parts.0) in
-      let is_header : cell.header ≡ found % 1024 = sym (ap (λ (n : ℕ). n % 1024) is_found ∙ parts.1) in
-      let sound = look_sound core (found / 1024) (found % 1024) (found / 1024 == length part.taken + 1) shown.sound
-      (sym fits.phase ∙ waiting) is_stamp is_header (ap (λ (n : ℕ). found / 1024 == n + 1) (sym is_front)) in (
+      let is_stamp : cell.stamp ≡ stamp_of found = sym (ap stamp_of is_found ∙ parts.0) in
+      let is_header : cell.header ≡ header_of found = sym (ap header_of is_found ∙ parts.1) in
+      let sound = look_sound core (stamp_of found) (header_of found) (stamp_of found == length part.taken + 1) shown.sound
+      (sym fits.phase ∙ waiting) is_stamp is_header (ap (λ (n : ℕ). stamp_of found == n + 1) (sym is_front)) in (
         Reads (after_look part found) ∷ [],
         keeps,
         tt,
         reader_moves size state shown seat word found core.front (phase_after (length part.taken) found) core.taken part.taken
-            (part.looks ++ Stamp (found / 1024) ∷ []) part seated sound (set-get_or state.words word 0 ∙ shown.words) fits.taken,
+            (part.looks ++ Stamp (stamp_of found) ∷ []) part seated sound (set-get_or state.words word 0 ∙ shown.words) fits.taken,
         record { seated = refl; few = omega (arith, is_front, front_small core shown.sound) },
       )
 
   -- A waiting reader may look at the next place's stamp.
-  pub may_look : (size told : RingSize) (slots seat front : ℕ) (me : Me S Parts) → told ≡ size → IsWaitingReader front me
-      → Allows (Shown told) slots seat me (stamp_word size.cells front) (λ found. found) (StampSeen me)
-  may_look size told slots seat front me same is =
-      subst (λ (m : Me S Parts). Allows (Shown told) slots seat m (stamp_word size.cells front) (λ found. found) (StampSeen m))
-      (sym is.seated)
-      (subst (λ (z : RingSize). Allows {S = S} (Shown told) slots seat (Reads (reader_in me.0) ∷ [], []) (stamp_word z.cells front) (λ found. found)
+  pub may_look : (size : RingSize) (slots seat front word : ℕ) (me : Me S Parts) → word ≡ stamp_word size.cells front → IsWaitingReader front me
+      → Allows (Shown size) slots seat me word (λ found. found) (StampSeen me)
+  may_look size slots seat front word me is_word is =
+      subst (λ (m : Me S Parts). Allows (Shown size) slots seat m word (λ found. found) (StampSeen m)) (sym is.seated)
+      (subst (λ (w : ℕ). Allows {S = S} (Shown size) slots seat (Reads (reader_in me.0) ∷ [], []) w (λ found. found)
       (StampSeen (Reads (reader_in me.0) ∷ [], [])))
-      same (look_allowed told slots seat front (reader_in me.0) is.waiting is.counted))
+      (sym is_word) (look_allowed size slots seat front (reader_in me.0) is.waiting is.counted))
 
   read_allowed : (size : RingSize) (slots seat front header : ℕ) (part : ReaderPart) → part.phase ≡ Ready header → length part.taken ≡ front
       → Allows {S = S} (Shown size) slots seat (Reads part ∷ [], []) (value_word size.cells front) (λ found. found)
@@ -194,14 +193,13 @@ module _ {S : Type 0} where
       )
 
   -- A ready reader may read the next place's value.
-  pub may_read : (size told : RingSize) (slots seat front : ℕ) (me : Me S Parts) → told ≡ size → IsReadyReader front me
-      → Allows (Shown told) slots seat me (value_word size.cells front) (λ found. found) (ValueRead me)
-  may_read size told slots seat front me same is =
-      subst (λ (m : Me S Parts). Allows (Shown told) slots seat m (value_word size.cells front) (λ found. found) (ValueRead m))
-      (sym is.seated)
-      (subst (λ (z : RingSize). Allows {S = S} (Shown told) slots seat (Reads (reader_in me.0) ∷ [], []) (value_word z.cells front) (λ found. found)
+  pub may_read : (size : RingSize) (slots seat front word : ℕ) (me : Me S Parts) → word ≡ value_word size.cells front → IsReadyReader front me
+      → Allows (Shown size) slots seat me word (λ found. found) (ValueRead me)
+  may_read size slots seat front word me is_word is =
+      subst (λ (m : Me S Parts). Allows (Shown size) slots seat m word (λ found. found) (ValueRead m)) (sym is.seated)
+      (subst (λ (w : ℕ). Allows {S = S} (Shown size) slots seat (Reads (reader_in me.0) ∷ [], []) w (λ found. found)
       (ValueRead (Reads (reader_in me.0) ∷ [], [])))
-      same (read_allowed told slots seat front is.header (reader_in me.0) is.ready is.counted))
+      (sym is_word) (read_allowed size slots seat front is.header (reader_in me.0) is.ready is.counted))
 
   free_allowed : (size : RingSize) (slots seat front header value : ℕ) (part : ReaderPart) → part.phase ≡ Told header value
       → length part.taken ≡ front

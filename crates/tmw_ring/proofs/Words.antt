@@ -1,5 +1,5 @@
 -- What a ring's words tell of its state, and what a store to one of them leaves.
-use Rattle.std.proofs.Common.{◌≡◌, ◌+◌, ◌*◌, ◌/◌, ◌%◌, ◌<◌, ℕ, zero, suc, List, [], ◌∷◌, length, get_or, set, replicate, refl, sym, ap, ◌∙◌, arith}
+use Rattle.std.proofs.Common.{◌≡◌, ◌+◌, ◌*◌, ◌%◌, ◌<◌, ℕ, zero, suc, List, [], ◌∷◌, length, get_or, set, replicate, refl, sym, ap, ◌∙◌, arith}
 use Rattle.std.proofs.Math.Nat.{mod-lt}
 use Rattle.std.specs.Prelude.{slice_index}
 use mathlib.Core.Option.{some, some-injective, some-ne-none}
@@ -12,10 +12,11 @@ use Rattle.tmw_defs.specs.RingCells.{empty_cell, filled, published}
 use Rattle.tmw_defs.specs.RingSteps.{with_cell, cell_at}
 use Rattle.tmw_defs.specs.declared.ring_cell.RingCell.{RingCell}
 use Rattle.tmw_defs.specs.declared.ring_size.RingSize.{RingSize}
-use Rattle.tmw_ring.specs.Words.{stamped, cell_words, words_of, word_count, stamp_word, value_word}
+use Rattle.tmw_ring.specs.Words.{stamped, stamp_of, header_of, IsHeader, cell_words, words_of, word_count, stamp_word, value_word}
 
 -- A first word's parts are its stamp and its header.
-pub stamped-parts : (stamp header : ℕ) → header < 1024 → (stamped stamp header / 1024 ≡ stamp) × (stamped stamp header % 1024 ≡ header)
+pub stamped-parts : (stamp header : ℕ) → IsHeader header
+    → (stamp_of (stamped stamp header) ≡ stamp) × (header_of (stamped stamp header) ≡ header)
 stamped-parts stamp header small = (omega arith, omega arith)
 
 length-cell_words : (cells : List RingCell) → length (cell_words cells) ≡ 2 * length cells

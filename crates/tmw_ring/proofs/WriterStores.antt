@@ -1,5 +1,5 @@
 -- A writer may fill and publish the place that it has claimed.
-use Rattle.std.proofs.Common.{◌≡◌, ◌%◌, ◌<◌, ℕ, true, false, List, [], ◌∷◌, Some, set, refl, sym, ap, ◌∙◌, subst, arith}
+use Rattle.std.proofs.Common.{◌≡◌, ◌%◌, ℕ, true, false, List, [], ◌∷◌, Some, set, refl, sym, ap, ◌∙◌, subst, arith}
 use Rattle.std.proofs.lemmas.List.Elements.{All-set}
 use Rattle.atomic_table.specs.Table.{Me, Allows, keeps}
 use Rattle.tmw_events.proofs.PackedWords.{packed_header-small}
@@ -21,7 +21,7 @@ use Rattle.tmw_defs.proofs.RingStores.{has_cell}
 use Rattle.tmw_ring.specs.Parts.{Parts}
 use Rattle.tmw_ring.specs.Rule.{FitsPhase, Shown, WriterFits, IsReal}
 use Rattle.tmw_ring.specs.Seats.{writer_in}
-use Rattle.tmw_ring.specs.Words.{words_of, stamp_word, value_word}
+use Rattle.tmw_ring.specs.Words.{IsHeader, words_of, stamp_word, value_word}
 use Rattle.tmw_ring.specs.WriterSteps.{place_in, value_filled, done, IsSeatOf, HasFilled, HasPublished}
 use Rattle.tmw_ring.specs.declared.part.Part.TheVariants.{Writes}
 use Rattle.tmw_ring.specs.declared.part.WriterPart.{WriterPart}
@@ -34,7 +34,7 @@ with_store writer place cell phase core = with_phase writer phase (with_cell pla
 
 -- A store of a real header to the cell, and a writer that goes on.
 store_goes : (core : Core) (place : ℕ) (cell : RingCell) (old new : WriterPart) → Sound core → WriterFits core old → IsReal core
-    → Sound (with_store old.number.number place cell new.phase core) → cell.header < 1024
+    → Sound (with_store old.number.number place cell new.phase core) → IsHeader cell.header
     → new.size ≡ old.size → new.number ≡ old.number → new.made ≡ old.made → new.seen ≡ old.seen → FitsPhase new.phase
     → Goes core (with_store old.number.number place cell new.phase core) old new
 store_goes core place cell old new sound fits real sound_next header same_size same_number made seen phase_fits = record {
@@ -49,13 +49,13 @@ store_goes core place cell old new sound fits real sound_next header same_size s
   others = λ other apart. refl;
   seen = omega (arith, seen, fits.seen);
   later = omega arith;
-  headers = All-set (λ (c : RingCell). c.header < 1024) core.cells (place % core.size.cells) cell header real.headers;
+  headers = All-set (λ (c : RingCell). IsHeader c.header) core.cells (place % core.size.cells) cell header real.headers;
   events = real.events;
   phase_fits = phase_fits;
 }
 
 -- The place's cell has a real header.
-cell_header : (core : Core) (place : ℕ) → Sound core → IsReal core → (cell_at core place).header < 1024
+cell_header : (core : Core) (place : ℕ) → Sound core → IsReal core → IsHeader (cell_at core place).header
 cell_header core place sound real = real.headers (place % core.size.cells) empty_cell (has_cell core place sound)
 
 fill_goes : (kind : Kind) (place : ℕ) (core : Core) (part : WriterPart) → Sound core → IsReal core → WriterFits core part

@@ -1,5 +1,5 @@
 -- A writer's step keeps the rule of a ring's table, if what the writer then knows is so.
-use Rattle.std.proofs.Common.{◌≡◌, ◌≢◌, ◌+◌, ◌≤◌, ◌<◌, ℕ, [], ◌∷◌, Some, slice_set, set, All, refl, sym, ap, ◌∙◌, subst, inl, inr, arith}
+use Rattle.std.proofs.Common.{◌≡◌, ◌≢◌, ◌+◌, ◌≤◌, ℕ, [], ◌∷◌, Some, slice_set, set, All, refl, sym, ap, ◌∙◌, subst, inl, inr, arith}
 use Rattle.std.proofs.lemmas.Option.{slice_get_within}
 use Rattle.std.specs.Prelude.{slice_get}
 use mathlib.Core.Option.{some}
@@ -12,7 +12,7 @@ use Rattle.tmw_defs.specs.declared.ring_size.RingSize.{RingSize}
 use Rattle.tmw_defs.proofs.RingPhases.{phase_set, phase_kept, phase_cases}
 use Rattle.tmw_ring.specs.Parts.{Parts, key, made_from}
 use Rattle.tmw_ring.specs.Rule.{Fits, FitsPhase, IsReal, IsRecorded, Shown, WriterFits}
-use Rattle.tmw_ring.specs.Words.{words_of}
+use Rattle.tmw_ring.specs.Words.{IsHeader, words_of}
 use Rattle.tmw_ring.specs.declared.part.Part.{Part}
 use Rattle.tmw_ring.specs.declared.part.Part.TheVariants.{Writes, Reads}
 use Rattle.tmw_ring.specs.declared.part.WriterPart.{WriterPart}
@@ -31,7 +31,7 @@ pub record Goes (core next : Core) (old new : WriterPart) : Type 0 where
   pub others : (other : ℕ) → other ≢ old.number.number → made_from other 0 next.log ≡ made_from other 0 core.log
   pub seen : new.seen ≤ next.tail
   pub later : core.tail ≤ next.tail
-  pub headers : All (λ cell. cell.header < 1024) next.cells
+  pub headers : All (λ cell. IsHeader cell.header) next.cells
   pub events : (place : ℕ) (event : Event) → slice_get next.log place ≡ Some event → IsRecorded core.size event
   pub phase_fits : FitsPhase new.phase
 

@@ -11,7 +11,7 @@ use Rattle.tmw_defs.specs.declared.ring_phase.WriterPhase.{WriterPhase}
 use Rattle.tmw_defs.specs.declared.ring_phase.WriterPhase.TheVariants.{Idle, Looked, Cleared, Claimed}
 use Rattle.tmw_defs.specs.declared.ring_size.RingSize.{RingSize}
 use Rattle.tmw_ring.specs.Parts.{Parts, key, made_from}
-use Rattle.tmw_ring.specs.Words.{words_of}
+use Rattle.tmw_ring.specs.Words.{IsHeader, words_of}
 use Rattle.tmw_ring.specs.declared.part.Part.{Part}
 use Rattle.tmw_ring.specs.declared.part.Part.TheVariants.{Writes, Reads}
 use Rattle.tmw_ring.specs.declared.part.ReaderPart.{ReaderPart}
@@ -48,7 +48,7 @@ FitsPhase (Claimed place kind is_filled) = FitsKind kind
 
 -- The ring's numbers are those of real words and events: each header has ten bits, and each value 64.
 pub record IsReal (core : Core) : Type 0 where
-  pub headers : All (λ cell. cell.header < 1024) core.cells
+  pub headers : All (λ cell. IsHeader cell.header) core.cells
   pub events : (place : ℕ) (event : Event) → slice_get core.log place ≡ Some event → IsRecorded core.size event
   pub phases : (writer : ℕ) (phase : WriterPhase) → IsIn core writer phase → FitsPhase phase
 

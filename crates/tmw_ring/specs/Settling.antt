@@ -1,5 +1,5 @@
 -- What is left of a ring when all its ends have come back.
-use Rattle.std.specs.Prelude.{◌≡◌, ◌++◌, ◌+◌, ◌%◌, ◌≤◌, ◌<◌, ◌^◌, ℕ, zero, suc, List, [], ◌∷◌, length, get_or, slice_index, All}
+use Rattle.std.specs.Prelude.{◌≡◌, ◌++◌, ◌+◌, ◌≤◌, ◌<◌, ◌^◌, ℕ, zero, suc, List, [], ◌∷◌, length, get_or, slice_index, All}
 use Rattle.std.specs.Mem.Slots.{slots_items, slots_len, IsFull}
 use Rattle.atomic_table.specs.declared.owned.Closed.{Closed}
 use Rattle.tmw_events.specs.Packing.{pack}
@@ -9,7 +9,7 @@ use Rattle.tmw_events.specs.declared.event.Event.{Event}
 use Rattle.tmw_defs.specs.declared.ring_phase.WriterPhase.TheVariants.{Idle}
 use Rattle.tmw_ring.specs.Ends.{WriterIs}
 use Rattle.tmw_ring.specs.Parts.{made_from}
-use Rattle.tmw_ring.specs.Words.{stamp_word, value_word, word_count}
+use Rattle.tmw_ring.specs.Words.{header_of, stamp_word, value_word, word_count}
 use Rattle.tmw_ring.specs.declared.part.Part.{Part}
 use Rattle.tmw_ring.specs.declared.part.Part.TheVariants.{Writes}
 
@@ -40,7 +40,7 @@ part_of writer = Writes (record {
 
 -- the header and the value in the words of the place's cell, and the event that these tell
 abbrev pub header_at : List ℕ → ℕ → ℕ → ℕ
-header_at words cells place = slice_index words (stamp_word cells place) % 1024
+header_at words cells place = header_of (slice_index words (stamp_word cells place))
 
 abbrev pub value_at : List ℕ → ℕ → ℕ → ℕ
 value_at words cells place = slice_index words (value_word cells place)

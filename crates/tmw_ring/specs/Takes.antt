@@ -1,5 +1,5 @@
 -- What each step of the reader tells it, and what a caller is told of a taking.
-use Rattle.std.specs.Prelude.{◌≡◌, ◌≢◌, ◌==◌, ◌+◌, ◌/◌, ◌%◌, ◌^◌, ◌≤◌, ℕ, [], ◌∷◌, ◌++◌, length, if◌then◌else◌}
+use Rattle.std.specs.Prelude.{◌≡◌, ◌≢◌, ◌==◌, ◌+◌, ◌^◌, ◌≤◌, ℕ, [], ◌∷◌, ◌++◌, length, if◌then◌else◌}
 use Rattle.atomic_table.specs.Table.{Me}
 use Rattle.tmw_events.specs.Packing.{pack}
 use Rattle.tmw_events.specs.Text.{FitsKind}
@@ -10,17 +10,18 @@ use Rattle.tmw_defs.specs.declared.ring_phase.ReaderPhase.TheVariants.{Waiting, 
 use Rattle.tmw_ring.specs.Ends.{ReaderIs}
 use Rattle.tmw_ring.specs.Parts.{Parts}
 use Rattle.tmw_ring.specs.Seats.{reader_in, IsReader}
+use Rattle.tmw_ring.specs.Words.{stamp_of, header_of}
 use Rattle.tmw_ring.specs.declared.part.Look.TheVariants.{Stamp}
 use Rattle.tmw_ring.specs.declared.part.ReaderPart.{ReaderPart}
 
 -- how far the reader is that has taken so many events and found this word first in the next place's cell
 abbrev pub phase_after : ℕ → ℕ → ReaderPhase
-phase_after count word = if word / 1024 == count + 1 then Ready (word % 1024) else Waiting
+phase_after count word = if stamp_of word == count + 1 then Ready (header_of word) else Waiting
 
 abbrev pub after_look : ReaderPart → ℕ → ReaderPart
 after_look part word = record part {
   phase = phase_after (length part.taken) word;
-  looks = part.looks ++ Stamp (word / 1024) ∷ [];
+  looks = part.looks ++ Stamp (stamp_of word) ∷ [];
 }
 
 -- how far a ready reader is after it read this value

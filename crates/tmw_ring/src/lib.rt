@@ -2,6 +2,7 @@
 //! of them.
 #![tactic(auto)]
 
+mod cell_words;
 mod cuts;
 mod ends;
 mod make;

@@ -6,8 +6,10 @@ ghost use Rattle.tmw_events.specs.Text.{FitsKind};
 ghost use Rattle.tmw_ring.specs.Ends.{WriterOf};
 ghost use Rattle.tmw_ring.specs.Recording.{HasRecorded, IsRefusal};
 ghost use Rattle.tmw_ring.specs.Seats.{writer_in, writer_is};
+ghost use Rattle.tmw_ring.specs.Words.{IsHeader, stamp_word, value_word};
 ghost use Rattle.tmw_ring.specs.WriterSteps.{IsSeatOf, HasSeenFront, HasSeenTail, HasClaimed, HasFilled, HasPublished};
 
+use crate::cell_words::{CellWords, words_at};
 use crate::ends::{Ring, Writer};
 use crate::part::Part;
 use crate::refused::Refused;
@@ -105,31 +107,33 @@ fn claim<C: Choice>(ring: &Ring, seat: &mut RingSeat) -> u64
 }
 
 /// A writer that has claimed this place fills in its event's value.
-fn fill<C: Choice>(ring: &Ring, seat: &mut RingSeat, place: u64, value: u64)
+fn fill<C: Choice>(ring: &Ring, seat: &mut RingSeat, words: CellWords, value: u64)
     requires table { seat.old.table_id ≡ ring.now.table }
-    requires writer { IsSeatOf ring.now.size (Claimed place C.kind false) seat.old.me }
+    requires writer { IsSeatOf ring.now.size (Claimed words.place C.kind false) seat.old.me }
+    requires word { words.value ≡ value_word ring.now.size.cells words.place }
     requires value { value ≡ kind_value C.kind }
     ensures table { seat.new.table_id ≡ seat.old.table_id }
     ensures filled { HasFilled C.kind seat.old.me seat.new.me }
 {
-    let word = 3 + 2 * (place % ring.size.cells) as usize;
-    ring.table.shared.store::<Fills<C>>(seat, word, value);
+    ring.table
+        .shared
+        .store::<Fills<C>>(seat, words.value, value);
 }
 
 /// A writer that has filled this place publishes it with its event's header.
-fn publish<C: Choice>(ring: &Ring, seat: &mut RingSeat, place: u64, header: u64)
+fn publish<C: Choice>(ring: &Ring, seat: &mut RingSeat, words: CellWords, header: u64)
     requires table { seat.old.table_id ≡ ring.now.table }
-    requires writer { IsSeatOf ring.now.size (Claimed place C.kind true) seat.old.me }
-    requires place { place < 2 ^ 40 }
+    requires writer { IsSeatOf ring.now.size (Claimed words.place C.kind true) seat.old.me }
+    requires word { words.stamp ≡ stamp_word ring.now.size.cells words.place }
+    requires place { words.place < 2 ^ 40 }
     requires header { header ≡ packed_header (record { thread = (writer_in seat.old.me.0).number; kind = C.kind }) }
-    requires small { header < 1024 }
+    requires small { IsHeader header }
     ensures table { seat.new.table_id ≡ seat.old.table_id }
     ensures published { HasPublished seat.old.me seat.new.me }
 {
-    let word = 2 + 2 * (place % ring.size.cells) as usize;
     ring.table
         .shared
-        .store::<Publishes>(seat, word, join(place, header));
+        .store::<Publishes>(seat, words.stamp, join(words.place, header));
 }
 
 /// The writer of this number records an event of the kind.
@@ -162,8 +166,9 @@ fn record_as<C: Choice>(
         return Err(Refused::Full { front, tail });
     }
     let place = claim::<C>(ring, seat);
-    fill::<C>(ring, seat, place, value);
-    publish::<C>(ring, seat, place, header);
+    let words = words_at(ring.size.cells, place);
+    fill::<C>(ring, seat, words, value);
+    publish::<C>(ring, seat, words, header);
     Ok(place)
 }
 

@@ -1,6 +1,7 @@
 //! What a ring leaves, from which the events that nobody took are taken in order.
 ghost use Rattle.std.specs.Prelude.{◌≡◌, [], ◌∷◌, IfSome, IfNone};
 
+use crate::cell_words::words_at;
 use atomic_table::Closed;
 use std::alloc::Global;
 use std::marker::Model;
@@ -38,9 +39,9 @@ impl Settled {
         if self.front == self.tail {
             return None;
         }
-        let at = self.front % self.cells;
-        let (_stamp, header) = split(self.closed.word((2 + 2 * at) as usize));
-        let value = self.closed.word((3 + 2 * at) as usize);
+        let words = words_at(self.cells, self.front);
+        let (_stamp, header) = split(self.closed.word(words.stamp));
+        let value = self.closed.word(words.value);
         self.front += 1;
         unpack(header, value)
     }

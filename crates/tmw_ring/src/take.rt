@@ -3,7 +3,9 @@ ghost use Rattle.std.specs.Prelude.{◌≡◌, ◌-◌, ◌<◌, ◌^◌, IfSome
 ghost use Rattle.tmw_ring.specs.Ends.{ReaderOf};
 ghost use Rattle.tmw_ring.specs.Seats.{IsWaitingReader};
 ghost use Rattle.tmw_ring.specs.Takes.{IsReadyReader, IsToldReader, StampSeen, ValueRead, PlaceFreed, HasTaken, HasFoundNone};
+ghost use Rattle.tmw_ring.specs.Words.{stamp_word, value_word};
 
+use crate::cell_words::{CellWords, words_at};
 use crate::ends::{Reader, Ring};
 use crate::part::Part;
 use crate::rule::RingSeat;
@@ -20,12 +22,13 @@ impl Ring {
         ensures none { IfNone result (HasFoundNone reader.old reader.new) }
     {
         let front = reader.front;
-        let word = self.see_stamp(&mut reader.seat, front);
+        let words = words_at(self.size.cells, front);
+        let word = self.see_stamp(&mut reader.seat, words);
         let (stamp, header) = split(word);
         if stamp != front + 1 {
             return None;
         }
-        let value = self.read(&mut reader.seat, front);
+        let value = self.read(&mut reader.seat, words);
         let Some(event) = unpack(header, value) else {
             return None;
         };
@@ -35,27 +38,25 @@ impl Ring {
     }
 
     /// Loads the first word of the next place's cell, which tells its stamp and its event's header.
-    fn see_stamp(&self, seat: &mut RingSeat, front: u64) -> u64
+    fn see_stamp(&self, seat: &mut RingSeat, words: CellWords) -> u64
         requires table { seat.old.table_id ≡ self.now.table }
-        requires waiting { IsWaitingReader front seat.old.me }
+        requires waiting { IsWaitingReader words.place seat.old.me }
+        requires word { words.stamp ≡ stamp_word self.now.size.cells words.place }
         ensures table { seat.new.table_id ≡ seat.old.table_id }
         ensures seen { StampSeen seat.old.me result seat.new.me }
     {
-        self.table
-            .shared
-            .load::<SeesStamp>(seat, 2 + 2 * (front % self.size.cells) as usize)
+        self.table.shared.load::<SeesStamp>(seat, words.stamp)
     }
 
     /// Loads the second word, which is its event's value.
-    fn read(&self, seat: &mut RingSeat, front: u64) -> u64
+    fn read(&self, seat: &mut RingSeat, words: CellWords) -> u64
         requires table { seat.old.table_id ≡ self.now.table }
-        requires ready { IsReadyReader front seat.old.me }
+        requires ready { IsReadyReader words.place seat.old.me }
+        requires word { words.value ≡ value_word self.now.size.cells words.place }
         ensures table { seat.new.table_id ≡ seat.old.table_id }
         ensures read { ValueRead seat.old.me result seat.new.me }
     {
-        self.table
-            .shared
-            .load::<ReadsValue>(seat, 3 + 2 * (front % self.size.cells) as usize)
+        self.table.shared.load::<ReadsValue>(seat, words.value)
     }
 
     /// Stores the next front. The event is taken.

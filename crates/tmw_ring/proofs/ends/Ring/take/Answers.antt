@@ -1,7 +1,7 @@
 use Rattle.std.proofs.Common.{ℕ, sym, ap, ◌∙◌, subst}
 use Rattle.tmw_ring.specs.Ends.{ReaderIs}
 use Rattle.tmw_ring.specs.Seats.{reader_in, reader_is}
-use Rattle.tmw_ring.specs.Takes.{HasTaken, HasFoundNone}
+use Rattle.tmw_ring.specs.Takes.{IsReadyReader, HasTaken, HasFoundNone}
 use Rattle.tmw_ring.proofs.Takings.{looked_none, looked_ready, read_told, freed_taken}
 use Rattle.tmw_ring.proofs.ends.Ring.take.Goals as goal
 
@@ -17,8 +17,9 @@ returns-then-stamp-front-clause-none c =
 pub read-value-requires-clause-ready : goal.read-value-requires-clause-ready
 read-value-requires-clause-ready c =
     let stamp = ap (λ (words : ℕ × ℕ). words.0) c.split-stamp.ensures in
-    looked_ready c.reader.inside.front c.see_stamp-word.result c.reader.inside.seat.me c.see_stamp-word.new.seat.me c.reader.invariant
-    c.see_stamp-word.ensures.seen (sym stamp ∙ c.if-stamp-front.false)
+    subst (λ (place : ℕ). IsReadyReader place c.see_stamp-word.new.seat.me) (sym c.words_at-words.ensures.place)
+    (looked_ready c.reader.inside.front c.see_stamp-word.result c.reader.inside.seat.me c.see_stamp-word.new.seat.me c.reader.invariant
+    c.see_stamp-word.ensures.seen (sym stamp ∙ c.if-stamp-front.false))
 
 pub free-requires-clause-told : goal.free-requires-clause-told
 free-requires-clause-told c =

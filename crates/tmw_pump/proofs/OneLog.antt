@@ -1,0 +1,18 @@
+-- The one log of a settled ring.
+use Rattle.std.proofs.Common.{◌≡◌, ◌++◌, List, [], sym, ap, ◌∙◌, subst}
+use Rattle.std.proofs.lemmas.List.{append-nil}
+use Rattle.tmw_events.specs.declared.event.Event.{Event}
+use Rattle.tmw_ring.specs.Ends.{WriterIs}
+use Rattle.tmw_ring.specs.Parts.{made_from}
+use Rattle.tmw_ring.specs.Settling.{AreInOrder, IsSettled}
+use Rattle.tmw_pump.specs.Headline.{IsLogOf}
+
+pub log-settled : (taken : List Event) (writers : List WriterIs) (left all : List Event) → IsSettled taken writers left
+    → AreInOrder writers → all ≡ taken ++ left → IsLogOf all writers all
+log-settled taken writers left all settled order whole = record {
+  rest = [];
+  begins = sym (append-nil all);
+  pairs = λ k d below. settled.made k d below
+      ∙ ap (λ (log : List Event). made_from k 0 log) (settled.rest ∙ sym whole)
+      ∙ ap (λ n. made_from n 0 all) (sym (order k d below));
+}

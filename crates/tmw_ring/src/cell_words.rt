@@ -1,0 +1,27 @@
+//! Where the words of a place's cell stand in a ring's table.
+ghost use Rattle.std.specs.Prelude.{◌≡◌, ◌<◌, ◌≤◌};
+ghost use Rattle.tmw_ring.specs.Words.{stamp_word, value_word};
+
+/// A place, and where the words of its cell stand: the first, which has the stamp, and the second, which has the value.
+#[derive(Clone, Copy)]
+pub(crate) struct CellWords {
+    pub(crate) place: u64,
+    pub(crate) stamp: usize,
+    pub(crate) value: usize,
+}
+
+/// Where the words of the place's cell stand, in a ring with so many cells. Each call that touches a cell divides here, once.
+pub(crate) fn words_at(cells: u64, place: u64) -> CellWords
+    requires some { 0 < cells }
+    requires small { cells ≤ 4096 }
+    ensures place { result.place ≡ place }
+    ensures stamp { result.stamp ≡ stamp_word cells place }
+    ensures value { result.value ≡ value_word cells place }
+{
+    let stamp = 2 + 2 * (place % cells) as usize;
+    CellWords {
+        place,
+        stamp,
+        value: stamp + 1,
+    }
+}
