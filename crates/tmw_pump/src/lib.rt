@@ -7,6 +7,8 @@ mod pumped;
 mod rest;
 #[cfg(test)]
 mod tests;
+#[cfg(test)]
+mod thread_tests;
 
 pub use front::Front;
 pub use pump::Pump;
