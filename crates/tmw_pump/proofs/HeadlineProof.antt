@@ -1,8 +1,7 @@
 -- The headline, from the monitor's fit to the judged front.
-use Rattle.std.proofs.Common.{◌≡◌, ◌++◌, ◌↔◌, ℕ, List, refl, sym, ap, ◌∙◌, subst, append_assoc}
+use Rattle.std.proofs.Common.{◌≡◌, ◌++◌, List, refl, sym, ◌∙◌, subst, append_assoc}
 use Rattle.tmw_events.specs.declared.event.Event.{Event}
-use Rattle.tmw_defs.specs.Opaque.{IsOpaque}
-use Rattle.tmw_defs.specs.Verdict.{Rules, IsViolated, IsFirst, IsVerdict}
+use Rattle.tmw_defs.specs.Verdict.{Rules, IsVerdict}
 use Rattle.tmw_defs.specs.declared.verdict.Verdict.{Verdict}
 use Rattle.tmw_defs.specs.declared.verdict.Verdict.TheVariants.{OpaqueSoFar, Violated, Undecided, Malformed}
 use Rattle.tmw_defs.specs.declared.verdict.Why.TheVariants.{Transactions, States}

@@ -1,5 +1,5 @@
 -- What a call to pump has done.
-use Rattle.std.specs.Prelude.{◌≡◌, ◌++◌, ◌≤◌, ◌<◌, ℕ, List, Option, Some, None}
+use Rattle.std.specs.Prelude.{◌≡◌, ◌++◌, ◌≤◌, ◌<◌, ℕ, List, Some, None}
 use Rattle.tmw_events.specs.declared.event.Event.{Event}
 use Rattle.tmw_ring.specs.Ends.{ReaderIs}
 use Rattle.tmw_ring.specs.Takes.{HasFoundNone}

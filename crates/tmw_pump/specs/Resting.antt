@@ -1,5 +1,5 @@
 -- What a call to pump has done with what a settled ring has left.
-use Rattle.std.specs.Prelude.{◌≡◌, ◌++◌, ◌≤◌, ◌<◌, ℕ, List, [], Option, Some, None}
+use Rattle.std.specs.Prelude.{◌≡◌, ◌++◌, ◌≤◌, ◌<◌, ℕ, List, [], Some, None}
 use Rattle.tmw_events.specs.declared.event.Event.{Event}
 use Rattle.tmw_pump.specs.Fronts.{came, HasJudged}
 use Rattle.tmw_pump.specs.declared.pumped.Pumped.{Pumped}

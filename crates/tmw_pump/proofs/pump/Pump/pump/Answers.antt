@@ -1,4 +1,4 @@
-use Rattle.std.proofs.Common.{◌≡◌, ◌+◌, ◌<◌, ◌≤◌, refl, sym, ap, ◌∙◌, subst, arith, Some, None}
+use Rattle.std.proofs.Common.{refl, sym, ◌∙◌, subst, arith}
 use Rattle.std.proofs.lemmas.Result.{err_from_is_err_and}
 use Rattle.tmw_pump.proofs.HeadlineProof.{gives_headline}
 use Rattle.tmw_pump.proofs.Turns.{came-same, pumped-none, pumped-next, pumped-same, pumped-more}

@@ -1,7 +1,7 @@
-use Rattle.std.proofs.Common.{◌≡◌, ◌+◌, ◌<◌, ◌≤◌, refl, sym, ap, ◌∙◌, subst, arith, Some, None}
+use Rattle.std.proofs.Common.{refl, ◌∙◌}
 use Rattle.std.proofs.lemmas.Result.{err_from_is_err_and}
 use Rattle.tmw_pump.proofs.HeadlineProof.{gives_rest}
-use Rattle.tmw_pump.proofs.Turns.{rested-none, rested-next, rested-same, rested-more}
+use Rattle.tmw_pump.proofs.Turns.{rested-next, rested-same}
 use Rattle.tmw_pump.proofs.rest.Rest.pump.Goals as goal
 
 pub returns-in_default-clause-headline : goal.returns-in_default-clause-headline
