@@ -36,13 +36,13 @@ headline-verdict rules log writers judged verdict one_log exact = record {
 
 -- What keeps the monitor's fit gives the headline.
 pub gives_headline : (old : Front) (taken : List Event) (new : Front) → KeepsFit old new → came new ≡ taken
-    → GivesHeadline old taken new
+    → GivesHeadline old taken new.judged.items new.monitor.verdict
 gives_headline old taken new keeps all rules log writers fits one_log =
     headline-verdict rules log writers new.judged.items new.monitor.verdict
     (front_of log writers new.judged.items (listed new.held) (subst (IsLogOf log writers) (sym all) one_log)) (keeps rules fits).judged
 
 -- The same for a log that goes on with what is left.
-pub gives_rest : (old new : Front) (left : List Event) → KeepsFit old new → GivesHeadline old (came new ++ left) new
+pub gives_rest : (old new : Front) (left : List Event) → KeepsFit old new → GivesHeadline old (came new ++ left) new.judged.items new.monitor.verdict
 gives_rest old new left keeps by log writers fits one_log =
     let all = came new in
     gives_headline old all new keeps refl by log writers fits (front_of log writers all left one_log)

@@ -5,30 +5,19 @@ use Rattle.tmw_events.specs.declared.event.Event.{Event}
 use Rattle.tmw_monitor.specs.Fitting.{Fits}
 use Rattle.tmw_monitor.specs.declared.monitor.Monitor.{Monitor}
 use Rattle.tmw_ring.specs.Ends.{ReaderIs}
-use Rattle.tmw_ring.specs.declared.part.Look.{Look}
 use Rattle.tmw_pump.specs.Fronts.{came, KeepsFit, HasJudged}
 use Rattle.tmw_pump.specs.Held.{listed}
-use Rattle.tmw_pump.specs.Pumping.{HasRead, HasPumped}
+use Rattle.tmw_pump.specs.Pumping.{HasTakenAll, HasPumped}
 use Rattle.tmw_pump.specs.declared.front.Front.{Front}
 use Rattle.tmw_pump.specs.Resting.{all_of, HasRested}
 use Rattle.tmw_pump.specs.declared.pump.Pump.{Pump}
 use Rattle.tmw_pump.specs.declared.rest.Rest.{Rest}
 
-pub read-none : (reader : ReaderIs) → HasRead reader reader
-read-none reader = record {
-  fresh = [];
-  taken = sym (append-nil reader.taken);
-  found = [];
-  looks = sym (append-nil reader.looks);
-}
-
-pub read-more : (one two three : ReaderIs) → HasRead one two → HasRead two three → HasRead one three
-read-more one two three first second = record {
-  fresh = first.fresh ++ second.fresh;
-  taken = second.taken ∙ ap (λ (l : List Event). l ++ second.fresh) first.taken ∙ append_assoc one.taken first.fresh second.fresh;
-  found = first.found ++ second.found;
-  looks = second.looks ∙ ap (λ (l : List Look). l ++ second.found) first.looks ∙ append_assoc one.looks first.found second.found;
-}
+pub taken-append : (one two three : ReaderIs) (first second : List Event) → HasTakenAll one first two → HasTakenAll two second three
+    → HasTakenAll one (first ++ second) three
+taken-append one two three [] second same more = subst (λ (reader : ReaderIs). HasTakenAll reader second three) same more
+taken-append one two three (event ∷ first) second (next, taken, rest) more =
+    (next, taken, taken-append next two three first second rest more)
 
 pub came-same : (old new : Front) → new.judged.items ≡ old.judged.items → new.held ≡ old.held → came new ≡ came old
 came-same old new judged held =
@@ -61,32 +50,46 @@ judged-more count old mid new event done one keeps = record {
   fits = λ by fits. keeps by (done.fits by fits);
 }
 
-pub pumped-none : (pump : Pump) → HasPumped 0 pump pump
-pumped-none pump = record { read = read-none pump.reader; judged = judged-none pump.front }
+pub pumped-none : (pump : Pump) → HasPumped 0 pump pump.reader pump.front
+pumped-none pump = record { fresh = []; taken = refl; judged = judged-none pump.front }
 
--- A turn that finds the next event, or finds none, has judged nothing yet.
-pub pumped-next : (count : ℕ) (old mid next : Pump) → HasPumped count old mid → HasRead mid.reader next.reader
-    → next.front.judged ≡ mid.front.judged → next.front.monitor ≡ mid.front.monitor → HasPumped count old next
-pumped-next count old mid next done read judged monitor = record {
-  read = read-more old.reader mid.reader next.reader done.read read;
-  judged = judged-same count old.front mid.front next.front done.judged (ap (λ v. v.items) judged)
-      (keeps-same mid.front next.front judged monitor);
+-- A turn that has found none has judged nothing.
+pub pumped-same : (count : ℕ) (old : Pump) (reader : ReaderIs) (mid new : Front) → HasPumped count old reader mid
+    → new.judged ≡ mid.judged → new.monitor ≡ mid.monitor → HasPumped count old reader new
+pumped-same count old reader mid new done judged monitor = record {
+  fresh = done.fresh;
+  taken = done.taken;
+  judged = judged-same count old.front mid new done.judged (ap (λ v. v.items) judged) (keeps-same mid new judged monitor);
 }
 
+-- A turn that has found the next event has judged nothing yet.
+pub pumped-next : (count : ℕ) (old mid next : Pump) → HasPumped count old mid.reader mid.front
+    → (fresh : List Event) × HasTakenAll mid.reader fresh next.reader
+    → next.front.judged ≡ mid.front.judged → next.front.monitor ≡ mid.front.monitor → HasPumped count old next.reader next.front
+pumped-next count old mid next done (fresh, taken) judged monitor =
+    let same = pumped-same count old mid.reader mid.front next.front done judged monitor in
+    record {
+      fresh = done.fresh ++ fresh;
+      taken = taken-append old.reader mid.reader next.reader done.fresh fresh done.taken taken;
+      judged = same.judged;
+    }
+
 -- A turn that was refused memory has judged nothing.
-pub pumped-same : (count : ℕ) (old mid new : Pump) → HasPumped count old mid → new.reader ≡ mid.reader
-    → new.front.judged.items ≡ mid.front.judged.items → KeepsFit mid.front new.front → HasPumped count old new
-pumped-same count old mid new done reader judged keeps = record {
-  read = subst (HasRead old.reader) (sym reader) done.read;
-  judged = judged-same count old.front mid.front new.front done.judged judged keeps;
+pub pumped-refused : (count : ℕ) (old : Pump) (reader : ReaderIs) (mid new : Front) → HasPumped count old reader mid
+    → new.judged.items ≡ mid.judged.items → KeepsFit mid new → HasPumped count old reader new
+pumped-refused count old reader mid new done judged keeps = record {
+  fresh = done.fresh;
+  taken = done.taken;
+  judged = judged-same count old.front mid new done.judged judged keeps;
 }
 
 -- A turn that was not has judged the event.
-pub pumped-more : (count : ℕ) (old mid new : Pump) (event : Event) → HasPumped count old mid → new.reader ≡ mid.reader
-    → new.front.judged.items ≡ mid.front.judged.items ++ event ∷ [] → KeepsFit mid.front new.front → HasPumped (count + 1) old new
-pumped-more count old mid new event done reader judged keeps = record {
-  read = subst (HasRead old.reader) (sym reader) done.read;
-  judged = judged-more count old.front mid.front new.front event done.judged judged keeps;
+pub pumped-more : (count : ℕ) (old : Pump) (reader : ReaderIs) (mid new : Front) (event : Event) → HasPumped count old reader mid
+    → new.judged.items ≡ mid.judged.items ++ event ∷ [] → KeepsFit mid new → HasPumped (count + 1) old reader new
+pumped-more count old reader mid new event done judged keeps = record {
+  fresh = done.fresh;
+  taken = done.taken;
+  judged = judged-more count old.front mid new event done.judged judged keeps;
 }
 
 pub rested-none : (rest : Rest) → HasRested 0 rest rest

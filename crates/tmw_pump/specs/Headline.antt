@@ -42,8 +42,8 @@ pub record Headline (rules : Rules) (log : List Event) (writers : List WriterIs)
   pub many : (m : ℕ) → (verdict ≡ Undecided m States) ↔ IsFirst IsTooMany rules judged m
   pub malformed : (m : ℕ) → (verdict ≡ Malformed m) ↔ IsFirst IsMalformed rules judged m
 
--- By whatever rules the monitor had judged, and in whatever log of the ring a meeting or the end of the ring shows behind what was
--- taken, the headline holds of what is judged now.
-abbrev pub GivesHeadline : Front → List Event → Front → Type 0
-GivesHeadline old taken new = (rules : Rules) (log : List Event) (writers : List WriterIs) → Fits rules old.judged.items old.monitor
-    → IsLogOf log writers taken → Headline rules log writers new.judged.items new.monitor.verdict
+-- By whatever rules the monitor had judged before, and of every list that begins with what was taken and has these writers' items,
+-- as the log has that a meeting or the end of the ring shows, the headline holds of what is judged now.
+abbrev pub GivesHeadline : Front → List Event → List Event → Verdict → Type 0
+GivesHeadline old taken judged verdict = (rules : Rules) (log : List Event) (writers : List WriterIs)
+    → Fits rules old.judged.items old.monitor → IsLogOf log writers taken → Headline rules log writers judged verdict

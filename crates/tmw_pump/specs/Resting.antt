@@ -14,20 +14,20 @@ pub record HasRested (count : ℕ) (old new : Rest) : Type 0 where
   pub all : all_of new ≡ all_of old
   pub judged : HasJudged count old.front new.front
 
--- The call has judged up to so many events, and fewer only where none is left. It holds none, and has done nothing where it was to
--- judge none.
+-- The call has judged up to so many events, and fewer only where none is left. It holds no event where it was to judge any, and has
+-- done nothing where it was to judge none.
 pub record IsRested (max : ℕ) (pumped : Pumped) (old new : Rest) : Type 0 where
   pub counted : HasRested pumped.judged old new
   pub within : pumped.judged ≤ max
   pub verdict : pumped.verdict ≡ new.front.monitor.verdict
   pub held : 0 < max → new.front.held ≡ None
   pub idle : max ≡ 0 → new ≡ old
-  pub dry : pumped.judged < max → new.settled ≡ []
+  pub none_left : pumped.judged < max → new.settled ≡ []
 
--- The call has judged fewer events than it might, and holds the next one, for which memory was refused.
+-- The call has judged fewer events than it was to, and holds the next one, for which memory was refused.
 pub record HasStopped (max : ℕ) (old new : Rest) : Type 0 where
   pub count : ℕ
-  pub within : count < max
+  pub fewer : count < max
   pub counted : HasRested count old new
   pub event : Event
   pub held : new.front.held ≡ Some event

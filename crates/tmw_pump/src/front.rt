@@ -36,7 +36,7 @@ impl Front {
         }
     }
 
-    /// An event came.
+    /// Holds an event that came.
     pub(crate) fn hold(&mut self, event: Event)
         requires few { length self.old.judged.items < 2 ^ 40 }
         ensures judged { self.new.judged ≡ self.old.judged }
@@ -84,7 +84,7 @@ impl Front {
         self.monitor.verdict()
     }
 
-    /// A call to pump has judged so many events.
+    /// The answer of a call to pump that has judged so many events.
     pub(crate) fn pumped(&self, judged: u64) -> Pumped
         ensures { result ≡ record { judged = judged; verdict = self.now.monitor.verdict } }
     {

@@ -1,5 +1,5 @@
 //! Judging the events of a running ring.
-ghost use Rattle.std.specs.Prelude.{◌≡◌, ◌++◌, List, [], ◌∷◌, length, All, Some, None, IfOk, OnErr, IfNone, IsSome, IsTrue, ◌↔◌};
+ghost use Rattle.std.specs.Prelude.{◌≡◌, ◌++◌, List, [], ◌∷◌, length, All, Some, None, IfOk, OnErr, IfSome, IfNone, IsSome, IsTrue, ◌↔◌};
 ghost use Rattle.tmw_defs.specs.Verdict.{Rules, IsVerdict};
 ghost use Rattle.tmw_events.specs.declared.event.Event.{Event};
 ghost use Rattle.tmw_monitor.specs.Fitting.{Fits};
@@ -31,10 +31,10 @@ pub struct Pump {
 
 impl Pump {
     ghost use Rattle.tmw_pump.specs.Headline.{IsLogOf, GivesHeadline};
-    ghost use Rattle.tmw_pump.specs.Pumping.{HasRead, IsPumped, HasStopped};
+    ghost use Rattle.tmw_pump.specs.Pumping.{HasTakenAll, IsPumped, HasStopped};
     ghost use Rattle.tmw_pump.specs.Resting.{all_of};
 
-    /// A pump from the ring of a reader that has taken nothing, to a monitor that was fed nothing.
+    /// A pump that takes by a reader that has taken nothing, and judges by a monitor that was fed nothing.
     pub fn new(alloc: Global, reader: Reader, monitor: Monitor) -> Pump
         requires taken { reader.taken ≡ [] }
         requires fed { WasFed [] monitor }
@@ -49,14 +49,14 @@ impl Pump {
         }
     }
 
-    /// Takes and judges up to `max` events: fewer only where no more are there. Where a growth of memory is refused, the event that
+    /// Takes and judges up to `max` events: fewer only where the next place is not published. Where a growth of memory is refused, the event that
     /// was to be judged is held, and is judged first by the next call; those judged before it in this call stay judged.
     pub fn pump(&mut self, ring: &Ring, max: u64) -> Result<Pumped, AllocError>
         requires { ReaderOf ring.now self.old.reader }
         ensures of_ring { ReaderOf ring.now self.new.reader }
         ensures ok { IfOk result (λ pumped. IsPumped max pumped self.old self.new) }
         ensures err { OnErr result (HasStopped max self.old self.new) }
-        ensures headline { GivesHeadline self.old.front self.new.reader.taken self.new.front }
+        ensures headline { GivesHeadline self.old.front self.new.reader.taken self.new.front.judged.items self.new.front.monitor.verdict }
     {
         for judged in 0..max {
             let Some(event) = self.next(ring) else {
@@ -74,7 +74,7 @@ impl Pump {
         ensures judged { self.new.front.judged ≡ self.old.front.judged }
         ensures held { self.new.front.held ≡ result }
         ensures monitor { self.new.front.monitor ≡ self.old.front.monitor }
-        ensures read { HasRead self.old.reader self.new.reader }
+        ensures taken { IfSome result (λ _. (fresh : List Event) × HasTakenAll self.old.reader fresh self.new.reader) }
         ensures none { IfNone result (HasFoundNone self.old.reader self.new.reader) }
     {
         if let Some(event) = self.front.held() {
@@ -109,7 +109,8 @@ impl Pump {
         self.front.verdict()
     }
 
-    /// The reader meets a writer: the writer's next event comes after all that both had seen. Nothing is judged.
+    /// The reader meets a writer: the writer's next event comes after all that both had seen. Nothing is judged, and a held event
+    /// stays held.
     pub fn meet(&mut self, ring: &Ring, writer: &mut Writer)
         requires reader { ReaderOf ring.now self.old.reader }
         requires writer { WriterOf ring.now writer.old }

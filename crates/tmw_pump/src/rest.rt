@@ -37,7 +37,7 @@ impl Rest {
     pub fn pump(&mut self, max: u64) -> Result<Pumped, AllocError>
         ensures ok { IfOk result (λ pumped. IsRested max pumped self.old self.new) }
         ensures err { OnErr result (HasStopped max self.old self.new) }
-        ensures headline { GivesHeadline self.old.front (all_of self.new) self.new.front }
+        ensures headline { GivesHeadline self.old.front (all_of self.new) self.new.front.judged.items self.new.front.monitor.verdict }
     {
         for judged in 0..max {
             let Some(event) = self.next() else {
@@ -92,7 +92,7 @@ impl Rest {
     pub fn finish(self) -> (Vec<Event>, Verdict)
         ensures judged { result.0.items ≡ self.front.judged.items }
         ensures verdict { result.1 ≡ self.front.monitor.verdict }
-        ensures headline { GivesHeadline self.front (all_of self) self.front }
+        ensures headline { GivesHeadline self.front (all_of self) result.0.items result.1 }
     {
         let Rest { settled: _, front } = self;
         front.finish()

@@ -177,27 +177,56 @@ fn a_left_transaction_keeps_its_window_open(rt: HostRuntime) -> Result<(), Fail>
     Ok(())
 }
 
-/// Pumps three events at a time, and tells whether all were judged, in order, and each call whose memory was refused held one.
-fn pump_all(ring: &Ring, pump: &mut Pump, events: &[Event]) -> bool
+/// Whether a call to pump that was to judge up to three events has answered as it should, where so many were judged before.
+fn is_answer(answer: Result<Pumped, AllocError>, before: usize, now: usize, held: bool) -> bool {
+    let more = now as u64 - before as u64;
+    match answer {
+        Ok(pumped) => !held && more == pumped.judged,
+        Err(_) => held && more < 3,
+    }
+}
+
+/// Whether these are the first events of the dirty read, with their verdict.
+fn is_dirty_read_so_far(judged: &[Event], verdict: Verdict) -> bool {
+    let all = dirty_read();
+    judged.len() <= 4
+        && judged == &all.as_slice()[..judged.len()]
+        && (verdict == Verdict::Violated(4)) == (judged.len() == 4)
+}
+
+/// Judges the dirty read of a running ring, three events at a time, and tells whether each answer was as it should be.
+fn pump_all(ring: &Ring, pump: &mut Pump) -> bool
     requires { ReaderOf ring.now pump.old.reader }
     ensures { ReaderOf ring.now pump.new.reader }
 {
     for _ in 0..8 {
-        let before = pump.judged().len() as u64;
+        let before = pump.judged().len();
         let answer = pump.pump(ring, 3);
         let now = pump.judged().len();
-        let fits = match answer {
-            Ok(pumped) => !pump.held() && now as u64 - before == pumped.judged,
-            Err(_) => pump.held() && now as u64 - before < 3,
-        };
-        if !fits || events.len() < now || pump.judged() != &events[..now] {
+        if now < before || !is_answer(answer, before, now, pump.held()) {
             return false;
         }
-        if (pump.verdict() == Verdict::Violated(4)) != (now == 4) {
+        if !is_dirty_read_so_far(pump.judged(), pump.verdict()) {
             return false;
         }
     }
-    pump.judged().len() == events.len()
+    pump.judged().len() == 4
+}
+
+/// The same, of a settled ring.
+fn judge_rest(rest: &mut Rest) -> bool {
+    for _ in 0..8 {
+        let before = rest.judged().len();
+        let answer = rest.pump(3);
+        let now = rest.judged().len();
+        if now < before || !is_answer(answer, before, now, rest.held()) {
+            return false;
+        }
+        if !is_dirty_read_so_far(rest.judged(), rest.verdict()) {
+            return false;
+        }
+    }
+    rest.judged().len() == 4
 }
 
 /// Also where the growth of memory that `rt try --test --fail-alloc` chooses is refused, see bench/refused_pump.sh.
@@ -206,8 +235,17 @@ fn a_refused_growth_loses_no_event(rt: HostRuntime) -> Result<(), Fail> {
     let (ring, mut writers, reader) = ring(rt.alloc(), 8, 2, 100)?;
     let mut pump = new_pump(rt.alloc(), reader)?;
     record_dirty_read(&ring, &mut writers);
-    assert!(rt; pump_all(&ring, &mut pump, dirty_read().as_slice()));
-    assert!(rt; !pump.held());
-    assert_eq!(rt; pump.verdict(), Verdict::Violated(4));
+    assert!(rt; pump_all(&ring, &mut pump));
+    Ok(())
+}
+
+/// The same of what a settled ring has left.
+#[test]
+fn a_refused_growth_loses_nothing_that_was_left(rt: HostRuntime) -> Result<(), Fail> {
+    let (ring, mut writers, reader) = ring(rt.alloc(), 8, 2, 100)?;
+    let pump = new_pump(rt.alloc(), reader)?;
+    record_dirty_read(&ring, &mut writers);
+    let mut rest = pump.settle(ring, writers);
+    assert!(rt; judge_rest(&mut rest));
     Ok(())
 }

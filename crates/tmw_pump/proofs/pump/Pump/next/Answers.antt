@@ -1,5 +1,5 @@
-use Rattle.tmw_pump.proofs.Turns.{read-none}
+use Rattle.std.proofs.Common.{[], ◌∷◌, refl}
 use Rattle.tmw_pump.proofs.pump.Pump.next.Goals as goal
 
-pub returns-in-Some-clause-read : goal.returns-in-Some-clause-read
-returns-in-Some-clause-read c = read-none c.args.self.now.reader
+pub returns-clause-taken : goal.returns-clause-taken
+returns-clause-taken c = (c.in-Some-take.event ∷ [], (c.take.new.reader, c.in-Some-take.ensures.some, refl))

@@ -22,7 +22,7 @@ returns-in_err-judge-clause-err c =
     let done = rested-next c.loop-judged.judged old c.loop-judged.self next c.loop-judged.invariant.0 found.all found.judged found.monitor in
     rw p.1 (record {
       count = c.loop-judged.judged;
-      within = c.loop-judged-test.true;
+      fewer = c.loop-judged-test.true;
       counted = rested-same c.loop-judged.judged old next _ done refl err.stays err.held err.fits;
       event = c.in-Some.event;
       held = err.held ∙ found.held ∙ c.in-Some.is;
