@@ -179,9 +179,11 @@ fn a_left_transaction_keeps_its_window_open(rt: HostRuntime) -> Result<(), Fail>
 
 /// Whether a call to pump that was to judge up to three events has answered as it should, where so many were judged before.
 fn is_answer(answer: Result<Pumped, AllocError>, before: usize, now: usize, held: bool) -> bool {
-    let more = now as u64 - before as u64;
+    let Some(more) = now.checked_sub(before) else {
+        return false;
+    };
     match answer {
-        Ok(pumped) => !held && more == pumped.judged,
+        Ok(pumped) => !held && more as u64 == pumped.judged,
         Err(_) => held && more < 3,
     }
 }
@@ -203,7 +205,7 @@ fn pump_all(ring: &Ring, pump: &mut Pump) -> bool
         let before = pump.judged().len();
         let answer = pump.pump(ring, 3);
         let now = pump.judged().len();
-        if now < before || !is_answer(answer, before, now, pump.held()) {
+        if !is_answer(answer, before, now, pump.held()) {
             return false;
         }
         if !is_dirty_read_so_far(pump.judged(), pump.verdict()) {
@@ -219,7 +221,7 @@ fn judge_rest(rest: &mut Rest) -> bool {
         let before = rest.judged().len();
         let answer = rest.pump(3);
         let now = rest.judged().len();
-        if now < before || !is_answer(answer, before, now, rest.held()) {
+        if !is_answer(answer, before, now, rest.held()) {
             return false;
         }
         if !is_dirty_read_so_far(rest.judged(), rest.verdict()) {

@@ -1,4 +1,4 @@
-use Rattle.std.proofs.Common.{◌≡◌, ◌+◌, ◌<◌, ◌≤◌, refl, sym, ap, ◌∙◌, subst, inl, inr, arith}
+use Rattle.std.proofs.Common.{refl, sym, ◌∙◌, subst, inr, arith}
 use Rattle.std.proofs.lemmas.Result.{err_from_is_err_and}
 use Rattle.tmw_pump.proofs.HeadlineProof.{gives_headline}
 use Rattle.tmw_pump.proofs.Turns.{came-same, pumped-none, pumped-same, pumped-next, pumped-refused, pumped-more}
