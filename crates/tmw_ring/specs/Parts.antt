@@ -20,7 +20,7 @@ abbrev pub key : Part → ℕ
 key (Writes part) = part.number.number + 1
 key (Reads part) = 0
 
--- of these events, which have the places from this one on, the writer's, each with its place
+-- of these events, whose places are counted from this one on: those of this writer, each with its place
 abbrev pub made_from : ℕ → ℕ → List Event → List Made
 made_from writer place [] = []
 made_from writer place (event ∷ events) =

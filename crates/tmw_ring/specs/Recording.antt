@@ -12,11 +12,14 @@ use Rattle.tmw_ring.specs.declared.refused.Refused.TheVariants.{Full, Spent}
 abbrev pub made_at : Ix → Kind → ℕ → Made
 made_at writer kind place = record { place = place; event = record { thread = writer; kind = kind } }
 
--- The writer claimed this place, for one event of this kind.
+-- The writer claimed this place, for one event of this kind. Behind all that it had seen there was room, within the limit of
+-- places, for an event of each writer.
 pub record HasRecorded (kind : Kind) (place : ℕ) (old new : WriterIs) : Type 0 where
   pub made : new.made ≡ old.made ++ made_at old.number kind place ∷ []
   pub later : old.seen ≤ place
   pub small : place < 2 ^ 40
+  pub within : place < old.size.limit
+  pub room : old.seen + old.size.writers ≤ old.size.limit
   pub seen : place < new.seen
 
 -- The writer claimed nothing, and found this front and then this tail.

@@ -21,7 +21,7 @@ pub struct WriterPart {
     pub made: LinkedList<Made>,
     /// So many places, at least, were claimed.
     pub seen: u64,
-    /// What it found in the words that it loaded, in order.
+    /// What the steps that load a word have announced, in order.
     pub looks: LinkedList<Look>,
 }
 
@@ -32,7 +32,7 @@ pub struct ReaderPart {
     pub phase: ReaderPhase,
     /// The events that it has taken, in order.
     pub taken: LinkedList<Event>,
-    /// The stamps that it found, in order.
+    /// What the steps that load a stamp have announced, in order.
     pub looks: LinkedList<Look>,
 }
 

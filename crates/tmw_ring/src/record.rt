@@ -174,7 +174,7 @@ fn record_as<C: Choice>(
 
 impl Ring {
     /// Records an event of the writer's thread, and answers with its place. It waits for nothing: where the ring may lack room
-    /// for an event of each writer, it answers so.
+    /// for an event of each writer, or has too few places left up to its limit, it answers so.
     pub fn record(&self, writer: &mut Writer, kind: Kind) -> Result<u64, Refused>
         requires of_ring { WriterOf self.now writer.old }
         ensures still_of_ring { WriterOf self.now writer.new }

@@ -3,10 +3,10 @@ use thiserror::Error;
 /// Why an event was not recorded. Whether all places were given is tested first.
 #[derive(Clone, Copy, PartialEq, Eq, Debug, Error)]
 pub enum Refused {
-    /// There was no room for an event of each writer beyond the places from front to tail.
-    #[error("the ring is full: places {front} to {tail} are in use")]
+    /// There was no room for an event of each writer: so many places were given up to tail, and up to front they were free again.
+    #[error("the ring is full: {tail} places were given, and {front} of them are free again")]
     Full { front: u64, tail: u64 },
-    /// Places for an event of each writer from tail on would be past the ring's limit.
+    /// Fewer places than there are writers are left up to the ring's limit.
     #[error("the ring's places are spent: {tail} were given")]
     Spent { tail: u64 },
 }
