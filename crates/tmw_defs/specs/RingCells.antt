@@ -1,4 +1,4 @@
--- The words of a ring's cells, and the cell that a place uses. Nothing else knows how an event stands in its cell.
+-- The words of a ring's cells, and the cell that a place uses: what is stored there, and when it shows an event.
 use Rattle.std.specs.Prelude.{◌≡◌, ◌+◌, ◌%◌, ℕ, List, get_or, slice_set}
 use Rattle.tmw_events.specs.Packing.{packed_header, kind_value}
 use Rattle.tmw_events.specs.declared.event.Event.{Event}

@@ -86,6 +86,6 @@ pub record Sound (core : Core) : Type 0 where
 abbrev pub Spares : Core → Core → Type 0
 Spares old new = (place : ℕ) → old.front ≤ place → IsPublished old place → cell_at new place ≡ cell_at old place
 
--- A step from a sound state leaves a sound state, and no published place is stored to before it is taken.
+-- A step from a sound state leaves a sound state, and changes no cell of a published place before it is taken.
 abbrev pub StepLaw : Type 0
 StepLaw = (step : Step) (old new : Core) (reply : Reply) → Sound old → core_step step old ≡ Some (reply, new) → Sound new × Spares old new

@@ -54,14 +54,14 @@ impl Sim {
         Ok(Sim { state, made: 0 })
     }
 
-    /// Makes the step, and answers it. Where memory for the log is refused, nothing has changed.
+    /// Makes the step, and answers it. Where memory for the log or the taken events is refused, nothing has changed.
     pub fn step(&mut self, step: Step) -> Result<Reply, AllocError>
         requires { self.old.made + 1 < 2 ^ 64 }
         ensures reply { IfOk result (λ reply. reply ≡ (machine_step step self.old.machine).0) }
         ensures machine { OnOk result (self.new.machine ≡ (machine_step step self.old.machine).1) }
         ensures made { OnOk result (self.new.made ≡ self.old.made + 1) }
         ensures err { OnErr result (self.new ≡ self.old) }
-        // The state stays sound, and no published place is stored to before it is taken.
+        // The state stays sound, and no cell of a published place changes before it is taken.
         ensures sound { Sound self.new.machine.core }
         ensures spares { Spares self.old.machine.core self.new.machine.core }
     {
