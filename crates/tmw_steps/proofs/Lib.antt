@@ -1,8 +1,10 @@
 mod Answering
 mod FirstSizes
+mod ListTexts
 mod LongTexts
 mod NextSteps
 mod ReplyLines
 mod SizeNumbers
 mod StepNames
+mod StepTexts
 mod StepsRead

@@ -1,3 +1,4 @@
+pub mod Naming
 pub mod ReplyText
 pub mod Running
 pub mod StepFault

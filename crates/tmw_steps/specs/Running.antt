@@ -27,7 +27,7 @@ abbrev pub IsRefused : RingSize → Fault → Type 0
 IsRefused size fault =
     ((fault ≡ Size) × (HasRoom size → ⊥)) ⊎ ((fault ≡ Limit) × HasRoom size × (HasLimit size → ⊥))
 
--- What the machine makes of these steps; `Memory` answers a growth that was refused.
+-- What the machine makes of these steps; `Memory` answers want of memory, of which only tests show that a growth was refused.
 abbrev pub IsMade : RingSize → List Step → Result Run Fault → Type 0
 IsMade size steps (Ok run) = IsRunOf size steps run
 IsMade size steps (Err fault) = IsRefused size fault ⊎ (fault ≡ Memory)
@@ -43,7 +43,7 @@ HasFault Ended bytes fault = (told : TraceFault) × (fault ≡ fault_of told) ×
 
 -- This answers the bytes that a source told, which are all its bytes where `Ended` holds: the run of the steps of which they are
 -- the text; that no ring has the size that they give; or the first fault that they have. `Io` answers a failed read after bytes
--- that have no fault, and `Memory` a growth that was refused.
+-- that have no fault, and `Memory` want of memory, of which only tests show that a growth was refused.
 abbrev pub IsAnswer : Type 0 → List ℕ → Result Run Fault → Type 0
 IsAnswer Ended bytes (Ok run) = Ended × (size : RingSize) × (steps : List Step) × IsText bytes size steps × IsRunOf size steps run
 IsAnswer Ended bytes (Err fault) =

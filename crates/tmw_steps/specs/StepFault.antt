@@ -85,8 +85,8 @@ pub record EndsInOrder (bytes : List ℕ) : Type 0 where
 abbrev pub IsFaultless : List ℕ → Type 0
 IsFaultless bytes = IsUnbroken bytes ⊎ EndsInOrder bytes
 
--- the bytes, which end here where `Ended` holds, have this fault; where memory or a read failed, what was judged of
--- them has none
+-- the bytes, which end here where `Ended` holds, have this fault; where a read failed, what was judged of them has none, and
+-- for want of memory the first line at least is a size
 abbrev pub HasStepsFault : Type 0 → List ℕ → TraceFault → Type 0
 HasStepsFault Ended bytes BadHeader = (Ended × (bytes ≡ [])) ⊎ HasBadHeader bytes
 HasStepsFault Ended bytes (BadLine number) = HasBadLine bytes number

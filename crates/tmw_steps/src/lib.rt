@@ -2,6 +2,7 @@
 #![tactic(auto)]
 
 mod first_size;
+mod naming;
 mod next_step;
 mod reader;
 #[cfg(test)]
@@ -16,6 +17,7 @@ mod size_line;
 mod step_line;
 mod step_list;
 
+pub use naming::law_steps;
 pub use reader::read_steps;
 pub use reply_line::put_replies;
 pub use run::{Run, run_steps};

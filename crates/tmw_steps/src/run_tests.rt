@@ -63,6 +63,19 @@ fn a_late_claim(rt: HostRuntime) -> Result<(), Fail> {
 }
 
 #[test]
+fn a_stale_front(rt: HostRuntime) -> Result<(), Fail> {
+    expect(
+        &rt,
+        "ring-steps 1 2 2 100, front 0 T, tail 0, claim 0, fill 0, publish 0, front 1 X, peek, read, free, tail 1, tail 1, \
+            front 1 X, tail 1, claim 1, fill 1, publish 1, peek, read, free, front 0 K, tail 0, claim 0, fill 0, publish 0, \
+            peek, read, free",
+        "saw 0, cleared, place 0, filled, published 0, saw 0, ready, word 0, event 0 T, full 0 1, not now, saw 1, cleared, \
+            place 1, filled, published 1, ready, word 0, event 1 X, saw 2, cleared, place 2, filled, published 2, ready, \
+            word 0, event 0 K, log 3 taken 3",
+    )
+}
+
+#[test]
 fn a_stopped_writer(rt: HostRuntime) -> Result<(), Fail> {
     expect(
         &rt,
@@ -81,6 +94,11 @@ fn steps_that_are_not_next(rt: HostRuntime) -> Result<(), Fail> {
             fill 0, publish 0, publish 0, peek, peek, read, read, free",
         "not now, not now, not now, not now, not now, saw 0, not now, cleared, place 0, not now, filled, not now, published 0, \
             not now, ready, not now, word 3, not now, event 0 N 7 3, log 1 taken 1",
+    )?;
+    expect(
+        &rt,
+        "ring-steps 1 4 2 100, claim 0, tail 5",
+        "not now, not now, log 0 taken 0",
     )?;
     expect(&rt, "ring-steps 1 2 2 100", "log 0 taken 0")
 }
