@@ -42,8 +42,9 @@ abbrev pub HasFault : Type 0 → List ℕ → Fault → Type 0
 HasFault Ended bytes fault = (told : TraceFault) × (fault ≡ fault_of told) × HasStepsFault Ended bytes told
 
 -- This answers the bytes that a source told, which are all its bytes where `Ended` holds: the run of the steps of which they are
--- the text; that no ring has the size that they give; or the first fault that they have. `Io` answers a failed read after bytes
--- that have no fault, and `Memory` want of memory, of which only tests show that a growth was refused.
+-- the text, and there is but one such list (`law_steps`); that no ring has the size that they give; or the first fault that they
+-- have. `Io` answers a failed read after bytes that have no fault, and `Memory` want of memory, of which only tests show that a
+-- growth was refused.
 abbrev pub IsAnswer : Type 0 → List ℕ → Result Run Fault → Type 0
 IsAnswer Ended bytes (Ok run) = Ended × (size : RingSize) × (steps : List Step) × IsText bytes size steps × IsRunOf size steps run
 IsAnswer Ended bytes (Err fault) =
