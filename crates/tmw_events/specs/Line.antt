@@ -48,6 +48,15 @@ pub record ReadsLine {S : Type 0} (Told : S → List ℕ → Type 0) (Ended : Ty
   pub told : Adds Told old bytes new
   pub is : IsLineRead Ended version count (before ++ bytes) left result
 
+-- a fault that the first line of a trace may have: no later line is read, and no memory is taken
+abbrev pub IsOfFirstLine : TraceFault → Type 0
+IsOfFirstLine BadHeader = Unit {0}
+IsOfFirstLine (Cut number) = number ≡ 1
+IsOfFirstLine Io = Unit {0}
+IsOfFirstLine (BadLine number) = ⊥
+IsOfFirstLine TooLong = ⊥
+IsOfFirstLine Memory = ⊥
+
 -- what was read of the first bytes: a header's line and what is left, or a fault
 abbrev pub IsHeaderRead : Type 0 → List ℕ → List ℕ → Result Header TraceFault → Type 0
 IsHeaderRead Ended bytes left (Ok header) = (bytes ≡ line (header_text header) ++ left) × FitsHeader header

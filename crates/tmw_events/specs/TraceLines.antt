@@ -1,6 +1,7 @@
 -- What a reader of a trace's lines has read, and what each of its calls gives.
 use Rattle.std.specs.Prelude.{◌≡◌, ℕ, ◌≤◌, List, [], ◌∷◌, ◌++◌, length}
 use Rattle.tmw_events.specs.Held.{bytes_of}
+use Rattle.tmw_events.specs.Line.{HasLineFault}
 use Rattle.tmw_events.specs.Text.{trace_text, AreEvents}
 use Rattle.tmw_events.specs.TextFault.{HasTextFault}
 use Rattle.tmw_events.specs.declared.event.Event.{Event}
@@ -50,6 +51,10 @@ GivesEvent old new bytes event = (header : Header) (events : List Event) (before
 abbrev pub GivesEnd : Type 0 → TraceLines → List ℕ → Type 0
 GivesEnd Ended old bytes = (header : Header) (events : List Event) (before : List ℕ)
     → HasRead old header events before → Ended × (before ++ bytes ≡ trace_text header events)
+
+-- where it had answered no fault and not the end, the line behind those given has this fault, whatever is behind that line
+abbrev pub FailsAtLine : Type 0 → TraceLines → List ℕ → TraceFault → Type 0
+FailsAtLine Ended old bytes fault = IsReading old → HasLineFault Ended old.version old.count (bytes_of old.held ++ bytes) fault
 
 -- whatever it had read before, all bytes told have this fault
 abbrev pub GivesFault : Type 0 → TraceLines → List ℕ → TraceFault → Type 0

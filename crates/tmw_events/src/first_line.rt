@@ -1,6 +1,6 @@
 ghost use Rattle.std.specs.Prelude.{◌≡◌, ◌+◌, ◌∷◌, ◌++◌, take, drop, IfSome, IfNone, IfErr, OnOk};
 ghost use Rattle.tmw_events.specs.Held.{bytes_of};
-ghost use Rattle.tmw_events.specs.Line.{ReadsHeader};
+ghost use Rattle.tmw_events.specs.Line.{IsOfFirstLine, ReadsHeader};
 ghost use Rattle.tmw_events.specs.Parts.{IsFree};
 ghost use Rattle.tmw_events.specs.Text.{header_text, line, FitsHeader};
 ghost use Rattle.tmw_events.specs.TextFault.{HasBadHeader, failures_after};
@@ -17,6 +17,7 @@ use crate::trace_fault::TraceFault;
 pub fn first_line<S: Source>(held: &mut Held, source: &mut S) -> Result<Header, TraceFault>
     ensures reads { ReadsHeader S.told (S.ended source.new) source.old source.new
         (bytes_of held.old) (bytes_of held.new) result }
+    ensures first { IfErr result IsOfFirstLine }
     ensures well { OnOk result (S.failures source.new ≡ S.failures source.old) }
     ensures failed { IfErr result (λ fault. S.failures source.new ≡ failures_after fault (S.failures source.old)) }
 {

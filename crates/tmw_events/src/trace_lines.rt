@@ -1,4 +1,5 @@
 ghost use Rattle.std.specs.Prelude.{◌≡◌, ℕ, ◌+◌, ◌<◌, ◌≤◌, ◌^◌, List, [], ◌∷◌, ◌++◌, length, IfOk, IfErr, IfSome, IfNone, OnOk, OnSome, Ok, Err, None};
+ghost use Rattle.tmw_events.specs.Line.{IsOfFirstLine};
 ghost use Rattle.tmw_events.specs.Told.{Adds};
 ghost use Rattle.tmw_events.specs.TextFault.{HasTextFault, failures_after};
 ghost use Rattle.tmw_events.specs.declared.trace_fault.TraceFault.{TraceFault};
@@ -36,7 +37,7 @@ pub struct TraceLines {
 }
 
 impl TraceLines {
-    ghost use Rattle.tmw_events.specs.TraceLines.{IsNew, IsReading, IsOver, HasFailed, HasRead, unread, GivesEvent, GivesEnd, GivesFault};
+    ghost use Rattle.tmw_events.specs.TraceLines.{IsNew, IsReading, IsOver, HasFailed, HasRead, unread, GivesEvent, GivesEnd, FailsAtLine, GivesFault};
 
     /// Nothing is read.
     pub const fn new() -> TraceLines
@@ -57,6 +58,7 @@ impl TraceLines {
             × Adds S.told source.old bytes source.new × HasRead self.new header [] bytes) }
         ensures fault { IfErr result (λ fault. (bytes : List ℕ)
             × Adds S.told source.old bytes source.new × HasTextFault (S.ended source.new) bytes fault) }
+        ensures first { IfErr result IsOfFirstLine }
         ensures stays { IfErr result (HasFailed self.new) }
         ensures well { OnOk result (S.failures source.new ≡ S.failures source.old) }
         ensures failed { IfErr result (λ fault. S.failures source.new ≡ failures_after fault (S.failures source.old)) }
@@ -82,6 +84,8 @@ impl TraceLines {
             × Adds S.told source.old bytes source.new × GivesEnd (S.ended source.new) self.old bytes)) }
         ensures fault { IfErr result (λ fault. (bytes : List ℕ)
             × Adds S.told source.old bytes source.new × GivesFault (S.ended source.new) self.old bytes fault) }
+        ensures at_line { IfErr result (λ fault. (bytes : List ℕ)
+            × Adds S.told source.old bytes source.new × FailsAtLine (S.ended source.new) self.old bytes fault) }
         ensures falls { IfOk result (λ found. OnSome found
             (S.left source.new + unread self.new < S.left source.old + unread self.old)) }
         ensures well { OnOk result (S.failures source.new ≡ S.failures source.old) }

@@ -11,3 +11,6 @@ pub returns-in-Err-clause-fault : goal.returns-in-Err-clause-fault
 returns-in-Err-clause-fault g c =
     let line = c.in-Err.ensures.reads in
     (line.bytes, line.told, text_fault-line (g.S.Source.ended c.next_line.new.source) c.args.self.now line.bytes c.in-Err.fault line.is)
+
+pub returns-in-Err-clause-at_line : goal.returns-in-Err-clause-at_line
+returns-in-Err-clause-at_line g c = let line = c.in-Err.ensures.reads in (line.bytes, line.told, λ reading. line.is)
