@@ -1,4 +1,4 @@
-//! The verdict on a history as its events come, with none of the past kept.
+//! The verdict on a history as its events come, with no event kept.
 #![tactic(auto)]
 
 mod bounds;

@@ -1,6 +1,6 @@
 use thiserror::Error;
 
-/// Why there is no report. A line's number counts from 1, and the header is line 1.
+/// Why there is no report, or no replies to a list of steps. A line's number counts from 1, and the header is line 1.
 #[derive(Debug, Drop, Clone, Copy, PartialEq, Eq, Error)]
 pub enum Fault {
     /// The first line is not the header of a trace.

@@ -8,8 +8,8 @@ use tmw_events::{Source, TraceLines};
 use tmw_monitor::{Bounds, Monitor};
 use tmw_report::{Fault, fault_of};
 
-/// Reads a trace up to the source's end, and judges each event as its line is read. Of the past nothing is kept, so a trace of
-/// any length is judged in the same memory. Where memory is refused, nothing is read after it.
+/// Reads a trace up to the source's end, and judges each event as its line is read. No event is kept, so the memory depends on
+/// the transactions since the last cut and not on the trace's length. Where memory is refused, nothing is read after it.
 pub fn judge<S: Source>(alloc: Global, source: &mut S, bounds: Bounds) -> Result<Report, Fault>
     ensures right { (bytes : List ℕ) × Adds S.told source.old bytes source.new
         × IsAnswer (S.ended source.new) bounds bytes result }
