@@ -1,18 +1,5 @@
-pub mod Beginnings
-mod EventLines
-mod FirstLines
-mod HeaderLines
-mod HeldBytes
-pub mod Lengths
-mod LinesRead
-mod LongLines
-pub mod NextLines
+pub mod KindTexts
 mod Numbers
 pub mod PackedWords
-mod Pieces
-pub mod Splits
-pub mod TextNames
-pub mod ToldBytes
-pub mod TracesRead
+pub mod Same
 pub mod Unpacks
-pub mod ValueParts

@@ -4,7 +4,7 @@ use Rattle.tmw_events.specs.Packing.{kind_code, kind_register, kind_value, packe
 use Rattle.tmw_events.specs.declared.event.Event.{Event}
 use Rattle.tmw_events.specs.declared.event.Kind.{Kind}
 use Rattle.tmw_events.specs.declared.event.Kind.TheVariants.{R, V, W, K, T, C, X, A, N}
-use Rattle.tmw_events.proofs.TextNames.{same_ix}
+use Rattle.tmw_events.proofs.Same.{same_ix}
 
 -- there are nine codes
 code-small : (kind : Kind) → kind_code kind < 9

@@ -1,6 +1,6 @@
 -- The words of an event tell that event.
 use Rattle.std.proofs.Common.{◌≡◌, ◌+◌, ◌*◌, ◌/◌, ◌%◌, ◌<◌, ℕ, refl, ap, ◌∙◌, arith, get_or}
-use Rattle.tmw_events.proofs.TextNames.{same_ix}
+use Rattle.tmw_events.proofs.Same.{same_ix}
 use Rattle.tmw_events.specs.Packing.{packed_header, kind_code, kind_register, kind_value}
 use Rattle.tmw_events.specs.Unpacking.{unpacked, ix_of, kinds}
 use Rattle.tmw_events.specs.declared.event.Event.{Event}

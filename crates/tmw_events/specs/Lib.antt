@@ -1,14 +1,3 @@
-pub mod Held
-pub mod Line
-pub mod LongLine
-pub mod Memory
 pub mod Packing
-pub mod Parts
-pub mod Piece
-pub mod Start
 pub mod Text
-pub mod TextFault
-pub mod Told
-pub mod TraceLines
 pub mod Unpacking
-pub mod Values

@@ -1,15 +1,10 @@
--- The texts of kinds, events, headers and traces. Numbers are decimal, without sign and without leading zeros.
-use Rattle.std.specs.Prelude.{◌≡◌, ℕ, ◌+◌, ◌<◌, ◌^◌, true, List, [], ◌∷◌, ◌++◌, length, take, codes, All}
-use Rattle.std.specs.List.{flat_map}
+-- The texts of kinds and events. Numbers are decimal, without sign and without leading zeros.
+use Rattle.std.specs.Prelude.{ℕ, ◌+◌, ◌<◌, ◌^◌, List, [], ◌∷◌, ◌++◌, codes}
 use Rattle.std.specs.Fmt.{decimal}
-use Rattle.tmw_events.specs.Start.{are_spoken}
 use Rattle.tmw_events.specs.declared.event.Event.{Event}
 use Rattle.tmw_events.specs.declared.event.Kind.{Kind}
 use Rattle.tmw_events.specs.declared.event.Kind.TheVariants.{R, V, W, K, T, C, X, A, N}
-use Rattle.tmw_events.specs.declared.header.Header.{Header}
 use Rattle.tmw_events.specs.declared.ix.Ix.{Ix}
-use Rattle.tmw_events.specs.declared.version.Version.{Version}
-use Rattle.tmw_events.specs.declared.version.Version.TheVariants.{One, Two}
 
 -- the digit that names a thread or a register
 abbrev pub digit : Ix → ℕ
@@ -31,55 +26,9 @@ kind_text (N register value) = codes "N " ++ digit register ∷ 32 ∷ decimal v
 abbrev pub event_text : Event → List ℕ
 event_text event = digit event.thread ∷ 32 ∷ kind_text event.kind
 
--- a text and the line feed that ends it
-abbrev pub line : List ℕ → List ℕ
-line text = text ++ 10 ∷ []
-
--- the version's digit
-abbrev pub version_digit : Version → ℕ
-version_digit One = 49
-version_digit Two = 50
-
--- each of these values after one space
-abbrev pub values_text : List ℕ → List ℕ
-values_text values = flat_map (λ value. 32 ∷ decimal value) values
-
--- the values at the start, which version two tells
-abbrev pub initial_text : Version → List ℕ → List ℕ
-initial_text One values = []
-initial_text Two values = values_text values
-
--- the version, the number of registers, and the values at the start
-abbrev pub numbers_text : Header → List ℕ
-numbers_text header =
-    version_digit header.version ∷ 32 ∷ (48 + header.registers.number)
-    ∷ initial_text header.version (take header.registers.number header.initial)
-
--- a trace's first line without its line feed
-abbrev pub header_text : Header → List ℕ
-header_text header = codes "opacity-trace " ++ numbers_text header
-
--- a line for each event
-abbrev pub lines_text : List Event → List ℕ
-lines_text events = flat_map (λ event. line (event_text event)) events
-
--- the header's line, then a line for each event
-abbrev pub trace_text : Header → List Event → List ℕ
-trace_text header events = line (header_text header) ++ lines_text events
-
 -- a kind's value is a number of 64 bits
 abbrev pub FitsKind : Kind → Type 0
 FitsKind (V value) = value < 2 ^ 64
 FitsKind (W register value) = value < 2 ^ 64
 FitsKind (N register value) = value < 2 ^ 64
 FitsKind _ = Unit {0}
-
--- eight registers have a value at the start, each of 64 bits
-abbrev pub FitsHeader : Header → Type 0
-FitsHeader header = (length header.initial ≡ 8) × All (λ value. value < 2 ^ 64) header.initial
-
--- these are events of a trace with this header: the version has them, and their values are numbers of 64 bits
-pub record AreEvents (header : Header) (events : List Event) : Type 0 where
-  pub header_fits : FitsHeader header
-  pub spoken : are_spoken header.version events ≡ true
-  pub fit : All (λ event. FitsKind event.kind) events

@@ -1,12 +1,10 @@
 ghost use Rattle.std.specs.Prelude.{◌≡◌, ◌++◌, OnOk, OnErr, decimal};
 ghost use Rattle.tmw_events.specs.Text.{digit, kind_text, event_text};
-ghost use Rattle.tmw_events.specs.Told.{Adds, AddsBeginning, one_more};
+ghost use Rattle.tmw_streams.specs.Told.{Adds, AddsBeginning, one_more};
 
 use crate::event::{Event, Kind};
-use crate::io_fault::IoFault;
+use tmw_streams::{IoFault, Sink, put_all};
 use crate::ix::Ix;
-use crate::sink::Sink;
-use crate::writing::put_all;
 use itoa::Buffer;
 
 /// Writes the event's text, without a line feed. It takes no memory. After a failed write a beginning of the text went

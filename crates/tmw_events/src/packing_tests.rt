@@ -1,7 +1,8 @@
 //! Words of single events, and the texts of events that a sink was given.
 ghost use Rattle.std.specs.Prelude.{◌<◌};
 
-use crate::{Event, IoFault, Ix, Kind, MemorySink, join, pack, put_event, split, unpack};
+use crate::{Event, Ix, Kind, join, pack, put_event, split, unpack};
+use tmw_streams::{IoFault, MemorySink};
 
 /// The thread or register of this number.
 fn ix(number: u8) -> Ix

@@ -3,7 +3,7 @@ use super::*;
 use std::alloc::{AllocError, Global};
 use std::test::Fail;
 use tmw_events::{Event, Ix, Kind, Registers};
-use tmw_search::{Whole, WholeFault, judge_whole};
+use tmw_plain_check::{Whole, WholeFault, judge_whole};
 use tmw_wellformed::Tracker;
 
 const TWO: Registers = Registers { number: 2 };

@@ -1,8 +1,8 @@
 -- What a sink takes as an answer, and the exit status that goes with it.
 use Rattle.std.specs.Prelude.{◌≡◌, ◌⊎◌, ℕ, List}
-use Rattle.tmw_events.specs.Told.{Adds, AddsBeginning, one_more}
-use Rattle.tmw_events.specs.declared.trace_fault.TraceFault.{TraceFault}
-use Rattle.tmw_events.specs.declared.trace_fault.TraceFault.TheVariants.{BadHeader as IsBadHeader, BadLine as IsBadLine, Cut as IsCut, Memory as WantsMemory, Io as IsIo, TooLong as IsTooLong}
+use Rattle.tmw_streams.specs.Told.{Adds, AddsBeginning, one_more}
+use Rattle.tmw_trace.specs.declared.trace_fault.TraceFault.{TraceFault}
+use Rattle.tmw_trace.specs.declared.trace_fault.TraceFault.TheVariants.{BadHeader as IsBadHeader, BadLine as IsBadLine, Cut as IsCut, Memory as WantsMemory, Io as IsIo, TooLong as IsTooLong}
 use Rattle.tmw_report.specs.declared.fault.Fault.{Fault}
 use Rattle.tmw_report.specs.declared.fault.Fault.TheVariants.{BadHeader, BadLine, Cut, Memory, Io, TooLong}
 

@@ -5,7 +5,8 @@ ghost use Rattle.tmw_report.specs.Putting.{IsPut, fault_of};
 use crate::fault::Fault;
 use crate::fault_line::write_fault;
 use crate::status::FAULT_STATUS;
-use tmw_events::{Sink, TraceFault};
+use tmw_streams::Sink;
+use tmw_trace::TraceFault;
 
 /// Writes the fault's line and answers its exit status. It takes no memory.
 pub fn answer_fault<K: Sink>(sink: &mut K, fault: Fault) -> u8

@@ -1,10 +1,10 @@
 ghost use Rattle.std.specs.Prelude.{◌≡◌, ◌++◌, OnOk, OnErr, decimal};
-ghost use Rattle.tmw_events.specs.Told.{Adds, AddsBeginning, one_more};
+ghost use Rattle.tmw_streams.specs.Told.{Adds, AddsBeginning, one_more};
 ghost use Rattle.tmw_report.specs.Lines.{fault_line, line_end};
 
 use crate::fault::Fault;
 use itoa::Buffer;
-use tmw_events::{IoFault, Sink, put_all};
+use tmw_streams::{IoFault, Sink, put_all};
 
 /// Writes the fault's line, with its line feed. It takes no memory. After a failed write a beginning of the line went out,
 /// and not all of it.

@@ -2,7 +2,7 @@
 use crate::{FAULT_STATUS, Fault, report_text, status_of, write_fault};
 use std::test::Fail;
 use tmw_defs::{Verdict, Why};
-use tmw_events::{IoFault, MemorySink};
+use tmw_streams::{IoFault, MemorySink};
 
 const LAST: u64 = u64::MAX;
 

@@ -3,10 +3,10 @@ use Rattle.std.proofs.Common.{◌≡◌, ◌⊎◌, ◌+◌, ◌-◌, ◌<◌, �
 use Rattle.std.proofs.lemmas.List.Elements.{All-push}
 use Rattle.atomic_table.specs.Seated.{TableId}
 use Rattle.atomic_table.specs.Table.{Me}
-use Rattle.tmw_events.proofs.TextNames.{same_ix}
+use Rattle.tmw_events.proofs.Same.{same_ix}
 use Rattle.tmw_events.specs.Unpacking.{ix_of}
 use Rattle.tmw_events.specs.declared.ix.Ix.{Ix}
-use Rattle.tmw_defs.specs.declared.ring_size.RingSize.{RingSize}
+use Rattle.tmw_ring_defs.specs.declared.ring_size.RingSize.{RingSize}
 use Rattle.tmw_ring.specs.Ends.{RingIs, WriterIs, WriterOf}
 use Rattle.tmw_ring.specs.NewRing.{IsNewWriter, AreNewWriters}
 use Rattle.tmw_ring.specs.Parts.{Parts, new_writer, new_writers, new_reader}

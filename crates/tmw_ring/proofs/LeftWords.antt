@@ -8,11 +8,11 @@ use Rattle.tmw_events.specs.Packing.{packed_header, kind_value, pack}
 use Rattle.tmw_events.specs.Text.{FitsKind}
 use Rattle.tmw_events.specs.Unpacking.{unpacked}
 use Rattle.tmw_events.specs.declared.event.Event.{Event}
-use Rattle.tmw_defs.specs.Ring.{Core}
-use Rattle.tmw_defs.specs.RingCells.{empty_cell}
-use Rattle.tmw_defs.specs.RingSound.{Sound, IsPublished}
-use Rattle.tmw_defs.specs.RingSteps.{cell_at}
-use Rattle.tmw_defs.proofs.RingStores.{has_cell}
+use Rattle.tmw_ring_defs.specs.Ring.{Core}
+use Rattle.tmw_ring_defs.specs.RingCells.{empty_cell}
+use Rattle.tmw_ring_defs.specs.RingSound.{Sound, IsPublished}
+use Rattle.tmw_ring_defs.specs.RingSteps.{cell_at}
+use Rattle.tmw_ring_defs.proofs.RingStores.{has_cell}
 use Rattle.tmw_ring.specs.Rule.{IsReal}
 use Rattle.tmw_ring.specs.Settling.{HasEvent, header_at, value_at, event_at, events_from}
 use Rattle.tmw_ring.specs.Words.{header_of, words_of}

@@ -4,9 +4,9 @@ use mathlib.Core.Option.{some, some-injective, some-ne-none}
 use lib.ListN.{get_elem?}
 use Rattle.atomic_table.proofs.Lists.{at_set}
 use Rattle.atomic_table.specs.Table.{State, keeps, stepped}
-use Rattle.tmw_defs.specs.Ring.{Core}
-use Rattle.tmw_defs.specs.RingSound.{Sound}
-use Rattle.tmw_defs.specs.declared.ring_size.RingSize.{RingSize}
+use Rattle.tmw_ring_defs.specs.Ring.{Core}
+use Rattle.tmw_ring_defs.specs.RingSound.{Sound}
+use Rattle.tmw_ring_defs.specs.declared.ring_size.RingSize.{RingSize}
 use Rattle.tmw_ring.specs.Parts.{Parts, key}
 use Rattle.tmw_ring.specs.Rule.{Fits, IsReal, Lies, Shown}
 use Rattle.tmw_ring.specs.Words.{words_of}

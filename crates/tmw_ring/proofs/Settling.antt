@@ -6,9 +6,9 @@ use Rattle.std.specs.Prelude.{slice_index}
 use mathlib.Core.Option.{some}
 use lib.ListN.{get_elem?}
 use Rattle.tmw_events.specs.declared.event.Event.{Event}
-use Rattle.tmw_defs.specs.Ring.{Core}
-use Rattle.tmw_defs.specs.RingSound.{Sound}
-use Rattle.tmw_defs.specs.declared.ring_size.RingSize.{RingSize}
+use Rattle.tmw_ring_defs.specs.Ring.{Core}
+use Rattle.tmw_ring_defs.specs.RingSound.{Sound}
+use Rattle.tmw_ring_defs.specs.declared.ring_size.RingSize.{RingSize}
 use Rattle.tmw_ring.specs.Ends.{WriterIs}
 use Rattle.tmw_ring.specs.Parts.{made_from}
 use Rattle.tmw_ring.specs.Settling.{AreInOrder, IsSettled, HasEvent, events_from}

@@ -5,13 +5,13 @@ use Rattle.std.specs.Prelude.{slice_get}
 use mathlib.Core.Option.{some, some-injective, some-ne-none}
 use lib.ListN.{get_elem?}
 use Rattle.atomic_table.specs.Table.{State, opening}
-use Rattle.tmw_defs.specs.Ring.{IsSize, new_core}
-use Rattle.tmw_defs.specs.RingCells.{empty_cell}
-use Rattle.tmw_defs.specs.declared.ring_cell.RingCell.{RingCell}
-use Rattle.tmw_defs.specs.declared.ring_phase.WriterPhase.TheVariants.{Idle}
-use Rattle.tmw_defs.specs.declared.ring_size.RingSize.{RingSize}
-use Rattle.tmw_defs.proofs.RingPhases.{all_idle}
-use Rattle.tmw_defs.proofs.RingStart.{new_core-sound}
+use Rattle.tmw_ring_defs.specs.Ring.{IsSize, new_core}
+use Rattle.tmw_ring_defs.specs.RingCells.{empty_cell}
+use Rattle.tmw_ring_defs.specs.declared.ring_cell.RingCell.{RingCell}
+use Rattle.tmw_ring_defs.specs.declared.ring_phase.WriterPhase.TheVariants.{Idle}
+use Rattle.tmw_ring_defs.specs.declared.ring_size.RingSize.{RingSize}
+use Rattle.tmw_ring_defs.proofs.RingPhases.{all_idle}
+use Rattle.tmw_ring_defs.proofs.RingStart.{new_core-sound}
 use Rattle.tmw_ring.specs.Parts.{Parts, key, new_writer, new_writers, new_reader, new_parts}
 use Rattle.tmw_ring.specs.Rule.{Fits, FitsPhase, IsReal, Lies, Shown, WriterFits}
 use Rattle.tmw_ring.specs.Words.{IsHeader, word_count}

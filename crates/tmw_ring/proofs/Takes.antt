@@ -8,17 +8,17 @@ use Rattle.atomic_table.specs.Table.{State, Me, Allows, keeps, stepped}
 use Rattle.tmw_events.specs.Packing.{kind_value}
 use Rattle.tmw_events.specs.Unpacking.{unpacked}
 use Rattle.tmw_events.specs.declared.event.Event.{Event}
-use Rattle.tmw_defs.specs.Ring.{Core}
-use Rattle.tmw_defs.specs.RingCells.{empty_cell}
-use Rattle.tmw_defs.specs.RingSound.{HasRead, Sound}
-use Rattle.tmw_defs.specs.RingSteps.{cell_at, peek_step, read_step, free_step}
-use Rattle.tmw_defs.specs.declared.ring_cell.RingCell.{RingCell}
-use Rattle.tmw_defs.specs.declared.ring_phase.ReaderPhase.{ReaderPhase}
-use Rattle.tmw_defs.specs.declared.ring_phase.ReaderPhase.TheVariants.{Waiting, Ready, Told}
-use Rattle.tmw_defs.specs.declared.ring_size.RingSize.{RingSize}
-use Rattle.tmw_defs.specs.declared.ring_step.Reply.TheVariants.{Ready as IsReady, NotReady, Word, Taken}
-use Rattle.tmw_defs.proofs.RingStores.{has_cell}
-use Rattle.tmw_defs.proofs.RingTakes.{peek_keeps, read_keeps, free_keeps}
+use Rattle.tmw_ring_defs.specs.Ring.{Core}
+use Rattle.tmw_ring_defs.specs.RingCells.{empty_cell}
+use Rattle.tmw_ring_defs.specs.RingSound.{HasRead, Sound}
+use Rattle.tmw_ring_defs.specs.RingSteps.{cell_at, peek_step, read_step, free_step}
+use Rattle.tmw_ring_defs.specs.declared.ring_cell.RingCell.{RingCell}
+use Rattle.tmw_ring_defs.specs.declared.ring_phase.ReaderPhase.{ReaderPhase}
+use Rattle.tmw_ring_defs.specs.declared.ring_phase.ReaderPhase.TheVariants.{Waiting, Ready, Told}
+use Rattle.tmw_ring_defs.specs.declared.ring_size.RingSize.{RingSize}
+use Rattle.tmw_ring_defs.specs.declared.ring_step.Reply.TheVariants.{Ready as IsReady, NotReady, Word, Taken}
+use Rattle.tmw_ring_defs.proofs.RingStores.{has_cell}
+use Rattle.tmw_ring_defs.proofs.RingTakes.{peek_keeps, read_keeps, free_keeps}
 use Rattle.tmw_ring.specs.Parts.{Parts, key}
 use Rattle.tmw_ring.specs.Rule.{Fits, IsReal, ReaderFits, Shown}
 use Rattle.tmw_ring.specs.Seats.{reader_in, IsWaitingReader}

@@ -6,8 +6,8 @@ use Rattle.tmw_events.proofs.Unpacks.{unpacked-pack}
 use Rattle.tmw_events.specs.Packing.{pack}
 use Rattle.tmw_events.specs.Unpacking.{unpacked}
 use Rattle.tmw_events.specs.declared.event.Event.{Event}
-use Rattle.tmw_defs.specs.declared.ring_phase.ReaderPhase.{ReaderPhase}
-use Rattle.tmw_defs.specs.declared.ring_phase.ReaderPhase.TheVariants.{Ready}
+use Rattle.tmw_ring_defs.specs.declared.ring_phase.ReaderPhase.{ReaderPhase}
+use Rattle.tmw_ring_defs.specs.declared.ring_phase.ReaderPhase.TheVariants.{Ready}
 use Rattle.tmw_ring.specs.Parts.{Parts}
 use Rattle.tmw_ring.specs.Seats.{reader_in, reader_is, IsWaitingReader}
 use Rattle.tmw_ring.specs.Takes.{phase_after, after_look, phase_with, after_read, next_event, after_free, IsReadyReader, IsToldReader, StampSeen, ValueRead, PlaceFreed, HasTaken, HasFoundNone}

@@ -7,11 +7,11 @@ use lib.ListN.{get_elem?}
 use Rattle.tmw_events.specs.Packing.{packed_header, kind_value, joined}
 use Rattle.tmw_events.specs.declared.event.Event.{Event}
 use Rattle.tmw_events.specs.declared.event.Kind.{Kind}
-use Rattle.tmw_defs.specs.Ring.{Core, new_core}
-use Rattle.tmw_defs.specs.RingCells.{empty_cell, filled, published}
-use Rattle.tmw_defs.specs.RingSteps.{with_cell, cell_at}
-use Rattle.tmw_defs.specs.declared.ring_cell.RingCell.{RingCell}
-use Rattle.tmw_defs.specs.declared.ring_size.RingSize.{RingSize}
+use Rattle.tmw_ring_defs.specs.Ring.{Core, new_core}
+use Rattle.tmw_ring_defs.specs.RingCells.{empty_cell, filled, published}
+use Rattle.tmw_ring_defs.specs.RingSteps.{with_cell, cell_at}
+use Rattle.tmw_ring_defs.specs.declared.ring_cell.RingCell.{RingCell}
+use Rattle.tmw_ring_defs.specs.declared.ring_size.RingSize.{RingSize}
 use Rattle.tmw_ring.specs.Words.{stamped, stamp_of, header_of, IsHeader, cell_words, words_of, word_count, stamp_word, value_word}
 
 -- A first word's parts are its stamp and its header.

@@ -7,13 +7,13 @@ use Rattle.tmw_events.specs.Text.{FitsKind}
 use Rattle.tmw_events.specs.declared.event.Event.{Event}
 use Rattle.tmw_events.specs.declared.event.Kind.{Kind}
 use Rattle.tmw_events.specs.declared.ix.Ix.{Ix}
-use Rattle.tmw_defs.specs.Ring.{Core}
-use Rattle.tmw_defs.specs.RingSound.{IsIn, Sound, cleared}
-use Rattle.tmw_defs.specs.declared.ring_phase.WriterPhase.{WriterPhase}
-use Rattle.tmw_defs.specs.declared.ring_phase.WriterPhase.TheVariants.{Cleared, Claimed}
-use Rattle.tmw_defs.specs.declared.ring_size.RingSize.{RingSize}
-use Rattle.tmw_defs.specs.declared.ring_step.Reply.TheVariants.{Place}
-use Rattle.tmw_defs.proofs.RingClaims.{claim_keeps}
+use Rattle.tmw_ring_defs.specs.Ring.{Core}
+use Rattle.tmw_ring_defs.specs.RingSound.{IsIn, Sound, cleared}
+use Rattle.tmw_ring_defs.specs.declared.ring_phase.WriterPhase.{WriterPhase}
+use Rattle.tmw_ring_defs.specs.declared.ring_phase.WriterPhase.TheVariants.{Cleared, Claimed}
+use Rattle.tmw_ring_defs.specs.declared.ring_size.RingSize.{RingSize}
+use Rattle.tmw_ring_defs.specs.declared.ring_step.Reply.TheVariants.{Place}
+use Rattle.tmw_ring_defs.proofs.RingClaims.{claim_keeps}
 use Rattle.tmw_ring.specs.Parts.{Parts, made_from}
 use Rattle.tmw_ring.specs.Recording.{made_at}
 use Rattle.tmw_ring.specs.Rule.{Shown, WriterFits, IsReal, IsRecorded}

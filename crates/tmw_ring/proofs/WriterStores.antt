@@ -5,19 +5,19 @@ use Rattle.atomic_table.specs.Table.{Me, Allows, keeps}
 use Rattle.tmw_events.proofs.PackedWords.{packed_header-small}
 use Rattle.tmw_events.specs.Packing.{packed_header, kind_value, joined}
 use Rattle.tmw_events.specs.declared.event.Kind.{Kind}
-use Rattle.tmw_defs.specs.Ring.{Core}
-use Rattle.tmw_defs.specs.RingCells.{empty_cell, filled, published}
-use Rattle.tmw_defs.specs.RingSound.{IsIn, Sound}
-use Rattle.tmw_defs.specs.RingSteps.{cell_at, with_cell, with_phase}
-use Rattle.tmw_defs.specs.declared.ring_cell.RingCell.{RingCell}
-use Rattle.tmw_defs.specs.declared.ring_phase.WriterPhase.{WriterPhase}
-use Rattle.tmw_defs.specs.declared.ring_phase.WriterPhase.TheVariants.{Idle, Claimed}
-use Rattle.tmw_defs.specs.declared.ring_size.RingSize.{RingSize}
-use Rattle.tmw_defs.specs.declared.ring_step.Reply.TheVariants.{Filled, Published}
-use Rattle.tmw_defs.proofs.RingFills.{fill_keeps}
-use Rattle.tmw_defs.proofs.RingPlaces.{event_of}
-use Rattle.tmw_defs.proofs.RingPublishes.{publish_keeps}
-use Rattle.tmw_defs.proofs.RingStores.{has_cell}
+use Rattle.tmw_ring_defs.specs.Ring.{Core}
+use Rattle.tmw_ring_defs.specs.RingCells.{empty_cell, filled, published}
+use Rattle.tmw_ring_defs.specs.RingSound.{IsIn, Sound}
+use Rattle.tmw_ring_defs.specs.RingSteps.{cell_at, with_cell, with_phase}
+use Rattle.tmw_ring_defs.specs.declared.ring_cell.RingCell.{RingCell}
+use Rattle.tmw_ring_defs.specs.declared.ring_phase.WriterPhase.{WriterPhase}
+use Rattle.tmw_ring_defs.specs.declared.ring_phase.WriterPhase.TheVariants.{Idle, Claimed}
+use Rattle.tmw_ring_defs.specs.declared.ring_size.RingSize.{RingSize}
+use Rattle.tmw_ring_defs.specs.declared.ring_step.Reply.TheVariants.{Filled, Published}
+use Rattle.tmw_ring_defs.proofs.RingFills.{fill_keeps}
+use Rattle.tmw_ring_defs.proofs.RingPlaces.{event_of}
+use Rattle.tmw_ring_defs.proofs.RingPublishes.{publish_keeps}
+use Rattle.tmw_ring_defs.proofs.RingStores.{has_cell}
 use Rattle.tmw_ring.specs.Parts.{Parts}
 use Rattle.tmw_ring.specs.Rule.{FitsPhase, Shown, WriterFits, IsReal}
 use Rattle.tmw_ring.specs.Seats.{writer_in}

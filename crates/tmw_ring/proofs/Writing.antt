@@ -6,10 +6,10 @@ use mathlib.Core.Option.{some}
 use lib.ListN.{get_elem?}
 use Rattle.atomic_table.specs.Table.{State, keeps, stepped}
 use Rattle.tmw_events.specs.declared.event.Event.{Event}
-use Rattle.tmw_defs.specs.Ring.{Core}
-use Rattle.tmw_defs.specs.RingSound.{Sound}
-use Rattle.tmw_defs.specs.declared.ring_size.RingSize.{RingSize}
-use Rattle.tmw_defs.proofs.RingPhases.{phase_set, phase_kept, phase_cases}
+use Rattle.tmw_ring_defs.specs.Ring.{Core}
+use Rattle.tmw_ring_defs.specs.RingSound.{Sound}
+use Rattle.tmw_ring_defs.specs.declared.ring_size.RingSize.{RingSize}
+use Rattle.tmw_ring_defs.proofs.RingPhases.{phase_set, phase_kept, phase_cases}
 use Rattle.tmw_ring.specs.Parts.{Parts, key, made_from}
 use Rattle.tmw_ring.specs.Rule.{Fits, FitsPhase, IsReal, IsRecorded, Shown, WriterFits}
 use Rattle.tmw_ring.specs.Words.{IsHeader, words_of}

@@ -1,7 +1,7 @@
 -- How the call for a new ring is answered.
 use Rattle.std.specs.Prelude.{◌≡◌, ◌<◌, ℕ, List, [], length, get_or, All}
-use Rattle.tmw_defs.specs.Ring.{HasRoom, HasLimit, IsSize}
-use Rattle.tmw_defs.specs.declared.ring_size.RingSize.{RingSize}
+use Rattle.tmw_ring_defs.specs.Ring.{HasRoom, HasLimit, IsSize}
+use Rattle.tmw_ring_defs.specs.declared.ring_size.RingSize.{RingSize}
 use Rattle.tmw_ring.specs.Ends.{RingIs, WriterIs, ReaderIs, WriterOf, ReaderOf}
 use Rattle.tmw_ring_steps.specs.declared.fault.RingFault.{RingFault}
 use Rattle.tmw_ring_steps.specs.declared.fault.RingFault.TheVariants.{BadSize, BadLimit, Memory}

@@ -3,10 +3,10 @@ use Rattle.std.specs.Prelude.{◌≡◌, ℕ, [], ◌∷◌, length}
 use Rattle.atomic_table.specs.Seated.{TableId}
 use Rattle.atomic_table.specs.Table.{Me}
 use Rattle.tmw_events.specs.declared.ix.Ix.{Ix}
-use Rattle.tmw_defs.specs.Ring.{IsSize}
-use Rattle.tmw_defs.specs.declared.ring_phase.ReaderPhase.TheVariants.{Waiting}
-use Rattle.tmw_defs.specs.declared.ring_phase.WriterPhase.TheVariants.{Idle}
-use Rattle.tmw_defs.specs.declared.ring_size.RingSize.{RingSize}
+use Rattle.tmw_ring_defs.specs.Ring.{IsSize}
+use Rattle.tmw_ring_defs.specs.declared.ring_phase.ReaderPhase.TheVariants.{Waiting}
+use Rattle.tmw_ring_defs.specs.declared.ring_phase.WriterPhase.TheVariants.{Idle}
+use Rattle.tmw_ring_defs.specs.declared.ring_size.RingSize.{RingSize}
 use Rattle.tmw_ring.specs.Ends.{WriterIs, ReaderIs}
 use Rattle.tmw_ring.specs.Parts.{Parts, new_writer, new_reader}
 use Rattle.tmw_ring.specs.Words.{word_count}

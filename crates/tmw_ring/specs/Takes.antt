@@ -5,8 +5,8 @@ use Rattle.tmw_events.specs.Packing.{pack}
 use Rattle.tmw_events.specs.Text.{FitsKind}
 use Rattle.tmw_events.specs.Unpacking.{unpacked}
 use Rattle.tmw_events.specs.declared.event.Event.{Event}
-use Rattle.tmw_defs.specs.declared.ring_phase.ReaderPhase.{ReaderPhase}
-use Rattle.tmw_defs.specs.declared.ring_phase.ReaderPhase.TheVariants.{Waiting, Ready, Told}
+use Rattle.tmw_ring_defs.specs.declared.ring_phase.ReaderPhase.{ReaderPhase}
+use Rattle.tmw_ring_defs.specs.declared.ring_phase.ReaderPhase.TheVariants.{Waiting, Ready, Told}
 use Rattle.tmw_ring.specs.Ends.{ReaderIs}
 use Rattle.tmw_ring.specs.Parts.{Parts}
 use Rattle.tmw_ring.specs.Seats.{reader_in, IsReader}

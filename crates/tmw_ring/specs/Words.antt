@@ -2,8 +2,8 @@
 -- and a header. In the code `words_at` (src/cell_words.rt) says where a cell's words stand, and `join` and `split` of
 -- tmw_events make a first word and take it apart.
 use Rattle.std.specs.Prelude.{◌+◌, ◌*◌, ◌/◌, ◌%◌, ◌<◌, ℕ, List, [], ◌∷◌}
-use Rattle.tmw_defs.specs.Ring.{Core}
-use Rattle.tmw_defs.specs.declared.ring_cell.RingCell.{RingCell}
+use Rattle.tmw_ring_defs.specs.Ring.{Core}
+use Rattle.tmw_ring_defs.specs.declared.ring_cell.RingCell.{RingCell}
 
 -- a cell's first word: the stamp above the ten bits of the header
 abbrev pub stamped : ℕ → ℕ → ℕ

@@ -2,9 +2,9 @@
 use Rattle.std.specs.Prelude.{◌≡◌, ◌+◌, ◌-◌, ◌++◌, ◌≤◌, ◌<◌, ℕ, true, false, nat_lt, [], ◌∷◌, if◌then◌else◌}
 use Rattle.atomic_table.specs.Table.{Me}
 use Rattle.tmw_events.specs.declared.event.Kind.{Kind}
-use Rattle.tmw_defs.specs.declared.ring_phase.WriterPhase.{WriterPhase}
-use Rattle.tmw_defs.specs.declared.ring_phase.WriterPhase.TheVariants.{Idle, Looked, Cleared, Claimed}
-use Rattle.tmw_defs.specs.declared.ring_size.RingSize.{RingSize}
+use Rattle.tmw_ring_defs.specs.declared.ring_phase.WriterPhase.{WriterPhase}
+use Rattle.tmw_ring_defs.specs.declared.ring_phase.WriterPhase.TheVariants.{Idle, Looked, Cleared, Claimed}
+use Rattle.tmw_ring_defs.specs.declared.ring_size.RingSize.{RingSize}
 use Rattle.tmw_ring.specs.Parts.{Parts}
 use Rattle.tmw_ring.specs.Recording.{made_at}
 use Rattle.tmw_ring.specs.Seats.{writer_in, IsWriter}

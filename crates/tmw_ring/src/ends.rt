@@ -3,7 +3,7 @@ ghost use Rattle.std.specs.Prelude.{◌≡◌};
 
 use crate::rule::{RingSeat, RingTable};
 use std::marker::Model;
-use tmw_defs::RingSize;
+use tmw_ring_defs::RingSize;
 use tmw_events::Ix;
 
 /// A ring of so many cells into which threads record events. Threads share it by a reference.

@@ -9,7 +9,7 @@ use crate::ends::{Reader, Ring, Writer};
 use crate::rule::RingSeat;
 use atomic_table::Table;
 use std::alloc::{AllocError, Global};
-use tmw_defs::RingSize;
+use tmw_ring_defs::RingSize;
 use tmw_events::Ix;
 use tmw_ring_steps::RingFault;
 

@@ -6,7 +6,7 @@ use crate::part::Part;
 use atomic_table::{Seat, Table, TableRule};
 use std::alloc::Global;
 use std::collections::LinkedList;
-use tmw_defs::RingSize;
+use tmw_ring_defs::RingSize;
 
 /// The words and all parts show one sound ring of the table's size.
 pub struct RingRule;

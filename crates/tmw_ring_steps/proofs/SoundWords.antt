@@ -8,16 +8,16 @@ use Rattle.tmw_events.specs.Unpacking.{unpacked}
 use Rattle.tmw_events.specs.declared.event.Event.{Event}
 use Rattle.tmw_events.specs.declared.event.Kind.{Kind}
 use Rattle.tmw_events.specs.declared.event.Kind.TheVariants.{R, V, W, K, T, C, X, A, N}
-use Rattle.tmw_defs.specs.Ring.{Core}
-use Rattle.tmw_defs.specs.RingMachine.{Machine, answered}
-use Rattle.tmw_defs.specs.RingSound.{Sound, IsIn, HasRead}
-use Rattle.tmw_defs.specs.RingSteps.{core_step}
-use Rattle.tmw_defs.specs.declared.ring_phase.ReaderPhase.TheVariants.{Waiting, Told}
-use Rattle.tmw_defs.specs.declared.ring_phase.WriterPhase.{WriterPhase}
-use Rattle.tmw_defs.specs.declared.ring_phase.WriterPhase.TheVariants.{Claimed}
-use Rattle.tmw_defs.specs.declared.ring_step.Reply.{Reply}
-use Rattle.tmw_defs.specs.declared.ring_step.Reply.TheVariants.{Taken}
-use Rattle.tmw_defs.specs.declared.ring_step.Step.TheVariants.{Free}
+use Rattle.tmw_ring_defs.specs.Ring.{Core}
+use Rattle.tmw_ring_defs.specs.RingMachine.{Machine, answered}
+use Rattle.tmw_ring_defs.specs.RingSound.{Sound, IsIn, HasRead}
+use Rattle.tmw_ring_defs.specs.RingSteps.{core_step}
+use Rattle.tmw_ring_defs.specs.declared.ring_phase.ReaderPhase.TheVariants.{Waiting, Told}
+use Rattle.tmw_ring_defs.specs.declared.ring_phase.WriterPhase.{WriterPhase}
+use Rattle.tmw_ring_defs.specs.declared.ring_phase.WriterPhase.TheVariants.{Claimed}
+use Rattle.tmw_ring_defs.specs.declared.ring_step.Reply.{Reply}
+use Rattle.tmw_ring_defs.specs.declared.ring_step.Reply.TheVariants.{Taken}
+use Rattle.tmw_ring_defs.specs.declared.ring_step.Step.TheVariants.{Free}
 
 -- no place reaches the limit
 pub claimed_small : (core : Core) (writer place : ℕ) (kind : Kind) (is_filled : Bool) → Sound core

@@ -1,8 +1,8 @@
 -- How the call for a new ring is answered.
 use Rattle.std.specs.Prelude.{◌≡◌, Result, Ok, Err}
-use Rattle.tmw_defs.specs.Ring.{HasRoom, HasLimit, IsSize}
-use Rattle.tmw_defs.specs.RingMachine.{new_machine}
-use Rattle.tmw_defs.specs.declared.ring_size.RingSize.{RingSize}
+use Rattle.tmw_ring_defs.specs.Ring.{HasRoom, HasLimit, IsSize}
+use Rattle.tmw_ring_defs.specs.RingMachine.{new_machine}
+use Rattle.tmw_ring_defs.specs.declared.ring_size.RingSize.{RingSize}
 use Rattle.tmw_ring_steps.specs.Simulated.{Simulated}
 use Rattle.tmw_ring_steps.specs.declared.fault.RingFault.{RingFault}
 use Rattle.tmw_ring_steps.specs.declared.fault.RingFault.TheVariants.{BadSize, BadLimit, Memory}

@@ -1,9 +1,9 @@
 -- What a run of steps is: it goes on as one log, and where memory is refused it ends early.
 use Rattle.std.specs.Prelude.{◌≡◌, ◌+◌, ◌++◌, ◌≤◌, ℕ, List, length, take}
-use Rattle.tmw_defs.specs.OneLog.{IsOneLog}
-use Rattle.tmw_defs.specs.RingMachine.{Machine, new_machine, after, replies}
-use Rattle.tmw_defs.specs.declared.ring_size.RingSize.{RingSize}
-use Rattle.tmw_defs.specs.declared.ring_step.Step.{Step}
+use Rattle.tmw_ring_defs.specs.OneLog.{IsOneLog}
+use Rattle.tmw_ring_defs.specs.RingMachine.{Machine, new_machine, after, replies}
+use Rattle.tmw_ring_defs.specs.declared.ring_size.RingSize.{RingSize}
+use Rattle.tmw_ring_defs.specs.declared.ring_step.Step.{Step}
 use Rattle.tmw_ring_steps.specs.Simulated.{Simulated}
 
 -- By whatever steps a new ring came to the old machine, these steps after them bring it to the new one, and the answers to all

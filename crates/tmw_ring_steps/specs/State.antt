@@ -1,6 +1,6 @@
 -- The machine that a state stands for.
-use Rattle.tmw_defs.specs.Ring.{Core}
-use Rattle.tmw_defs.specs.RingMachine.{Machine}
+use Rattle.tmw_ring_defs.specs.Ring.{Core}
+use Rattle.tmw_ring_defs.specs.RingMachine.{Machine}
 use Rattle.tmw_ring_steps.specs.declared.state.State.{State}
 
 abbrev pub core_of : State → Core

@@ -14,4 +14,4 @@ mod writing;
 
 pub use fault::RingFault;
 pub use sim::Sim;
-pub use tmw_defs::{Reply, RingSize, Step};
+pub use tmw_ring_defs::{Reply, RingSize, Step};

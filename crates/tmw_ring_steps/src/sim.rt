@@ -1,6 +1,6 @@
 ghost use Rattle.std.specs.Prelude.{◌≡◌, ◌+◌, ◌<◌, ◌^◌, length, IfOk, OnOk, OnErr};
-ghost use Rattle.tmw_defs.specs.RingMachine.{machine_step, after, replies};
-ghost use Rattle.tmw_defs.specs.RingSound.{Sound, Spares};
+ghost use Rattle.tmw_ring_defs.specs.RingMachine.{machine_step, after, replies};
+ghost use Rattle.tmw_ring_defs.specs.RingSound.{Sound, Spares};
 ghost use Rattle.tmw_ring_steps.specs.NewSim.{IsNewSim};
 ghost use Rattle.tmw_ring_steps.specs.Runs.{GoesOnAsOneLog, RanFirst};
 
@@ -8,7 +8,7 @@ use crate::fault::RingFault;
 use crate::state::State;
 use std::alloc::{AllocError, Global};
 use std::marker::Model;
-use tmw_defs::{Reply, RingSize, Step};
+use tmw_ring_defs::{Reply, RingSize, Step};
 use tmw_events::Event;
 
 /// A ring in which threads record events, as a machine that is stepped in whatever order its actors make their steps.
@@ -23,7 +23,7 @@ impl Model for Sim {
 
     ghost Value = { Simulated };
 
-    ghost use Rattle.tmw_defs.specs.RingSound.{Sound};
+    ghost use Rattle.tmw_ring_defs.specs.RingSound.{Sound};
     ghost use Rattle.tmw_ring_steps.specs.State.{core_of, machine_of};
 
     ghost view = { λ sim. record { machine = machine_of sim.state; made = sim.made } };

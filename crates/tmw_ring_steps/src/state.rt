@@ -1,12 +1,12 @@
 ghost use Rattle.std.specs.Prelude.{◌≡◌, ◌<◌, ◌%◌, length, slice_get, slice_set, IfOk};
-ghost use Rattle.tmw_defs.specs.RingCells.{set_cell};
-ghost use Rattle.tmw_defs.specs.RingMachine.{new_machine, writer_of, has_stopped};
-ghost use Rattle.tmw_defs.specs.RingSound.{Sound};
-ghost use Rattle.tmw_defs.specs.RingSteps.{cell_at, with_cell, with_phase};
+ghost use Rattle.tmw_ring_defs.specs.RingCells.{set_cell};
+ghost use Rattle.tmw_ring_defs.specs.RingMachine.{new_machine, writer_of, has_stopped};
+ghost use Rattle.tmw_ring_defs.specs.RingSound.{Sound};
+ghost use Rattle.tmw_ring_defs.specs.RingSteps.{cell_at, with_cell, with_phase};
 ghost use Rattle.tmw_ring_steps.specs.State.{core_of, machine_of};
 
 use std::alloc::{AllocError, Global};
-use tmw_defs::{ReaderPhase, RingCell, RingSize, Step, WriterPhase};
+use tmw_ring_defs::{ReaderPhase, RingCell, RingSize, Step, WriterPhase};
 use tmw_events::{Event, Ix};
 
 const EMPTY: RingCell = RingCell {

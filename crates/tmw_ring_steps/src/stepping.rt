@@ -1,11 +1,11 @@
 ghost use Rattle.std.specs.Prelude.{◌≡◌, IfOk, OnErr};
-ghost use Rattle.tmw_defs.specs.RingMachine.{machine_step};
-ghost use Rattle.tmw_defs.specs.RingSound.{Sound};
+ghost use Rattle.tmw_ring_defs.specs.RingMachine.{machine_step};
+ghost use Rattle.tmw_ring_defs.specs.RingSound.{Sound};
 ghost use Rattle.tmw_ring_steps.specs.State.{core_of, machine_of};
 
 use crate::state::State;
 use std::alloc::AllocError;
-use tmw_defs::{Reply, Step};
+use tmw_ring_defs::{Reply, Step};
 
 impl State {
     /// Makes the step, and answers it.

@@ -1,12 +1,12 @@
 ghost use Rattle.std.specs.Prelude.{◌≡◌, IfOk, OnErr};
-ghost use Rattle.tmw_defs.specs.RingMachine.{answered};
-ghost use Rattle.tmw_defs.specs.RingSound.{Sound, IsIn};
-ghost use Rattle.tmw_defs.specs.RingSteps.{core_step, room_step};
+ghost use Rattle.tmw_ring_defs.specs.RingMachine.{answered};
+ghost use Rattle.tmw_ring_defs.specs.RingSound.{Sound, IsIn};
+ghost use Rattle.tmw_ring_defs.specs.RingSteps.{core_step, room_step};
 ghost use Rattle.tmw_ring_steps.specs.State.{core_of, machine_of};
 
 use crate::state::State;
 use std::alloc::AllocError;
-use tmw_defs::{Reply, RingCell, Step, WriterPhase};
+use tmw_ring_defs::{Reply, RingCell, Step, WriterPhase};
 use tmw_events::{Event, Ix, Kind, pack};
 
 impl State {

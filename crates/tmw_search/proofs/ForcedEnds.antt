@@ -7,7 +7,7 @@ use Rattle.tmw_defs.specs.Cuts.{is_cut}
 use Rattle.tmw_defs.specs.History.{transactions}
 use Rattle.tmw_defs.specs.Opaque.{State}
 use Rattle.tmw_defs.specs.Outcomes.{Ends}
-use Rattle.tmw_defs.proofs.ForcedProof.{forced-end}
+use Rattle.tmw_search.proofs.ForcedProof.{forced-end}
 use Rattle.tmw_cuts.specs.declared.states.States.{States}
 use Rattle.tmw_cuts.specs.declared.window.Window.{Window}
 use Rattle.tmw_cuts.specs.Members.{members, AddsMember}

@@ -6,8 +6,8 @@ use Rattle.std.proofs.lemmas.Bool.{and_parts, and_from, cases_Bool, cases_lt, eq
 use Rattle.std.proofs.lemmas.Nat.Bits.{bit_at-zero, bit_at-lt, bit_at_and, bit_at_not, bit_at_above, bit_at_set_same, bit_at_set_other, same_from_bits}
 use Rattle.tmw_defs.specs.History.{Txn}
 use Rattle.tmw_defs.specs.Opaque.{precedes}
-use Rattle.tmw_defs.proofs.LayersProof.{same_place, bit_cases}
-use Rattle.tmw_defs.proofs.Masks.{bit_at-more_same, bit_at-more_other}
+use Rattle.tmw_search.proofs.LayersProof.{same_place, bit_cases}
+use Rattle.tmw_search.proofs.Masks.{bit_at-more_same, bit_at-more_other}
 use Rattle.tmw_cuts.specs.Views.{View}
 use Rattle.tmw_search.specs.Nexts.{is_next}
 use Rattle.tmw_cuts.specs.Views.{bit}

@@ -10,12 +10,12 @@ use Rattle.std.proofs.lemmas.Option.{slice_get_within}
 use Rattle.tmw_defs.specs.declared.status.Status.{Status}
 use Rattle.tmw_defs.specs.declared.status.Status.TheVariants.{Live, Pending, Committed, Aborted}
 use Rattle.tmw_defs.specs.History.{Txn, operations}
-use Rattle.tmw_defs.specs.Layers.{IsStep}
+use Rattle.tmw_search.specs.Layers.{IsStep}
 use Rattle.tmw_defs.specs.Opaque.{State, precedes, may_hold, reads_hold, after, after_writes}
 use Rattle.tmw_cuts.specs.Views.{View}
 use Rattle.tmw_search.specs.Nexts.{is_next, ways, next_at, nexts_from}
 use Rattle.tmw_search.specs.Shows.{ShowsOne, Shows}
-use Rattle.tmw_defs.proofs.LayersProof.{same_place}
+use Rattle.tmw_search.proofs.LayersProof.{same_place}
 use Rattle.tmw_search.proofs.FreeNext.{mask-set, next_free, free-next}
 
 -- members of a list by its first element

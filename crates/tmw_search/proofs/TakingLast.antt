@@ -14,15 +14,15 @@ use Rattle.std.proofs.lemmas.List.Folds.{list_all-map}
 use Rattle.std.proofs.lemmas.Option.{slice_get_within, slice_get_read, slice_get-map}
 use Rattle.tmw_defs.specs.declared.op.Op.{Op}
 use Rattle.tmw_defs.specs.declared.op.Op.TheVariants.{Read, Write, Add}
-use Rattle.tmw_defs.specs.Blind.{is_write, is_blind, blind_after, put_from, fixed_by, Reaches, EndsBefore}
-use Rattle.tmw_defs.specs.Forced.{is_committed}
+use Rattle.tmw_search.specs.BlindTransactions.{is_write, is_blind, blind_after, put_from, fixed_by, Reaches, EndsBefore}
+use Rattle.tmw_search.specs.ForcedEnd.{is_committed}
 use Rattle.tmw_defs.specs.History.{Txn, is_ended, status_of, operations, transactions}
-use Rattle.tmw_defs.specs.Layers.{chosen, InLayer}
+use Rattle.tmw_search.specs.Layers.{chosen, InLayer}
 use Rattle.tmw_defs.specs.Opaque.{State, precedes, after_writes}
 use Rattle.tmw_defs.specs.Outcomes.{Ends}
-use Rattle.tmw_defs.proofs.BlindProof.{put-set_fixed, put-fixed_by, put-after, blind_at, bit_small, less_of, HasLast, last_taken, last-taken, closed-less, MayGoLast, absorb}
-use Rattle.tmw_defs.proofs.LayersProof.{same_place, layer-zero, layer_zero, layer-last}
-use Rattle.tmw_defs.proofs.Masks.{chosen-zero, chosen-full}
+use Rattle.tmw_search.proofs.BlindProof.{put-set_fixed, put-fixed_by, put-after, blind_at, bit_small, less_of, HasLast, last_taken, last-taken, closed-less, MayGoLast, absorb}
+use Rattle.tmw_search.proofs.LayersProof.{same_place, layer-zero, layer_zero, layer-last}
+use Rattle.tmw_search.proofs.Masks.{chosen-zero, chosen-full}
 use Rattle.tmw_cuts.specs.declared.states.States.{States}
 use Rattle.tmw_cuts.specs.declared.txn.Txn as cuts
 use Rattle.tmw_cuts.specs.declared.window.Window.{Window}

@@ -7,10 +7,10 @@ use Rattle.std.proofs.lemmas.Bool.{ltb-true}
 use Rattle.std.proofs.lemmas.Option.{slice_get_within, slice_get_read, slice_get-map}
 use Rattle.tmw_cuts.specs.declared.txn.Txn.{Txn}
 use Rattle.tmw_defs.specs.History as history
-use Rattle.tmw_defs.specs.Layers.{InLayer}
+use Rattle.tmw_search.specs.Layers.{InLayer}
 use Rattle.tmw_defs.specs.Opaque.{State, may_hold, reads_hold, after_writes}
 use Rattle.tmw_defs.specs.Outcomes.{Leads, Ends, Only}
-use Rattle.tmw_defs.proofs.LayersProof.{layer-step, layer-zero, layer_last}
+use Rattle.tmw_search.proofs.LayersProof.{layer-step, layer-zero, layer_last}
 use Rattle.tmw_defs.specs.History.{transactions}
 use Rattle.tmw_cuts.specs.declared.states.States.{States}
 use Rattle.tmw_cuts.specs.declared.window.Window.{Window}

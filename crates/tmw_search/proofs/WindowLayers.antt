@@ -4,9 +4,9 @@ use Rattle.std.specs.List.{Contains}
 use Rattle.std.proofs.lemmas.Bool.{cases_Bool, not-true, eqb-true}
 use Rattle.tmw_events.specs.declared.event.Event.{Event}
 use Rattle.tmw_defs.specs.History.{transactions}
-use Rattle.tmw_defs.specs.Layers.{InLayer}
+use Rattle.tmw_search.specs.Layers.{InLayer}
 use Rattle.tmw_defs.specs.Opaque.{State}
-use Rattle.tmw_defs.proofs.LayersProof.{layer-last, layer_last}
+use Rattle.tmw_search.proofs.LayersProof.{layer-last, layer_last}
 use Rattle.tmw_cuts.specs.declared.states.States.{States}
 use Rattle.tmw_cuts.specs.declared.window.Window.{Window}
 use Rattle.tmw_cuts.specs.Members.{members}

@@ -4,10 +4,10 @@ use Rattle.std.specs.Int.{bit_at}
 use Rattle.std.specs.List.{Contains, list_all}
 use Rattle.tmw_defs.specs.declared.op.Op.{Op}
 use Rattle.tmw_defs.specs.declared.op.Op.TheVariants.{Read, Write, Add}
-use Rattle.tmw_defs.specs.Blind.{is_write, is_blind, put_from, fix_from, fixed_by, EndsBefore}
-use Rattle.tmw_defs.specs.Forced.{is_committed}
+use Rattle.tmw_search.specs.BlindTransactions.{is_write, is_blind, put_from, fix_from, fixed_by, EndsBefore}
+use Rattle.tmw_search.specs.ForcedEnd.{is_committed}
 use Rattle.tmw_defs.specs.History.{Txn, is_over}
-use Rattle.tmw_defs.specs.Layers.{LeavesNone}
+use Rattle.tmw_search.specs.Layers.{LeavesNone}
 use Rattle.tmw_defs.specs.Opaque.{State}
 use Rattle.tmw_defs.specs.Outcomes.{Ends}
 use Rattle.tmw_cuts.specs.Views.{View}

@@ -6,7 +6,7 @@ use Rattle.std.specs.List.Sorted.{IsStrictlySortedBy}
 use Rattle.std.specs.Ordering.{nat_cmp}
 use Rattle.tmw_events.specs.declared.event.Event.{Event}
 use Rattle.tmw_defs.specs.History.{transactions}
-use Rattle.tmw_defs.specs.Layers.{InLayer}
+use Rattle.tmw_search.specs.Layers.{InLayer}
 use Rattle.tmw_defs.specs.Opaque.{State}
 use Rattle.tmw_defs.specs.Outcomes.{Ends}
 use Rattle.tmw_cuts.specs.declared.states.States.{States}

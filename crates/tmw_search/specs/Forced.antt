@@ -4,7 +4,7 @@ use Rattle.std.specs.Int.{bit_at}
 use Rattle.std.specs.List.{Contains, list_all, count_by}
 use Rattle.tmw_defs.specs.declared.op.Op.{Op}
 use Rattle.tmw_defs.specs.declared.op.Op.TheVariants.{Read, Write, Add}
-use Rattle.tmw_defs.specs.Forced.{is_committed, writes, writes_blindly, IsForced}
+use Rattle.tmw_search.specs.ForcedEnd.{is_committed, writes, writes_blindly, IsForced}
 use Rattle.tmw_defs.specs.History.{Txn, is_ended}
 use Rattle.tmw_defs.specs.Opaque.{State}
 use Rattle.tmw_defs.specs.Outcomes.{Ends}

@@ -1,9 +1,10 @@
 pub mod Blind
+pub mod BlindTransactions
 pub mod Ended
 pub mod Forced
+pub mod ForcedEnd
+pub mod Layers
 pub mod Nexts
 pub mod Pairs
-pub mod Shown
 pub mod Shows
-pub mod Verdict
 pub mod Walks

@@ -2,7 +2,7 @@
 use Rattle.std.specs.Prelude.{◌≡◌, ◌+◌, ℕ, List, length}
 use Rattle.std.specs.List.{Contains}
 use Rattle.tmw_defs.specs.History.{Txn}
-use Rattle.tmw_defs.specs.Layers.{InLayer}
+use Rattle.tmw_search.specs.Layers.{InLayer}
 use Rattle.tmw_defs.specs.Opaque.{State}
 use Rattle.tmw_defs.specs.Outcomes.{Leads, Ends, Only}
 use Rattle.tmw_cuts.specs.Views.{View}

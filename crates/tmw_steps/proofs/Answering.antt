@@ -1,8 +1,8 @@
 -- What a machine makes of a text's steps answers the text.
 use Rattle.std.proofs.Common.{ℕ, List, [], Result, Ok, Err, inl, inr, sym, ◌∙◌, append-nil}
-use Rattle.tmw_events.specs.declared.trace_fault.TraceFault.TheVariants.{Memory as WantsMemory}
-use Rattle.tmw_defs.specs.declared.ring_size.RingSize.{RingSize}
-use Rattle.tmw_defs.specs.declared.ring_step.Step.{Step}
+use Rattle.tmw_trace.specs.declared.trace_fault.TraceFault.TheVariants.{Memory as WantsMemory}
+use Rattle.tmw_ring_defs.specs.declared.ring_size.RingSize.{RingSize}
+use Rattle.tmw_ring_defs.specs.declared.ring_step.Step.{Step}
 use Rattle.tmw_report.specs.declared.fault.Fault.{Fault}
 use Rattle.tmw_steps.specs.Running.{IsAnswer, IsMade, IsText}
 use Rattle.tmw_steps.specs.StepFault.{HasBegun}

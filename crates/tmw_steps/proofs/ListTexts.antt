@@ -4,12 +4,13 @@ use Rattle.std.specs.Fmt.{decimal}
 use Rattle.std.specs.List.{AllByRecursion}
 use Rattle.std.proofs.lemmas.Fmt.{decimal_injective}
 use Rattle.std.proofs.lemmas.List.Elements.{recursion_from_All}
-use Rattle.tmw_events.specs.Parts.{IsFree}
-use Rattle.tmw_events.specs.Text.{line, values_text}
-use Rattle.tmw_events.proofs.Splits.{free-append, free-decimal, split_free}
-use Rattle.tmw_events.proofs.ValueParts.{next-values}
-use Rattle.tmw_defs.specs.declared.ring_size.RingSize.{RingSize}
-use Rattle.tmw_defs.specs.declared.ring_step.Step.{Step}
+use Rattle.tmw_lines.specs.Parts.{IsFree}
+use Rattle.tmw_lines.specs.Text.{line}
+use Rattle.tmw_trace.specs.Text.{values_text}
+use Rattle.tmw_lines.proofs.Splits.{free-append, free-decimal, split_free}
+use Rattle.tmw_trace.proofs.ValueParts.{next-values}
+use Rattle.tmw_ring_defs.specs.declared.ring_size.RingSize.{RingSize}
+use Rattle.tmw_ring_defs.specs.declared.ring_step.Step.{Step}
 use Rattle.tmw_steps.specs.Naming.{StepsLaw}
 use Rattle.tmw_steps.specs.StepText.{size_numbers, size_text, step_text, lines_text, steps_text, FitsSize, FitsStep, AreSteps}
 use Rattle.tmw_steps.proofs.StepTexts.{step_text-injective, free-step_text}

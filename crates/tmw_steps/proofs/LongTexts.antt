@@ -1,11 +1,11 @@
 -- The longest texts of a size and of a step, and that longer ones are no text of either.
 use Rattle.std.proofs.Common.{ℕ, ◌≤◌, List, [], ◌∷◌, length, ap, length-append, arith}
 use Rattle.std.specs.Fmt.{decimal}
-use Rattle.tmw_events.specs.Text.{values_text}
-use Rattle.tmw_events.proofs.Lengths.{length-decimal, length-kind_text}
-use Rattle.tmw_defs.specs.declared.ring_size.RingSize.{RingSize}
-use Rattle.tmw_defs.specs.declared.ring_step.Step.{Step}
-use Rattle.tmw_defs.specs.declared.ring_step.Step.TheVariants.{Front, Tail, Claim, Fill, Publish, Peek, Read, Free, Stop}
+use Rattle.tmw_trace.specs.Text.{values_text}
+use Rattle.tmw_trace.proofs.Lengths.{length-decimal, length-kind_text}
+use Rattle.tmw_ring_defs.specs.declared.ring_size.RingSize.{RingSize}
+use Rattle.tmw_ring_defs.specs.declared.ring_step.Step.{Step}
+use Rattle.tmw_ring_defs.specs.declared.ring_step.Step.TheVariants.{Front, Tail, Claim, Fill, Publish, Peek, Read, Free, Stop}
 use Rattle.tmw_steps.specs.StepFault.{IsNoSize, IsNoStep}
 use Rattle.tmw_steps.specs.StepText.{size_text, step_text, FitsSize, FitsStep}
 

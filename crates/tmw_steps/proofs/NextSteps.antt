@@ -1,14 +1,14 @@
 -- One line of a list of steps: held whole, or longer than can be held.
 use Rattle.std.proofs.Common.{◌≡◌, ℕ, ◌+◌, ◌<◌, ◌^◌, Option, Some, None, IfSome, IfNone, Err, List, ◌∷◌, ◌++◌, length, take, drop, refl, ap, ◌∙◌, length-append, append_assoc, arith}
-use Rattle.tmw_events.specs.LongLine.{Skips}
-use Rattle.tmw_events.specs.Parts.{IsFree}
-use Rattle.tmw_events.specs.Piece.{Reads}
-use Rattle.tmw_events.specs.declared.long_line.LineEnd.TheVariants.{Feed, End, Failed}
-use Rattle.tmw_events.specs.declared.trace_fault.TraceFault.TheVariants.{BadLine, Cut, Io}
-use Rattle.tmw_events.proofs.NextLines.{line-split, bytes-joined}
-use Rattle.tmw_events.proofs.Splits.{free-append}
-use Rattle.tmw_events.proofs.ToldBytes.{Adds-more}
-use Rattle.tmw_defs.specs.declared.ring_step.Step.{Step}
+use Rattle.tmw_lines.specs.LongLine.{Skips}
+use Rattle.tmw_lines.specs.Parts.{IsFree}
+use Rattle.tmw_lines.specs.Piece.{Reads}
+use Rattle.tmw_lines.specs.declared.long_line.LineEnd.TheVariants.{Feed, End, Failed}
+use Rattle.tmw_trace.specs.declared.trace_fault.TraceFault.TheVariants.{BadLine, Cut, Io}
+use Rattle.tmw_trace.proofs.NextLines.{line-split, bytes-joined}
+use Rattle.tmw_lines.proofs.Splits.{free-append}
+use Rattle.tmw_streams.proofs.ToldBytes.{Adds-more}
+use Rattle.tmw_ring_defs.specs.declared.ring_step.Step.{Step}
 use Rattle.tmw_steps.specs.StepFault.{IsNoStep}
 use Rattle.tmw_steps.specs.StepLine.{IsStepLine, IsBadLine, ReadsStep}
 use Rattle.tmw_steps.specs.StepText.{step_text, FitsStep}

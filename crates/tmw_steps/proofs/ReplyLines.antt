@@ -1,8 +1,8 @@
 -- The lines of replies, written one after the other.
 use Rattle.std.proofs.Common.{◌≡◌, ℕ, ◌+◌, ◌<◌, List, ◌∷◌, ◌++◌, length, take, drop, get_or, sym, ap, ◌∙◌, append_assoc, add-one, drop-cons, take-append-drop}
 use Rattle.std.proofs.lemmas.Grind.{flat_map-append}
-use Rattle.tmw_events.specs.Text.{line}
-use Rattle.tmw_defs.specs.declared.ring_step.Reply.{Reply}
+use Rattle.tmw_lines.specs.Text.{line}
+use Rattle.tmw_ring_defs.specs.declared.ring_step.Reply.{Reply}
 use Rattle.tmw_steps.specs.ReplyText.{reply_text, lines_text, counts_text, replies_text}
 
 -- the lines before a reply, its own, and all that follows

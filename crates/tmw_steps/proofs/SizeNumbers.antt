@@ -2,12 +2,12 @@
 use Rattle.std.proofs.Common.{◌≡◌, ◌≢◌, ℕ, ◌<◌, ◌^◌, true, List, [], ◌∷◌, ◌++◌, length, drop, sym, ap, ◌∙◌, length-drop, take-append-drop, arith}
 use Rattle.std.specs.Fmt.{decimal}
 use Rattle.std.proofs.lemmas.List.{drop_all}
-use Rattle.tmw_events.specs.Parts.{is_next}
-use Rattle.tmw_events.specs.Text.{values_text}
-use Rattle.tmw_events.specs.Values.{IsFirstValue, IsNoFirstValue}
-use Rattle.tmw_events.proofs.Splits.{free-decimal, split_free}
-use Rattle.tmw_events.proofs.ValueParts.{next-values}
-use Rattle.tmw_defs.specs.declared.ring_size.RingSize.{RingSize}
+use Rattle.tmw_lines.specs.Parts.{is_next}
+use Rattle.tmw_trace.specs.Text.{values_text}
+use Rattle.tmw_trace.specs.Values.{IsFirstValue, IsNoFirstValue}
+use Rattle.tmw_lines.proofs.Splits.{free-decimal, split_free}
+use Rattle.tmw_trace.proofs.ValueParts.{next-values}
+use Rattle.tmw_ring_defs.specs.declared.ring_size.RingSize.{RingSize}
 use Rattle.tmw_steps.specs.StepText.{size_numbers, FitsSize}
 
 -- the first value, and what follows it

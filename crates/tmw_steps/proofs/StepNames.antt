@@ -3,8 +3,8 @@ use Rattle.std.proofs.Common.{◌≡◌, ℕ, Option, Some, None, IfNone, List, 
 use Rattle.tmw_events.specs.Text.{digit, kind_text, FitsKind}
 use Rattle.tmw_events.specs.declared.event.Kind.{Kind}
 use Rattle.tmw_events.specs.declared.ix.Ix.{Ix}
-use Rattle.tmw_defs.specs.declared.ring_step.Step.{Step}
-use Rattle.tmw_defs.specs.declared.ring_step.Step.TheVariants.{Front}
+use Rattle.tmw_ring_defs.specs.declared.ring_step.Step.{Step}
+use Rattle.tmw_ring_defs.specs.declared.ring_step.Step.TheVariants.{Front}
 use Rattle.tmw_steps.specs.StepText.{step_text, FitsStep}
 
 pub no_digit : (bytes : List ℕ) (found : Option Ix) → IfNone found ((ix : Ix) → get_or bytes 0 0 ≡ digit ix → ⊥)

@@ -3,18 +3,21 @@ use Rattle.std.proofs.Common.{◌≡◌, ℕ, ◌+◌, ◌<◌, ◌^◌, ◌==�
 use Rattle.std.proofs.lemmas.Bool.{and_from}
 use Rattle.std.proofs.lemmas.Bool.Decides.{nat_tests}
 use Rattle.std.proofs.lemmas.List.Elements.{All-from_recursion, All-replicate}
-use Rattle.tmw_events.specs.Parts.{IsFree}
-use Rattle.tmw_events.specs.Text.{digit, kind_text, line, header_text, trace_text, FitsKind, AreEvents}
+use Rattle.tmw_lines.specs.Parts.{IsFree}
+use Rattle.tmw_events.specs.Text.{digit, kind_text, FitsKind}
+use Rattle.tmw_lines.specs.Text.{line}
+use Rattle.tmw_trace.specs.Text.{header_text, trace_text, AreEvents}
 use Rattle.tmw_events.specs.declared.event.Event.{Event}
 use Rattle.tmw_events.specs.declared.event.Kind.{Kind}
 use Rattle.tmw_events.specs.declared.event.Kind.TheVariants.{R, V, W, K, T, C, X, A, N}
-use Rattle.tmw_events.specs.declared.header.Header.{Header}
+use Rattle.tmw_trace.specs.declared.header.Header.{Header}
 use Rattle.tmw_events.specs.declared.ix.Ix.{Ix}
-use Rattle.tmw_events.specs.declared.version.Version.TheVariants.{Two}
-use Rattle.tmw_events.proofs.Splits.{free-decimal}
-use Rattle.tmw_events.proofs.TextNames.{same_ix, trace_text-injective}
-use Rattle.tmw_defs.specs.declared.ring_step.Step.{Step}
-use Rattle.tmw_defs.specs.declared.ring_step.Step.TheVariants.{Front, Tail, Claim, Fill, Publish, Peek, Read, Free, Stop}
+use Rattle.tmw_trace.specs.declared.version.Version.TheVariants.{Two}
+use Rattle.tmw_lines.proofs.Splits.{free-decimal}
+use Rattle.tmw_events.proofs.Same.{same_ix}
+use Rattle.tmw_trace.proofs.TextNames.{trace_text-injective}
+use Rattle.tmw_ring_defs.specs.declared.ring_step.Step.{Step}
+use Rattle.tmw_ring_defs.specs.declared.ring_step.Step.TheVariants.{Front, Tail, Claim, Fill, Publish, Peek, Read, Free, Stop}
 use Rattle.tmw_steps.specs.StepText.{step_text, FitsStep}
 
 -- a header in whose trace an event of any kind may stand

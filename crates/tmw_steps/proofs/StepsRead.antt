@@ -3,15 +3,15 @@ use Rattle.std.proofs.Common.{◌≡◌, ◌≢◌, ℕ, ◌≤◌, ◌^◌, Som
 use Rattle.std.proofs.lemmas.Grind.{flat_map-append}
 use Rattle.std.proofs.lemmas.List.{append-nil}
 use Rattle.std.proofs.lemmas.List.Elements.{All-push}
-use Rattle.tmw_events.specs.Held.{bytes_of}
-use Rattle.tmw_events.specs.Text.{line}
-use Rattle.tmw_events.specs.Told.{Adds}
-use Rattle.tmw_events.specs.declared.held.Held.{Held}
-use Rattle.tmw_events.specs.declared.trace_fault.TraceFault.{TraceFault}
-use Rattle.tmw_events.specs.declared.trace_fault.TraceFault.TheVariants.{BadHeader, BadLine, Cut, Memory, Io, TooLong}
-use Rattle.tmw_events.proofs.ToldBytes.{Adds-more}
-use Rattle.tmw_defs.specs.declared.ring_size.RingSize.{RingSize}
-use Rattle.tmw_defs.specs.declared.ring_step.Step.{Step}
+use Rattle.tmw_lines.specs.Held.{bytes_of}
+use Rattle.tmw_lines.specs.Text.{line}
+use Rattle.tmw_streams.specs.Told.{Adds}
+use Rattle.tmw_lines.specs.declared.held.Held.{Held}
+use Rattle.tmw_trace.specs.declared.trace_fault.TraceFault.{TraceFault}
+use Rattle.tmw_trace.specs.declared.trace_fault.TraceFault.TheVariants.{BadHeader, BadLine, Cut, Memory, Io, TooLong}
+use Rattle.tmw_streams.proofs.ToldBytes.{Adds-more}
+use Rattle.tmw_ring_defs.specs.declared.ring_size.RingSize.{RingSize}
+use Rattle.tmw_ring_defs.specs.declared.ring_step.Step.{Step}
 use Rattle.tmw_steps.specs.StepFault.{HasStepsFault, HasBegun}
 use Rattle.tmw_steps.specs.StepLine.{HasLineFault, ReadsStep}
 use Rattle.tmw_steps.specs.StepText.{size_text, step_text, lines_text, steps_text, FitsStep, AreSteps}

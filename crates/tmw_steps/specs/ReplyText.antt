@@ -2,9 +2,10 @@
 use Rattle.std.specs.Prelude.{ℕ, List, ◌++◌, codes}
 use Rattle.std.specs.List.{flat_map}
 use Rattle.std.specs.Fmt.{decimal}
-use Rattle.tmw_events.specs.Text.{event_text, line}
-use Rattle.tmw_defs.specs.declared.ring_step.Reply.{Reply}
-use Rattle.tmw_defs.specs.declared.ring_step.Reply.TheVariants.{Saw, Cleared, Full, Spent, Place, Filled, Published, Ready, NotReady, Word, Taken, Stopped, NotNow}
+use Rattle.tmw_events.specs.Text.{event_text}
+use Rattle.tmw_lines.specs.Text.{line}
+use Rattle.tmw_ring_defs.specs.declared.ring_step.Reply.{Reply}
+use Rattle.tmw_ring_defs.specs.declared.ring_step.Reply.TheVariants.{Saw, Cleared, Full, Spent, Place, Filled, Published, Ready, NotReady, Word, Taken, Stopped, NotNow}
 
 -- how a step is answered, in words, with its numbers or its event after one space each
 abbrev pub reply_text : Reply → List ℕ

@@ -1,11 +1,11 @@
 -- What `steps` promises: from the bytes that its source tells to what its sink takes and the exit status.
 use Rattle.std.specs.Prelude.{◌≡◌, ◌⊎◌, ℕ, List, length, Result, Ok, Err}
-use Rattle.tmw_events.specs.Told.{Adds}
-use Rattle.tmw_events.specs.declared.trace_fault.TraceFault.{TraceFault}
-use Rattle.tmw_defs.specs.Ring.{HasRoom, HasLimit, IsSize}
-use Rattle.tmw_defs.specs.RingMachine.{new_machine, after, replies}
-use Rattle.tmw_defs.specs.declared.ring_size.RingSize.{RingSize}
-use Rattle.tmw_defs.specs.declared.ring_step.Step.{Step}
+use Rattle.tmw_streams.specs.Told.{Adds}
+use Rattle.tmw_trace.specs.declared.trace_fault.TraceFault.{TraceFault}
+use Rattle.tmw_ring_defs.specs.Ring.{HasRoom, HasLimit, IsSize}
+use Rattle.tmw_ring_defs.specs.RingMachine.{new_machine, after, replies}
+use Rattle.tmw_ring_defs.specs.declared.ring_size.RingSize.{RingSize}
+use Rattle.tmw_ring_defs.specs.declared.ring_step.Step.{Step}
 use Rattle.tmw_report.specs.Lines.{fault_line}
 use Rattle.tmw_report.specs.Putting.{IsPut, fault_of, failures_behind}
 use Rattle.tmw_report.specs.declared.fault.Fault.{Fault}

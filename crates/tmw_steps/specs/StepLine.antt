@@ -1,12 +1,12 @@
 -- What one line of a list of steps gives: a step, the end, or a fault.
 use Rattle.std.specs.Prelude.{◌≡◌, ◌≢◌, ℕ, ◌+◌, ◌<◌, ◌^◌, Option, Some, None, Result, Ok, Err, List, [], ◌++◌}
-use Rattle.tmw_events.specs.Text.{line}
-use Rattle.tmw_events.specs.TextFault.{IsUnbroken}
-use Rattle.tmw_events.specs.Told.{Adds}
-use Rattle.tmw_events.specs.declared.trace_fault.TraceFault.{TraceFault}
-use Rattle.tmw_events.specs.declared.trace_fault.TraceFault.TheVariants.{BadHeader, BadLine, Cut, Memory, Io, TooLong}
-use Rattle.tmw_defs.specs.declared.ring_size.RingSize.{RingSize}
-use Rattle.tmw_defs.specs.declared.ring_step.Step.{Step}
+use Rattle.tmw_lines.specs.Text.{line}
+use Rattle.tmw_trace.specs.TextFault.{IsUnbroken}
+use Rattle.tmw_streams.specs.Told.{Adds}
+use Rattle.tmw_trace.specs.declared.trace_fault.TraceFault.{TraceFault}
+use Rattle.tmw_trace.specs.declared.trace_fault.TraceFault.TheVariants.{BadHeader, BadLine, Cut, Memory, Io, TooLong}
+use Rattle.tmw_ring_defs.specs.declared.ring_size.RingSize.{RingSize}
+use Rattle.tmw_ring_defs.specs.declared.ring_step.Step.{Step}
 use Rattle.tmw_steps.specs.StepFault.{IsNoStep, HasStepsFault}
 use Rattle.tmw_steps.specs.StepText.{size_text, step_text, FitsSize, FitsStep}
 

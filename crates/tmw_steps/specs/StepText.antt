@@ -1,10 +1,12 @@
 -- The texts of a ring's size and of the steps in it. Numbers are decimal, without sign and without leading zeros.
 use Rattle.std.specs.Prelude.{ℕ, ◌<◌, ◌^◌, List, [], ◌∷◌, ◌++◌, codes, All}
 use Rattle.std.specs.List.{flat_map}
-use Rattle.tmw_events.specs.Text.{digit, kind_text, line, values_text, FitsKind}
-use Rattle.tmw_defs.specs.declared.ring_size.RingSize.{RingSize}
-use Rattle.tmw_defs.specs.declared.ring_step.Step.{Step}
-use Rattle.tmw_defs.specs.declared.ring_step.Step.TheVariants.{Front, Tail, Claim, Fill, Publish, Peek, Read, Free, Stop}
+use Rattle.tmw_events.specs.Text.{digit, kind_text, FitsKind}
+use Rattle.tmw_lines.specs.Text.{line}
+use Rattle.tmw_trace.specs.Text.{values_text}
+use Rattle.tmw_ring_defs.specs.declared.ring_size.RingSize.{RingSize}
+use Rattle.tmw_ring_defs.specs.declared.ring_step.Step.{Step}
+use Rattle.tmw_ring_defs.specs.declared.ring_step.Step.TheVariants.{Front, Tail, Claim, Fill, Publish, Peek, Read, Free, Stop}
 
 -- a step's name, then its writer and the kind of its event, each after one space
 abbrev pub step_text : Step → List ℕ

@@ -1,14 +1,16 @@
 ghost use Rattle.std.specs.Prelude.{◌≡◌, ◌+◌, ◌∷◌, ◌++◌, take, drop, IfSome, IfNone, IfErr, OnOk};
-ghost use Rattle.tmw_events.specs.Held.{bytes_of};
-ghost use Rattle.tmw_events.specs.Text.{line};
-ghost use Rattle.tmw_events.specs.TextFault.{IsUnbroken, failures_after};
+ghost use Rattle.tmw_lines.specs.Held.{bytes_of};
+ghost use Rattle.tmw_lines.specs.Text.{line};
+ghost use Rattle.tmw_trace.specs.TextFault.{IsUnbroken, failures_after};
 ghost use Rattle.tmw_steps.specs.StepFault.{HasBadHeader};
 ghost use Rattle.tmw_steps.specs.StepLine.{ReadsSize};
 ghost use Rattle.tmw_steps.specs.StepText.{size_text, FitsSize};
 
 use crate::size_line::size_of;
-use tmw_defs::RingSize;
-use tmw_events::{Held, LineEnd, Piece, Source, TraceFault, next_piece, skip_line};
+use tmw_ring_defs::RingSize;
+use tmw_lines::{Held, LineEnd, Piece, next_piece, skip_line};
+use tmw_streams::Source;
+use tmw_trace::TraceFault;
 
 /// Reads the first line of a list of steps: its ring's size, or its fault.
 pub fn first_size<S: Source>(held: &mut Held, source: &mut S) -> Result<RingSize, TraceFault>

@@ -1,11 +1,13 @@
 ghost use Rattle.std.specs.Prelude.{◌≡◌, ◌<◌, ◌≤◌, ◌+◌, ◌^◌, ◌∷◌, None, length, take, drop, IfSome, IfNone, IfOk, IfErr, OnOk, OnSome};
-ghost use Rattle.tmw_events.specs.Held.{bytes_of};
-ghost use Rattle.tmw_events.specs.TextFault.{IsUnbroken, failures_after};
+ghost use Rattle.tmw_lines.specs.Held.{bytes_of};
+ghost use Rattle.tmw_trace.specs.TextFault.{IsUnbroken, failures_after};
 ghost use Rattle.tmw_steps.specs.StepLine.{ReadsStep, IsStepLine, IsBadLine};
 
 use crate::step_line::step_of;
-use tmw_defs::Step;
-use tmw_events::{Held, LineEnd, Piece, Source, TraceFault, next_piece, skip_line};
+use tmw_ring_defs::Step;
+use tmw_lines::{Held, LineEnd, Piece, next_piece, skip_line};
+use tmw_streams::Source;
+use tmw_trace::TraceFault;
 
 /// The greatest number of steps in a list.
 const MOST_STEPS: u64 = 1 << 40;

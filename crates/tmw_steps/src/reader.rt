@@ -1,6 +1,6 @@
 ghost use Rattle.std.specs.Prelude.{◌≡◌, ℕ, List, IfOk, IfErr, OnOk};
-ghost use Rattle.tmw_events.specs.TextFault.{failures_after};
-ghost use Rattle.tmw_events.specs.Told.{Adds};
+ghost use Rattle.tmw_trace.specs.TextFault.{failures_after};
+ghost use Rattle.tmw_streams.specs.Told.{Adds};
 ghost use Rattle.tmw_steps.specs.StepFault.{HasStepsFault};
 ghost use Rattle.tmw_steps.specs.StepText.{steps_text, AreSteps};
 
@@ -8,7 +8,9 @@ use crate::first_size::first_size;
 use crate::next_step::next_step;
 use crate::step_list::StepList;
 use std::alloc::Global;
-use tmw_events::{Held, Source, TraceFault};
+use tmw_lines::Held;
+use tmw_streams::Source;
+use tmw_trace::TraceFault;
 
 /// Reads a whole list of steps, up to the source's end. Lines are judged in order, each before any further read, and the
 /// first fault is answered; a whole bad line that was delivered before a failed read comes before `Io`. `Memory` answers

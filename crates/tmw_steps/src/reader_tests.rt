@@ -1,8 +1,10 @@
 //! What the contracts of the reader don't say: that it succeeds, and that worked texts are read as their authors meant.
 use crate::{read_steps, size_of, step_of};
 use std::test::Fail;
-use tmw_defs::{RingSize, Step};
-use tmw_events::{Ix, Kind, MemorySource, TraceFault};
+use tmw_ring_defs::{RingSize, Step};
+use tmw_events::{Ix, Kind};
+use tmw_streams::MemorySource;
+use tmw_trace::TraceFault;
 
 const STEPS: &[u8] =
     b"ring-steps 1 4 2 100\nfront 0 W 0 5\ntail 0\nclaim 0\nstop 0\nfront 1 T\npeek\n";

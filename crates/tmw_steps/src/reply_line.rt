@@ -1,12 +1,13 @@
 ghost use Rattle.std.specs.Prelude.{◌≡◌, ◌++◌, OnOk, OnErr, decimal};
-ghost use Rattle.tmw_events.specs.Text.{line};
-ghost use Rattle.tmw_events.specs.Told.{Adds, AddsBeginning, one_more};
-ghost use Rattle.tmw_defs.specs.declared.ring_step.Reply.TheVariants.{Taken};
+ghost use Rattle.tmw_lines.specs.Text.{line};
+ghost use Rattle.tmw_streams.specs.Told.{Adds, AddsBeginning, one_more};
+ghost use Rattle.tmw_ring_defs.specs.declared.ring_step.Reply.TheVariants.{Taken};
 ghost use Rattle.tmw_steps.specs.ReplyText.{reply_text, counts_text, replies_text};
 
 use itoa::Buffer;
-use tmw_defs::Reply;
-use tmw_events::{Event, IoFault, Sink, put_all, put_event};
+use tmw_ring_defs::Reply;
+use tmw_events::{Event, put_event};
+use tmw_streams::{IoFault, Sink, put_all};
 
 /// Writes a line for each reply, and then the line that counts the places that were claimed, `log`, and the events that
 /// were taken. It takes no memory. After a failed write a beginning of the lines went out, and not all of them.

@@ -1,7 +1,8 @@
 //! What the contracts of the writer don't say: that it succeeds, and that each reply's line is the one that was meant.
 use crate::put_replies;
-use tmw_defs::Reply;
-use tmw_events::{Event, IoFault, Ix, Kind, MemorySink};
+use tmw_ring_defs::Reply;
+use tmw_events::{Event, Ix, Kind};
+use tmw_streams::{IoFault, MemorySink};
 
 const LINES: &[u8] =
     b"saw 3\ncleared\nfull 0 18446744073709551615\nspent 99\nplace 0\nfilled\npublished 12\nready\nnot ready\nword 5\nevent 1 W 7 5\nstopped\nnot now\nlog 4 taken 1\n";

@@ -1,12 +1,12 @@
 ghost use Rattle.std.specs.Prelude.{◌≡◌, ℕ, List};
-ghost use Rattle.tmw_events.specs.Told.{Adds};
+ghost use Rattle.tmw_streams.specs.Told.{Adds};
 ghost use Rattle.tmw_steps.specs.Running.{IsAnswer, IsMade, Runs, failures_after_answer};
 
 use crate::reader::read_steps;
 use crate::reply_line::put_replies;
 use crate::step_list::StepList;
 use std::alloc::Global;
-use tmw_events::{Sink, Source};
+use tmw_streams::{Sink, Source};
 use tmw_report::{FAULT_STATUS, Fault, answer_fault, fault_of};
 use tmw_ring_steps::{Reply, RingFault, Sim};
 

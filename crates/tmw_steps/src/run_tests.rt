@@ -3,7 +3,7 @@ use crate::run::run_steps;
 use std::alloc::{AllocError, Global};
 use std::process::Abort;
 use std::test::Fail;
-use tmw_events::{MemorySink, MemorySource};
+use tmw_streams::{MemorySink, MemorySource};
 
 /// Two writers whose claims are published in the other order, in a ring that is full between them.
 const TWO_WRITERS: &str =

@@ -1,11 +1,11 @@
 ghost use Rattle.std.specs.Prelude.{◌≡◌, IfSome, IfNone};
-ghost use Rattle.tmw_events.specs.Text.{values_text};
-ghost use Rattle.tmw_defs.specs.declared.ring_size.RingSize.{RingSize};
+ghost use Rattle.tmw_trace.specs.Text.{values_text};
+ghost use Rattle.tmw_ring_defs.specs.declared.ring_size.RingSize.{RingSize};
 ghost use Rattle.tmw_steps.specs.StepFault.{IsNoSize};
 ghost use Rattle.tmw_steps.specs.StepText.{size_numbers, size_text, FitsSize};
 
-use tmw_defs::RingSize;
-use tmw_events::first_value;
+use tmw_ring_defs::RingSize;
+use tmw_trace::first_value;
 
 /// The size that these bytes are the text of: the first line without its line feed. `None` for all other bytes. Whether a
 /// ring may have this size is not asked.

@@ -5,7 +5,7 @@ ghost use Rattle.tmw_events.specs.declared.ix.Ix.{Ix};
 ghost use Rattle.tmw_steps.specs.StepFault.{IsNoStep};
 ghost use Rattle.tmw_steps.specs.StepText.{step_text, FitsStep};
 
-use tmw_defs::Step;
+use tmw_ring_defs::Step;
 use tmw_events::{Ix, Kind, kind_of};
 
 /// The step that these bytes are the text of: a line without its line feed. `None` for all other bytes.

@@ -1,4 +1,4 @@
-use tmw_defs::{RingSize, Step};
+use tmw_ring_defs::{RingSize, Step};
 
 /// Steps of a ring of this size, in the order in which its actors make them.
 #[derive(Debug, Drop)]

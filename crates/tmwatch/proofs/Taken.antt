@@ -1,16 +1,16 @@
 -- Judging a trace as it is read: what was told is what the reader of lines has read, and its events are what the monitor was fed.
 use Rattle.std.proofs.Common.{◌≡◌, ◌+◌, ◌<◌, ◌≤◌, ◌^◌, ℕ, List, [], ◌∷◌, ◌++◌, length, Result, Ok, Err, refl, sym, ◌∙◌, arith, length-append}
-use Rattle.tmw_events.specs.TraceLines.{HasRead, GivesEvent, GivesEnd, GivesFault}
-use Rattle.tmw_events.specs.Text.{trace_text}
-use Rattle.tmw_events.specs.TextFault.{HasTextFault, HasBegun, failures_after}
-use Rattle.tmw_events.specs.Told.{Adds}
+use Rattle.tmw_trace.specs.TraceLines.{HasRead, GivesEvent, GivesEnd, GivesFault}
+use Rattle.tmw_trace.specs.Text.{trace_text}
+use Rattle.tmw_trace.specs.TextFault.{HasTextFault, HasBegun, failures_after}
+use Rattle.tmw_streams.specs.Told.{Adds}
 use Rattle.tmw_events.specs.declared.event.Event.{Event}
-use Rattle.tmw_events.specs.declared.header.Header.{Header}
-use Rattle.tmw_events.specs.declared.trace_fault.TraceFault.{TraceFault}
-use Rattle.tmw_events.specs.declared.trace_fault.TraceFault.TheVariants.{BadHeader, BadLine, Cut, Memory, Io, TooLong}
-use Rattle.tmw_events.specs.declared.trace_lines.TraceLines.{TraceLines}
-use Rattle.tmw_events.proofs.ToldBytes.{Adds-more}
-use Rattle.tmw_events.proofs.TracesRead.{HasTaken, HasTaken-push, begun-taken}
+use Rattle.tmw_trace.specs.declared.header.Header.{Header}
+use Rattle.tmw_trace.specs.declared.trace_fault.TraceFault.{TraceFault}
+use Rattle.tmw_trace.specs.declared.trace_fault.TraceFault.TheVariants.{BadHeader, BadLine, Cut, Memory, Io, TooLong}
+use Rattle.tmw_trace.specs.declared.trace_lines.TraceLines.{TraceLines}
+use Rattle.tmw_streams.proofs.ToldBytes.{Adds-more}
+use Rattle.tmw_trace.proofs.TracesRead.{HasTaken, HasTaken-push, begun-taken}
 use Rattle.tmw_defs.specs.Verdict.{Rules}
 use Rattle.tmw_monitor.specs.declared.bounds.Bounds.{Bounds}
 use Rattle.tmw_monitor.specs.declared.monitor.Monitor.{Monitor}

@@ -1,11 +1,11 @@
 -- What `judge` promises: from the bytes that its source tells to the line that its sink takes and the exit status.
 use Rattle.std.specs.Prelude.{◌≡◌, ℕ, List, length, Result, Ok, Err}
-use Rattle.tmw_events.specs.Text.{trace_text, AreEvents}
-use Rattle.tmw_events.specs.TextFault.{HasTextFault}
-use Rattle.tmw_events.specs.Told.{Adds}
+use Rattle.tmw_trace.specs.Text.{trace_text, AreEvents}
+use Rattle.tmw_trace.specs.TextFault.{HasTextFault}
+use Rattle.tmw_streams.specs.Told.{Adds}
 use Rattle.tmw_events.specs.declared.event.Event.{Event}
-use Rattle.tmw_events.specs.declared.header.Header.{Header}
-use Rattle.tmw_events.specs.declared.trace_fault.TraceFault.{TraceFault}
+use Rattle.tmw_trace.specs.declared.header.Header.{Header}
+use Rattle.tmw_trace.specs.declared.trace_fault.TraceFault.{TraceFault}
 use Rattle.tmw_defs.specs.declared.verdict.Verdict.{Verdict}
 use Rattle.tmw_defs.specs.Verdict.{IsVerdict}
 use Rattle.tmw_monitor.specs.declared.bounds.Bounds.{Bounds}

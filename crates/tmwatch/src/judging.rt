@@ -1,10 +1,11 @@
 ghost use Rattle.std.specs.Prelude.{◌≡◌, ℕ, List};
-ghost use Rattle.tmw_events.specs.Told.{Adds};
+ghost use Rattle.tmw_streams.specs.Told.{Adds};
 ghost use Rattle.tmwatch.specs.Judging.{IsAnswer, failures_behind};
 
 use crate::report::Report;
 use std::alloc::Global;
-use tmw_events::{Source, TraceLines};
+use tmw_streams::Source;
+use tmw_trace::TraceLines;
 use tmw_monitor::{Bounds, Monitor};
 use tmw_report::{Fault, fault_of};
 

@@ -5,7 +5,7 @@ ghost use Rattle.tmwatch.specs.Judging.{IsPut, Runs};
 use crate::judging::judge;
 use crate::report::Report;
 use std::alloc::Global;
-use tmw_events::{Sink, Source, put_all};
+use tmw_streams::{Sink, Source, put_all};
 use tmw_monitor::Bounds;
 use tmw_report::{FAULT_STATUS, Fault, answer_fault, report_text, status_of};
 

@@ -3,7 +3,7 @@ use crate::run::run_judge;
 use std::alloc::{AllocError, Global};
 use std::process::Abort;
 use std::test::Fail;
-use tmw_events::{MemorySink, MemorySource};
+use tmw_streams::{MemorySink, MemorySource};
 use tmw_monitor::Bounds;
 
 mod streams;

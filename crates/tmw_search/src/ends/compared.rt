@@ -1,7 +1,6 @@
 use super::tests::window_of;
 use super::*;
-use crate::judge::judge_whole;
-use crate::whole::Whole;
+use tmw_plain_check::{Whole, judge_whole};
 use std::test::Fail;
 use tmw_cuts::State;
 use tmw_defs::Status;

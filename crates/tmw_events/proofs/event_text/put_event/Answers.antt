@@ -2,7 +2,7 @@
 use Rattle.std.proofs.Common.{[], ◌∷◌}
 use Rattle.std.proofs.lemmas.Result.{on_err_weaker, err_from_is_err_and}
 use Rattle.tmw_events.specs.Text.{digit, kind_text}
-use Rattle.tmw_events.proofs.Beginnings.{AddsBeginning-more, AddsBeginning-front}
+use Rattle.tmw_streams.proofs.Beginnings.{AddsBeginning-more, AddsBeginning-front}
 use Rattle.tmw_events.proofs.event_text.put_event.Goals as goal
 
 pub returns-in_err-put_all-clause-begun : goal.returns-in_err-put_all-clause-begun

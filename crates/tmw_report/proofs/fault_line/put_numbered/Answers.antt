@@ -2,7 +2,7 @@
 use Rattle.std.proofs.Common.{◌++◌, decimal, ◌∙◌}
 use Rattle.std.proofs.lemmas.Result.{on_err_weaker, err_from_is_err_and}
 use Rattle.tmw_report.specs.Lines.{line_end}
-use Rattle.tmw_events.proofs.Beginnings.{AddsBeginning-more, AddsBeginning-front}
+use Rattle.tmw_streams.proofs.Beginnings.{AddsBeginning-more, AddsBeginning-front}
 use Rattle.tmw_report.proofs.fault_line.put_numbered.Goals as goal
 
 pub returns-in_err-put_all-2-clause-begun : goal.returns-in_err-put_all-2-clause-begun

@@ -1,7 +1,7 @@
 use Rattle.std.proofs.Common.{◌∙◌, List, ℕ, [], subst, sym}
 use Rattle.atomic_table.specs.Table.{opening}
-use Rattle.tmw_defs.specs.Ring.{IsSize}
-use Rattle.tmw_defs.specs.declared.ring_size.RingSize.{RingSize}
+use Rattle.tmw_ring_defs.specs.Ring.{IsSize}
+use Rattle.tmw_ring_defs.specs.declared.ring_size.RingSize.{RingSize}
 use Rattle.tmw_ring.specs.Parts.{new_parts}
 use Rattle.tmw_ring.specs.Rule.{Shown}
 use Rattle.tmw_ring.proofs.Starts.{starts}

@@ -1,5 +1,5 @@
 use Rattle.std.proofs.Common.{◌≡◌, drop}
-use Rattle.tmw_defs.specs.Blind.{fix_from}
+use Rattle.tmw_search.specs.BlindTransactions.{fix_from}
 use Rattle.tmw_search.proofs.blind.fix.Given as goal
 
 abbrev pub invariant-loop-op : goal.invariant-loop-op

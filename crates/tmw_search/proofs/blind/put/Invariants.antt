@@ -1,6 +1,6 @@
 -- What is left to be put over the state makes of it what all makes of the first.
 use Rattle.std.proofs.Common.{◌≡◌, drop}
-use Rattle.tmw_defs.specs.Blind.{put_from}
+use Rattle.tmw_search.specs.BlindTransactions.{put_from}
 use Rattle.tmw_search.proofs.blind.put.Given as goal
 
 abbrev pub invariant-loop-register : goal.invariant-loop-register

@@ -1,4 +1,4 @@
-use Rattle.tmw_events.specs.Held.{bytes_of}
+use Rattle.tmw_lines.specs.Held.{bytes_of}
 use Rattle.tmw_steps.proofs.FirstSizes.{long_size-feed, long_size-end, long_size-failed}
 use Rattle.tmw_steps.proofs.first_size.first_size.Goals as goal
 

@@ -1,4 +1,4 @@
-use Rattle.tmw_events.specs.Held.{bytes_of}
+use Rattle.tmw_lines.specs.Held.{bytes_of}
 use Rattle.tmw_steps.proofs.FirstSizes.{take_size-some, take_size-none}
 use Rattle.tmw_steps.proofs.first_size.take_size.Goals as goal
 

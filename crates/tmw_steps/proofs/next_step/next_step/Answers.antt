@@ -1,5 +1,5 @@
 use Rattle.std.proofs.Common.{◌<◌, ◌^◌, arith}
-use Rattle.tmw_events.specs.Held.{bytes_of}
+use Rattle.tmw_lines.specs.Held.{bytes_of}
 use Rattle.tmw_steps.proofs.NextSteps.{long_step-feed, long_step-end, long_step-failed}
 use Rattle.tmw_steps.proofs.next_step.next_step.Goals as goal
 

@@ -1,5 +1,5 @@
-use Rattle.tmw_events.specs.Held.{bytes_of}
-use Rattle.tmw_events.proofs.NextLines.{take_event-less}
+use Rattle.tmw_lines.specs.Held.{bytes_of}
+use Rattle.tmw_trace.proofs.NextLines.{take_event-less}
 use Rattle.tmw_steps.proofs.NextSteps.{take_step-some, take_step-none}
 use Rattle.tmw_steps.proofs.next_step.take_step.Goals as goal
 

@@ -1,6 +1,6 @@
 use Rattle.std.proofs.Common.{◌≡◌, ◌∙◌, [], ◌∷◌, ◌++◌, length, refl, arith}
 use Rattle.std.proofs.lemmas.Result.{err_from_is_err_and}
-use Rattle.tmw_events.specs.Held.{bytes_of}
+use Rattle.tmw_lines.specs.Held.{bytes_of}
 use Rattle.tmw_steps.proofs.StepsRead.{HasTaken-push, taken-begun, taken-all, taken-fault}
 use Rattle.tmw_steps.proofs.reader.read_steps.Goals as goal
 

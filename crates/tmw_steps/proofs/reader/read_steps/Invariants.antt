@@ -1,5 +1,5 @@
 use Rattle.std.proofs.Common.{◌≡◌, ◌+◌, length}
-use Rattle.tmw_events.specs.Held.{bytes_of}
+use Rattle.tmw_lines.specs.Held.{bytes_of}
 use Rattle.tmw_steps.proofs.StepsRead.{HasTaken}
 use Rattle.tmw_steps.proofs.reader.read_steps.Given as goal
 

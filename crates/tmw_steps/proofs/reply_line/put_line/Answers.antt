@@ -1,7 +1,7 @@
 -- A beginning of the reply, or all of it and no line feed.
 use Rattle.std.proofs.Common.{[], ◌∷◌}
 use Rattle.std.proofs.lemmas.Result.{on_err_weaker, err_from_is_err_and}
-use Rattle.tmw_events.proofs.Beginnings.{AddsBeginning-more, AddsBeginning-front}
+use Rattle.tmw_streams.proofs.Beginnings.{AddsBeginning-more, AddsBeginning-front}
 use Rattle.tmw_steps.specs.ReplyText.{reply_text}
 use Rattle.tmw_steps.proofs.reply_line.put_line.Goals as goal
 

@@ -1,7 +1,7 @@
 -- A beginning of the number came after all the bytes before it.
 use Rattle.std.proofs.Common.{decimal, ◌∙◌}
 use Rattle.std.proofs.lemmas.Result.{on_err_weaker}
-use Rattle.tmw_events.proofs.Beginnings.{AddsBeginning-more}
+use Rattle.tmw_streams.proofs.Beginnings.{AddsBeginning-more}
 use Rattle.tmw_steps.proofs.reply_line.put_number.Goals as goal
 
 pub returns-clause-begun : goal.returns-clause-begun

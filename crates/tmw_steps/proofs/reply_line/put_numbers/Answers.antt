@@ -1,7 +1,7 @@
 -- A beginning of the first text and number, or of the second ones after them.
 use Rattle.std.proofs.Common.{◌++◌, decimal}
 use Rattle.std.proofs.lemmas.Result.{on_err_weaker, err_from_is_err_and}
-use Rattle.tmw_events.proofs.Beginnings.{AddsBeginning-more, AddsBeginning-front}
+use Rattle.tmw_streams.proofs.Beginnings.{AddsBeginning-more, AddsBeginning-front}
 use Rattle.tmw_steps.proofs.reply_line.put_numbers.Goals as goal
 
 pub returns-in_err-put_number-clause-begun : goal.returns-in_err-put_number-clause-begun

@@ -2,9 +2,9 @@
 use Rattle.std.proofs.Common.{List, ℕ, ◌+◌, ◌++◌, take, drop, sym, subst}
 use Rattle.std.proofs.lemmas.List.{take_all}
 use Rattle.std.proofs.lemmas.Result.{on_err_weaker, err_from_is_err_and}
-use Rattle.tmw_events.specs.Text.{line}
-use Rattle.tmw_events.specs.Told.{AddsBeginning}
-use Rattle.tmw_events.proofs.Beginnings.{AddsBeginning-more, AddsBeginning-front}
+use Rattle.tmw_lines.specs.Text.{line}
+use Rattle.tmw_streams.specs.Told.{AddsBeginning}
+use Rattle.tmw_streams.proofs.Beginnings.{AddsBeginning-more, AddsBeginning-front}
 use Rattle.tmw_steps.specs.ReplyText.{reply_text, lines_text, counts_text}
 use Rattle.tmw_steps.proofs.ReplyLines.{replies-split}
 use Rattle.tmw_steps.proofs.reply_line.put_replies.Goals as goal

@@ -1,5 +1,5 @@
 use Rattle.std.proofs.Common.{◌≡◌, take}
-use Rattle.tmw_events.specs.Told.{Adds}
+use Rattle.tmw_streams.specs.Told.{Adds}
 use Rattle.tmw_steps.specs.ReplyText.{lines_text}
 use Rattle.tmw_steps.proofs.reply_line.put_replies.Given as goal
 

@@ -1,7 +1,7 @@
 -- A beginning of the word, or of the event after it.
 use Rattle.std.proofs.Common.{codes}
 use Rattle.std.proofs.lemmas.Result.{on_err_weaker, err_from_is_err_and}
-use Rattle.tmw_events.proofs.Beginnings.{AddsBeginning-more, AddsBeginning-front}
+use Rattle.tmw_streams.proofs.Beginnings.{AddsBeginning-more, AddsBeginning-front}
 use Rattle.tmw_events.specs.Text.{event_text}
 use Rattle.tmw_steps.proofs.reply_line.put_taken.Goals as goal
 

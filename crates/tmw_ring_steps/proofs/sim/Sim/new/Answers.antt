@@ -1,9 +1,9 @@
 use Rattle.std.proofs.Common.{sym, subst, arith}
-use Rattle.tmw_defs.specs.Ring.{HasRoom, HasLimit}
-use Rattle.tmw_defs.specs.RingMachine.{Machine}
-use Rattle.tmw_defs.specs.RingSound.{Sound}
-use Rattle.tmw_defs.specs.declared.ring_size.RingSize.{RingSize}
-use Rattle.tmw_defs.proofs.RingStart.{new_core-sound}
+use Rattle.tmw_ring_defs.specs.Ring.{HasRoom, HasLimit}
+use Rattle.tmw_ring_defs.specs.RingMachine.{Machine}
+use Rattle.tmw_ring_defs.specs.RingSound.{Sound}
+use Rattle.tmw_ring_defs.specs.declared.ring_size.RingSize.{RingSize}
+use Rattle.tmw_ring_defs.proofs.RingStart.{new_core-sound}
 use Rattle.tmw_ring_steps.proofs.sim.Sim.new.Goals as goal
 
 pub invariant_of-result : goal.invariant_of-result

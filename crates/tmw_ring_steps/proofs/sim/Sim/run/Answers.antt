@@ -1,10 +1,10 @@
 use Rattle.std.proofs.Common.{◌≡◌, ◌+◌, List, [], ◌∷◌, ◌++◌, take, sym, ap, ◌∙◌, subst, arith}
 use Rattle.std.proofs.lemmas.List.{take_more, take_all}
 use Rattle.std.proofs.lemmas.Result.{err_from_is_err_and}
-use Rattle.tmw_defs.specs.RingMachine.{after}
-use Rattle.tmw_defs.specs.RingSound.{Sound}
-use Rattle.tmw_defs.specs.declared.ring_step.Reply.{Reply}
-use Rattle.tmw_defs.specs.declared.ring_step.Step.{Step}
+use Rattle.tmw_ring_defs.specs.RingMachine.{after}
+use Rattle.tmw_ring_defs.specs.RingSound.{Sound}
+use Rattle.tmw_ring_defs.specs.declared.ring_step.Reply.{Reply}
+use Rattle.tmw_ring_defs.specs.declared.ring_step.Step.{Step}
 use Rattle.tmw_ring_steps.proofs.Runs.{HasRun, run-more, run-none, goes_on, ran_first}
 use Rattle.tmw_ring_steps.proofs.sim.Sim.run.Goals as goal
 use Rattle.tmw_ring_steps.specs.Runs.{RanFirst}

@@ -1,5 +1,5 @@
 use Rattle.std.proofs.Common.{subst}
-use Rattle.tmw_defs.specs.RingSound.{Spares}
+use Rattle.tmw_ring_defs.specs.RingSound.{Spares}
 use Rattle.tmw_ring_steps.proofs.Runs.{made_sound}
 use Rattle.tmw_ring_steps.proofs.sim.Sim.step.Goals as goal
 use Rattle.tmw_ring_steps.specs.Simulated.{Simulated}

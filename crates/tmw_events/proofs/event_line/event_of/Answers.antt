@@ -1,6 +1,0 @@
-use Rattle.tmw_events.proofs.EventLines.{no_thread}
-use Rattle.tmw_events.proofs.event_line.event_of.Goals as goal
-
-pub returns-in_default-ix_of-clause-none : goal.returns-in_default-ix_of-clause-none
-returns-in_default-ix_of-clause-none c =
-    λ event fits spoken. no_thread c.args.bytes.now event c.in_default-ix_of.ensures.none

@@ -1,6 +1,0 @@
-use Rattle.tmw_events.proofs.HeaderLines.{no_registers}
-use Rattle.tmw_events.proofs.header_line.numbers_of.Goals as goal
-
-pub returns-in_default-registers_of-clause-none : goal.returns-in_default-registers_of-clause-none
-returns-in_default-registers_of-clause-none c =
-    λ header fits. no_registers c.args.bytes.now header c.in_default-registers_of.ensures.none

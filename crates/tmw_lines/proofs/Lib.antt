@@ -1,0 +1,4 @@
+mod HeldBytes
+mod LongLines
+mod Pieces
+pub mod Splits

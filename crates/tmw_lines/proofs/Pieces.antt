@@ -1,0 +1,49 @@
+-- Reading on through a line: the bytes seen so far hold no line feed.
+use Rattle.std.proofs.Common.{◌≡◌, ℕ, ◌+◌, ◌-◌, ◌<◌, ◌≤◌, List, ◌∷◌, ◌++◌, [], not, length, take, drop, sym, ap, ◌∙◌, ◌==◌, length-drop, length-append, append_assoc, arith}
+use Rattle.std.specs.List.{position_or_len}
+use Rattle.std.proofs.Math.Seq.{take-add}
+use Rattle.std.proofs.lemmas.List.{drop-drop, take-append-le, take_all}
+use Rattle.std.proofs.lemmas.List.Sums.{prefix_len-le-length}
+use Rattle.tmw_lines.specs.Parts.{IsFree}
+use Rattle.tmw_lines.specs.Piece.{Reads, IsSeen}
+use Rattle.tmw_streams.specs.Told.{Adds}
+use Rattle.tmw_lines.proofs.Splits.{free-append, free-before, drop-before}
+use Rattle.tmw_streams.proofs.ToldBytes.{Adds-more}
+
+-- the part of the bytes after those seen, up to its first line feed, is seen too
+pub IsSeen-more : (bytes : List ℕ) (seen more : ℕ) → IsSeen seen bytes
+    → more ≡ position_or_len (λ byte. byte == 10) (drop seen bytes) → IsSeen (seen + more) bytes
+IsSeen-more bytes seen more s is =
+    let few = prefix_len-le-length (λ byte. not (byte == 10)) (drop seen bytes) in
+    let free : IsFree 10 (take more (drop seen bytes)) = rw is (free-before 10 (drop seen bytes)) in
+    record {
+      within = omega (arith, s.within, is, few, length-drop seen bytes);
+      free = rw (take-add seen more bytes) (free-append 10 (take seen bytes) (take more (drop seen bytes)) s.free free);
+    }
+
+pub drop-seen : (bytes : List ℕ) (seen more : ℕ) → more ≡ position_or_len (λ byte. byte == 10) (drop seen bytes)
+    → seen + more < length bytes → drop (seen + more) bytes ≡ 10 ∷ drop (seen + more + 1) bytes
+drop-seen bytes seen more is within =
+    let here : position_or_len (λ byte. byte == 10) (drop seen bytes) < length (drop seen bytes) =
+    simp length-drop (omega (arith, is)) in
+    let next : seen + (more + 1) ≡ seen + more + 1 = omega arith in
+    sym (drop-drop more seen bytes)
+    ∙ rw is (drop-before 10 (drop seen bytes) here ∙ ap (λ xs. 10 ∷ xs) (rw (← is) (drop-drop (more + 1) seen bytes ∙ ap (λ n. drop n bytes) next)))
+
+-- what is read behind the bytes leaves what was seen
+pub IsSeen-append : (bytes rest : List ℕ) (seen : ℕ) → IsSeen seen bytes → IsSeen seen (bytes ++ rest)
+IsSeen-append bytes rest seen s = record {
+  within = simp length-append (omega (arith, s.within));
+  free = rw (take-append-le seen bytes rest s.within) s.free;
+}
+
+pub free-seen : (bytes : List ℕ) (seen : ℕ) → length bytes ≤ seen → IsSeen seen bytes → IsFree 10 bytes
+free-seen bytes seen all s = rw (take_all seen bytes all) at s.free
+
+pub Reads-more : {S : Type 0} (Told : S → List ℕ → Type 0) (a b c : S) (xs ys zs : List ℕ) → Reads Told a b xs ys
+    → Reads Told b c ys zs → Reads Told a c xs zs
+Reads-more Told a b c xs ys zs r s = record {
+  bytes = r.bytes ++ s.bytes;
+  told = Adds-more Told a b c r.bytes s.bytes r.told s.told;
+  is = s.is ∙ ap (λ z. z ++ s.bytes) r.is ∙ append_assoc xs r.bytes s.bytes;
+}

@@ -1,0 +1,10 @@
+use Rattle.std.proofs.Common.{◌≡◌}
+use Rattle.tmw_lines.proofs.LongLines.{HasSkipped}
+use Rattle.tmw_lines.proofs.long_line.skip_line.Given as goal
+
+abbrev pub invariant-parts : goal.invariant-parts
+invariant-parts g l =
+    HasSkipped g.S.Source.told l.initial.source l.source × (g.S.Source.failures l.source ≡ g.S.Source.failures l.initial.source)
+
+abbrev pub decreases-parts : goal.decreases-parts
+decreases-parts g l = g.S.Source.left l.source

@@ -1,0 +1,9 @@
+use Rattle.std.proofs.Common.{arith}
+use Rattle.std.proofs.lemmas.List.{drop_all}
+use Rattle.tmw_lines.proofs.Splits.{free-decimal, split_free, drop-before, free-before, position_or_len-free}
+use Rattle.tmw_lines.proofs.splitting.length_before.Goals as goal
+
+pub returns : goal.returns
+returns c =
+    let left = rw (drop_all c.loop-index.index c.args.bytes.now c.loop-index-test.false) at c.loop-index.invariant in
+    omega (arith, left)

@@ -1,0 +1,36 @@
+ghost use Rattle.std.specs.Prelude.{◌≡◌};
+ghost use Rattle.tmw_lines.specs.LongLine.{Skips, line_end_failures};
+
+use crate::held::Held;
+use tmw_streams::Source;
+use crate::splitting::length_before;
+
+/// How a line ends.
+#[derive(Clone, Copy, PartialEq, Eq, Debug)]
+pub enum LineEnd {
+    /// With its line feed.
+    Feed,
+    /// With the source's end.
+    End,
+    /// Unknown: a read failed.
+    Failed,
+}
+
+/// Reads on to the end of a line that is longer than can be held, and holds no more of it than of any other.
+pub fn skip_line<S: Source>(held: &mut Held, source: &mut S) -> LineEnd
+    ensures skips { Skips S.told (S.ended source.new) source.old source.new result }
+    ensures failures { S.failures source.new ≡ line_end_failures result (S.failures source.old) }
+{
+    'parts: loop {
+        held.clear();
+        match held.read(source) {
+            Err(_) => return LineEnd::Failed,
+            Ok(0) => return LineEnd::End,
+            Ok(_) => {}
+        }
+        let bytes = held.bytes();
+        if length_before(bytes, b'\n') < bytes.len() {
+            return LineEnd::Feed;
+        }
+    }
+}

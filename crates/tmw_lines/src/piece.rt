@@ -1,0 +1,57 @@
+ghost use Rattle.std.specs.Prelude.{◌≡◌, ℕ, ◌+◌, ◌<◌, ◌≤◌, List, ◌∷◌, length, drop};
+ghost use Rattle.tmw_lines.specs.Held.{bytes_of};
+ghost use Rattle.tmw_lines.specs.Piece.{Reads, IsSeen, IsPiece, UnlessFailed, piece_failures};
+
+use crate::held::Held;
+use tmw_streams::Source;
+use crate::splitting::length_before;
+
+/// What stands at the front of the bytes held.
+#[derive(Clone, Copy, PartialEq, Eq, Debug)]
+pub enum Piece {
+    /// So many bytes, and then a line feed.
+    Line(usize),
+    /// The source's last bytes, and no line feed.
+    End,
+    /// 4,096 bytes, and no line feed.
+    Long,
+    /// No line feed, and a read that failed.
+    Failed,
+}
+
+/// Reads on until the bytes held begin with a whole line, or no more can be held or read. A line that is held already
+/// is found before any read.
+pub fn next_piece<S: Source>(held: &mut Held, source: &mut S) -> Piece
+    ensures reads { Reads S.told source.old source.new (bytes_of held.old) (bytes_of held.new) }
+    ensures piece { IsPiece result (S.ended source.new) (bytes_of held.new) }
+    ensures falls { UnlessFailed result (S.left source.new + length (bytes_of held.new)
+        ≤ S.left source.old + length (bytes_of held.old)) }
+    ensures failures { S.failures source.new ≡ piece_failures result (S.failures source.old) }
+{
+    let mut seen = 0;
+    loop {
+        let bytes = held.bytes();
+        let length = seen_on(bytes, seen);
+        if length < bytes.len() {
+            return Piece::Line(length);
+        }
+        if length == 4096 {
+            return Piece::Long;
+        }
+        match held.read(source) {
+            Err(_) => return Piece::Failed,
+            Ok(0) => return Piece::End,
+            Ok(_) => seen = length,
+        }
+    }
+}
+
+/// How many bytes stand before the first line feed, or all, where so many are known to hold none.
+fn seen_on(bytes: &[u8], seen: usize) -> usize
+    requires seen { IsSeen seen bytes.now }
+    requires few { length bytes.now ≤ 4096 }
+    ensures seen { IsSeen result bytes.now }
+    ensures stops { result < length bytes.now → drop result bytes.now ≡ 10 ∷ drop (result + 1) bytes.now }
+{
+    seen + length_before(&bytes[seen..], b'\n')
+}

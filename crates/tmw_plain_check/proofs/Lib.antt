@@ -1,0 +1,4 @@
+mod Adding
+mod Stepping
+mod Steps
+mod Weighing

@@ -1,0 +1,13 @@
+//! The plain check of a whole recorded history: whether it is opaque, by a search through the serial orders of each of its
+//! prefixes. It knows no windows, and is what the monitor is compared with.
+#![tactic(auto)]
+
+mod judge;
+mod order;
+mod replay;
+mod text;
+mod transaction;
+mod whole;
+
+pub use judge::{judge_whole, judge_whole_from};
+pub use whole::{Whole, WholeFault};

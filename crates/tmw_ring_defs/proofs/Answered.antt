@@ -1,0 +1,182 @@
+-- Each step of a sound ring is answered as the sequential log would answer it, where what its writers announced is known.
+use Rattle.std.proofs.Common.{◌≡◌, ◌≢◌, ◌⊎◌, ◌==◌, ◌+◌, ℕ, zero, suc, Bool, true, false, List, [], ◌∷◌, length, Option, Some, None, refl, sym, ap, ◌∙◌, inl, inr, slice_get, slice_set, option_and_then, arith, nat_lt, ◌-◌, if◌then◌else◌, length-append}
+use Rattle.std.proofs.lemmas.Bool.{eq-eqb, ne_eqb}
+use Rattle.tmw_events.proofs.Unpacks.{unpacked-pack}
+use Rattle.tmw_events.specs.Packing.{packed_header}
+use Rattle.tmw_events.specs.Unpacking.{unpacked}
+use Rattle.tmw_events.specs.declared.event.Event.{Event}
+use Rattle.tmw_events.specs.declared.event.Kind.{Kind}
+use Rattle.tmw_events.specs.declared.ix.Ix.{Ix}
+use Rattle.tmw_ring_defs.specs.OneLog.{Sequential, appended, Announced, announced_by, announces, Asks, sequential_of}
+use Rattle.tmw_ring_defs.specs.Ring.{Core}
+use Rattle.tmw_ring_defs.specs.RingSound.{Sound, IsIn, HasRead}
+use Rattle.tmw_ring_defs.specs.RingSteps.{Stepped, with_phase, cell_at, front_step, tail_step, claim_step, fill_step, publish_step, peek_step, read_step, free_step, by_writer, core_step}
+use Rattle.tmw_ring_defs.specs.declared.ring_phase.ReaderPhase.{ReaderPhase}
+use Rattle.tmw_ring_defs.specs.declared.ring_phase.ReaderPhase.TheVariants.{Waiting, Ready, Told}
+use Rattle.tmw_ring_defs.specs.declared.ring_phase.WriterPhase.{WriterPhase}
+use Rattle.tmw_ring_defs.specs.declared.ring_phase.WriterPhase.TheVariants.{Idle, Looked, Cleared, Claimed}
+use Rattle.tmw_ring_defs.specs.declared.ring_step.Reply.TheVariants.{Cleared as IsCleared, Full, Spent, Ready as IsReady, NotReady}
+use Rattle.tmw_ring_defs.specs.declared.ring_step.Step.{Step}
+use Rattle.tmw_ring_defs.specs.declared.ring_step.Step.TheVariants.{Front, Tail, Claim, Fill, Publish, Peek, Read, Free, Stop}
+
+-- A writer that has looked or is cleared has this kind to record.
+abbrev pub IsAnnounced : Kind → WriterPhase → Type 0
+IsAnnounced announced Idle = Unit {0}
+IsAnnounced announced (Looked kind front) = announced ≡ kind
+IsAnnounced announced (Cleared kind) = announced ≡ kind
+IsAnnounced announced (Claimed place kind is_filled) = Unit {0}
+
+-- The kinds announced are those that the writers on the way to a claim have to record.
+abbrev pub Knows : Announced → Core → Type 0
+Knows kinds core = (writer : ℕ) (phase : WriterPhase) → IsIn core writer phase → IsAnnounced (kinds writer) phase
+
+-- The step, if it is its actor's next, is answered as the log would answer it, and the kinds announced are known after it.
+abbrev pub IsAnswered : Announced → Step → Core → Stepped → Type 0
+IsAnswered kinds step core None = Unit {0}
+IsAnswered kinds step core (Some (reply, next)) =
+    Asks kinds step reply (sequential_of core) (sequential_of next) × Knows (announces step reply kinds) next
+
+-- An item of a list in which one was set is that one, or stood there before.
+set_get : {X : Type 0} (items : List X) (i j : ℕ) (item found : X) → slice_get (slice_set items i item) j ≡ Some found
+    → ((j ≡ i) × (item ≡ found)) ⊎ ((j ≢ i) × (slice_get items j ≡ Some found))
+set_get [] i j item found at = absurd (cc)
+set_get (first ∷ items) zero zero item found at = inl (refl, (cc))
+set_get (first ∷ items) zero (suc j) item found at = inr ((λ same. absurd (omega (arith, same))), at)
+set_get (first ∷ items) (suc i) zero item found at = inr ((λ same. absurd (omega (arith, same))), at)
+set_get (first ∷ items) (suc i) (suc j) item found at =
+    elim (set_get items i j item found at) [
+      | inl set ↦ inl (omega (arith, set.0), set.1)
+      | inr kept ↦ inr ((λ same. absurd (kept.0 (omega (arith, same)))), kept.1)
+    ]
+
+-- A writer's new phase is known, where the kind that it has to record was announced.
+knows_phase : (kinds : Announced) (core : Core) (writer : ℕ) (phase : WriterPhase) → Knows kinds core → IsAnnounced (kinds writer) phase
+    → Knows kinds (with_phase writer phase core)
+knows_phase kinds core writer phase knows is other found at =
+    elim (set_get core.writers writer other phase found at) [
+      | inl set ↦ rw (set.0, ← set.1) is
+      | inr kept ↦ knows other found kept.1
+    ]
+
+-- The writer that looks at front announces its kind, and the others' stay.
+knows_front : (kinds : Announced) (writer : Ix) (kind : Kind) (core : Core) → Knows kinds core
+    → Knows (announced_by (Front writer kind) kinds) (with_phase writer.number (Looked kind core.front) core)
+knows_front kinds writer kind core knows other found at =
+    elim (set_get core.writers writer.number other (Looked kind core.front) found at) [
+      | inl set ↦ let own : (other == writer.number) ≡ true = eq-eqb other writer.number set.0 in rw (own, ← set.1) refl
+      | inr kept ↦ let past : (other == writer.number) ≡ false = ne_eqb other writer.number kept.0 in rw past (knows other found kept.1)
+    ]
+
+-- The steps, kind by kind: first the writers', then the reader's.
+pub front-answered : (kinds : Announced) (writer : Ix) (kind : Kind) (core : Core) → Knows kinds core
+    → (phase : WriterPhase) → IsAnswered kinds (Front writer kind) core (front_step writer.number kind core phase)
+front-answered kinds writer kind core knows Idle = (refl, knows_front kinds writer kind core knows)
+front-answered kinds writer kind core knows (Looked _ _) = tt
+front-answered kinds writer kind core knows (Cleared _) = tt
+front-answered kinds writer kind core knows (Claimed _ _ _) = tt
+
+pub tail-answered : (kinds : Announced) (writer : Ix) (core : Core) → Knows kinds core
+    → (phase : WriterPhase) → IsIn core writer.number phase → IsAnswered kinds (Tail writer) core (tail_step writer.number core phase)
+tail-answered kinds writer core knows Idle is = tt
+tail-answered kinds writer core knows (Looked kind front) is =
+    by_room (nat_lt core.size.limit (core.tail + core.size.writers)) (nat_lt (core.size.cells - core.size.writers) (core.tail - front))
+  where
+    by_room : (spent full : Bool) → IsAnswered kinds (Tail writer) core (Some (
+        if spent then (Spent core.tail, with_phase writer.number Idle core)
+        else if full then (Full front core.tail, with_phase writer.number Idle core)
+        else (IsCleared, with_phase writer.number (Cleared kind) core)))
+    by_room true full = (refl, knows_phase kinds core writer.number Idle knows tt)
+    by_room false true = (refl, knows_phase kinds core writer.number Idle knows tt)
+    by_room false false = (refl, knows_phase kinds core writer.number (Cleared kind) knows (knows writer.number (Looked kind front) is))
+tail-answered kinds writer core knows (Cleared _) is = tt
+tail-answered kinds writer core knows (Claimed _ _ _) is = tt
+
+pub claim-answered : (kinds : Announced) (writer : Ix) (core : Core) → Sound core → Knows kinds core
+    → (phase : WriterPhase) → IsIn core writer.number phase → IsAnswered kinds (Claim writer) core (claim_step writer core phase)
+claim-answered kinds writer core sound knows Idle is = tt
+claim-answered kinds writer core sound knows (Looked _ _) is = tt
+claim-answered kinds writer core sound knows (Cleared kind) is =
+    let known : kind ≡ kinds writer.number = sym (knows writer.number (Cleared kind) is) in
+    let log : Kind → Sequential = λ own. appended (record { thread = writer; kind = own }) (sequential_of core) in (
+      (writer, refl, sound.tail, ap log known),
+      knows_phase kinds core writer.number (Claimed core.tail kind false) knows tt,
+    )
+claim-answered kinds writer core sound knows (Claimed _ _ _) is = tt
+
+pub fill-answered : (kinds : Announced) (writer : Ix) (core : Core) → Knows kinds core
+    → (phase : WriterPhase) → IsAnswered kinds (Fill writer) core (fill_step writer.number core phase)
+fill-answered kinds writer core knows Idle = tt
+fill-answered kinds writer core knows (Looked _ _) = tt
+fill-answered kinds writer core knows (Cleared _) = tt
+fill-answered kinds writer core knows (Claimed place kind false) =
+    (refl, knows_phase kinds core writer.number (Claimed place kind true) knows tt)
+fill-answered kinds writer core knows (Claimed place kind true) = tt
+
+pub publish-answered : (kinds : Announced) (writer : Ix) (core : Core) → Knows kinds core
+    → (phase : WriterPhase) → IsAnswered kinds (Publish writer) core (publish_step writer core phase)
+publish-answered kinds writer core knows Idle = tt
+publish-answered kinds writer core knows (Looked _ _) = tt
+publish-answered kinds writer core knows (Cleared _) = tt
+publish-answered kinds writer core knows (Claimed place kind false) = tt
+publish-answered kinds writer core knows (Claimed place kind true) = (refl, knows_phase kinds core writer.number Idle knows tt)
+
+pub peek-answered : (kinds : Announced) (core : Core) → Knows kinds core
+    → (phase : ReaderPhase) → IsAnswered kinds Peek core (peek_step core phase)
+peek-answered kinds core knows Waiting = by_stamp ((cell_at core core.front).stamp == core.front + 1)
+  where
+    by_stamp : (is : Bool) → IsAnswered kinds Peek core (
+        if is then Some (IsReady, record core { reader = Ready (cell_at core core.front).header }) else Some (NotReady, core))
+    by_stamp true = (refl, knows)
+    by_stamp false = (refl, knows)
+peek-answered kinds core knows (Ready _) = tt
+peek-answered kinds core knows (Told _ _) = tt
+
+pub read-answered : (kinds : Announced) (core : Core) → Knows kinds core
+    → (phase : ReaderPhase) → IsAnswered kinds Read core (read_step core phase)
+read-answered kinds core knows Waiting = tt
+read-answered kinds core knows (Ready header) = (refl, knows)
+read-answered kinds core knows (Told _ _) = tt
+
+pub free-answered : (kinds : Announced) (core : Core) → Sound core → Knows kinds core
+    → (phase : ReaderPhase) → HasRead core phase → IsAnswered kinds Free core (free_step core phase)
+free-answered kinds core sound knows Waiting reads = tt
+free-answered kinds core sound knows (Ready _) reads = tt
+free-answered kinds core sound knows (Told header value) reads =
+    let event = reads.0.event in
+    let told : event ≡ unpacked header value =
+    sym (ap (λ first. unpacked first value) reads.1 ∙ ap (unpacked (packed_header event)) reads.2 ∙ unpacked-pack event) in
+    let next : slice_get core.log (length core.taken) ≡ Some (unpacked header value) =
+    ap (slice_get core.log) (sym sound.front) ∙ reads.0.logged ∙ ap (λ (found : Event). Some found) told in
+    let log : ℕ → Sequential = λ count. record { items = core.log; count = count } in
+    ((refl, next, ap log (length-append core.taken (unpacked header value ∷ []))), knows)
+
+-- What holds where the ring has no such writer, and from each phase that it may be in, holds of its step.
+by_writer-each : (P : Stepped → Type 0) (writer : Ix) (core : Core) (step : WriterPhase → Stepped) → P None
+    → ((phase : WriterPhase) → IsIn core writer.number phase → P (step phase)) → P (by_writer writer core step)
+by_writer-each P writer core step missing each = by_phase (slice_get core.writers writer.number) refl
+  where
+    by_phase : (found : Option WriterPhase) → slice_get core.writers writer.number ≡ found → P (option_and_then step found)
+    by_phase None is = missing
+    by_phase (Some phase) is = each phase is
+
+pub core_step-answered : (kinds : Announced) (step : Step) (core : Core) → Sound core → Knows kinds core
+    → IsAnswered kinds step core (core_step step core)
+core_step-answered kinds (Front writer kind) core sound knows =
+    by_writer-each (IsAnswered kinds (Front writer kind) core) writer core (front_step writer.number kind core) tt
+    (λ phase is. front-answered kinds writer kind core knows phase)
+core_step-answered kinds (Tail writer) core sound knows =
+    by_writer-each (IsAnswered kinds (Tail writer) core) writer core (tail_step writer.number core) tt
+    (tail-answered kinds writer core knows)
+core_step-answered kinds (Claim writer) core sound knows =
+    by_writer-each (IsAnswered kinds (Claim writer) core) writer core (claim_step writer core) tt
+    (claim-answered kinds writer core sound knows)
+core_step-answered kinds (Fill writer) core sound knows =
+    by_writer-each (IsAnswered kinds (Fill writer) core) writer core (fill_step writer.number core) tt
+    (λ phase is. fill-answered kinds writer core knows phase)
+core_step-answered kinds (Publish writer) core sound knows =
+    by_writer-each (IsAnswered kinds (Publish writer) core) writer core (publish_step writer core) tt
+    (λ phase is. publish-answered kinds writer core knows phase)
+core_step-answered kinds Peek core sound knows = peek-answered kinds core knows core.reader
+core_step-answered kinds Read core sound knows = read-answered kinds core knows core.reader
+core_step-answered kinds Free core sound knows = free-answered kinds core sound knows core.reader sound.reads
+core_step-answered kinds (Stop writer) core sound knows = tt

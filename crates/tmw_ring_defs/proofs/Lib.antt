@@ -1,0 +1,15 @@
+pub mod Answered
+pub mod MachineProof
+pub mod OneLogProof
+pub mod RingClaims
+pub mod RingFills
+pub mod RingLaw
+pub mod RingLooks
+pub mod RingPhases
+pub mod RingPlaces
+pub mod RingPublishes
+pub mod RingSizes
+pub mod RingStart
+pub mod RingStores
+pub mod RingTakes
+pub mod RingWrites

@@ -1,0 +1,82 @@
+-- A ring's machine: runs join end to end, and each step leaves the ring sound and spares the published places.
+use Rattle.std.proofs.Common.{◌≡◌, ◌++◌, ◌+◌, ◌<◌, ℕ, zero, suc, Bool, true, false, List, [], ◌∷◌, length, take, Some, None, refl, ap, subst, slice_set, if◌then◌else◌, arith}
+use Rattle.tmw_ring_defs.specs.Ring.{Core}
+use Rattle.tmw_ring_defs.specs.RingMachine.{Machine, writer_of, has_stopped, answered, moved, machine_step, after, replies}
+use Rattle.tmw_ring_defs.specs.RingSound.{Sound, Spares, StepLaw}
+use Rattle.tmw_ring_defs.specs.RingSteps.{Stepped, core_step}
+use Rattle.tmw_ring_defs.specs.declared.ring_step.Reply.{Reply}
+use Rattle.tmw_ring_defs.specs.declared.ring_step.Reply.TheVariants.{Stopped, NotNow}
+use Rattle.tmw_ring_defs.specs.declared.ring_step.Step.{Step}
+use Rattle.tmw_ring_defs.specs.declared.ring_step.Step.TheVariants.{Front, Tail, Claim, Fill, Publish, Peek, Read, Free, Stop}
+
+-- What holds of the machine as it is and of each that the ring's step may make of it holds of the one that answers.
+answered_each : (P : Reply × Machine → Type 0) (machine : Machine) (stepped : Stepped) → P (NotNow, machine)
+    → ((reply : Reply) (core : Core) → stepped ≡ Some (reply, core) → P (reply, record machine { core = core }))
+    → P (answered machine stepped)
+answered_each P machine None kept each = kept
+answered_each P machine (Some (reply, core)) kept each = each reply core refl
+
+moved_each : (P : Reply × Machine → Type 0) (step : Step) (machine : Machine) → P (NotNow, machine)
+    → ((stopped : List Bool) → P (Stopped, record machine { stopped = stopped }))
+    → ((reply : Reply) (core : Core) → core_step step machine.core ≡ Some (reply, core) → P (reply, record machine { core = core }))
+    → P (moved step machine)
+moved_each P (Front writer kind) machine kept stops each = answered_each P machine (core_step (Front writer kind) machine.core) kept each
+moved_each P (Tail writer) machine kept stops each = answered_each P machine (core_step (Tail writer) machine.core) kept each
+moved_each P (Claim writer) machine kept stops each = answered_each P machine (core_step (Claim writer) machine.core) kept each
+moved_each P (Fill writer) machine kept stops each = answered_each P machine (core_step (Fill writer) machine.core) kept each
+moved_each P (Publish writer) machine kept stops each = answered_each P machine (core_step (Publish writer) machine.core) kept each
+moved_each P Peek machine kept stops each = answered_each P machine (core_step Peek machine.core) kept each
+moved_each P Read machine kept stops each = answered_each P machine (core_step Read machine.core) kept each
+moved_each P Free machine kept stops each = answered_each P machine (core_step Free machine.core) kept each
+moved_each P (Stop writer) machine kept stops each = stops (slice_set machine.stopped writer.number true)
+
+-- A machine's step changes nothing, or stops a writer, or is a step of its ring: what holds in each of these holds of it.
+pub machine_step-each : (P : Reply × Machine → Type 0) (step : Step) (machine : Machine) → P (NotNow, machine)
+    → ((stopped : List Bool) → P (Stopped, record machine { stopped = stopped }))
+    → ((reply : Reply) (core : Core) → core_step step machine.core ≡ Some (reply, core) → P (reply, record machine { core = core }))
+    → P (machine_step step machine)
+machine_step-each P step machine kept stops each =
+    by_flag (has_stopped machine.stopped (writer_of step)) (moved_each P step machine kept stops each)
+  where
+    by_flag : (flag : Bool) → P (moved step machine) → P (if flag then (NotNow, machine) else moved step machine)
+    by_flag true goes = kept
+    by_flag false goes = goes
+
+pub machine_step-sound : StepLaw → (step : Step) (machine : Machine) → Sound machine.core
+    → Sound (machine_step step machine).1.core × Spares machine.core (machine_step step machine).1.core
+machine_step-sound law step machine sound =
+    let same : Spares machine.core machine.core = λ place standing published. refl in
+    machine_step-each (λ r. Sound r.1.core × Spares machine.core r.1.core) step machine (sound, same)
+    (λ stopped. (sound, same))
+    (λ reply core is. law step machine.core core reply sound is)
+
+pub after-sound : StepLaw → (steps : List Step) (machine : Machine) → Sound machine.core → Sound (after steps machine).core
+after-sound law [] machine sound = sound
+after-sound law (step ∷ steps) machine sound =
+    after-sound law steps (machine_step step machine).1 (machine_step-sound law step machine sound).0
+
+-- What a run of two parts makes of a machine is what the second part makes of what the first does; and so it is with the answers.
+pub after-append : (past rest : List Step) (machine : Machine) → after (past ++ rest) machine ≡ after rest (after past machine)
+after-append [] rest machine = refl
+after-append (step ∷ past) rest machine = after-append past rest (machine_step step machine).1
+
+pub replies-append : (past rest : List Step) (machine : Machine)
+    → replies (past ++ rest) machine ≡ replies past machine ++ replies rest (after past machine)
+replies-append [] rest machine = refl
+replies-append (step ∷ past) rest machine =
+    ap (λ said. (machine_step step machine).0 ∷ said) (replies-append past rest (machine_step step machine).1)
+
+-- Each step of a run spares the places that were published and not taken before it.
+pub after-spares : StepLaw → (steps : List Step) (machine : Machine) → Sound machine.core → (count : ℕ) → count < length steps
+    → Spares (after (take count steps) machine).core (after (take (count + 1) steps) machine).core
+after-spares law steps machine sound count within =
+    let next : suc count ≡ count + 1 = omega arith in
+    subst (λ (more : ℕ). Spares (after (take count steps) machine).core (after (take more steps) machine).core) next
+    (spares steps machine sound count within)
+  where
+    spares : (steps : List Step) (machine : Machine) → Sound machine.core → (count : ℕ) → count < length steps
+        → Spares (after (take count steps) machine).core (after (take (suc count) steps) machine).core
+    spares [] machine sound count within = absurd (omega (arith, within))
+    spares (step ∷ steps) machine sound zero within = (machine_step-sound law step machine sound).1
+    spares (step ∷ steps) machine sound (suc count) within =
+        spares steps (machine_step step machine).1 (machine_step-sound law step machine sound).0 count (omega (arith, within))

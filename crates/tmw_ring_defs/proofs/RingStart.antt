@@ -1,0 +1,32 @@
+-- A new ring is sound.
+use Rattle.std.proofs.Common.{◌≡◌, ◌≤◌, replicate, refl, arith}
+use Rattle.std.proofs.lemmas.List.{length-replicate}
+use Rattle.std.proofs.lemmas.List.Elements.{All-replicate}
+use Rattle.tmw_ring_defs.specs.Ring.{IsSize, new_core}
+use Rattle.tmw_ring_defs.specs.RingCells.{empty_cell}
+use Rattle.tmw_ring_defs.specs.RingSound.{cleared, Sound}
+use Rattle.tmw_ring_defs.specs.declared.ring_cell.RingCell.{RingCell}
+use Rattle.tmw_ring_defs.specs.declared.ring_phase.WriterPhase.TheVariants.{Idle, Looked, Claimed}
+use Rattle.tmw_ring_defs.specs.declared.ring_size.RingSize.{RingSize}
+use Rattle.tmw_ring_defs.proofs.RingPhases.{all_idle, cleared-idle}
+
+pub new_core-sound : (size : RingSize) → IsSize size → Sound (new_core size)
+new_core-sound size is =
+    let none_cleared : cleared (replicate size.writers Idle) ≡ 0 = cleared-idle size.writers in
+    record {
+      sized = is;
+      cells = length-replicate size.cells empty_cell;
+      writers = length-replicate size.writers Idle;
+      tail = refl;
+      front = refl;
+      begins = refl;
+      order = omega arith;
+      room = omega (arith, none_cleared);
+      limited = omega (arith, none_cleared);
+      looks = λ writer front kind at. let same = all_idle size.writers writer (Looked kind front) at in absurd (cc);
+      places = λ place low high. absurd (omega (arith, high));
+      holds = λ writer place kind is_filled at. let same = all_idle size.writers writer (Claimed place kind is_filled) at in absurd (cc);
+      once = λ a b place kind other p q one two. let same = all_idle size.writers a (Claimed place kind p) one in absurd (cc);
+      stamps = All-replicate (λ (cell : RingCell). cell.stamp ≤ 0) size.cells empty_cell (omega arith);
+      reads = tt;
+    }

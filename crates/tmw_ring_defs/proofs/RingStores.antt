@@ -1,0 +1,87 @@
+-- The cells of a ring after a store: the cell of the place has the new words, and that of any other place in the same turn is as before.
+use Rattle.std.proofs.Common.{◌≡◌, ◌≢◌, ◌+◌, ◌*◌, ◌/◌, ◌%◌, ◌<◌, ◌≤◌, ℕ, suc, Bool, List, length, Some, sym, ap, ◌∙◌, inl, inr, arith}
+use Rattle.std.proofs.Math.Nat.{mod-lt, mul-le-mul_right}
+use Rattle.std.proofs.lemmas.Bool.{cases_lt}
+use Rattle.std.proofs.lemmas.List.{get_or-set_same, get_or-set_other, length-set}
+use Rattle.std.proofs.lemmas.Nat.{div-add-mod'}
+use Rattle.std.proofs.lemmas.Option.{slice_get_within}
+use Rattle.std.specs.Prelude.{slice_get}
+use Rattle.tmw_events.specs.declared.event.Event.{Event}
+use Rattle.tmw_events.specs.declared.event.Kind.{Kind}
+use Rattle.tmw_ring_defs.specs.Ring.{Core}
+use Rattle.tmw_ring_defs.specs.RingCells.{empty_cell, cell_of, set_cell}
+use Rattle.tmw_ring_defs.specs.RingSound.{Sound, IsIn}
+use Rattle.tmw_ring_defs.specs.RingSteps.{with_cell, cell_at}
+use Rattle.tmw_ring_defs.specs.declared.ring_cell.RingCell.{RingCell}
+use Rattle.tmw_ring_defs.specs.declared.ring_phase.WriterPhase.TheVariants.{Claimed}
+
+-- the new words
+pub cell_of-set : (count place : ℕ) (cell : RingCell) (cells : List RingCell) → place % count < length cells
+    → cell_of count (set_cell count place cell cells) place ≡ cell
+cell_of-set count place cell cells within = get_or-set_same cells (place % count) cell empty_cell within
+
+-- a cell with another index
+pub cell_of-kept : (count place other : ℕ) (cell : RingCell) (cells : List RingCell) → other % count ≢ place % count
+    → cell_of count (set_cell count place cell cells) other ≡ cell_of count cells other
+cell_of-kept count place other cell cells apart = get_or-set_other cells (place % count) (other % count) cell empty_cell apart
+
+pub length-set_cell : (count place : ℕ) (cell : RingCell) (cells : List RingCell)
+    → length (set_cell count place cell cells) ≡ length cells
+length-set_cell count place cell cells = length-set cells (place % count) cell
+
+-- Two places less than a turn apart that use one cell are one place.
+pub one_turn : (count a b : ℕ) → a ≤ b → b < a + count → a % count ≡ b % count → a ≡ b
+one_turn count a b above near same =
+    turns (a / count) (b / count) (b % count) count a b (ap (λ (rest : ℕ). a / count * count + rest) (sym same) ∙ div-add-mod' a count)
+    (div-add-mod' b count) above near
+  where
+    turns : (p q rest count a b : ℕ) → p * count + rest ≡ a → q * count + rest ≡ b → a ≤ b → b < a + count → a ≡ b
+    turns p q rest count a b is_a is_b above near =
+        elim (cases_lt p q) [
+          | inl below ↦ let more : suc p * count ≤ q * count = mul-le-mul_right count below in omega (arith, more)
+          | inr past ↦ let less : q * count ≤ p * count = mul-le-mul_right count past in omega (arith, less)
+        ]
+
+-- The place was claimed, as far as tail knows, and not taken.
+pub record Stands (core : Core) (place : ℕ) : Type 0 where
+  pub low : core.front ≤ place
+  pub high : place < core.tail
+
+-- Standing places that use one cell are one place.
+pub one_standing : (core : Core) (a b : ℕ) → core.tail ≤ core.front + core.size.cells → Stands core a → Stands core b
+    → a % core.size.cells ≡ b % core.size.cells → a ≡ b
+one_standing core a b near at_a at_b same =
+    elim (cases_lt a b) [
+      | inl below ↦ one_turn core.size.cells a b (omega arith) (omega (arith, near, at_a.low, at_b.high)) same
+      | inr past ↦ sym (one_turn core.size.cells b a past (omega (arith, near, at_b.low, at_a.high)) (sym same))
+    ]
+
+-- an event of the log has its place below tail
+pub logged_below : (core : Core) (place : ℕ) (event : Event) → Sound core → slice_get core.log place ≡ Some event → place < core.tail
+logged_below core place event sound logged = omega (arith, slice_get_within core.log place event logged, sound.tail)
+
+-- A place that a writer holds stands.
+pub held_stands : (core : Core) (writer place : ℕ) (kind : Kind) (is_filled : Bool) → Sound core
+    → IsIn core writer (Claimed place kind is_filled) → Stands core place
+held_stands core writer place kind is_filled sound at =
+    let was = sound.holds writer place kind is_filled at in
+    record { low = was.standing; high = logged_below core place was.event sound was.logged }
+
+-- Each place has a cell.
+pub has_cell : (core : Core) (place : ℕ) → Sound core → place % core.size.cells < length core.cells
+has_cell core place sound =
+    let some : 0 < core.size.cells = omega (arith, sound.sized.cells.some, sound.sized.cells.room) in
+    omega (arith, mod-lt place some, sound.cells)
+
+-- Its stamp is not ahead of tail.
+pub stamp_low : (core : Core) (place : ℕ) → Sound core → (cell_at core place).stamp ≤ core.tail
+stamp_low core place sound = sound.stamps (place % core.size.cells) empty_cell (has_cell core place sound)
+
+pub cell_stored : (core : Core) (place : ℕ) (cell : RingCell) → Sound core → cell_at (with_cell place cell core) place ≡ cell
+cell_stored core place cell sound = cell_of-set core.size.cells place cell core.cells (has_cell core place sound)
+
+pub cell_spared : (core : Core) (place other : ℕ) (cell : RingCell) → Sound core → Stands core place → Stands core other → other ≢ place
+    → cell_at (with_cell place cell core) other ≡ cell_at core other
+cell_spared core place other cell sound at_place at_other apart =
+    cell_of-kept core.size.cells place other cell core.cells
+    (λ same. apart (one_standing core other place (omega (arith, sound.room)) at_other at_place same))

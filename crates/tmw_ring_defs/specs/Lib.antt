@@ -1,0 +1,6 @@
+pub mod OneLog
+pub mod Ring
+pub mod RingCells
+pub mod RingMachine
+pub mod RingSound
+pub mod RingSteps

@@ -1,0 +1,14 @@
+//! The ring in which events are recorded, as a machine of atomic steps: its definitions, and the laws about them.
+#![tactic(auto)]
+
+mod ring;
+mod ring_cell;
+mod ring_phase;
+mod ring_size;
+mod ring_step;
+
+pub use ring::{law_4, law_one_log};
+pub use ring_cell::RingCell;
+pub use ring_phase::{ReaderPhase, WriterPhase};
+pub use ring_size::RingSize;
+pub use ring_step::{Reply, Step};

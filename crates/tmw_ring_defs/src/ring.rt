@@ -1,0 +1,14 @@
+ghost use Rattle.tmw_ring_defs.specs.OneLog.{OneLogLaw};
+ghost use Rattle.tmw_ring_defs.specs.RingSound.{StepLaw};
+
+/// A step of a ring's machine from a sound state leaves a sound state, and leaves alone the cell of every place that is
+/// published and not yet taken.
+pub fn law_4()
+    ensures { StepLaw }
+{}
+
+/// Whatever steps a new ring's machine makes, in whatever order, its places and the events that are taken are the answers of
+/// one sequential log, to which each claim appends its writer's event.
+pub fn law_one_log()
+    ensures { OneLogLaw }
+{}

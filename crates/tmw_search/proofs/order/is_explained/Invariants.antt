@@ -1,7 +1,0 @@
--- The references so far are to the list's transactions up to there.
-use Rattle.std.proofs.Common.{◌≡◌, take}
-use Rattle.tmw_search.specs.Shown.{txns_of, shown}
-use Rattle.tmw_search.proofs.order.is_explained.Given as goal
-
-abbrev pub invariant-loop-transaction : goal.invariant-loop-transaction
-invariant-loop-transaction l = shown l.waiting.items ≡ txns_of (take l.transaction-index l.list)

@@ -1,0 +1,12 @@
+use Rattle.std.proofs.Common.{◌≡◌, ◌-◌, ◌≤◌, length, take}
+use Rattle.tmw_streams.specs.Told.{Adds}
+use Rattle.tmw_streams.proofs.writing.put_all.Given as goal
+
+abbrev pub invariant-loop-at : goal.invariant-loop-at
+invariant-loop-at g l =
+    (l.at ≤ length l.bytes)
+    × Adds g.K.Sink.took l.fn.sink (take l.at l.bytes) l.sink
+    × (g.K.Sink.failures l.sink ≡ g.K.Sink.failures l.fn.sink)
+
+abbrev pub decreases-loop-at : goal.decreases-loop-at
+decreases-loop-at g l = length l.bytes - l.at

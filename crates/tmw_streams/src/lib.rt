@@ -1,0 +1,22 @@
+//! The streams that texts are read from and written to: sources and sinks, over memory and over std.
+#![tactic(auto)]
+
+mod io_fault;
+mod memory_sink;
+mod memory_source;
+mod sink;
+mod source;
+mod std_sink;
+mod std_source;
+#[cfg(test)]
+mod stream_tests;
+mod writing;
+
+pub use io_fault::IoFault;
+pub use memory_sink::MemorySink;
+pub use memory_source::MemorySource;
+pub use sink::Sink;
+pub use source::Source;
+pub use std_sink::StdSink;
+pub use std_source::StdSource;
+pub use writing::put_all;

@@ -1,0 +1,94 @@
+ghost use Rattle.std.specs.Prelude.{◌≡◌, ◌+◌, ◌-◌, ◌^◌, ◌<◌, ◌≤◌, length, IfSome, IsTrue, false, replicate};
+ghost use Rattle.tmw_streams.specs.Told.{one_more};
+ghost use Rattle.std.proofs.Common.{rules};
+ghost use Rattle.std.proofs.lemmas.Grind.{common_steps};
+
+use crate::io_fault::IoFault;
+use crate::source::Source;
+use std::io::{ErrorKind, Read};
+
+/// The most bytes that a source over a std reader tells.
+const MOST_TOLD: u64 = 1 << 60;
+
+/// A source over a std reader. It remembers the reader's end and asks no more after it, and once it has told 2^60 bytes
+/// each read fails.
+#[derive(Drop)]
+pub struct StdSource<R> {
+    reader: R,
+    told: u64,
+    failures: u64,
+    over: bool,
+    ghost few: { told ≤ 2 ^ 60 },
+}
+
+impl<R: Read> StdSource<R> {
+    /// A source of all that the reader still has.
+    pub fn new(reader: R) -> StdSource<R>
+        ensures reader { result.reader ≡ reader }
+        ensures told { result.told ≡ 0 }
+        ensures failures { result.failures ≡ 0 }
+        ensures over { result.over ≡ false }
+    {
+        StdSource {
+            reader,
+            told: 0,
+            failures: 0,
+            over: false,
+        }
+    }
+
+    /// Counts a failed read.
+    fn fail(&mut self) -> IoFault
+        ensures { self.new ≡ record self.old { failures = one_more self.old.failures } }
+    {
+        self.failures = self.failures.saturating_add(1);
+        IoFault
+    }
+}
+
+impl<R: Read> Source for StdSource<R> {
+    ghost told = { λ source bytes. length bytes ≡ source.told };
+
+    ghost ended = { λ source. IsTrue source.over };
+
+    ghost left = { λ source. 2 ^ 60 - source.told };
+
+    ghost failures = { λ source. source.failures };
+
+    fn read(&mut self, buffer: &mut [u8]) -> Result<usize, IoFault> {
+        if self.over {
+            return Ok(0);
+        }
+        if self.told == MOST_TOLD {
+            return Err(self.fail());
+        }
+        let room = (MOST_TOLD - self.told).min(buffer.len() as u64) as usize;
+        let Some(count) = read_again(&mut self.reader, &mut buffer[..room]) else {
+            return Err(self.fail());
+        };
+        self.told += count as u64;
+        if count == 0 && !buffer.is_empty() {
+            self.over = true;
+        }
+        Ok(count)
+    }
+
+    ghost tells_some = { λ source. (replicate source.told 0, Prim.search (rules, common_steps)) };
+}
+
+/// One read, tried again where a signal interrupts it.
+fn read_again<R: Read>(reader: &mut R, buffer: &mut [u8]) -> Option<usize>
+    ensures { IfSome result (λ count. count ≤ length buffer.old) }
+{
+    for _ in 0..u64::MAX {
+        match reader.read(buffer) {
+            Ok(count) => return Some(count),
+            Err(fault) => {
+                if fault.kind() != ErrorKind::Interrupted {
+                    return None;
+                }
+            }
+        }
+    }
+    None
+}

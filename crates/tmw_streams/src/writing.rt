@@ -1,0 +1,20 @@
+ghost use Rattle.std.specs.Prelude.{◌≡◌, OnOk, OnErr};
+ghost use Rattle.tmw_streams.specs.Told.{Adds, AddsBeginning, one_more};
+
+use crate::io_fault::IoFault;
+use crate::sink::Sink;
+
+/// Writes all of the bytes, by as many calls of `put` as it takes. After a failed write a beginning of them went out, and
+/// not all. It takes no memory.
+pub fn put_all<K: Sink>(sink: &mut K, bytes: &[u8]) -> Result<(), IoFault>
+    ensures takes { OnOk result (Adds K.took sink.old bytes.now sink.new) }
+    ensures well { OnOk result (K.failures sink.new ≡ K.failures sink.old) }
+    ensures begun { OnErr result (AddsBeginning K.took sink.old bytes.now sink.new) }
+    ensures failed { OnErr result (K.failures sink.new ≡ one_more (K.failures sink.old)) }
+{
+    let mut at = 0;
+    while at < bytes.len() {
+        at += sink.put(&bytes[at..])?;
+    }
+    Ok(())
+}

@@ -1,0 +1,43 @@
+ghost use Rattle.std.specs.Prelude.{◌≡◌, true, IfSome, IfNone};
+ghost use Rattle.tmw_events.specs.Text.{event_text, FitsKind};
+ghost use Rattle.tmw_trace.specs.Start.{is_spoken};
+ghost use Rattle.tmw_trace.specs.TextFault.{IsNoEvent};
+
+use crate::version::Version;
+use tmw_events::{Event, Kind, ix_of, kind_of};
+
+/// The event of this version that these bytes are the text of: a trace's line without its line feed. `None` for all
+/// other bytes.
+pub fn event_of(version: Version, bytes: &[u8]) -> Option<Event>
+    ensures some { IfSome result (λ event. bytes.now ≡ event_text event) }
+    ensures fits { IfSome result (λ event. FitsKind event.kind) }
+    ensures spoken { IfSome result (λ event. is_spoken version event.kind ≡ true) }
+    ensures none { IfNone result (IsNoEvent version bytes.now) }
+{
+    match bytes {
+        [thread, b' ', kind @ ..] => {
+            let Some(thread) = ix_of(*thread) else {
+                return None;
+            };
+            let Some(kind) = kind_of(kind) else {
+                return None;
+            };
+            if speaks(version, kind) {
+                Some(Event { thread, kind })
+            } else {
+                None
+            }
+        }
+        _ => None,
+    }
+}
+
+/// Whether the version has this kind.
+fn speaks(version: Version, kind: Kind) -> bool
+    ensures { result ≡ is_spoken version kind }
+{
+    match (version, kind) {
+        (Version::One, Kind::N(_, _)) => false,
+        _ => true,
+    }
+}

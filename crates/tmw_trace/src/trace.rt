@@ -1,0 +1,13 @@
+ghost use Rattle.std.specs.Prelude.{IsTrue};
+ghost use Rattle.tmw_trace.specs.Start.{are_spoken};
+
+use tmw_events::Event;
+use crate::header::Header;
+
+/// A recorded run: a header and the events in the order in which they happened. Version `One` has no add call.
+#[derive(Debug, Drop)]
+pub struct Trace {
+    pub header: Header,
+    pub events: Vec<Event>,
+    pub ghost spoken: { IsTrue (are_spoken header.version events.items) },
+}
