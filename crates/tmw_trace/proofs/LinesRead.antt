@@ -10,7 +10,7 @@ use Rattle.tmw_trace.specs.Line.{IsEventLine, IsBadLine, HasLineFault}
 use Rattle.tmw_trace.specs.TraceLines.{HasRead}
 use Rattle.tmw_trace.specs.Start.{is_spoken, are_spoken}
 use Rattle.tmw_events.specs.Text.{event_text, FitsKind}
-use Rattle.tmw_trace.specs.Text.{header_text, lines_text, trace_text, AreEvents}
+use Rattle.tmw_trace.specs.Text.{header_text, lines_text, trace_text, FitsHeader, AreEvents}
 use Rattle.tmw_lines.specs.Text.{line}
 use Rattle.tmw_trace.specs.TextFault.{HasTextFault}
 use Rattle.tmw_events.specs.declared.event.Event.{Event}
@@ -67,6 +67,19 @@ HasRead-push old new bytes event state version count given header events before 
   text = read-more old header events before bytes r ∙ ap (λ xs. trace_text header events ++ xs) given.split
       ∙ lines_text-push (line (header_text header)) (bytes_of new.held) events event;
   few = few-held new.held;
+}
+
+-- what was read of the first bytes is the header's line, and the rest is held
+pub HasRead-first : (lines : TraceLines) (header : Header) (before bytes : List ℕ) → lines.state ≡ Reading
+    → lines.version ≡ header.version → lines.count ≡ 0 → before ≡ [] → FitsHeader header
+    → before ++ bytes ≡ line (header_text header) ++ bytes_of lines.held → HasRead lines header [] bytes
+HasRead-first lines header before bytes reading version none nothing fits text = record {
+  reading = reading;
+  version = version;
+  counted = none;
+  are_events = record { header_fits = fits; spoken = refl; fit = λ i d within. absurd (omega arith) };
+  text = rw nothing at text ∙ ap (λ xs. xs ++ bytes_of lines.held) (sym (append-nil (line (header_text header))));
+  few = few-held lines.held;
 }
 
 first_of : (xs : List ℕ) → xs ≢ [] → (x : ℕ) × (ys : List ℕ) × (xs ≡ x ∷ ys)
