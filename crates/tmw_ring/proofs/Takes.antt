@@ -98,7 +98,7 @@ free_sound core header value sound told =
 
 -- No more than 2^40 places are freed.
 front_small : (core : Core) → Sound core → core.front ≤ 2 ^ 40
-front_small core sound = omega (arith, sound.order, sound.limited, sound.sized.limit.small)
+front_small core sound = omega (arith, sound.order, sound.limited, core.size.most_places)
 
 module _ {S : Type 0} where
   reader_fits : (size : RingSize) (state : State S Parts) (shown : Shown size state) (seat : ℕ) (part : ReaderPart)

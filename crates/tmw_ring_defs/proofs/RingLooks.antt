@@ -34,7 +34,6 @@ phase_keeps core writer phase next sound at free freed looks room limited =
     let still : (place : ℕ) → IsPublished core place → IsPublished moved place =
     λ place was. published_still core moved place (λ p event logged. logged) refl was in (
       record {
-        sized = sound.sized;
         cells = sound.cells;
         writers = length-set core.writers writer next ∙ sound.writers;
         tail = sound.tail;
@@ -117,7 +116,7 @@ clear_keeps core writer kind front sound at given free =
     let seen : front ≤ core.front = sound.looks writer front kind at in
     phase_keeps core writer (Looked kind front) next sound at (λ place other is_filled is. absurd (cc)) (λ place other is_filled is. absurd (cc))
     (λ other late is. absurd (cc))
-    (omega (arith, count, less, seen, free, sound.writers, sound.sized.cells.room)) (omega (arith, count, less, given, sound.writers))
+    (omega (arith, count, less, seen, free, sound.writers, core.size.enough_cells)) (omega (arith, count, less, given, sound.writers))
 
 -- Whatever a test says, the state that it leads to is kept sound.
 either_keeps : (old : Core) (test : Bool) (x y : Reply × Core) → (test ≡ true → Keeps old x.1) → (test ≡ false → Keeps old y.1)

@@ -4,3 +4,4 @@ pub mod RingCells
 pub mod RingMachine
 pub mod RingSound
 pub mod RingSteps
+pub mod Sizes

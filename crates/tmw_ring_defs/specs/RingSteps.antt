@@ -1,9 +1,8 @@
 -- The steps of a ring. Each is one load, one store or one addition to one of its words, made by a writer or by the reader, and
 -- what the actor then knows.
-use Rattle.std.specs.Prelude.{◌==◌, ◌+◌, ◌-◌, ◌++◌, ℕ, Bool, true, false, nat_lt, List, [], ◌∷◌, Option, Some, None, slice_get, slice_set, if◌then◌else◌}
+use Rattle.std.specs.Prelude.{◌==◌, ◌+◌, ◌-◌, ◌++◌, ℕ, true, false, nat_lt, [], ◌∷◌, Option, Some, None, slice_get, slice_set, if◌then◌else◌}
 use Rattle.std.specs.Option.{option_and_then}
 use Rattle.tmw_events.specs.Unpacking.{unpacked}
-use Rattle.tmw_events.specs.declared.event.Event.{Event}
 use Rattle.tmw_events.specs.declared.event.Kind.{Kind}
 use Rattle.tmw_events.specs.declared.ix.Ix.{Ix}
 use Rattle.tmw_ring_defs.specs.Ring.{Core}

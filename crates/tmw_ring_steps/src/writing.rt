@@ -6,8 +6,8 @@ ghost use Rattle.tmw_ring_steps.specs.State.{core_of, machine_of};
 
 use crate::state::State;
 use std::alloc::AllocError;
-use tmw_ring_defs::{Reply, RingCell, Step, WriterPhase};
 use tmw_events::{Event, Ix, Kind, pack};
+use tmw_ring_defs::{Reply, RingCell, Step, WriterPhase};
 
 impl State {
     /// The writer, which has an event of this kind to record, loads front.
