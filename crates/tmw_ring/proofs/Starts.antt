@@ -5,6 +5,7 @@ use Rattle.std.specs.Prelude.{slice_get}
 use mathlib.Core.Option.{some, some-injective, some-ne-none}
 use lib.ListN.{get_elem?}
 use Rattle.atomic_table.specs.Table.{State, opening}
+use Rattle.tmw_events.specs.Packing.{IsHeader}
 use Rattle.tmw_ring_defs.specs.Ring.{new_core}
 use Rattle.tmw_ring_defs.specs.RingCells.{empty_cell}
 use Rattle.tmw_ring_defs.specs.declared.ring_cell.RingCell.{RingCell}
@@ -14,7 +15,7 @@ use Rattle.tmw_ring_defs.proofs.RingPhases.{all_idle}
 use Rattle.tmw_ring_defs.proofs.RingStart.{new_core-sound}
 use Rattle.tmw_ring.specs.Parts.{Parts, key, new_writer, new_writers, new_reader, new_parts}
 use Rattle.tmw_ring.specs.Rule.{Fits, FitsPhase, IsReal, Lies, Shown, WriterFits}
-use Rattle.tmw_ring.specs.Words.{IsHeader, word_count}
+use Rattle.tmw_ring.specs.Words.{word_count}
 use Rattle.tmw_ring.specs.declared.part.Part.{Part}
 use Rattle.tmw_ring.specs.declared.part.Part.TheVariants.{Writes, Reads}
 use Rattle.tmw_ring.proofs.Words.{new_words}

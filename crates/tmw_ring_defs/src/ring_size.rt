@@ -30,7 +30,8 @@ pub struct RingSize {
 }
 
 impl RingSize {
-    ghost use Rattle.std.specs.Prelude.{IfOk, IfErr};
+    ghost use Rattle.std.specs.Prelude.{◌≡◌, IfOk, IfErr};
+    ghost use Rattle.tmw_ring_defs.specs.Room.{is_spent, is_full};
     ghost use Rattle.tmw_ring_defs.specs.Sizes.{HasNumbers, IsNoSize};
 
     /// The size of these numbers. Those of cells and of writers are tested before the limit.
@@ -49,5 +50,20 @@ impl RingSize {
             writers,
             limit,
         })
+    }
+
+    /// Whether behind this tail fewer places than there are writers are left up to the limit.
+    pub const fn is_spent(self, tail: u64) -> bool
+        ensures { result ≡ is_spent self tail }
+    {
+        self.limit - self.writers < tail
+    }
+
+    /// Whether with this front and this tail fewer cells than there are writers are free.
+    pub const fn is_full(self, front: u64, tail: u64) -> bool
+        requires { front ≤ tail }
+        ensures { result ≡ is_full self front tail }
+    {
+        self.cells - self.writers < tail - front
     }
 }
