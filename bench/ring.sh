@@ -19,7 +19,7 @@ trap 'rm -rf "$folder"' EXIT
 # rt has no command that builds a program and doesn't run it, so it runs on few events.
 is_stale() {
     [ ! -x "$program" ] ||
-        [ -n "$(find "$top"/crates.txt "$top"/crates/{tmw_events,tmw_defs,tmw_ring_steps,tmw_ring,tmw_ring_bench}/{src,specs,proofs} -newer "$program" -print -quit)" ]
+        [ -n "$(find "$top"/crates.txt "$top"/crates/{tmw_events,tmw_ring_defs,tmw_ring,tmw_ring_bench}/{src,specs,proofs} -newer "$program" -print -quit)" ]
 }
 if is_stale; then
     echo "ring.sh: proving and building the program" >&2

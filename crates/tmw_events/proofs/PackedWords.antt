@@ -1,6 +1,6 @@
 -- Two words name an event, and one word a place and a header.
-use Rattle.std.proofs.Common.{◌≡◌, ℕ, ◌+◌, ◌/◌, ◌%◌, ◌<◌, ◌^◌, refl, ap, ◌∙◌, arith}
-use Rattle.tmw_events.specs.Packing.{kind_code, kind_register, kind_value, packed_header, pack, joined}
+use Rattle.std.proofs.Common.{◌≡◌, ℕ, ◌<◌, ◌^◌, refl, ap, ◌∙◌, arith}
+use Rattle.tmw_events.specs.Packing.{kind_code, kind_register, kind_value, packed_header, pack, IsHeader, stamped, stamp_of, header_of, joined}
 use Rattle.tmw_events.specs.declared.event.Event.{Event}
 use Rattle.tmw_events.specs.declared.event.Kind.{Kind}
 use Rattle.tmw_events.specs.declared.event.Kind.TheVariants.{R, V, W, K, T, C, X, A, N}
@@ -64,10 +64,10 @@ pack-injective a b same =
     ap (λ t. let r : Event = record { thread = t; kind = a.kind } in r) (same_ix a.thread b.thread number)
     ∙ ap (λ k. let r : Event = record { thread = b.thread; kind = k } in r) (kind-named a.kind b.kind code register value)
 
--- the parts of a joined word
-pub joined-parts : (place header : ℕ) → header < 1024
-    → (joined place header / 1024 ≡ place + 1) × (joined place header % 1024 ≡ header)
-joined-parts place header small = (omega arith, omega arith)
+-- the parts of a stamped word
+pub stamped-parts : (stamp header : ℕ) → IsHeader header
+    → (stamp_of (stamped stamp header) ≡ stamp) × (header_of (stamped stamp header) ≡ header)
+stamped-parts stamp header small = (omega arith, omega arith)
 
 -- a joined word has fewer than 64 bits
 pub joined-small : (place header : ℕ) → place < 2 ^ 40 → header < 1024 → joined place header < 2 ^ 51

@@ -1,5 +1,5 @@
 -- An event as two words: a header below 1,024, and a value. A joined word holds a place and a header.
-use Rattle.std.specs.Prelude.{ℕ, ◌+◌, ◌*◌}
+use Rattle.std.specs.Prelude.{ℕ, ◌+◌, ◌*◌, ◌/◌, ◌%◌, ◌<◌}
 use Rattle.tmw_events.specs.declared.event.Event.{Event}
 use Rattle.tmw_events.specs.declared.event.Kind.{Kind}
 use Rattle.tmw_events.specs.declared.event.Kind.TheVariants.{R, V, W, K, T, C, X, A, N}
@@ -42,6 +42,21 @@ packed_header event = kind_code event.kind * 64 + event.thread.number * 8 + kind
 abbrev pub pack : Event → ℕ × ℕ
 pack event = (packed_header event, kind_value event.kind)
 
--- the place counted from 1, above the ten bits of a header
+-- The number has the ten bits of a header.
+abbrev pub IsHeader : ℕ → Type 0
+IsHeader header = header < 1024
+
+-- a stamp above the ten bits of a header
+abbrev pub stamped : ℕ → ℕ → ℕ
+stamped stamp header = stamp * 1024 + header
+
+-- the stamp and the header that such a word has
+abbrev pub stamp_of : ℕ → ℕ
+stamp_of word = word / 1024
+
+abbrev pub header_of : ℕ → ℕ
+header_of word = word % 1024
+
+-- the word of a place and a header: a place's stamp is the place, counted from 1
 abbrev pub joined : ℕ → ℕ → ℕ
-joined place header = (place + 1) * 1024 + header
+joined place header = stamped (place + 1) header

@@ -1,5 +1,5 @@
 ghost use Rattle.std.specs.Prelude.{◌≡◌, ℕ, ◌+◌, ◌*◌, ◌/◌, ◌%◌, ◌<◌, ◌^◌, IfSome, IfNone};
-ghost use Rattle.tmw_events.specs.Packing.{kind_parts, pack, joined};
+ghost use Rattle.tmw_events.specs.Packing.{kind_parts, pack, IsHeader, stamp_of, header_of, joined};
 ghost use Rattle.tmw_events.specs.Text.{FitsKind};
 ghost use Rattle.tmw_events.specs.declared.event.Event.{Event};
 ghost use Rattle.tmw_events.specs.declared.event.Kind.{Kind};
@@ -12,7 +12,7 @@ use crate::ix::Ix;
 /// kind has not is 0.
 pub const fn pack(event: Event) -> (u64, u64)
     ensures value { result ≡ pack event }
-    ensures small { result.0 < 1024 }
+    ensures small { IsHeader result.0 }
 {
     let (code, register, value) = parts_of(event.kind);
     (code * 64 + event.thread.get() as u64 * 8 + register, value)
@@ -82,7 +82,7 @@ fn kind_from(code: u64, register: Ix, value: u64) -> Option<Kind>
 /// One word of a place and a header: the place, counted from 1, above the header's ten bits.
 pub const fn join(place: u64, header: u64) -> u64
     requires place { place < 2 ^ 40 }
-    requires header { header < 1024 }
+    requires header { IsHeader header }
     ensures { result ≡ joined place header }
 {
     (place + 1) * 1024 + header
@@ -90,7 +90,7 @@ pub const fn join(place: u64, header: u64) -> u64
 
 /// The parts of a word that `join` made: the place counted from 1, and the header.
 pub const fn split(word: u64) -> (u64, u64)
-    ensures { result ≡ (word / 1024, word % 1024) }
+    ensures { result ≡ (stamp_of word, header_of word) }
 {
     (word / 1024, word % 1024)
 }

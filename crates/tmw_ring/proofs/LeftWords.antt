@@ -3,8 +3,9 @@ use Rattle.std.proofs.Common.{◌≡◌, ◌+◌, ◌%◌, ◌≤◌, ◌<◌, �
 use Rattle.std.proofs.lemmas.List.{drop_all}
 use Rattle.std.proofs.lemmas.Option.{same_Some}
 use Rattle.std.specs.Prelude.{slice_get}
+use Rattle.tmw_events.proofs.PackedWords.{stamped-parts}
 use Rattle.tmw_events.proofs.Unpacks.{unpacked-pack}
-use Rattle.tmw_events.specs.Packing.{packed_header, kind_value, pack}
+use Rattle.tmw_events.specs.Packing.{packed_header, kind_value, pack, header_of}
 use Rattle.tmw_events.specs.Text.{FitsKind}
 use Rattle.tmw_events.specs.Unpacking.{unpacked}
 use Rattle.tmw_events.specs.declared.event.Event.{Event}
@@ -15,8 +16,8 @@ use Rattle.tmw_ring_defs.specs.RingSteps.{cell_at}
 use Rattle.tmw_ring_defs.proofs.RingStores.{has_cell}
 use Rattle.tmw_ring.specs.Rule.{IsReal}
 use Rattle.tmw_ring.specs.Settling.{HasEvent, header_at, value_at, event_at, events_from}
-use Rattle.tmw_ring.specs.Words.{header_of, words_of}
-use Rattle.tmw_ring.proofs.Words.{stamped-parts, stamp_found, value_found}
+use Rattle.tmw_ring.specs.Words.{words_of}
+use Rattle.tmw_ring.proofs.Words.{stamp_found, value_found}
 
 -- The words of a published place's cell are its event's.
 pub record Read (core : Core) (place : ℕ) (event : Event) : Type 0 where

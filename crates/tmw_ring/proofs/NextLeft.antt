@@ -4,12 +4,12 @@ use Rattle.std.specs.Prelude.{IfNone}
 use mathlib.Core.Option.{some}
 use lib.ListN.{get_elem?}
 use Rattle.tmw_events.proofs.Unpacks.{unpacked-pack}
-use Rattle.tmw_events.specs.Packing.{pack}
+use Rattle.tmw_events.specs.Packing.{pack, stamp_of, header_of}
 use Rattle.tmw_events.specs.Text.{FitsKind}
 use Rattle.tmw_events.specs.Unpacking.{unpacked}
 use Rattle.tmw_events.specs.declared.event.Event.{Event}
 use Rattle.tmw_ring.specs.Settling.{HasEvent, header_at, value_at, event_at, events_from}
-use Rattle.tmw_ring.specs.Words.{stamp_of, header_of, stamp_word, value_word}
+use Rattle.tmw_ring.specs.Words.{stamp_word, value_word}
 use Rattle.tmw_ring.proofs.Words.{word_read}
 
 -- The two words of the place's cell, the first of them split, were found.

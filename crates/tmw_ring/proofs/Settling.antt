@@ -31,7 +31,7 @@ counts size reader writers words front tail ends counted = (
 )
 
 few_claimed : (core : Core) → Sound core → core.tail ≤ 2 ^ 40
-few_claimed core sound = omega (arith, sound.limited, sound.sized.limit.small)
+few_claimed core sound = omega (arith, sound.limited, core.size.most_places)
 
 -- The log is what was taken and what is left.
 pub settles : (size : RingSize) (reader : ReaderPart) (writers : List WriterIs) (words : List ℕ) (front tail : ℕ)
@@ -83,10 +83,9 @@ leaves size reader writers words front tail ends count order counted =
     let few = few_claimed core ends.sound in
     let order_is = ends.sound.order in
     let cells : core.size.cells ≡ size.cells = ap (λ (s : RingSize). s.cells) ends.sized in
-    let room = ends.sound.sized.cells in
     record {
-      some = omega (arith, cells, room.some, room.room);
-      small = omega (arith, cells, room.small);
+      some = omega (arith, size.some_writers, size.enough_cells);
+      small = size.most_cells;
       few = omega (arith, few, is.1);
       order = omega (arith, order_is, is.0, is.1);
       events = λ place low high.

@@ -5,7 +5,8 @@ use Rattle.std.specs.Prelude.{slice_get}
 use mathlib.Core.Option.{some, some-injective, some-ne-none}
 use lib.ListN.{get_elem?}
 use Rattle.atomic_table.specs.Table.{State, opening}
-use Rattle.tmw_ring_defs.specs.Ring.{IsSize, new_core}
+use Rattle.tmw_events.specs.Packing.{IsHeader}
+use Rattle.tmw_ring_defs.specs.Ring.{new_core}
 use Rattle.tmw_ring_defs.specs.RingCells.{empty_cell}
 use Rattle.tmw_ring_defs.specs.declared.ring_cell.RingCell.{RingCell}
 use Rattle.tmw_ring_defs.specs.declared.ring_phase.WriterPhase.TheVariants.{Idle}
@@ -14,7 +15,7 @@ use Rattle.tmw_ring_defs.proofs.RingPhases.{all_idle}
 use Rattle.tmw_ring_defs.proofs.RingStart.{new_core-sound}
 use Rattle.tmw_ring.specs.Parts.{Parts, key, new_writer, new_writers, new_reader, new_parts}
 use Rattle.tmw_ring.specs.Rule.{Fits, FitsPhase, IsReal, Lies, Shown, WriterFits}
-use Rattle.tmw_ring.specs.Words.{IsHeader, word_count}
+use Rattle.tmw_ring.specs.Words.{word_count}
 use Rattle.tmw_ring.specs.declared.part.Part.{Part}
 use Rattle.tmw_ring.specs.declared.part.Part.TheVariants.{Writes, Reads}
 use Rattle.tmw_ring.proofs.Words.{new_words}
@@ -44,10 +45,10 @@ new_core-real size = record {
 }
 
 -- A new writer knows what is so.
-new_writer-fits : (size : RingSize) (number : ℕ) → IsSize size → number < size.writers
+new_writer-fits : (size : RingSize) (number : ℕ) → number < size.writers
     → Fits (new_core size) (Writes (new_writer size number)) × (key (Writes (new_writer size number)) ≡ suc number)
-new_writer-fits size number is within =
-    let few = is.cells.few in
+new_writer-fits size number within =
+    let few = size.most_writers in
     let same : number % 8 ≡ number = omega (arith, few) in
     let fits : WriterFits (new_core size) (new_writer size number) = record {
       sized = refl;
@@ -57,15 +58,15 @@ new_writer-fits size number is within =
     } in
     (fits, omega (arith, same))
 
-part_at : (size : RingSize) → IsSize size → (place : ℕ) (part : Part) → get_elem? (new_parts size) place ≡ some part
+part_at : (size : RingSize) (place : ℕ) (part : Part) → get_elem? (new_parts size) place ≡ some part
     → Fits (new_core size) part × (key part ≡ place)
-part_at size is zero part at =
+part_at size zero part at =
     subst (λ (found : Part). Fits (new_core size) found × (key found ≡ 0)) (some-injective (Reads (new_reader size)) part at)
     (record { sized = refl; phase = refl; taken = refl }, refl)
-part_at size is (suc place) part at =
+part_at size (suc place) part at =
     let (within, new) = writers_at size 0 size.writers place part at in
     let from : 0 + place ≡ place = omega arith in
-    let known = new_writer-fits size place is within in
+    let known = new_writer-fits size place within in
     subst (λ (found : Part). Fits (new_core size) found × (key found ≡ suc place))
     (ap (λ (n : ℕ). Writes (new_writer size n)) (sym from) ∙ sym new) known
 
@@ -74,11 +75,11 @@ module _ {S : Type 0} where
   abbrev opened : RingSize → State S Parts
   opened size = opening (replicate (word_count size.cells) 0) [] (new_parts size)
 
-  pub starts : (size : RingSize) → IsSize size → Shown size (opened size)
-  starts size is = record {
+  pub starts : (size : RingSize) → Shown size (opened size)
+  starts size = record {
     core = new_core size;
     sized = refl;
-    sound = new_core-sound size is;
+    sound = new_core-sound size;
     real = new_core-real size;
     words = new_words size;
     where_is = λ actor. (0, actor);
@@ -88,7 +89,7 @@ module _ {S : Type 0} where
       each : (seat place : ℕ) (part : Part) → Lies (opened size) seat place part
           → Fits (new_core size) part × (◌≡◌ {A = ℕ × ℕ} (0, key part) (seat, place))
       each zero place part lies =
-          let known = part_at size is place part
+          let known = part_at size place part
           (subst (λ (view : Parts). get_elem? view place ≡ some part) (sym (some-injective (new_parts size) lies.view lies.seated)) lies.placed) in
           (known.0, ap (λ (n : ℕ). let pair : ℕ × ℕ = (0, n) in pair) known.1)
       each (suc seat) place part lies = absurd (some-ne-none lies.view (sym lies.seated))

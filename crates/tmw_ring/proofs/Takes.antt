@@ -5,7 +5,8 @@ use Rattle.std.specs.Prelude.{slice_index}
 use mathlib.Core.Option.{some}
 use lib.ListN.{get_elem?}
 use Rattle.atomic_table.specs.Table.{State, Me, Allows, keeps, stepped}
-use Rattle.tmw_events.specs.Packing.{kind_value}
+use Rattle.tmw_events.proofs.PackedWords.{stamped-parts}
+use Rattle.tmw_events.specs.Packing.{kind_value, stamp_of, header_of, IsHeader}
 use Rattle.tmw_events.specs.Unpacking.{unpacked}
 use Rattle.tmw_events.specs.declared.event.Event.{Event}
 use Rattle.tmw_ring_defs.specs.Ring.{Core}
@@ -23,14 +24,14 @@ use Rattle.tmw_ring.specs.Parts.{Parts, key}
 use Rattle.tmw_ring.specs.Rule.{Fits, IsReal, ReaderFits, Shown}
 use Rattle.tmw_ring.specs.Seats.{reader_in, IsWaitingReader}
 use Rattle.tmw_ring.specs.Takes.{phase_after, after_look, phase_with, after_read, next_event, after_free, IsToldEvent, IsReadyReader, IsToldReader, StampSeen, ValueRead, PlaceFreed}
-use Rattle.tmw_ring.specs.Words.{stamp_of, header_of, IsHeader, cell_words, words_of, front_word, stamp_word, value_word}
+use Rattle.tmw_ring.specs.Words.{cell_words, words_of, front_word, stamp_word, value_word}
 use Rattle.tmw_ring.specs.declared.part.Look.{Look}
 use Rattle.tmw_ring.specs.declared.part.Look.TheVariants.{Stamp}
 use Rattle.tmw_ring.specs.declared.part.Part.{Part}
 use Rattle.tmw_ring.specs.declared.part.Part.TheVariants.{Writes, Reads}
 use Rattle.tmw_ring.specs.declared.part.ReaderPart.{ReaderPart}
 use Rattle.tmw_ring.proofs.Moves.{moves}
-use Rattle.tmw_ring.proofs.Words.{stamped-parts, stamp_found, value_found}
+use Rattle.tmw_ring.proofs.Words.{stamp_found, value_found}
 
 -- the ring whose reader has come so far
 abbrev with_reader : Core → ℕ → ReaderPhase → List Event → Core
@@ -98,7 +99,7 @@ free_sound core header value sound told =
 
 -- No more than 2^40 places are freed.
 front_small : (core : Core) → Sound core → core.front ≤ 2 ^ 40
-front_small core sound = omega (arith, sound.order, sound.limited, sound.sized.limit.small)
+front_small core sound = omega (arith, sound.order, sound.limited, core.size.most_places)
 
 module _ {S : Type 0} where
   reader_fits : (size : RingSize) (state : State S Parts) (shown : Shown size state) (seat : ℕ) (part : ReaderPart)

@@ -3,7 +3,7 @@ use Rattle.std.proofs.Common.{◌≡◌, ◌≢◌, ◌+◌, ◌≤◌, ◌^◌,
 use Rattle.atomic_table.specs.Seated.{TableId}
 use Rattle.atomic_table.specs.Table.{Me}
 use Rattle.tmw_events.proofs.Unpacks.{unpacked-pack}
-use Rattle.tmw_events.specs.Packing.{pack}
+use Rattle.tmw_events.specs.Packing.{pack, stamp_of, header_of}
 use Rattle.tmw_events.specs.Unpacking.{unpacked}
 use Rattle.tmw_events.specs.declared.event.Event.{Event}
 use Rattle.tmw_ring_defs.specs.declared.ring_phase.ReaderPhase.{ReaderPhase}
@@ -11,7 +11,6 @@ use Rattle.tmw_ring_defs.specs.declared.ring_phase.ReaderPhase.TheVariants.{Read
 use Rattle.tmw_ring.specs.Parts.{Parts}
 use Rattle.tmw_ring.specs.Seats.{reader_in, reader_is, IsWaitingReader}
 use Rattle.tmw_ring.specs.Takes.{phase_after, after_look, phase_with, after_read, next_event, after_free, IsReadyReader, IsToldReader, StampSeen, ValueRead, PlaceFreed, HasTaken, HasFoundNone}
-use Rattle.tmw_ring.specs.Words.{stamp_of, header_of}
 use Rattle.tmw_ring.specs.declared.part.Look.TheVariants.{Stamp}
 use Rattle.tmw_ring.specs.declared.part.ReaderPart.{ReaderPart}
 

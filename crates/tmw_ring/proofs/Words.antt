@@ -4,7 +4,7 @@ use Rattle.std.proofs.Math.Nat.{mod-lt}
 use Rattle.std.specs.Prelude.{slice_index}
 use mathlib.Core.Option.{some, some-injective, some-ne-none}
 use lib.ListN.{get_elem?}
-use Rattle.tmw_events.specs.Packing.{packed_header, kind_value, joined}
+use Rattle.tmw_events.specs.Packing.{packed_header, kind_value, joined, stamped}
 use Rattle.tmw_events.specs.declared.event.Event.{Event}
 use Rattle.tmw_events.specs.declared.event.Kind.{Kind}
 use Rattle.tmw_ring_defs.specs.Ring.{Core, new_core}
@@ -12,12 +12,7 @@ use Rattle.tmw_ring_defs.specs.RingCells.{empty_cell, filled, published}
 use Rattle.tmw_ring_defs.specs.RingSteps.{with_cell, cell_at}
 use Rattle.tmw_ring_defs.specs.declared.ring_cell.RingCell.{RingCell}
 use Rattle.tmw_ring_defs.specs.declared.ring_size.RingSize.{RingSize}
-use Rattle.tmw_ring.specs.Words.{stamped, stamp_of, header_of, IsHeader, cell_words, words_of, word_count, stamp_word, value_word}
-
--- A first word's parts are its stamp and its header.
-pub stamped-parts : (stamp header : ℕ) → IsHeader header
-    → (stamp_of (stamped stamp header) ≡ stamp) × (header_of (stamped stamp header) ≡ header)
-stamped-parts stamp header small = (omega arith, omega arith)
+use Rattle.tmw_ring.specs.Words.{cell_words, words_of, word_count, stamp_word, value_word}
 
 length-cell_words : (cells : List RingCell) → length (cell_words cells) ≡ 2 * length cells
 length-cell_words [] = refl

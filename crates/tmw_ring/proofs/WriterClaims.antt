@@ -126,7 +126,7 @@ module _ {S : Type 0} where
       let more : core.tail + cleared core.writers ≤ core.size.limit = shown.sound.limited in
       let some_cleared : 0 < cleared core.writers = cleared-some core.writers part.number.number kind at in
       let below : core.tail < core.size.limit = omega (arith, more, some_cleared) in
-      let few = shown.sound.sized.limit.small in
+      let few = core.size.most_places in
       let sum : (slice_index state.words 0 + 1) % 18446744073709551616 ≡ core.tail + 1 = omega (arith, found, below, few) in
       let new : WriterPart = claimed kind (slice_index state.words 0) part in
       let next : Core = with_claim part.number kind core in

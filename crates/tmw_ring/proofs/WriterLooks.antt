@@ -1,23 +1,23 @@
 -- A writer may look at front and at tail.
-use Rattle.std.proofs.Common.{◌≡◌, ◌+◌, ◌-◌, ◌≤◌, ℕ, Bool, true, false, nat_lt, if◌then◌else◌, List, [], ◌∷◌, Some, set, refl, sym, ap, ◌∙◌, subst, arith}
+use Rattle.std.proofs.Common.{◌≡◌, ◌≤◌, ℕ, Bool, true, false, List, [], ◌∷◌, Some, set, refl, sym, ap, ◌∙◌, subst, arith}
 use Rattle.std.specs.Prelude.{slice_index}
 use Rattle.atomic_table.specs.Table.{Me, Allows, keeps}
 use Rattle.tmw_events.specs.Text.{FitsKind}
 use Rattle.tmw_events.specs.declared.event.Kind.{Kind}
 use Rattle.tmw_ring_defs.specs.Ring.{Core}
 use Rattle.tmw_ring_defs.specs.RingSound.{IsIn, Sound}
-use Rattle.tmw_ring_defs.specs.RingSteps.{with_phase, room_step}
+use Rattle.tmw_ring_defs.specs.RingSteps.{with_phase}
+use Rattle.tmw_ring_defs.specs.Room.{is_spent, is_full, room_phase, room_reply}
 use Rattle.tmw_ring_defs.specs.declared.ring_phase.WriterPhase.{WriterPhase}
-use Rattle.tmw_ring_defs.specs.declared.ring_phase.WriterPhase.TheVariants.{Idle, Looked, Cleared}
+use Rattle.tmw_ring_defs.specs.declared.ring_phase.WriterPhase.TheVariants.{Idle, Looked}
 use Rattle.tmw_ring_defs.specs.declared.ring_size.RingSize.{RingSize}
-use Rattle.tmw_ring_defs.specs.declared.ring_step.Reply.TheVariants.{Saw, Spent, Full, Cleared as IsCleared}
-use Rattle.tmw_ring_defs.specs.declared.ring_step.Reply.{Reply}
+use Rattle.tmw_ring_defs.specs.declared.ring_step.Reply.TheVariants.{Saw}
 use Rattle.tmw_ring_defs.proofs.RingLooks.{front_keeps, tail_keeps}
 use Rattle.tmw_ring.specs.Parts.{Parts}
 use Rattle.tmw_ring.specs.Rule.{FitsPhase, Shown, WriterFits, IsReal}
 use Rattle.tmw_ring.specs.Seats.{writer_in}
 use Rattle.tmw_ring.specs.Words.{words_of}
-use Rattle.tmw_ring.specs.WriterSteps.{front_seen, tail_seen, front_in, room_phase, IsSeatOf, HasSeenFront, HasSeenTail}
+use Rattle.tmw_ring.specs.WriterSteps.{front_seen, tail_seen, front_in, IsSeatOf, HasSeenFront, HasSeenTail}
 use Rattle.tmw_ring.specs.declared.part.Part.TheVariants.{Writes}
 use Rattle.tmw_ring.specs.declared.part.WriterPart.{WriterPart}
 use Rattle.tmw_ring.proofs.Writing.{Goes, writer_fits, writer_moves}
@@ -51,46 +51,29 @@ front_goes kind core part sound real fits idle fits_kind =
     let sound_next : Sound next = (front_keeps part.number kind core Idle (Saw core.front) next sound at refl).0 in
     phase_goes core part (front_seen kind core.front part) fits real sound_next refl refl refl fits.seen fits_kind
 
--- The state after a look at tail is the one with the phase that the tests lead to.
-room_core : (writer : ℕ) (kind : Kind) (front : ℕ) (core : Core)
-    → (room_step writer kind front core).1 ≡ with_phase writer (room_phase core.size kind front core.tail) core
-room_core writer kind front core =
-    by_tests (nat_lt core.size.limit (core.tail + core.size.writers)) (nat_lt (core.size.cells - core.size.writers) (core.tail - front))
-  where
-    by_tests : (spent full : Bool)
-        → (let answer : Reply × Core =
-        if spent then (Spent core.tail, with_phase writer Idle core)
-        else if full then (Full front core.tail, with_phase writer Idle core)
-        else (IsCleared, with_phase writer (Cleared kind) core) in answer.1)
-        ≡ with_phase writer (if spent then Idle else if full then Idle else Cleared kind) core
-    by_tests true full = refl
-    by_tests false true = refl
-    by_tests false false = refl
-
-room_fits : (size : RingSize) (kind : Kind) (front tail : ℕ) → FitsKind kind → FitsPhase (room_phase size kind front tail)
-room_fits size kind front tail fits_kind =
-    by_tests (nat_lt size.limit (tail + size.writers)) (nat_lt (size.cells - size.writers) (tail - front))
-  where
-    by_tests : (spent full : Bool) → FitsPhase (if spent then Idle else if full then Idle else Cleared kind)
-    by_tests true full = tt
-    by_tests false true = tt
-    by_tests false false = fits_kind
+room_fits : (spent full : Bool) (kind : Kind) → FitsKind kind → FitsPhase (room_phase spent full kind)
+room_fits true full kind fits_kind = tt
+room_fits false true kind fits_kind = tt
+room_fits false false kind fits_kind = fits_kind
 
 tail_goes : (kind : Kind) (front : ℕ) (core : Core) (part : WriterPart) → Sound core → IsReal core → WriterFits core part
     → part.phase ≡ Looked kind front
     → Goes core (with_phase part.number.number (tail_seen kind core.tail part).phase core) part (tail_seen kind core.tail part)
 tail_goes kind front core part sound real fits looked =
     let at : IsIn core part.number.number (Looked kind front) = fits.phase ∙ ap Some looked in
-    let step : Reply × Core = room_step part.number.number kind front core in
-    let sound_step : Sound step.1 = (tail_keeps part.number core (Looked kind front) step.0 step.1 sound at refl).0 in
-    let same : room_phase core.size kind front core.tail ≡ (tail_seen kind core.tail part).phase =
-    sym (ap (λ (size : RingSize). room_phase size kind (front_in part.phase) core.tail) fits.sized
-    ∙ ap (λ (phase : WriterPhase). room_phase core.size kind (front_in phase) core.tail) looked) in
+    let spent = is_spent core.size core.tail in
+    let full = is_full core.size front core.tail in
+    let next : Core = with_phase part.number.number (room_phase spent full kind) core in
+    let sound_step : Sound next =
+    (tail_keeps part.number core (Looked kind front) (room_reply spent full front core.tail) next sound at refl).0 in
+    let phase : RingSize → ℕ → WriterPhase = λ size seen. room_phase (is_spent size core.tail) (is_full size seen core.tail) kind in
+    let same : phase core.size front ≡ (tail_seen kind core.tail part).phase =
+    sym (ap (λ size. phase size (front_in part.phase)) fits.sized ∙ ap (λ found. phase core.size (front_in found)) looked) in
     let sound_next : Sound (with_phase part.number.number (tail_seen kind core.tail part).phase core) =
-    subst Sound (room_core part.number.number kind front core ∙ ap (λ (phase : WriterPhase). with_phase part.number.number phase core) same)
-    sound_step in
+    subst (λ (found : WriterPhase). Sound (with_phase part.number.number found core)) same sound_step in
     phase_goes core part (tail_seen kind core.tail part) fits real sound_next refl refl refl (omega arith)
-    (room_fits part.size kind (front_in part.phase) core.tail (real.phases part.number.number (Looked kind front) at))
+    (room_fits (is_spent part.size core.tail) (is_full part.size (front_in part.phase) core.tail) kind
+    (real.phases part.number.number (Looked kind front) at))
 
 module _ {S : Type 0} where
   front_allowed : (size : RingSize) (slots seat : ℕ) (kind : Kind) (part : WriterPart) → part.phase ≡ Idle → FitsKind kind

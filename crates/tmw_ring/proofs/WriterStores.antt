@@ -3,7 +3,7 @@ use Rattle.std.proofs.Common.{◌≡◌, ◌%◌, ℕ, true, false, List, [], �
 use Rattle.std.proofs.lemmas.List.Elements.{All-set}
 use Rattle.atomic_table.specs.Table.{Me, Allows, keeps}
 use Rattle.tmw_events.proofs.PackedWords.{packed_header-small}
-use Rattle.tmw_events.specs.Packing.{packed_header, kind_value, joined}
+use Rattle.tmw_events.specs.Packing.{packed_header, kind_value, joined, IsHeader}
 use Rattle.tmw_events.specs.declared.event.Kind.{Kind}
 use Rattle.tmw_ring_defs.specs.Ring.{Core}
 use Rattle.tmw_ring_defs.specs.RingCells.{empty_cell, filled, published}
@@ -21,7 +21,7 @@ use Rattle.tmw_ring_defs.proofs.RingStores.{has_cell}
 use Rattle.tmw_ring.specs.Parts.{Parts}
 use Rattle.tmw_ring.specs.Rule.{FitsPhase, Shown, WriterFits, IsReal}
 use Rattle.tmw_ring.specs.Seats.{writer_in}
-use Rattle.tmw_ring.specs.Words.{IsHeader, words_of, stamp_word, value_word}
+use Rattle.tmw_ring.specs.Words.{words_of, stamp_word, value_word}
 use Rattle.tmw_ring.specs.WriterSteps.{place_in, value_filled, done, IsSeatOf, HasFilled, HasPublished}
 use Rattle.tmw_ring.specs.declared.part.Part.TheVariants.{Writes}
 use Rattle.tmw_ring.specs.declared.part.WriterPart.{WriterPart}

@@ -5,6 +5,7 @@ use Rattle.std.specs.Prelude.{slice_get}
 use mathlib.Core.Option.{some}
 use lib.ListN.{get_elem?}
 use Rattle.atomic_table.specs.Table.{State, keeps, stepped}
+use Rattle.tmw_events.specs.Packing.{IsHeader}
 use Rattle.tmw_events.specs.declared.event.Event.{Event}
 use Rattle.tmw_ring_defs.specs.Ring.{Core}
 use Rattle.tmw_ring_defs.specs.RingSound.{Sound}
@@ -12,7 +13,7 @@ use Rattle.tmw_ring_defs.specs.declared.ring_size.RingSize.{RingSize}
 use Rattle.tmw_ring_defs.proofs.RingPhases.{phase_set, phase_kept, phase_cases}
 use Rattle.tmw_ring.specs.Parts.{Parts, key, made_from}
 use Rattle.tmw_ring.specs.Rule.{Fits, FitsPhase, IsReal, IsRecorded, Shown, WriterFits}
-use Rattle.tmw_ring.specs.Words.{IsHeader, words_of}
+use Rattle.tmw_ring.specs.Words.{words_of}
 use Rattle.tmw_ring.specs.declared.part.Part.{Part}
 use Rattle.tmw_ring.specs.declared.part.Part.TheVariants.{Writes, Reads}
 use Rattle.tmw_ring.specs.declared.part.WriterPart.{WriterPart}

@@ -1,7 +1,8 @@
 -- How the call to record an event is answered.
-use Rattle.std.specs.Prelude.{◌≡◌, ◌+◌, ◌-◌, ◌++◌, ◌≤◌, ◌<◌, ◌^◌, ℕ, [], ◌∷◌}
+use Rattle.std.specs.Prelude.{◌≡◌, ◌+◌, ◌++◌, ◌≤◌, ◌<◌, ◌^◌, ℕ, [], ◌∷◌, IsTrue, IsFalse}
 use Rattle.tmw_events.specs.declared.event.Kind.{Kind}
 use Rattle.tmw_events.specs.declared.ix.Ix.{Ix}
+use Rattle.tmw_ring_defs.specs.Room.{is_spent, is_full}
 use Rattle.tmw_ring.specs.Ends.{WriterIs}
 use Rattle.tmw_ring.specs.declared.part.Look.TheVariants.{Front, Tail}
 use Rattle.tmw_ring.specs.declared.part.Made.{Made}
@@ -32,6 +33,6 @@ pub record HasLooked (front tail : ℕ) (old new : WriterIs) : Type 0 where
 -- Each refusal comes where it should: the ring was full for this front and this tail, or its places were spent at this tail.
 abbrev pub IsRefusal : WriterIs → Refused → WriterIs → Type 0
 IsRefusal old (Full front tail) new =
-    HasLooked front tail old new × (old.size.cells - old.size.writers < tail - front) × (tail + old.size.writers ≤ old.size.limit)
+    HasLooked front tail old new × IsTrue (is_full old.size front tail) × IsFalse (is_spent old.size tail)
 IsRefusal old (Spent tail) new =
-    (front : ℕ) × HasLooked front tail old new × (old.size.limit < tail + old.size.writers)
+    (front : ℕ) × HasLooked front tail old new × IsTrue (is_spent old.size tail)

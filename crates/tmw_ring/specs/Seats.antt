@@ -1,9 +1,10 @@
 -- What a seat of a ring's table knows, as its writer or its reader, and how what it knows is cut in two.
-use Rattle.std.specs.Prelude.{◌≡◌, ℕ, [], ◌∷◌, length}
+use Rattle.std.proofs.Common.{refl}
+use Rattle.std.proofs.lemmas.Bool.{leb-true}
+use Rattle.std.specs.Prelude.{◌≡◌, ◌^◌, ℕ, [], ◌∷◌, length}
 use Rattle.atomic_table.specs.Seated.{TableId}
 use Rattle.atomic_table.specs.Table.{Me}
 use Rattle.tmw_events.specs.declared.ix.Ix.{Ix}
-use Rattle.tmw_ring_defs.specs.Ring.{IsSize}
 use Rattle.tmw_ring_defs.specs.declared.ring_phase.ReaderPhase.TheVariants.{Waiting}
 use Rattle.tmw_ring_defs.specs.declared.ring_phase.WriterPhase.TheVariants.{Idle}
 use Rattle.tmw_ring_defs.specs.declared.ring_size.RingSize.{RingSize}
@@ -14,20 +15,30 @@ use Rattle.tmw_ring.specs.declared.part.Part.TheVariants.{Writes, Reads}
 use Rattle.tmw_ring.specs.declared.part.ReaderPart.{ReaderPart}
 use Rattle.tmw_ring.specs.declared.part.WriterPart.{WriterPart}
 
--- the size of no ring, which stands where a seat has no part
-abbrev pub no_size : RingSize
-no_size = record { cells = 0; writers = 0; limit = 0 }
+-- the least size, which stands where a seat has no part
+abbrev pub least_size : RingSize
+least_size = record {
+  cells = 1;
+  writers = 1;
+  limit = 1;
+  some_writers = leb-true 1 1 refl;
+  most_writers = leb-true 1 8 refl;
+  enough_cells = leb-true 1 1 refl;
+  most_cells = leb-true 1 4096 refl;
+  enough_places = leb-true 1 1 refl;
+  most_places = leb-true 1 (2 ^ 40) refl;
+}
 
 -- the writer whose part is the seat's first
 abbrev pub writer_in : Parts → WriterPart
-writer_in [] = new_writer no_size 0
+writer_in [] = new_writer least_size 0
 writer_in (Writes part ∷ rest) = part
-writer_in (Reads part ∷ rest) = new_writer no_size 0
+writer_in (Reads part ∷ rest) = new_writer least_size 0
 
 -- the reader whose part is the seat's first
 abbrev pub reader_in : Parts → ReaderPart
-reader_in [] = new_reader no_size
-reader_in (Writes part ∷ rest) = new_reader no_size
+reader_in [] = new_reader least_size
+reader_in (Writes part ∷ rest) = new_reader least_size
 reader_in (Reads part ∷ rest) = part
 
 -- the first part alone, and the others
@@ -71,7 +82,6 @@ pub record IsWaitingReader {S : Type 0} (count : ℕ) (me : Me S Parts) : Type 0
 
 -- It is the table of a ring of this size, which was told the size and has the ring's words and no slot.
 pub record IsRingTable (size told : RingSize) (table : TableId) : Type 0 where
-  pub sized : IsSize size
   pub told_it : told ≡ size
   pub words : table.words ≡ word_count size.cells
   pub slots : table.slots ≡ 0

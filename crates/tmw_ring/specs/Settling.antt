@@ -2,14 +2,14 @@
 use Rattle.std.specs.Prelude.{◌≡◌, ◌++◌, ◌+◌, ◌≤◌, ◌<◌, ◌^◌, ℕ, zero, suc, List, [], ◌∷◌, length, get_or, slice_index, All}
 use Rattle.std.specs.Mem.Slots.{slots_items, slots_len, IsFull}
 use Rattle.atomic_table.specs.declared.owned.Closed.{Closed}
-use Rattle.tmw_events.specs.Packing.{pack}
+use Rattle.tmw_events.specs.Packing.{pack, header_of}
 use Rattle.tmw_events.specs.Text.{FitsKind}
 use Rattle.tmw_events.specs.Unpacking.{unpacked}
 use Rattle.tmw_events.specs.declared.event.Event.{Event}
 use Rattle.tmw_ring_defs.specs.declared.ring_phase.WriterPhase.TheVariants.{Idle}
 use Rattle.tmw_ring.specs.Ends.{WriterIs}
 use Rattle.tmw_ring.specs.Parts.{made_from}
-use Rattle.tmw_ring.specs.Words.{header_of, stamp_word, value_word, word_count}
+use Rattle.tmw_ring.specs.Words.{stamp_word, value_word, word_count}
 use Rattle.tmw_ring.specs.declared.part.Part.{Part}
 use Rattle.tmw_ring.specs.declared.part.Part.TheVariants.{Writes}
 

@@ -1,7 +1,7 @@
 -- What each step of the reader tells it, and what a caller is told of a taking.
 use Rattle.std.specs.Prelude.{◌≡◌, ◌≢◌, ◌==◌, ◌+◌, ◌^◌, ◌≤◌, ℕ, [], ◌∷◌, ◌++◌, length, if◌then◌else◌}
 use Rattle.atomic_table.specs.Table.{Me}
-use Rattle.tmw_events.specs.Packing.{pack}
+use Rattle.tmw_events.specs.Packing.{pack, stamp_of, header_of}
 use Rattle.tmw_events.specs.Text.{FitsKind}
 use Rattle.tmw_events.specs.Unpacking.{unpacked}
 use Rattle.tmw_events.specs.declared.event.Event.{Event}
@@ -10,7 +10,6 @@ use Rattle.tmw_ring_defs.specs.declared.ring_phase.ReaderPhase.TheVariants.{Wait
 use Rattle.tmw_ring.specs.Ends.{ReaderIs}
 use Rattle.tmw_ring.specs.Parts.{Parts}
 use Rattle.tmw_ring.specs.Seats.{reader_in, IsReader}
-use Rattle.tmw_ring.specs.Words.{stamp_of, header_of}
 use Rattle.tmw_ring.specs.declared.part.Look.TheVariants.{Stamp}
 use Rattle.tmw_ring.specs.declared.part.ReaderPart.{ReaderPart}
 

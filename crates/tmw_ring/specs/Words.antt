@@ -1,25 +1,11 @@
--- The words of a ring's table: tail, front, and two for each cell, where they stand, and how a cell's first word holds a stamp
--- and a header. In the code `words_at` (src/cell_words.rt) says where a cell's words stand, and `join` and `split` of
--- tmw_events make a first word and take it apart.
-use Rattle.std.specs.Prelude.{◌+◌, ◌*◌, ◌/◌, ◌%◌, ◌<◌, ℕ, List, [], ◌∷◌}
+-- The words of a ring's table: tail, front, and two for each cell, and where they stand. In the code `words_at`
+-- (src/cell_words.rt) says where a cell's words stand, and `join` and `split` of tmw_events make a first word and take it apart.
+use Rattle.std.specs.Prelude.{◌+◌, ◌*◌, ◌%◌, ℕ, List, [], ◌∷◌}
+use Rattle.tmw_events.specs.Packing.{stamped}
 use Rattle.tmw_ring_defs.specs.Ring.{Core}
 use Rattle.tmw_ring_defs.specs.declared.ring_cell.RingCell.{RingCell}
 
--- a cell's first word: the stamp above the ten bits of the header
-abbrev pub stamped : ℕ → ℕ → ℕ
-stamped stamp header = stamp * 1024 + header
-
--- the stamp and the header that a first word has
-abbrev pub stamp_of : ℕ → ℕ
-stamp_of word = word / 1024
-
-abbrev pub header_of : ℕ → ℕ
-header_of word = word % 1024
-
--- The number has the ten bits of a header.
-abbrev pub IsHeader : ℕ → Type 0
-IsHeader header = header < 1024
-
+-- two words for each cell
 abbrev pub cell_words : List RingCell → List ℕ
 cell_words [] = []
 cell_words (cell ∷ cells) = stamped cell.stamp cell.header ∷ cell.value ∷ cell_words cells

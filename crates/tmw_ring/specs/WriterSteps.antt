@@ -1,7 +1,8 @@
 -- What each step of a writer tells it: the words that it finds, and what it then knows.
-use Rattle.std.specs.Prelude.{◌≡◌, ◌+◌, ◌-◌, ◌++◌, ◌≤◌, ◌<◌, ℕ, true, false, nat_lt, [], ◌∷◌, if◌then◌else◌}
+use Rattle.std.specs.Prelude.{◌≡◌, ◌+◌, ◌++◌, ◌≤◌, ◌<◌, ℕ, true, false, [], ◌∷◌}
 use Rattle.atomic_table.specs.Table.{Me}
 use Rattle.tmw_events.specs.declared.event.Kind.{Kind}
+use Rattle.tmw_ring_defs.specs.Room.{is_spent, is_full, room_phase}
 use Rattle.tmw_ring_defs.specs.declared.ring_phase.WriterPhase.{WriterPhase}
 use Rattle.tmw_ring_defs.specs.declared.ring_phase.WriterPhase.TheVariants.{Idle, Looked, Cleared, Claimed}
 use Rattle.tmw_ring_defs.specs.declared.ring_size.RingSize.{RingSize}
@@ -28,16 +29,9 @@ place_in (Looked kind front) = 0
 place_in (Cleared kind) = 0
 place_in (Claimed place kind is_filled) = place
 
--- With this front and this tail a writer is cleared only where every writer has room.
-abbrev pub room_phase : RingSize → Kind → ℕ → ℕ → WriterPhase
-room_phase size kind front tail =
-    if nat_lt size.limit (tail + size.writers) then Idle
-    else if nat_lt (size.cells - size.writers) (tail - front) then Idle
-    else Cleared kind
-
 abbrev pub tail_seen : Kind → ℕ → WriterPart → WriterPart
 tail_seen kind tail part = record part {
-  phase = room_phase part.size kind (front_in part.phase) tail;
+  phase = room_phase (is_spent part.size tail) (is_full part.size (front_in part.phase) tail) kind;
   seen = tail;
   looks = part.looks ++ Tail tail ∷ [];
 }

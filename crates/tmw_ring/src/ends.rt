@@ -3,8 +3,8 @@ ghost use Rattle.std.specs.Prelude.{◌≡◌};
 
 use crate::rule::{RingSeat, RingTable};
 use std::marker::Model;
-use tmw_ring_defs::RingSize;
 use tmw_events::Ix;
+use tmw_ring_defs::RingSize;
 
 /// A ring of so many cells into which threads record events. Threads share it by a reference.
 #[derive(Drop)]

@@ -36,5 +36,4 @@ pub use part::{Look, Made, Part, ReaderPart, WriterPart};
 pub use refused::Refused;
 pub use rule::{RingRule, RingSeat, RingTable};
 pub use settled::Settled;
-pub use tmw_ring_defs::RingSize;
-pub use tmw_ring_steps::RingFault;
+pub use tmw_ring_defs::{RingFault, RingSize};

@@ -1,17 +1,17 @@
 //! A new ring, with all its ends.
 ghost use Rattle.std.specs.Prelude.{◌≡◌, [], ◌∷◌, length, IfOk, IfErr, OnOk};
-ghost use Rattle.tmw_ring.specs.NewRing.{AreNewWriters, IsNewRing, IsRefused};
+ghost use Rattle.tmw_ring.specs.NewRing.{AreNewWriters, IsNewRing};
 ghost use Rattle.tmw_ring.specs.Parts.{new_parts, new_reader};
 ghost use Rattle.tmw_ring.specs.Seats.{IsReader};
+ghost use Rattle.tmw_ring_defs.specs.Sizes.{IsRefused};
 
 use crate::cuts::SecondPart;
 use crate::ends::{Reader, Ring, Writer};
 use crate::rule::RingSeat;
 use atomic_table::Table;
 use std::alloc::{AllocError, Global};
-use tmw_ring_defs::RingSize;
 use tmw_events::Ix;
-use tmw_ring_steps::RingFault;
+use tmw_ring_defs::{RingFault, RingSize};
 
 /// A new ring, with as many writers as are asked for, in the order of their numbers, and its reader. The numbers of its cells
 /// and its writers are tested before its limit.
@@ -21,21 +21,11 @@ pub fn ring(
     writers: u64,
     limit: u64,
 ) -> Result<(Ring, Vec<Writer>, Reader), RingFault>
-    ensures ok { IfOk result (λ made. IsNewRing (record { cells = cells; writers = writers; limit = limit }) made.0 made.1.items made.2) }
-    ensures err { IfErr result (IsRefused (record { cells = cells; writers = writers; limit = limit })) }
+    ensures ok { IfOk result (λ made. IsNewRing cells writers limit made.0 made.1.items made.2) }
+    ensures err { IfErr result (IsRefused cells writers limit) }
 {
-    if writers < 1 || 8 < writers || cells < writers || 4096 < cells {
-        return Err(RingFault::BadSize);
-    }
-    if limit < writers || 1 << 40 < limit {
-        return Err(RingFault::BadLimit);
-    }
-    let size = RingSize {
-        cells,
-        writers,
-        limit,
-    };
-    let words = vec![in alloc; 0; 2 + 2 * cells as usize]?;
+    let size = RingSize::new(cells, writers, limit)?;
+    let words = vec![in alloc; 0; 2 + 2 * size.cells as usize]?;
     let (table, mut seat) = Table::of_words(alloc, words.as_slice(), &size)?;
     let ring = Ring { table, size };
     let writers = deal(alloc, &ring, &mut seat)?;

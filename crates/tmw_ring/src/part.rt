@@ -1,7 +1,7 @@
 //! What a seat of the ring's table knows. Such values stand in views alone, and none is made when the program runs.
 use std::collections::LinkedList;
-use tmw_ring_defs::{ReaderPhase, RingSize, WriterPhase};
 use tmw_events::{Event, Ix};
+use tmw_ring_defs::{ReaderPhase, RingSize, WriterPhase};
 
 /// What one actor of the ring knows.
 pub enum Part {

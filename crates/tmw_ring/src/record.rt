@@ -1,12 +1,12 @@
 //! A writer records an event: it looks at front and at tail, claims a place, fills in the value and publishes the place.
 ghost use Rattle.std.specs.Prelude.{◌≡◌, ◌<◌, ◌^◌, true, false, IfOk, IfErr};
 ghost use Rattle.tmw_ring_defs.specs.declared.ring_phase.WriterPhase.TheVariants.{Idle, Looked, Cleared, Claimed};
-ghost use Rattle.tmw_events.specs.Packing.{packed_header, kind_value};
+ghost use Rattle.tmw_events.specs.Packing.{packed_header, kind_value, IsHeader};
 ghost use Rattle.tmw_events.specs.Text.{FitsKind};
 ghost use Rattle.tmw_ring.specs.Ends.{WriterOf};
 ghost use Rattle.tmw_ring.specs.Recording.{HasRecorded, IsRefusal};
 ghost use Rattle.tmw_ring.specs.Seats.{writer_in, writer_is};
-ghost use Rattle.tmw_ring.specs.Words.{IsHeader, stamp_word, value_word};
+ghost use Rattle.tmw_ring.specs.Words.{stamp_word, value_word};
 ghost use Rattle.tmw_ring.specs.WriterSteps.{IsSeatOf, HasSeenFront, HasSeenTail, HasClaimed, HasFilled, HasPublished};
 
 use crate::cell_words::{CellWords, words_at};
@@ -159,10 +159,10 @@ fn record_as<C: Choice>(
     });
     let front = see_front::<C>(ring, seat);
     let tail = see_tail::<C>(ring, seat, front);
-    if ring.size.limit < tail + ring.size.writers {
+    if ring.size.is_spent(tail) {
         return Err(Refused::Spent { tail });
     }
-    if ring.size.cells - ring.size.writers < tail - front {
+    if ring.size.is_full(front, tail) {
         return Err(Refused::Full { front, tail });
     }
     let place = claim::<C>(ring, seat);

@@ -1,5 +1,5 @@
 -- Each step of a sound ring is answered as the sequential log would answer it, where what its writers announced is known.
-use Rattle.std.proofs.Common.{◌≡◌, ◌≢◌, ◌⊎◌, ◌==◌, ◌+◌, ℕ, zero, suc, Bool, true, false, List, [], ◌∷◌, length, Option, Some, None, refl, sym, ap, ◌∙◌, inl, inr, slice_get, slice_set, option_and_then, arith, nat_lt, ◌-◌, if◌then◌else◌, length-append}
+use Rattle.std.proofs.Common.{◌≡◌, ◌≢◌, ◌⊎◌, ◌==◌, ◌+◌, ℕ, zero, suc, Bool, true, false, List, [], ◌∷◌, length, Option, Some, None, refl, sym, ap, ◌∙◌, inl, inr, slice_get, slice_set, option_and_then, arith, if◌then◌else◌, length-append}
 use Rattle.std.proofs.lemmas.Bool.{eq-eqb, ne_eqb}
 use Rattle.tmw_events.proofs.Unpacks.{unpacked-pack}
 use Rattle.tmw_events.specs.Packing.{packed_header}
@@ -9,13 +9,14 @@ use Rattle.tmw_events.specs.declared.event.Kind.{Kind}
 use Rattle.tmw_events.specs.declared.ix.Ix.{Ix}
 use Rattle.tmw_ring_defs.specs.OneLog.{Sequential, appended, Announced, announced_by, announces, Asks, sequential_of}
 use Rattle.tmw_ring_defs.specs.Ring.{Core}
+use Rattle.tmw_ring_defs.specs.Room.{is_spent, is_full, room_phase, room_reply}
 use Rattle.tmw_ring_defs.specs.RingSound.{Sound, IsIn, HasRead}
 use Rattle.tmw_ring_defs.specs.RingSteps.{Stepped, with_phase, cell_at, front_step, tail_step, claim_step, fill_step, publish_step, peek_step, read_step, free_step, by_writer, core_step}
 use Rattle.tmw_ring_defs.specs.declared.ring_phase.ReaderPhase.{ReaderPhase}
 use Rattle.tmw_ring_defs.specs.declared.ring_phase.ReaderPhase.TheVariants.{Waiting, Ready, Told}
 use Rattle.tmw_ring_defs.specs.declared.ring_phase.WriterPhase.{WriterPhase}
 use Rattle.tmw_ring_defs.specs.declared.ring_phase.WriterPhase.TheVariants.{Idle, Looked, Cleared, Claimed}
-use Rattle.tmw_ring_defs.specs.declared.ring_step.Reply.TheVariants.{Cleared as IsCleared, Full, Spent, Ready as IsReady, NotReady}
+use Rattle.tmw_ring_defs.specs.declared.ring_step.Reply.TheVariants.{Ready as IsReady, NotReady}
 use Rattle.tmw_ring_defs.specs.declared.ring_step.Step.{Step}
 use Rattle.tmw_ring_defs.specs.declared.ring_step.Step.TheVariants.{Front, Tail, Claim, Fill, Publish, Peek, Read, Free, Stop}
 
@@ -79,12 +80,10 @@ pub tail-answered : (kinds : Announced) (writer : Ix) (core : Core) → Knows ki
     → (phase : WriterPhase) → IsIn core writer.number phase → IsAnswered kinds (Tail writer) core (tail_step writer.number core phase)
 tail-answered kinds writer core knows Idle is = tt
 tail-answered kinds writer core knows (Looked kind front) is =
-    by_room (nat_lt core.size.limit (core.tail + core.size.writers)) (nat_lt (core.size.cells - core.size.writers) (core.tail - front))
+    by_room (is_spent core.size core.tail) (is_full core.size front core.tail)
   where
-    by_room : (spent full : Bool) → IsAnswered kinds (Tail writer) core (Some (
-        if spent then (Spent core.tail, with_phase writer.number Idle core)
-        else if full then (Full front core.tail, with_phase writer.number Idle core)
-        else (IsCleared, with_phase writer.number (Cleared kind) core)))
+    by_room : (spent full : Bool) → IsAnswered kinds (Tail writer) core
+        (Some (room_reply spent full front core.tail, with_phase writer.number (room_phase spent full kind) core))
     by_room true full = (refl, knows_phase kinds core writer.number Idle knows tt)
     by_room false true = (refl, knows_phase kinds core writer.number Idle knows tt)
     by_room false false = (refl, knows_phase kinds core writer.number (Cleared kind) knows (knows writer.number (Looked kind front) is))

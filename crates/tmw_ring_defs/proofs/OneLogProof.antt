@@ -5,7 +5,7 @@ use Rattle.tmw_ring_defs.proofs.Answered.{Knows, IsAnnounced, core_step-answered
 use Rattle.tmw_ring_defs.proofs.RingSizes.{after-size}
 use Rattle.tmw_ring_defs.proofs.MachineProof.{machine_step-each, machine_step-sound, after-sound, after-spares}
 use Rattle.tmw_ring_defs.specs.OneLog.{Announced, announces, Asks, AskInOrder, sequential_of, OneLogLaw}
-use Rattle.tmw_ring_defs.specs.Ring.{IsSize, new_core}
+use Rattle.tmw_ring_defs.specs.Ring.{new_core}
 use Rattle.tmw_ring_defs.specs.RingMachine.{Machine, new_machine, machine_step, after, replies}
 use Rattle.tmw_ring_defs.specs.RingSound.{Sound, StepLaw}
 use Rattle.tmw_ring_defs.specs.declared.ring_phase.WriterPhase.TheVariants.{Idle}
@@ -43,9 +43,9 @@ new_core-knows kinds size writer phase is = idle size.writers writer is
     idle (suc count) zero at = let is_idle : Idle ≡ phase = cc in rw (← is_idle) tt
     idle (suc count) (suc i) at = idle count i at
 
-pub one_log_law : StepLaw → ((size : RingSize) → IsSize size → Sound (new_core size)) → OneLogLaw
-one_log_law law starts size steps sized =
-    let start = starts size sized in
+pub one_log_law : StepLaw → ((size : RingSize) → Sound (new_core size)) → OneLogLaw
+one_log_law law starts size steps =
+    let start = starts size in
     let machine = new_machine size in
     let sound = after-sound law steps machine start in
     let log = (after steps machine).core.log in

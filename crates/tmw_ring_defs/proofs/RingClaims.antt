@@ -132,7 +132,6 @@ claim-sound writer kind old sound at =
     cleared-set old.writers writer.number (Cleared kind) phase at in
     let begun : old.front ≤ length old.log = omega (arith, sound.order, sound.tail) in
     record {
-      sized = sound.sized;
       cells = sound.cells;
       writers = length-set old.writers writer.number phase ∙ sound.writers;
       tail = ap (λ (n : ℕ). n + 1) sound.tail ∙ sym (length_push old.log (event_of writer kind));

@@ -1,17 +1,18 @@
 -- A writer's looks at front and at tail leave a sound ring sound.
-use Rattle.std.proofs.Common.{◌≡◌, ◌≢◌, ◌⊎◌, ◌+◌, ◌-◌, ◌≤◌, ◌<◌, ℕ, Bool, true, false, nat_lt, if◌then◌else◌, Some, length, slice_set, subst, refl, sym, ◌∙◌, inl, inr, arith}
+use Rattle.std.proofs.Common.{◌≡◌, ◌≢◌, ◌⊎◌, ◌+◌, ◌-◌, ◌≤◌, ◌<◌, ℕ, Bool, true, false, Some, length, slice_set, subst, refl, sym, ◌∙◌, inl, inr, arith}
 use Rattle.std.proofs.lemmas.Bool.{ltb-false}
 use Rattle.std.proofs.lemmas.List.{length-set}
-use Rattle.std.proofs.lemmas.Option.{none-some, same_Some, some_pair_parts, slice_get_within}
+use Rattle.std.proofs.lemmas.Option.{none-some, some_pair_parts, slice_get_within}
 use Rattle.tmw_events.specs.declared.event.Kind.{Kind}
 use Rattle.tmw_events.specs.declared.ix.Ix.{Ix}
 use Rattle.tmw_ring_defs.specs.Ring.{Core}
-use Rattle.tmw_ring_defs.specs.RingSteps.{with_phase, front_step, room_step, tail_step}
+use Rattle.tmw_ring_defs.specs.RingSteps.{with_phase, front_step, tail_step}
+use Rattle.tmw_ring_defs.specs.Room.{is_spent, is_full, room_phase, room_reply}
 use Rattle.tmw_ring_defs.specs.RingSound.{cleared, IsIn, IsHeld, IsPublished, Sound, Spares}
 use Rattle.tmw_ring_defs.specs.declared.ring_phase.WriterPhase.{WriterPhase}
 use Rattle.tmw_ring_defs.specs.declared.ring_phase.WriterPhase.TheVariants.{Idle, Looked, Cleared, Claimed}
 use Rattle.tmw_ring_defs.specs.declared.ring_step.Reply.{Reply}
-use Rattle.tmw_ring_defs.specs.declared.ring_step.Reply.TheVariants.{Saw, Cleared as IsCleared, Full, Spent}
+use Rattle.tmw_ring_defs.specs.declared.ring_step.Reply.TheVariants.{Saw}
 use Rattle.tmw_ring_defs.proofs.RingPhases.{phase_kept, phase_cases, two_writers, cleared-set, cleared-lt}
 use Rattle.tmw_ring_defs.proofs.RingPlaces.{published_still, holds_still, read_still}
 
@@ -34,7 +35,6 @@ phase_keeps core writer phase next sound at free freed looks room limited =
     let still : (place : ℕ) → IsPublished core place → IsPublished moved place =
     λ place was. published_still core moved place (λ p event logged. logged) refl was in (
       record {
-        sized = sound.sized;
         cells = sound.cells;
         writers = length-set core.writers writer next ∙ sound.writers;
         tail = sound.tail;
@@ -117,31 +117,26 @@ clear_keeps core writer kind front sound at given free =
     let seen : front ≤ core.front = sound.looks writer front kind at in
     phase_keeps core writer (Looked kind front) next sound at (λ place other is_filled is. absurd (cc)) (λ place other is_filled is. absurd (cc))
     (λ other late is. absurd (cc))
-    (omega (arith, count, less, seen, free, sound.writers, sound.sized.cells.room)) (omega (arith, count, less, given, sound.writers))
+    (omega (arith, count, less, seen, free, sound.writers, core.size.enough_cells)) (omega (arith, count, less, given, sound.writers))
 
--- Whatever a test says, the state that it leads to is kept sound.
-either_keeps : (old : Core) (test : Bool) (x y : Reply × Core) → (test ≡ true → Keeps old x.1) → (test ≡ false → Keeps old y.1)
-    → Keeps old (if test then x else y).1
-either_keeps old true x y one two = one refl
-either_keeps old false x y one two = two refl
-
-room_keeps : (writer : ℕ) (kind : Kind) (front : ℕ) (old : Core) → Sound old → IsIn old writer (Looked kind front)
-    → Keeps old (room_step writer kind front old).1
-room_keeps writer kind front old sound at =
-    let idle : Core = with_phase writer Idle old in
-    let wide = nat_lt (old.size.cells - old.size.writers) (old.tail - front) in
-    let seen : Reply × Core = if wide then (Full front old.tail, idle) else (IsCleared, with_phase writer (Cleared kind) old) in
-    either_keeps old (nat_lt old.size.limit (old.tail + old.size.writers)) (Spent old.tail, idle) seen (λ is. idle_keeps old writer kind front sound at)
-    (λ given. either_keeps old wide (Full front old.tail, idle) (IsCleared, with_phase writer (Cleared kind) old)
-    (λ is. idle_keeps old writer kind front sound at)
-    (λ free. clear_keeps old writer kind front sound at (ltb-false old.size.limit (old.tail + old.size.writers) given)
-    (ltb-false (old.size.cells - old.size.writers) (old.tail - front) free)))
+room_keeps : (writer : ℕ) (kind : Kind) (front : ℕ) (old : Core) (spent full : Bool) → Sound old → IsIn old writer (Looked kind front)
+    → is_spent old.size old.tail ≡ spent → is_full old.size front old.tail ≡ full
+    → Keeps old (with_phase writer (room_phase spent full kind) old)
+room_keeps writer kind front old true full sound at given free = idle_keeps old writer kind front sound at
+room_keeps writer kind front old false true sound at given free = idle_keeps old writer kind front sound at
+room_keeps writer kind front old false false sound at given free =
+    clear_keeps old writer kind front sound at
+    (omega (arith, old.size.enough_places, ltb-false (old.size.limit - old.size.writers) old.tail given))
+    (ltb-false (old.size.cells - old.size.writers) (old.tail - front) free)
 
 pub tail_keeps : (writer : Ix) (old : Core) (phase : WriterPhase) (reply : Reply) (new : Core) → Sound old
     → IsIn old writer.number phase → tail_step writer.number old phase ≡ Some (reply, new) → Sound new × Spares old new
 tail_keeps writer old Idle reply new sound at e = absurd (none-some (reply, new) e)
 tail_keeps writer old (Looked kind front) reply new sound at e =
-    subst (λ (r : Reply × Core). Keeps old r.1) (same_Some (room_step writer.number kind front old) (reply, new) e)
-    (room_keeps writer.number kind front old sound at)
+    let spent = is_spent old.size old.tail in
+    let full = is_full old.size front old.tail in
+    let next = with_phase writer.number (room_phase spent full kind) old in
+    let made = some_pair_parts (room_reply spent full front old.tail) reply next new e in
+    subst (Keeps old) made.1 (room_keeps writer.number kind front old spent full sound at refl refl)
 tail_keeps writer old (Cleared kind) reply new sound at e = absurd (none-some (reply, new) e)
 tail_keeps writer old (Claimed place kind is_filled) reply new sound at e = absurd (none-some (reply, new) e)

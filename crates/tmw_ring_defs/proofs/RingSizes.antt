@@ -1,17 +1,16 @@
 -- A step keeps the ring's size.
-use Rattle.std.proofs.Common.{◌≡◌, ◌==◌, ◌+◌, ◌-◌, ℕ, Bool, true, false, List, [], ◌∷◌, Option, Some, None, refl, ◌∙◌, nat_lt, slice_get, option_and_then, if◌then◌else◌}
+use Rattle.std.proofs.Common.{◌≡◌, ◌==◌, ◌+◌, ℕ, Bool, true, false, List, [], ◌∷◌, Option, Some, None, refl, ◌∙◌, slice_get, option_and_then, if◌then◌else◌}
 use Rattle.tmw_events.specs.declared.event.Kind.{Kind}
 use Rattle.tmw_events.specs.declared.ix.Ix.{Ix}
 use Rattle.tmw_ring_defs.proofs.MachineProof.{machine_step-each}
 use Rattle.tmw_ring_defs.specs.Ring.{Core}
 use Rattle.tmw_ring_defs.specs.RingMachine.{Machine, machine_step, after}
-use Rattle.tmw_ring_defs.specs.RingSteps.{Stepped, with_phase, cell_at, front_step, tail_step, claim_step, fill_step, publish_step, peek_step, read_step, free_step, by_writer, core_step}
+use Rattle.tmw_ring_defs.specs.RingSteps.{Stepped, cell_at, front_step, tail_step, claim_step, fill_step, publish_step, peek_step, read_step, free_step, by_writer, core_step}
 use Rattle.tmw_ring_defs.specs.declared.ring_phase.ReaderPhase.{ReaderPhase}
 use Rattle.tmw_ring_defs.specs.declared.ring_phase.ReaderPhase.TheVariants.{Waiting, Ready, Told}
 use Rattle.tmw_ring_defs.specs.declared.ring_phase.WriterPhase.{WriterPhase}
 use Rattle.tmw_ring_defs.specs.declared.ring_phase.WriterPhase.TheVariants.{Idle, Looked, Cleared, Claimed}
-use Rattle.tmw_ring_defs.specs.declared.ring_step.Reply.{Reply}
-use Rattle.tmw_ring_defs.specs.declared.ring_step.Reply.TheVariants.{Cleared as IsCleared, Full, Spent, Ready as IsReady, NotReady}
+use Rattle.tmw_ring_defs.specs.declared.ring_step.Reply.TheVariants.{Ready as IsReady, NotReady}
 use Rattle.tmw_ring_defs.specs.declared.ring_step.Step.{Step}
 use Rattle.tmw_ring_defs.specs.declared.ring_step.Step.TheVariants.{Front, Tail, Claim, Fill, Publish, Peek, Read, Free, Stop}
 
@@ -36,16 +35,7 @@ front-size writer kind core (Claimed _ _ _) = tt
 
 tail-size : (writer : ℕ) (core : Core) (phase : WriterPhase) → SameSize core (tail_step writer core phase)
 tail-size writer core Idle = tt
-tail-size writer core (Looked kind front) =
-    by_room (nat_lt core.size.limit (core.tail + core.size.writers)) (nat_lt (core.size.cells - core.size.writers) (core.tail - front))
-  where
-    by_room : (spent full : Bool) → SameSize core (Some (
-        if spent then (Spent core.tail, with_phase writer Idle core)
-        else if full then (Full front core.tail, with_phase writer Idle core)
-        else (IsCleared, with_phase writer (Cleared kind) core)))
-    by_room true full = refl
-    by_room false true = refl
-    by_room false false = refl
+tail-size writer core (Looked kind front) = refl
 tail-size writer core (Cleared _) = tt
 tail-size writer core (Claimed _ _ _) = tt
 

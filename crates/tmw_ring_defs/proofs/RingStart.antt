@@ -2,7 +2,7 @@
 use Rattle.std.proofs.Common.{◌≡◌, ◌≤◌, replicate, refl, arith}
 use Rattle.std.proofs.lemmas.List.{length-replicate}
 use Rattle.std.proofs.lemmas.List.Elements.{All-replicate}
-use Rattle.tmw_ring_defs.specs.Ring.{IsSize, new_core}
+use Rattle.tmw_ring_defs.specs.Ring.{new_core}
 use Rattle.tmw_ring_defs.specs.RingCells.{empty_cell}
 use Rattle.tmw_ring_defs.specs.RingSound.{cleared, Sound}
 use Rattle.tmw_ring_defs.specs.declared.ring_cell.RingCell.{RingCell}
@@ -10,11 +10,10 @@ use Rattle.tmw_ring_defs.specs.declared.ring_phase.WriterPhase.TheVariants.{Idle
 use Rattle.tmw_ring_defs.specs.declared.ring_size.RingSize.{RingSize}
 use Rattle.tmw_ring_defs.proofs.RingPhases.{all_idle, cleared-idle}
 
-pub new_core-sound : (size : RingSize) → IsSize size → Sound (new_core size)
-new_core-sound size is =
+pub new_core-sound : (size : RingSize) → Sound (new_core size)
+new_core-sound size =
     let none_cleared : cleared (replicate size.writers Idle) ≡ 0 = cleared-idle size.writers in
     record {
-      sized = is;
       cells = length-replicate size.cells empty_cell;
       writers = length-replicate size.writers Idle;
       tail = refl;

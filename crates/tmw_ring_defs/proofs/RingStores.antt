@@ -70,7 +70,7 @@ held_stands core writer place kind is_filled sound at =
 -- Each place has a cell.
 pub has_cell : (core : Core) (place : ℕ) → Sound core → place % core.size.cells < length core.cells
 has_cell core place sound =
-    let some : 0 < core.size.cells = omega (arith, sound.sized.cells.some, sound.sized.cells.room) in
+    let some : 0 < core.size.cells = omega (arith, core.size.some_writers, core.size.enough_cells) in
     omega (arith, mod-lt place some, sound.cells)
 
 -- Its stamp is not ahead of tail.

@@ -25,7 +25,6 @@ reader_keeps core phase sound read =
     let still : (place : ℕ) → IsPublished core place → IsPublished moved place =
     λ place was. published_still core moved place (λ p event logged. logged) refl was in (
       record {
-        sized = sound.sized;
         cells = sound.cells;
         writers = sound.writers;
         tail = sound.tail;
@@ -107,7 +106,6 @@ taken_keeps core sound next =
     let at : get_or core.log core.front next.event ≡ next.event =
     get_or_from_slice_get core.log core.front next.event next.event next.logged in (
       record {
-        sized = sound.sized;
         cells = sound.cells;
         writers = sound.writers;
         tail = sound.tail;

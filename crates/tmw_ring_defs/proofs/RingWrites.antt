@@ -121,7 +121,6 @@ store_keeps old writer place kind is_filled cell phase sound at fit =
     cleared-set old.writers writer (Claimed place kind is_filled) phase at in
     let spares = store-spares old writer place kind is_filled cell sound at in (
       record {
-        sized = sound.sized;
         cells = length-set_cell old.size.cells place cell old.cells ∙ sound.cells;
         writers = length-set old.writers writer phase ∙ sound.writers;
         tail = sound.tail;

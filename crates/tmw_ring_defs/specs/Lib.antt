@@ -4,3 +4,5 @@ pub mod RingCells
 pub mod RingMachine
 pub mod RingSound
 pub mod RingSteps
+pub mod Room
+pub mod Sizes

@@ -1,16 +1,16 @@
 -- The sequential log, a list and a count, and that the answers of a ring are its answers.
-use Rattle.std.specs.Prelude.{◌≡◌, ◌==◌, ◌+◌, ◌++◌, ◌<◌, ℕ, List, [], ◌∷◌, length, take, Some, slice_get, All, if◌then◌else◌}
+use Rattle.std.specs.Prelude.{◌≡◌, ◌==◌, ◌+◌, ◌++◌, ◌<◌, ℕ, List, [], ◌∷◌, length, take, Some, slice_get, if◌then◌else◌}
 use Rattle.tmw_events.specs.declared.event.Event.{Event}
 use Rattle.tmw_events.specs.declared.event.Kind.{Kind}
 use Rattle.tmw_events.specs.declared.ix.Ix.{Ix}
-use Rattle.tmw_ring_defs.specs.Ring.{Core, IsSize}
+use Rattle.tmw_ring_defs.specs.Ring.{Core}
 use Rattle.tmw_ring_defs.specs.RingMachine.{Machine, new_machine, after, replies}
 use Rattle.tmw_ring_defs.specs.RingSound.{Sound, Spares}
 use Rattle.tmw_ring_defs.specs.declared.ring_size.RingSize.{RingSize}
 use Rattle.tmw_ring_defs.specs.declared.ring_step.Reply.{Reply}
 use Rattle.tmw_ring_defs.specs.declared.ring_step.Reply.TheVariants.{Saw, Place, Taken}
 use Rattle.tmw_ring_defs.specs.declared.ring_step.Step.{Step}
-use Rattle.tmw_ring_defs.specs.declared.ring_step.Step.TheVariants.{Front, Tail, Claim, Fill, Publish, Peek, Read, Free, Stop}
+use Rattle.tmw_ring_defs.specs.declared.ring_step.Step.TheVariants.{Front, Claim, Free}
 
 -- To append an event is answered by the length, and adds it. The next item is that at the count, which goes up; it is asked for
 -- only where there is one.
@@ -74,5 +74,5 @@ pub record IsOneLog (size : RingSize) (steps : List Step) (said : List Reply) (m
       → Spares (after (take count steps) (new_machine size)).core (after (take (count + 1) steps) (new_machine size)).core
 
 abbrev pub OneLogLaw : Type 0
-OneLogLaw = (size : RingSize) (steps : List Step) → IsSize size
+OneLogLaw = (size : RingSize) (steps : List Step)
     → IsOneLog size steps (replies steps (new_machine size)) (after steps (new_machine size))

@@ -1,6 +1,6 @@
 -- The state of a ring in which threads record events: its words, how far its writers and its reader have come, the log of the
 -- events for which a place was claimed, and the events that were taken.
-use Rattle.std.specs.Prelude.{◌≡◌, ◌≤◌, ◌<◌, ◌^◌, ℕ, List, [], replicate}
+use Rattle.std.specs.Prelude.{ℕ, List, [], replicate}
 use Rattle.tmw_events.specs.declared.event.Event.{Event}
 use Rattle.tmw_ring_defs.specs.RingCells.{empty_cell}
 use Rattle.tmw_ring_defs.specs.declared.ring_cell.RingCell.{RingCell}
@@ -9,23 +9,6 @@ use Rattle.tmw_ring_defs.specs.declared.ring_phase.ReaderPhase.TheVariants.{Wait
 use Rattle.tmw_ring_defs.specs.declared.ring_phase.WriterPhase.{WriterPhase}
 use Rattle.tmw_ring_defs.specs.declared.ring_phase.WriterPhase.TheVariants.{Idle}
 use Rattle.tmw_ring_defs.specs.declared.ring_size.RingSize.{RingSize}
-
--- 1 to 8 writers, no fewer cells than writers, and at most 4,096
-pub record HasRoom (size : RingSize) : Type 0 where
-  pub some : 1 ≤ size.writers
-  pub few : size.writers ≤ 8
-  pub room : size.writers ≤ size.cells
-  pub small : size.cells ≤ 4096
-
--- no fewer places in all than writers, and at most 2^40
-pub record HasLimit (size : RingSize) : Type 0 where
-  pub room : size.writers ≤ size.limit
-  pub small : size.limit ≤ 2 ^ 40
-
--- A ring may have this size.
-pub record IsSize (size : RingSize) : Type 0 where
-  pub cells : HasRoom size
-  pub limit : HasLimit size
 
 -- Front counts the places that were freed and tail those that were claimed. The phases of the writers stand in the order of
 -- their numbers.

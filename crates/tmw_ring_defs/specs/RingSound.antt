@@ -1,10 +1,10 @@
 -- When a ring's state is sound, and that each step keeps it so.
-use Rattle.std.specs.Prelude.{◌≡◌, ◌≢◌, ◌⊎◌, ◌+◌, ◌≤◌, ◌<◌, ℕ, Bool, true, false, List, [], ◌∷◌, length, take, Some, slice_get, All, if◌then◌else◌}
+use Rattle.std.specs.Prelude.{◌≡◌, ◌≢◌, ◌⊎◌, ◌+◌, ◌≤◌, ◌<◌, ℕ, Bool, true, List, [], ◌∷◌, length, take, Some, slice_get, All}
 use Rattle.tmw_events.specs.Packing.{packed_header, kind_value}
 use Rattle.tmw_events.specs.declared.event.Event.{Event}
 use Rattle.tmw_events.specs.declared.event.Kind.{Kind}
-use Rattle.tmw_ring_defs.specs.Ring.{Core, IsSize}
-use Rattle.tmw_ring_defs.specs.RingCells.{IsStamped, Shows}
+use Rattle.tmw_ring_defs.specs.Ring.{Core}
+use Rattle.tmw_ring_defs.specs.RingCells.{Shows}
 use Rattle.tmw_ring_defs.specs.RingSteps.{cell_at, core_step}
 use Rattle.tmw_ring_defs.specs.declared.ring_phase.ReaderPhase.{ReaderPhase}
 use Rattle.tmw_ring_defs.specs.declared.ring_phase.ReaderPhase.TheVariants.{Waiting, Ready, Told}
@@ -60,8 +60,7 @@ HasRead core (Told header value) =
     (next : IsPublished core core.front) × (header ≡ packed_header next.event) × (value ≡ kind_value next.event.kind)
 
 pub record Sound (core : Core) : Type 0 where
-  -- The ring has its size.
-  pub sized : IsSize core.size
+  -- The ring has its cells and its writers.
   pub cells : length core.cells ≡ core.size.cells
   pub writers : length core.writers ≡ core.size.writers
   -- Tail counts the log, front the events taken, and these are the log's first.

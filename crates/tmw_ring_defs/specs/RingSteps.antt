@@ -1,20 +1,20 @@
 -- The steps of a ring. Each is one load, one store or one addition to one of its words, made by a writer or by the reader, and
 -- what the actor then knows.
-use Rattle.std.specs.Prelude.{◌==◌, ◌+◌, ◌-◌, ◌++◌, ℕ, Bool, true, false, nat_lt, List, [], ◌∷◌, Option, Some, None, slice_get, slice_set, if◌then◌else◌}
+use Rattle.std.specs.Prelude.{◌==◌, ◌+◌, ◌++◌, ℕ, true, false, [], ◌∷◌, Option, Some, None, slice_get, slice_set, if◌then◌else◌}
 use Rattle.std.specs.Option.{option_and_then}
 use Rattle.tmw_events.specs.Unpacking.{unpacked}
-use Rattle.tmw_events.specs.declared.event.Event.{Event}
 use Rattle.tmw_events.specs.declared.event.Kind.{Kind}
 use Rattle.tmw_events.specs.declared.ix.Ix.{Ix}
 use Rattle.tmw_ring_defs.specs.Ring.{Core}
 use Rattle.tmw_ring_defs.specs.RingCells.{cell_of, set_cell, filled, published}
+use Rattle.tmw_ring_defs.specs.Room.{is_spent, is_full, room_phase, room_reply}
 use Rattle.tmw_ring_defs.specs.declared.ring_cell.RingCell.{RingCell}
 use Rattle.tmw_ring_defs.specs.declared.ring_phase.ReaderPhase.{ReaderPhase}
 use Rattle.tmw_ring_defs.specs.declared.ring_phase.ReaderPhase.TheVariants.{Waiting, Ready, Told}
 use Rattle.tmw_ring_defs.specs.declared.ring_phase.WriterPhase.{WriterPhase}
 use Rattle.tmw_ring_defs.specs.declared.ring_phase.WriterPhase.TheVariants.{Idle, Looked, Cleared, Claimed}
 use Rattle.tmw_ring_defs.specs.declared.ring_step.Reply.{Reply}
-use Rattle.tmw_ring_defs.specs.declared.ring_step.Reply.TheVariants.{Saw, Cleared as IsCleared, Full, Spent, Place, Filled, Published, Ready as IsReady, NotReady, Word, Taken}
+use Rattle.tmw_ring_defs.specs.declared.ring_step.Reply.TheVariants.{Saw, Place, Filled, Published, Ready as IsReady, NotReady, Word, Taken}
 use Rattle.tmw_ring_defs.specs.declared.ring_step.Step.{Step}
 use Rattle.tmw_ring_defs.specs.declared.ring_step.Step.TheVariants.{Front, Tail, Claim, Fill, Publish, Peek, Read, Free, Stop}
 
@@ -40,17 +40,13 @@ front_step writer kind core (Looked _ _) = None
 front_step writer kind core (Cleared _) = None
 front_step writer kind core (Claimed _ _ _) = None
 
--- With tail as it is now, a writer that saw this front has room only where every writer has.
-abbrev pub room_step : ℕ → Kind → ℕ → Core → Reply × Core
-room_step writer kind front core =
-    if nat_lt core.size.limit (core.tail + core.size.writers) then (Spent core.tail, with_phase writer Idle core)
-    else if nat_lt (core.size.cells - core.size.writers) (core.tail - front) then (Full front core.tail, with_phase writer Idle core)
-    else (IsCleared, with_phase writer (Cleared kind) core)
-
--- A writer that has looked at front loads tail.
+-- A writer that has looked at front loads tail. With tail as it is now, it has room only where every writer has.
 abbrev pub tail_step : ℕ → Core → WriterPhase → Stepped
 tail_step writer core Idle = None
-tail_step writer core (Looked kind front) = Some (room_step writer kind front core)
+tail_step writer core (Looked kind front) = Some (
+  room_reply (is_spent core.size core.tail) (is_full core.size front core.tail) front core.tail,
+  with_phase writer (room_phase (is_spent core.size core.tail) (is_full core.size front core.tail) kind) core,
+)
 tail_step writer core (Cleared _) = None
 tail_step writer core (Claimed _ _ _) = None
 

@@ -3,12 +3,14 @@
 
 mod ring;
 mod ring_cell;
+mod ring_fault;
 mod ring_phase;
 mod ring_size;
 mod ring_step;
 
 pub use ring::{law_4, law_one_log};
 pub use ring_cell::RingCell;
+pub use ring_fault::RingFault;
 pub use ring_phase::{ReaderPhase, WriterPhase};
-pub use ring_size::RingSize;
+pub use ring_size::{MOST_CELLS, MOST_PLACES, MOST_WRITERS, RingSize};
 pub use ring_step::{Reply, Step};

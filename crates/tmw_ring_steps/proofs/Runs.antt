@@ -4,10 +4,8 @@ use Rattle.std.proofs.lemmas.List.{length-take-le}
 use Rattle.tmw_ring_defs.proofs.MachineProof.{machine_step-sound, after-append, replies-append}
 use Rattle.tmw_ring_defs.proofs.OneLogProof.{one_log_law}
 use Rattle.tmw_ring_defs.proofs.RingLaw.{step_law}
-use Rattle.tmw_ring_defs.proofs.RingSizes.{after-size}
 use Rattle.tmw_ring_defs.proofs.RingStart.{new_core-sound}
 use Rattle.tmw_ring_defs.specs.OneLog.{IsOneLog}
-use Rattle.tmw_ring_defs.specs.Ring.{IsSize}
 use Rattle.tmw_ring_defs.specs.RingMachine.{Machine, new_machine, machine_step, after, replies}
 use Rattle.tmw_ring_defs.specs.RingSound.{Sound, Spares}
 use Rattle.tmw_ring_defs.specs.declared.ring_step.Reply.{Reply}
@@ -47,10 +45,9 @@ run-more old steps said new step reply next run is_reply moved more =
 pub goes_on : (old : Machine) (steps : List Step) (new : Machine) → Sound old.core → new ≡ after steps old → GoesOnAsOneLog old steps new
 goes_on old steps new sound is size past from =
     let start = new_machine size in
-    let same : old.core.size ≡ size = ap (λ m. m.core.size) from ∙ after-size past start in
     let reached : after (past ++ steps) start ≡ new = after-append past steps start ∙ ap (after steps) (sym from) ∙ sym is in
     subst (IsOneLog size (past ++ steps) (replies (past ++ steps) start)) reached
-    (one_log_law step_law new_core-sound size (past ++ steps) (subst IsSize same sound.sized))
+    (one_log_law step_law new_core-sound size (past ++ steps))
 
 -- the first of these steps, which were made before memory was refused
 pub ran_first : (old : Simulated) (steps : List Step) (count : ℕ) (said : List Reply) (new : Simulated) → Sound old.machine.core

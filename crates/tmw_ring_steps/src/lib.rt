@@ -1,7 +1,6 @@
 //! The ring as a machine that a user steps: what each of its writers and its reader does next, and how that is answered.
 #![tactic(auto)]
 
-mod fault;
 mod reading;
 #[cfg(test)]
 mod seeded;
@@ -12,6 +11,5 @@ mod stepping;
 mod tests;
 mod writing;
 
-pub use fault::RingFault;
 pub use sim::Sim;
-pub use tmw_ring_defs::{Reply, RingSize, Step};
+pub use tmw_ring_defs::{Reply, RingFault, RingSize, Step};

@@ -6,8 +6,8 @@ ghost use Rattle.tmw_ring_steps.specs.State.{core_of, machine_of};
 
 use crate::state::State;
 use std::alloc::AllocError;
-use tmw_ring_defs::{ReaderPhase, Reply, Step};
 use tmw_events::unpack;
+use tmw_ring_defs::{ReaderPhase, Reply, Step};
 
 impl State {
     /// The reader loads the next place's stamp and header.

@@ -4,12 +4,11 @@ ghost use Rattle.tmw_ring_defs.specs.RingSound.{Sound, Spares};
 ghost use Rattle.tmw_ring_steps.specs.NewSim.{IsNewSim};
 ghost use Rattle.tmw_ring_steps.specs.Runs.{GoesOnAsOneLog, RanFirst};
 
-use crate::fault::RingFault;
 use crate::state::State;
 use std::alloc::{AllocError, Global};
 use std::marker::Model;
-use tmw_ring_defs::{Reply, RingSize, Step};
 use tmw_events::Event;
+use tmw_ring_defs::{Reply, RingFault, RingSize, Step};
 
 /// A ring in which threads record events, as a machine that is stepped in whatever order its actors make their steps.
 #[derive(Debug, Drop)]
@@ -35,22 +34,10 @@ impl Sim {
     /// A new ring of this size, at which nobody has made a step. The numbers of its cells and its writers are tested before its
     /// limit.
     pub fn new(alloc: Global, cells: u64, writers: u64, limit: u64) -> Result<Sim, RingFault>
-        ensures { IsNewSim (record { cells = cells; writers = writers; limit = limit }) result }
+        ensures { IsNewSim cells writers limit result }
     {
-        if writers < 1 || 8 < writers || cells < writers || 4096 < cells {
-            return Err(RingFault::BadSize);
-        }
-        if limit < writers || 1 << 40 < limit {
-            return Err(RingFault::BadLimit);
-        }
-        let state = State::new(
-            alloc,
-            RingSize {
-                cells,
-                writers,
-                limit,
-            },
-        )?;
+        let size = RingSize::new(cells, writers, limit)?;
+        let state = State::new(alloc, size)?;
         Ok(Sim { state, made: 0 })
     }
 

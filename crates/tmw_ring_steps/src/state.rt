@@ -6,8 +6,8 @@ ghost use Rattle.tmw_ring_defs.specs.RingSteps.{cell_at, with_cell, with_phase};
 ghost use Rattle.tmw_ring_steps.specs.State.{core_of, machine_of};
 
 use std::alloc::{AllocError, Global};
-use tmw_ring_defs::{ReaderPhase, RingCell, RingSize, Step, WriterPhase};
 use tmw_events::{Event, Ix};
+use tmw_ring_defs::{ReaderPhase, RingCell, RingSize, Step, WriterPhase};
 
 const EMPTY: RingCell = RingCell {
     stamp: 0,

@@ -1,13 +1,13 @@
 ghost use Rattle.std.specs.Prelude.{◌≡◌, IfOk, OnErr};
 ghost use Rattle.tmw_ring_defs.specs.RingMachine.{answered};
 ghost use Rattle.tmw_ring_defs.specs.RingSound.{Sound, IsIn};
-ghost use Rattle.tmw_ring_defs.specs.RingSteps.{core_step, room_step};
+ghost use Rattle.tmw_ring_defs.specs.RingSteps.{core_step, tail_step};
 ghost use Rattle.tmw_ring_steps.specs.State.{core_of, machine_of};
 
 use crate::state::State;
 use std::alloc::AllocError;
-use tmw_ring_defs::{Reply, RingCell, Step, WriterPhase};
 use tmw_events::{Event, Ix, Kind, pack};
+use tmw_ring_defs::{Reply, RingCell, Step, WriterPhase};
 
 impl State {
     /// The writer, which has an event of this kind to record, loads front.
@@ -42,14 +42,14 @@ impl State {
     fn look_for_room(&mut self, writer: Ix, kind: Kind, front: u64) -> Reply
         requires sound { Sound (core_of self.old) }
         requires looked { IsIn (core_of self.old) writer.number (WriterPhase.Looked kind front) }
-        ensures { (result, machine_of self.new) ≡ answered (machine_of self.old) (Some (room_step writer.number kind front (core_of self.old))) }
+        ensures { (result, machine_of self.new) ≡ answered (machine_of self.old) (tail_step writer.number (core_of self.old) (WriterPhase.Looked kind front)) }
     {
         let tail = self.tail;
-        if self.size.limit < tail + self.size.writers {
+        if self.size.is_spent(tail) {
             self.set_phase(writer, WriterPhase::Idle);
             return Reply::Spent { tail };
         }
-        if self.size.cells - self.size.writers < tail - front {
+        if self.size.is_full(front, tail) {
             self.set_phase(writer, WriterPhase::Idle);
             return Reply::Full { front, tail };
         }

@@ -9,19 +9,19 @@ use Rattle.tmw_trace.specs.declared.trace_fault.TraceFault.TheVariants.{BadHeade
 use Rattle.tmw_trace.proofs.NextLines.{line-split, bytes-joined}
 use Rattle.tmw_lines.proofs.Splits.{free-append}
 use Rattle.tmw_streams.proofs.ToldBytes.{Adds-more}
-use Rattle.tmw_ring_defs.specs.declared.ring_size.RingSize.{RingSize}
+use Rattle.tmw_steps.specs.declared.size_line.SizeLine.{SizeLine}
 use Rattle.tmw_steps.specs.StepFault.{HasBadHeader, IsNoSize}
 use Rattle.tmw_steps.specs.StepLine.{ReadsSize}
 use Rattle.tmw_steps.specs.StepText.{size_text}
 use Rattle.tmw_steps.proofs.LongTexts.{long_no_size}
 
-pub take_size-some : (bytes left : List ℕ) (count : ℕ) (found : Option RingSize) → drop count bytes ≡ 10 ∷ drop (count + 1) bytes
+pub take_size-some : (bytes left : List ℕ) (count : ℕ) (found : Option SizeLine) → drop count bytes ≡ 10 ∷ drop (count + 1) bytes
     → left ≡ drop (count + 1) bytes → IfSome found (λ size. take count bytes ≡ size_text size)
     → IfSome found (λ size. bytes ≡ line (size_text size) ++ left)
 take_size-some bytes left count None feed is text = tt
 take_size-some bytes left count (Some size) feed is text = rw is (line-split bytes (size_text size) count feed text)
 
-pub take_size-none : (bytes : List ℕ) (count : ℕ) (found : Option RingSize) → IsFree 10 (take count bytes)
+pub take_size-none : (bytes : List ℕ) (count : ℕ) (found : Option SizeLine) → IsFree 10 (take count bytes)
     → drop count bytes ≡ 10 ∷ drop (count + 1) bytes → IfNone found (IsNoSize (take count bytes))
     → IfNone found (HasBadHeader bytes)
 take_size-none bytes count None free feed bad = record {

@@ -9,7 +9,7 @@ use Rattle.tmw_lines.specs.Text.{line}
 use Rattle.tmw_trace.specs.Text.{values_text}
 use Rattle.tmw_lines.proofs.Splits.{free-append, free-decimal, split_free}
 use Rattle.tmw_trace.proofs.ValueParts.{next-values}
-use Rattle.tmw_ring_defs.specs.declared.ring_size.RingSize.{RingSize}
+use Rattle.tmw_steps.specs.declared.size_line.SizeLine.{SizeLine}
 use Rattle.tmw_ring_defs.specs.declared.ring_step.Step.{Step}
 use Rattle.tmw_steps.specs.Naming.{StepsLaw}
 use Rattle.tmw_steps.specs.StepText.{size_numbers, size_text, step_text, lines_text, steps_text, FitsSize, FitsStep, AreSteps}
@@ -60,21 +60,21 @@ values_text-injective (x ∷ xs) (y ∷ ys) a b is =
     ap (λ z. z ∷ xs) (decimal_injective x y a.0 b.0 parts.0)
     ∙ ap (λ zs. y ∷ zs) (values_text-injective xs ys a.1 b.1 parts.1)
 
-small-numbers : (size : RingSize) → FitsSize size → AllByRecursion (λ value. value < 2 ^ 64) (size_numbers size)
+small-numbers : (size : SizeLine) → FitsSize size → AllByRecursion (λ value. value < 2 ^ 64) (size_numbers size)
 small-numbers size fits = (fits.cells, (fits.writers, (fits.limit, tt)))
 
 -- the three numbers name a size
-same_size : (a b : RingSize) → size_numbers a ≡ size_numbers b → a ≡ b
+same_size : (a b : SizeLine) → size_numbers a ≡ size_numbers b → a ≡ b
 same_size a b is =
-    let made : List ℕ → RingSize = λ ns. record { cells = get_or ns 0 0; writers = get_or ns 1 0; limit = get_or ns 2 0 } in
+    let made : List ℕ → SizeLine = λ ns. record { cells = get_or ns 0 0; writers = get_or ns 1 0; limit = get_or ns 2 0 } in
     ap made is
 
-size_text-injective : (a b : RingSize) → FitsSize a → FitsSize b → size_text a ≡ size_text b → a ≡ b
+size_text-injective : (a b : SizeLine) → FitsSize a → FitsSize b → size_text a ≡ size_text b → a ≡ b
 size_text-injective a b f g is =
     same_size a b (values_text-injective (size_numbers a) (size_numbers b) (small-numbers a f) (small-numbers b g)
     (ap (λ xs. drop 12 xs) is))
 
-pub steps_text-injective : (a b : RingSize) (ss ts : List Step) → AreSteps a ss → AreSteps b ts
+pub steps_text-injective : (a b : SizeLine) (ss ts : List Step) → AreSteps a ss → AreSteps b ts
     → steps_text a ss ≡ steps_text b ts → (a ≡ b) × (ss ≡ ts)
 steps_text-injective a b ss ts x y is =
     let parts = line-injective (size_text a) (size_text b) (lines_text ss) (lines_text ts)

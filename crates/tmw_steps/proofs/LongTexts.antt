@@ -3,13 +3,13 @@ use Rattle.std.proofs.Common.{ℕ, ◌≤◌, List, [], ◌∷◌, length, ap, l
 use Rattle.std.specs.Fmt.{decimal}
 use Rattle.tmw_trace.specs.Text.{values_text}
 use Rattle.tmw_trace.proofs.Lengths.{length-decimal, length-kind_text}
-use Rattle.tmw_ring_defs.specs.declared.ring_size.RingSize.{RingSize}
+use Rattle.tmw_steps.specs.declared.size_line.SizeLine.{SizeLine}
 use Rattle.tmw_ring_defs.specs.declared.ring_step.Step.{Step}
 use Rattle.tmw_ring_defs.specs.declared.ring_step.Step.TheVariants.{Front, Tail, Claim, Fill, Publish, Peek, Read, Free, Stop}
 use Rattle.tmw_steps.specs.StepFault.{IsNoSize, IsNoStep}
 use Rattle.tmw_steps.specs.StepText.{size_text, step_text, FitsSize, FitsStep}
 
-length-size_text : (size : RingSize) → FitsSize size → length (size_text size) ≤ 75
+length-size_text : (size : SizeLine) → FitsSize size → length (size_text size) ≤ 75
 length-size_text size fits =
     omega (
       arith,

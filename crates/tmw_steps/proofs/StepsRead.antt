@@ -10,14 +10,14 @@ use Rattle.tmw_lines.specs.declared.held.Held.{Held}
 use Rattle.tmw_trace.specs.declared.trace_fault.TraceFault.{TraceFault}
 use Rattle.tmw_trace.specs.declared.trace_fault.TraceFault.TheVariants.{BadHeader, BadLine, Cut, Memory, Io, TooLong}
 use Rattle.tmw_streams.proofs.ToldBytes.{Adds-more}
-use Rattle.tmw_ring_defs.specs.declared.ring_size.RingSize.{RingSize}
+use Rattle.tmw_steps.specs.declared.size_line.SizeLine.{SizeLine}
 use Rattle.tmw_ring_defs.specs.declared.ring_step.Step.{Step}
 use Rattle.tmw_steps.specs.StepFault.{HasStepsFault, HasBegun}
 use Rattle.tmw_steps.specs.StepLine.{HasLineFault, ReadsStep}
 use Rattle.tmw_steps.specs.StepText.{size_text, step_text, lines_text, steps_text, FitsStep, AreSteps}
 
 -- all that the source told is the text of this size and these steps, and then the bytes held
-pub record HasTaken {S : Type 0} (Told : S → List ℕ → Type 0) (old new : S) (held : Held) (size : RingSize)
+pub record HasTaken {S : Type 0} (Told : S → List ℕ → Type 0) (old new : S) (held : Held) (size : SizeLine)
     (steps : List Step) : Type 0 where
   pub bytes : List ℕ
   pub told : Adds Told old bytes new
@@ -38,7 +38,7 @@ first_of : (xs : List ℕ) → xs ≢ [] → (x : ℕ) × (ys : List ℕ) × (xs
 first_of [] some = absurd (some refl)
 first_of (x ∷ xs) some = (x, xs, refl)
 
-module _ {S : Type 0} (Told : S → List ℕ → Type 0) (Ended : Type 0) (a b c : S) (held : Held) (size : RingSize)
+module _ {S : Type 0} (Told : S → List ℕ → Type 0) (Ended : Type 0) (a b c : S) (held : Held) (size : SizeLine)
     (steps : List Step) where
   -- what was told before, and then more bytes
   told-more : (taken : HasTaken Told a b held size steps) (bytes : List ℕ)

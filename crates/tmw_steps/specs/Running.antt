@@ -2,8 +2,8 @@
 use Rattle.std.specs.Prelude.{◌≡◌, ◌⊎◌, ℕ, List, length, Result, Ok, Err}
 use Rattle.tmw_streams.specs.Told.{Adds}
 use Rattle.tmw_trace.specs.declared.trace_fault.TraceFault.{TraceFault}
-use Rattle.tmw_ring_defs.specs.Ring.{HasRoom, HasLimit, IsSize}
 use Rattle.tmw_ring_defs.specs.RingMachine.{new_machine, after, replies}
+use Rattle.tmw_ring_defs.specs.Sizes.{HasRoom, HasLimit, HasNumbers}
 use Rattle.tmw_ring_defs.specs.declared.ring_size.RingSize.{RingSize}
 use Rattle.tmw_ring_defs.specs.declared.ring_step.Step.{Step}
 use Rattle.tmw_report.specs.Lines.{fault_line}
@@ -14,26 +14,29 @@ use Rattle.tmw_steps.specs.ReplyText.{replies_text}
 use Rattle.tmw_steps.specs.StepFault.{HasStepsFault}
 use Rattle.tmw_steps.specs.StepText.{steps_text, AreSteps}
 use Rattle.tmw_steps.specs.declared.run.Run.{Run}
+use Rattle.tmw_steps.specs.declared.size_line.SizeLine.{SizeLine}
 
--- Of these steps a new ring's machine of this size makes this run.
-pub record IsRunOf (size : RingSize) (steps : List Step) (run : Run) : Type 0 where
-  pub sized : IsSize size
+-- Of these steps a new ring's machine of the size of these numbers makes this run.
+pub record IsRunOf (line : SizeLine) (steps : List Step) (run : Run) : Type 0 where
+  pub size : RingSize
+  pub sized : HasNumbers line.cells line.writers line.limit size
   pub replies : run.replies.items ≡ replies steps (new_machine size)
   pub log : run.log ≡ length (after steps (new_machine size)).core.log
   pub taken : run.taken ≡ length (after steps (new_machine size)).core.taken
 
 -- No ring has this size, and the fault says why: its number of cells or of writers, or else its limit of places.
-abbrev pub IsRefused : RingSize → Fault → Type 0
+abbrev pub IsRefused : SizeLine → Fault → Type 0
 IsRefused size fault =
-    ((fault ≡ Size) × (HasRoom size → ⊥)) ⊎ ((fault ≡ Limit) × HasRoom size × (HasLimit size → ⊥))
+    ((fault ≡ Size) × (HasRoom size.cells size.writers → ⊥))
+    ⊎ ((fault ≡ Limit) × HasRoom size.cells size.writers × (HasLimit size.writers size.limit → ⊥))
 
 -- What the machine makes of these steps; `Memory` answers want of memory, of which only tests show that a growth was refused.
-abbrev pub IsMade : RingSize → List Step → Result Run Fault → Type 0
+abbrev pub IsMade : SizeLine → List Step → Result Run Fault → Type 0
 IsMade size steps (Ok run) = IsRunOf size steps run
 IsMade size steps (Err fault) = IsRefused size fault ⊎ (fault ≡ Memory)
 
 -- The bytes are the text of a size and steps.
-pub record IsText (bytes : List ℕ) (size : RingSize) (steps : List Step) : Type 0 where
+pub record IsText (bytes : List ℕ) (size : SizeLine) (steps : List Step) : Type 0 where
   pub are_steps : AreSteps size steps
   pub text : bytes ≡ steps_text size steps
 
@@ -46,10 +49,10 @@ HasFault Ended bytes fault = (told : TraceFault) × (fault ≡ fault_of told) ×
 -- have. `Io` answers a failed read after bytes that have no fault, and `Memory` want of memory, of which only tests show that a
 -- growth was refused.
 abbrev pub IsAnswer : Type 0 → List ℕ → Result Run Fault → Type 0
-IsAnswer Ended bytes (Ok run) = Ended × (size : RingSize) × (steps : List Step) × IsText bytes size steps × IsRunOf size steps run
+IsAnswer Ended bytes (Ok run) = Ended × (size : SizeLine) × (steps : List Step) × IsText bytes size steps × IsRunOf size steps run
 IsAnswer Ended bytes (Err fault) =
     HasFault Ended bytes fault
-    ⊎ (Ended × (size : RingSize) × (steps : List Step) × IsText bytes size steps × IsRefused size fault)
+    ⊎ (Ended × (size : SizeLine) × (steps : List Step) × IsText bytes size steps × IsRefused size fault)
 
 -- A source's count of failures after this answer: one more for a failed read, else as before.
 abbrev pub failures_after_answer : Result Run Fault → ℕ → ℕ

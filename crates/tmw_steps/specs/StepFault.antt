@@ -4,13 +4,13 @@ use Rattle.tmw_lines.specs.Text.{line}
 use Rattle.tmw_trace.specs.TextFault.{IsUnbroken}
 use Rattle.tmw_trace.specs.declared.trace_fault.TraceFault.{TraceFault}
 use Rattle.tmw_trace.specs.declared.trace_fault.TraceFault.TheVariants.{BadHeader, BadLine, Cut, Memory, Io, TooLong}
-use Rattle.tmw_ring_defs.specs.declared.ring_size.RingSize.{RingSize}
+use Rattle.tmw_steps.specs.declared.size_line.SizeLine.{SizeLine}
 use Rattle.tmw_ring_defs.specs.declared.ring_step.Step.{Step}
 use Rattle.tmw_steps.specs.StepText.{size_text, step_text, steps_text, FitsSize, FitsStep, AreSteps}
 
 -- no size has this text
 abbrev pub IsNoSize : List ℕ → Type 0
-IsNoSize text = (size : RingSize) → FitsSize size → text ≡ size_text size → ⊥
+IsNoSize text = (size : SizeLine) → FitsSize size → text ≡ size_text size → ⊥
 
 -- no step has this text
 abbrev pub IsNoStep : List ℕ → Type 0
@@ -26,7 +26,7 @@ pub record HasBadHeader (bytes : List ℕ) : Type 0 where
 
 -- after a size and fewer than 2^40 steps' lines comes a whole line that is no step; lines are counted from 1
 pub record HasBadLine (bytes : List ℕ) (number : ℕ) : Type 0 where
-  pub size : RingSize
+  pub size : SizeLine
   pub steps : List Step
   pub are_steps : AreSteps size steps
   pub few : length steps < 2 ^ 40
@@ -39,7 +39,7 @@ pub record HasBadLine (bytes : List ℕ) (number : ℕ) : Type 0 where
 
 -- after a size and fewer than 2^40 steps' lines come bytes, at least one, and no line feed
 pub record EndsInPiece (bytes : List ℕ) (number : ℕ) : Type 0 where
-  pub size : RingSize
+  pub size : SizeLine
   pub steps : List Step
   pub are_steps : AreSteps size steps
   pub few : length steps < 2 ^ 40
@@ -51,7 +51,7 @@ pub record EndsInPiece (bytes : List ℕ) (number : ℕ) : Type 0 where
 
 -- after a size and 2^40 steps' lines comes one more byte
 pub record IsTooLong (bytes : List ℕ) : Type 0 where
-  pub size : RingSize
+  pub size : SizeLine
   pub steps : List Step
   pub are_steps : AreSteps size steps
   pub many : length steps ≡ 2 ^ 40
@@ -65,7 +65,7 @@ IsCut bytes number = ((number ≡ 1) × (bytes ≢ []) × IsUnbroken bytes) ⊎ 
 
 -- a size and steps' lines, and then whatever follows
 pub record HasBegun (bytes : List ℕ) : Type 0 where
-  pub size : RingSize
+  pub size : SizeLine
   pub steps : List Step
   pub are_steps : AreSteps size steps
   pub rest : List ℕ
@@ -73,7 +73,7 @@ pub record HasBegun (bytes : List ℕ) : Type 0 where
 
 -- a size and steps' lines, and then less than a line, which is nothing after 2^40 of them
 pub record EndsInOrder (bytes : List ℕ) : Type 0 where
-  pub size : RingSize
+  pub size : SizeLine
   pub steps : List Step
   pub are_steps : AreSteps size steps
   pub rest : List ℕ

@@ -5,7 +5,7 @@ use Rattle.tmw_trace.specs.TextFault.{IsUnbroken}
 use Rattle.tmw_streams.specs.Told.{Adds}
 use Rattle.tmw_trace.specs.declared.trace_fault.TraceFault.{TraceFault}
 use Rattle.tmw_trace.specs.declared.trace_fault.TraceFault.TheVariants.{BadHeader, BadLine, Cut, Memory, Io, TooLong}
-use Rattle.tmw_ring_defs.specs.declared.ring_size.RingSize.{RingSize}
+use Rattle.tmw_steps.specs.declared.size_line.SizeLine.{SizeLine}
 use Rattle.tmw_ring_defs.specs.declared.ring_step.Step.{Step}
 use Rattle.tmw_steps.specs.StepFault.{IsNoStep, HasStepsFault}
 use Rattle.tmw_steps.specs.StepText.{size_text, step_text, FitsSize, FitsStep}
@@ -47,13 +47,13 @@ pub record ReadsStep {S : Type 0} (Told : S → List ℕ → Type 0) (Ended : Ty
   pub is : IsStepRead Ended count (before ++ bytes) left result
 
 -- what was read of the first bytes: a size's line and what is left, or a fault
-abbrev pub IsSizeRead : Type 0 → List ℕ → List ℕ → Result RingSize TraceFault → Type 0
+abbrev pub IsSizeRead : Type 0 → List ℕ → List ℕ → Result SizeLine TraceFault → Type 0
 IsSizeRead Ended bytes left (Ok size) = (bytes ≡ line (size_text size) ++ left) × FitsSize size
 IsSizeRead Ended bytes left (Err fault) = HasStepsFault Ended bytes fault
 
 -- what the source told makes, behind the bytes held before, a size's line that was read
 pub record ReadsSize {S : Type 0} (Told : S → List ℕ → Type 0) (Ended : Type 0) (old new : S) (before left : List ℕ)
-    (result : Result RingSize TraceFault) : Type 0 where
+    (result : Result SizeLine TraceFault) : Type 0 where
   pub bytes : List ℕ
   pub told : Adds Told old bytes new
   pub is : IsSizeRead Ended (before ++ bytes) left result

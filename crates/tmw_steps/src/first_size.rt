@@ -6,14 +6,13 @@ ghost use Rattle.tmw_steps.specs.StepFault.{HasBadHeader};
 ghost use Rattle.tmw_steps.specs.StepLine.{ReadsSize};
 ghost use Rattle.tmw_steps.specs.StepText.{size_text, FitsSize};
 
-use crate::size_line::size_of;
-use tmw_ring_defs::RingSize;
+use crate::size_line::{SizeLine, size_of};
 use tmw_lines::{Held, LineEnd, Piece, next_piece, skip_line};
 use tmw_streams::Source;
 use tmw_trace::TraceFault;
 
 /// Reads the first line of a list of steps: its ring's size, or its fault.
-pub fn first_size<S: Source>(held: &mut Held, source: &mut S) -> Result<RingSize, TraceFault>
+pub fn first_size<S: Source>(held: &mut Held, source: &mut S) -> Result<SizeLine, TraceFault>
     ensures reads { ReadsSize S.told (S.ended source.new) source.old source.new
         (bytes_of held.old) (bytes_of held.new) result }
     ensures well { OnOk result (S.failures source.new ≡ S.failures source.old) }
@@ -36,7 +35,7 @@ pub fn first_size<S: Source>(held: &mut Held, source: &mut S) -> Result<RingSize
 }
 
 /// Takes the line of so many bytes, with its line feed: its size, where it has one.
-fn take_size(held: &mut Held, count: usize) -> Option<RingSize>
+fn take_size(held: &mut Held, count: usize) -> Option<SizeLine>
     requires free { IsUnbroken (take count (bytes_of held.old)) }
     requires feed { drop count (bytes_of held.old) ≡ 10 ∷ drop (count + 1) (bytes_of held.old) }
     ensures some { IfSome result (λ size. bytes_of held.old ≡ line (size_text size) ++ bytes_of held.new) }

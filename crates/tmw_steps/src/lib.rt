@@ -21,6 +21,6 @@ pub use naming::law_steps;
 pub use reader::read_steps;
 pub use reply_line::put_replies;
 pub use run::{Run, run_steps};
-pub use size_line::size_of;
+pub use size_line::{SizeLine, size_of};
 pub use step_line::step_of;
 pub use step_list::StepList;

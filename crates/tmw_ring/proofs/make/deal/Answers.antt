@@ -23,7 +23,7 @@ invariant_of-push_reserved-in-loop-number c =
 pub loop-number-preserved : goal.loop-number-preserved
 loop-number-preserved c =
     let within = subst (λ (ring : RingIs). c.loop-number.number < ring.size.writers) c.ring.view_is c.loop-number-test.true in
-    let small : c.loop-number.number < 8 = omega (arith, c.loop-number-test.true, c.ring.invariant.sized.cells.few) in
+    let small : c.loop-number.number < 8 = omega (arith, c.loop-number-test.true, c.ring.inside.size.most_writers) in
     let own =
     dealt c.args.ring.now.size c.loop-number.number c.loop-number.seat.me c.split_seat-own.result.me within c.loop-number.invariant.1
     c.split_seat-own.ensures.4 in (

@@ -14,7 +14,7 @@ store-requires g c =
     c.requires.word ∙ ap (λ (ring : RingIs). value_word ring.size.cells place) (sym c.ring.view_is) in
     let told : c.args.words.value ≡ value_word c.ring.inside.table.shared.key.cells place =
     at ∙ ap (λ (z : RingSize). value_word z.cells place) (sym c.ring.invariant.told_it) in
-    let some : 0 < size.cells = omega (arith, c.ring.invariant.sized.cells.some, c.ring.invariant.sized.cells.room) in (
+    let some : 0 < size.cells = omega (arith, size.some_writers, size.enough_cells) in (
       c.requires.table ∙ sym (ap (λ (ring : RingIs). ring.table) c.ring.view_is),
       omega (arith, at, value_word-within size.cells place some, c.ring.invariant.words),
       fills c.ring.inside.table.shared.key c.args.ring.now.size c.ring.inside.table.shared.table_id.slots c.args.seat.now.id

@@ -12,7 +12,7 @@ load-requires c =
     let place : ℕ = c.args.words.place in
     let at : c.args.words.stamp ≡ stamp_word size.cells place =
     c.requires.word ∙ ap (λ (ring : RingIs). stamp_word ring.size.cells place) (sym c.self.view_is) in
-    let some : 0 < size.cells = omega (arith, c.self.invariant.sized.cells.some, c.self.invariant.sized.cells.room) in (
+    let some : 0 < size.cells = omega (arith, size.some_writers, size.enough_cells) in (
       c.requires.table ∙ sym (ap (λ (ring : RingIs). ring.table) c.self.view_is),
       omega (arith, at, stamp_word-within size.cells place some, c.self.invariant.words),
       may_look c.self.inside.table.shared.key c.self.inside.table.shared.table_id.slots c.args.seat.now.id place c.args.words.stamp

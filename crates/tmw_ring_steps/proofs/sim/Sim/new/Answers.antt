@@ -1,15 +1,16 @@
-use Rattle.std.proofs.Common.{sym, subst, arith}
-use Rattle.tmw_ring_defs.specs.Ring.{HasRoom, HasLimit}
+use Rattle.std.proofs.Common.{sym, subst, ap}
 use Rattle.tmw_ring_defs.specs.RingMachine.{Machine}
 use Rattle.tmw_ring_defs.specs.RingSound.{Sound}
-use Rattle.tmw_ring_defs.specs.declared.ring_size.RingSize.{RingSize}
 use Rattle.tmw_ring_defs.proofs.RingStart.{new_core-sound}
 use Rattle.tmw_ring_steps.proofs.sim.Sim.new.Goals as goal
+use Rattle.tmw_ring_steps.specs.Simulated.{Simulated}
 
 pub invariant_of-result : goal.invariant_of-result
 invariant_of-result c =
-    let size : RingSize = record { cells = c.args.cells; writers = c.args.writers; limit = c.args.limit } in
     let P : Machine → Type 0 = λ m. Sound m.core in
-    let cells : HasRoom size = record { some = omega arith; few = omega arith; room = omega arith; small = omega arith } in
-    let limit : HasLimit size = record { room = omega arith; small = omega arith } in
-    subst P (sym c.in_ok-state.ensures) (new_core-sound size (record { cells = cells; limit = limit }))
+    subst P (sym c.in_ok-state.ensures) (new_core-sound c.in_ok-size.size)
+
+pub returns : goal.returns
+returns c =
+    let made : Machine → Simulated = λ machine. record { machine = machine; made = 0 } in
+    (c.in_ok-size.size, c.in_ok-size.ensures.ok, ap made c.in_ok-state.ensures)

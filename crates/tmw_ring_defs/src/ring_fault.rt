@@ -1,5 +1,5 @@
 ghost use Rattle.std.specs.Prelude.{◌≡◌};
-ghost use Rattle.tmw_ring_steps.specs.declared.fault.RingFault.TheVariants.{Memory};
+ghost use Rattle.tmw_ring_defs.specs.declared.ring_fault.RingFault.TheVariants.{Memory};
 
 use std::alloc::{AllocError, AllocFailed};
 use thiserror::Error;
