@@ -1,7 +1,7 @@
 -- The line is the text of the object that reports the verdict, and its line feed.
 use Rattle.std.proofs.Common.{◌∙◌}
 use Rattle.tmw_report.proofs.ReportLines.{report_object-line}
-use Rattle.tmw_report.proofs.report.report_text.Goals as goal
+use Rattle.tmw_report.proofs.report_line.report_text.Goals as goal
 
 pub returns : goal.returns
 unfolding lib.Utf8.encode
