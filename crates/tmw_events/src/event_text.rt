@@ -1,11 +1,10 @@
-ghost use Rattle.std.specs.Prelude.{◌≡◌, ◌++◌, OnOk, OnErr, decimal};
+ghost use Rattle.std.specs.Prelude.{◌≡◌, OnOk, OnErr};
 ghost use Rattle.tmw_events.specs.Text.{digit, kind_text, event_text};
 ghost use Rattle.tmw_streams.specs.Told.{Adds, AddsBeginning, one_more};
 
 use crate::event::{Event, Kind};
 use crate::ix::Ix;
-use itoa::Buffer;
-use tmw_streams::{IoFault, Sink, put_all};
+use tmw_streams::{IoFault, Sink, put_all, put_with_number};
 
 /// Writes the event's text, without a line feed. It takes no memory. After a failed write a beginning of the text went
 /// out, and not all of it.
@@ -28,8 +27,8 @@ fn put_kind<K: Sink>(sink: &mut K, kind: Kind) -> Result<(), IoFault>
 {
     match kind {
         Kind::R(register) => put_all(sink, &[b'R', b' ', digit_of(register)]),
-        Kind::V(value) => put_valued(sink, b"V ", value),
-        Kind::W(register, value) => put_valued(
+        Kind::V(value) => put_with_number(sink, b"V ", value),
+        Kind::W(register, value) => put_with_number(
             sink,
             &[b'W', b' ', digit_of(register), b' '],
             value,
@@ -39,23 +38,12 @@ fn put_kind<K: Sink>(sink: &mut K, kind: Kind) -> Result<(), IoFault>
         Kind::C => put_all(sink, b"C"),
         Kind::X => put_all(sink, b"X"),
         Kind::A => put_all(sink, b"A"),
-        Kind::N(register, value) => put_valued(
+        Kind::N(register, value) => put_with_number(
             sink,
             &[b'N', b' ', digit_of(register), b' '],
             value,
         ),
     }
-}
-
-/// Writes bytes and then a value.
-fn put_valued<K: Sink>(sink: &mut K, before: &[u8], value: u64) -> Result<(), IoFault>
-    ensures takes { OnOk result (Adds K.took sink.old (before.now ++ decimal value) sink.new) }
-    ensures well { OnOk result (K.failures sink.new ≡ K.failures sink.old) }
-    ensures begun { OnErr result (AddsBeginning K.took sink.old (before.now ++ decimal value) sink.new) }
-    ensures failed { OnErr result (K.failures sink.new ≡ one_more (K.failures sink.old)) }
-{
-    put_all(sink, before)?;
-    put_all(sink, Buffer::new().format(value).as_bytes())
 }
 
 /// The digit that names the thread or register.

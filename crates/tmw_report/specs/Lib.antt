@@ -1,2 +1,4 @@
+pub mod CommandRun
 pub mod Lines
 pub mod Putting
+pub mod ReportObject

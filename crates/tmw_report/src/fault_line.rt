@@ -3,8 +3,7 @@ ghost use Rattle.tmw_streams.specs.Told.{Adds, AddsBeginning, one_more};
 ghost use Rattle.tmw_report.specs.Lines.{fault_line, line_end};
 
 use crate::fault::Fault;
-use itoa::Buffer;
-use tmw_streams::{IoFault, Sink, put_all};
+use tmw_streams::{IoFault, Sink, put_all, put_with_number};
 
 /// Writes the fault's line, with its line feed. It takes no memory. After a failed write a beginning of the line went out,
 /// and not all of it.
@@ -34,12 +33,11 @@ pub fn write_fault<K: Sink>(sink: &mut K, fault: &Fault) -> Result<(), IoFault>
 
 /// Writes a text, a number, and the end of an object's line.
 fn put_numbered<K: Sink>(sink: &mut K, before: &[u8], number: u64) -> Result<(), IoFault>
-    ensures takes { OnOk result (Adds K.took sink.old (before.now ++ (decimal number ++ line_end)) sink.new) }
+    ensures takes { OnOk result (Adds K.took sink.old ((before.now ++ decimal number) ++ line_end) sink.new) }
     ensures well { OnOk result (K.failures sink.new ≡ K.failures sink.old) }
-    ensures begun { OnErr result (AddsBeginning K.took sink.old (before.now ++ (decimal number ++ line_end)) sink.new) }
+    ensures begun { OnErr result (AddsBeginning K.took sink.old ((before.now ++ decimal number) ++ line_end) sink.new) }
     ensures failed { OnErr result (K.failures sink.new ≡ one_more (K.failures sink.old)) }
 {
-    put_all(sink, before)?;
-    put_all(sink, Buffer::new().format(number).as_bytes())?;
+    put_with_number(sink, before, number)?;
     put_all(sink, b"}\n")
 }

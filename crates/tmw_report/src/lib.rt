@@ -4,7 +4,7 @@
 mod answer;
 mod fault;
 mod fault_line;
-mod report;
+mod report_line;
 mod status;
 #[cfg(test)]
 mod tests;
@@ -12,5 +12,5 @@ mod tests;
 pub use answer::{answer_fault, fault_of};
 pub use fault::Fault;
 pub use fault_line::write_fault;
-pub use report::report_text;
+pub use report_line::report_text;
 pub use status::{FAULT_STATUS, status_of};

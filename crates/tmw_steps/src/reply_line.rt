@@ -4,10 +4,9 @@ ghost use Rattle.tmw_streams.specs.Told.{Adds, AddsBeginning, one_more};
 ghost use Rattle.tmw_ring_defs.specs.declared.ring_step.Reply.TheVariants.{Taken};
 ghost use Rattle.tmw_steps.specs.ReplyText.{reply_text, counts_text, replies_text};
 
-use itoa::Buffer;
-use tmw_ring_defs::Reply;
 use tmw_events::{Event, put_event};
-use tmw_streams::{IoFault, Sink, put_all};
+use tmw_ring_defs::Reply;
+use tmw_streams::{IoFault, Sink, put_all, put_with_number};
 
 /// Writes a line for each reply, and then the line that counts the places that were claimed, `log`, and the events that
 /// were taken. It takes no memory. After a failed write a beginning of the lines went out, and not all of them.
@@ -58,16 +57,16 @@ fn put_reply<K: Sink>(sink: &mut K, reply: Reply) -> Result<(), IoFault>
     ensures failed { OnErr result (K.failures sink.new ≡ one_more (K.failures sink.old)) }
 {
     match reply {
-        Reply::Saw(front) => put_number(sink, b"saw ", front),
+        Reply::Saw(front) => put_with_number(sink, b"saw ", front),
         Reply::Cleared => put_all(sink, b"cleared"),
         Reply::Full { front, tail } => put_numbers(sink, b"full ", front, b" ", tail),
-        Reply::Spent { tail } => put_number(sink, b"spent ", tail),
-        Reply::Place(place) => put_number(sink, b"place ", place),
+        Reply::Spent { tail } => put_with_number(sink, b"spent ", tail),
+        Reply::Place(place) => put_with_number(sink, b"place ", place),
         Reply::Filled => put_all(sink, b"filled"),
-        Reply::Published(place) => put_number(sink, b"published ", place),
+        Reply::Published(place) => put_with_number(sink, b"published ", place),
         Reply::Ready => put_all(sink, b"ready"),
         Reply::NotReady => put_all(sink, b"not ready"),
-        Reply::Word(word) => put_number(sink, b"word ", word),
+        Reply::Word(word) => put_with_number(sink, b"word ", word),
         Reply::Taken(event) => put_taken(sink, event),
         Reply::Stopped => put_all(sink, b"stopped"),
         Reply::NotNow => put_all(sink, b"not now"),
@@ -100,17 +99,6 @@ fn put_numbers<K: Sink>(
         ((before.now ++ decimal first) ++ (between.now ++ decimal second)) sink.new) }
     ensures failed { OnErr result (K.failures sink.new ≡ one_more (K.failures sink.old)) }
 {
-    put_number(sink, before, first)?;
-    put_number(sink, between, second)
-}
-
-/// Writes a text and then a number.
-fn put_number<K: Sink>(sink: &mut K, before: &[u8], number: u64) -> Result<(), IoFault>
-    ensures takes { OnOk result (Adds K.took sink.old (before.now ++ decimal number) sink.new) }
-    ensures well { OnOk result (K.failures sink.new ≡ K.failures sink.old) }
-    ensures begun { OnErr result (AddsBeginning K.took sink.old (before.now ++ decimal number) sink.new) }
-    ensures failed { OnErr result (K.failures sink.new ≡ one_more (K.failures sink.old)) }
-{
-    put_all(sink, before)?;
-    put_all(sink, Buffer::new().format(number).as_bytes())
+    put_with_number(sink, before, first)?;
+    put_with_number(sink, between, second)
 }

@@ -1,54 +1,68 @@
 //! What the contracts of the writer don't say: that it succeeds, and that each reply's line is the one that was meant.
 use crate::put_replies;
-use tmw_ring_defs::Reply;
+use std::process::Abort;
+use std::test::Fail;
 use tmw_events::{Event, Ix, Kind};
+use tmw_ring_defs::Reply;
 use tmw_streams::{IoFault, MemorySink};
 
-const LINES: &[u8] =
-    b"saw 3\ncleared\nfull 0 18446744073709551615\nspent 99\nplace 0\nfilled\npublished 12\nready\nnot ready\nword 5\nevent 1 W 7 5\nstopped\nnot now\nlog 4 taken 1\n";
-
-#[test]
-fn each_reply_has_its_line(rt: HostRuntime) {
-    let one = Ix::new(1).expect(&rt, "below eight");
-    let seven = Ix::new(7).expect(&rt, "below eight");
-    let replies = [
-        Reply::Saw(3),
-        Reply::Cleared,
-        Reply::Full {
-            front: 0,
-            tail: u64::MAX,
-        },
-        Reply::Spent { tail: 99 },
-        Reply::Place(0),
-        Reply::Filled,
-        Reply::Published(12),
-        Reply::Ready,
-        Reply::NotReady,
-        Reply::Word(5),
-        Reply::Taken(Event {
-            thread: one,
-            kind: Kind::W(seven, 5),
-        }),
-        Reply::Stopped,
-        Reply::NotNow,
-    ];
+/// Writes replies and counts, and writes them again with each of the writes failing in turn.
+fn expect(rt: &(impl Abort + AllocGlobal), replies: &[Reply], log: u64, taken: u64, lines: &[u8]) {
     let mut sink = MemorySink::new(rt.alloc());
-    assert_eq!(rt; put_replies(&mut sink, &replies, 4, 1), Ok(()));
-    assert_eq!(rt; sink.bytes(), LINES);
-    for sent in 0..LINES.len() {
+    assert_eq!(rt; put_replies(&mut sink, replies, log, taken), Ok(()));
+    assert_eq!(rt; sink.bytes(), lines);
+    for sent in 0..lines.len() {
         let mut failing = MemorySink::limited(rt.alloc(), 1, Some(sent as u64 + 1));
         assert_eq!(rt;
-            put_replies(&mut failing, &replies, 4, 1),
+            put_replies(&mut failing, replies, log, taken),
             Err(IoFault),
             "after {sent}"
         );
-        assert_eq!(rt; failing.bytes(), &LINES[..sent], "after {sent}");
+        assert_eq!(rt; failing.bytes(), &lines[..sent], "after {sent}");
     }
 }
 
 #[test]
-fn no_replies_leave_the_counts(rt: HostRuntime) {
-    let mut sink = MemorySink::new(rt.alloc());
-    assert_eq!(rt; put_replies(&mut sink, &[], 0, 0), Ok(()));
-    assert_eq!(rt; sink.bytes(), b"log 0 taken 0\n".as_slice());
+fn each_reply_has_its_line(rt: HostRuntime) -> Result<(), Fail> {
+    let thread = Ix::new(1).expect(&rt, "below eight");
+    let register = Ix::new(7).expect(&rt, "below eight");
+    let kind = Kind::W(register, 5);
+    let (front, tail) = (0, u64::MAX);
+    for (reply, line) in [
+        (Reply::Saw(3), "saw 3"),
+        (Reply::Cleared, "cleared"),
+        (Reply::Full { front, tail }, "full 0 18446744073709551615"),
+        (Reply::Spent { tail: 99 }, "spent 99"),
+        (Reply::Place(0), "place 0"),
+        (Reply::Filled, "filled"),
+        (Reply::Published(12), "published 12"),
+        (Reply::Ready, "ready"),
+        (Reply::NotReady, "not ready"),
+        (Reply::Word(5), "word 5"),
+        (Reply::Taken(Event { thread, kind }), "event 1 W 7 5"),
+        (Reply::Stopped, "stopped"),
+        (Reply::NotNow, "not now"),
+    ] {
+        let lines = format!(in rt.alloc(); "{line}\nlog 4 taken 1\n")?;
+        expect(&rt, &[reply], 4, 1, lines.as_bytes());
+    }
+    Ok(())
+}
+
+#[test]
+fn replies_come_in_their_order(rt: HostRuntime) {
+    let replies = [
+        Reply::NotReady,
+        Reply::Word(5),
+        Reply::Place(0),
+        Reply::NotReady,
+    ];
+    expect(
+        &rt,
+        &replies,
+        1,
+        0,
+        b"not ready\nword 5\nplace 0\nnot ready\nlog 1 taken 0\n",
+    );
+    expect(&rt, &[], 0, 0, b"log 0 taken 0\n");
 }

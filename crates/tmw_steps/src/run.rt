@@ -1,14 +1,15 @@
 ghost use Rattle.std.specs.Prelude.{◌≡◌, ℕ, List};
 ghost use Rattle.tmw_streams.specs.Told.{Adds};
-ghost use Rattle.tmw_steps.specs.Running.{IsAnswer, IsMade, Runs, failures_after_answer};
+ghost use Rattle.tmw_report.specs.CommandRun.{failures_after_answer};
+ghost use Rattle.tmw_steps.specs.Running.{AnswersSteps, IsMade, RunsSteps};
 
 use crate::reader::read_steps;
 use crate::reply_line::put_replies;
 use crate::step_list::StepList;
 use std::alloc::Global;
-use tmw_streams::{Sink, Source};
 use tmw_report::{FAULT_STATUS, Fault, answer_fault, fault_of};
 use tmw_ring_steps::{Reply, RingFault, Sim};
+use tmw_streams::{Sink, Source};
 
 /// How a list of steps was answered, with the lengths of the log and of the list of events that were taken, after them.
 #[derive(Debug, Drop)]
@@ -22,7 +23,7 @@ pub struct Run {
 /// `log L taken K`. The whole text is read first. For a fault its line alone is written. The result is the exit status: 0, or 4
 /// for any fault.
 pub fn run_steps<S: Source, K: Sink>(alloc: Global, source: &mut S, sink: &mut K) -> u8
-    ensures { Runs S.told S.ended S.failures K.took K.failures source.old source.new sink.old sink.new result }
+    ensures { RunsSteps S.told S.ended S.failures K.took K.failures source.old source.new sink.old sink.new result }
 {
     match run_of(alloc, source) {
         Ok(run) => match put_replies(sink, &run.replies, run.log, run.taken) {
@@ -35,7 +36,7 @@ pub fn run_steps<S: Source, K: Sink>(alloc: Global, source: &mut S, sink: &mut K
 
 /// Reads steps up to the source's end, and makes them.
 fn run_of<S: Source>(alloc: Global, source: &mut S) -> Result<Run, Fault>
-    ensures right { (bytes : List ℕ) × Adds S.told source.old bytes source.new × IsAnswer (S.ended source.new) bytes result }
+    ensures right { (bytes : List ℕ) × Adds S.told source.old bytes source.new × AnswersSteps (S.ended source.new) bytes result }
     ensures failures { S.failures source.new ≡ failures_after_answer result (S.failures source.old) }
 {
     match read_steps(alloc, source) {

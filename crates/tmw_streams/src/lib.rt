@@ -19,4 +19,4 @@ pub use sink::Sink;
 pub use source::Source;
 pub use std_sink::StdSink;
 pub use std_source::StdSource;
-pub use writing::put_all;
+pub use writing::{put_all, put_with_number};

@@ -1,8 +1,9 @@
-ghost use Rattle.std.specs.Prelude.{◌≡◌, OnOk, OnErr};
+ghost use Rattle.std.specs.Prelude.{◌≡◌, ◌++◌, OnOk, OnErr, decimal};
 ghost use Rattle.tmw_streams.specs.Told.{Adds, AddsBeginning, one_more};
 
 use crate::io_fault::IoFault;
 use crate::sink::Sink;
+use itoa::Buffer;
 
 /// Writes all of the bytes, by as many calls of `put` as it takes. After a failed write a beginning of them went out, and
 /// not all. It takes no memory.
@@ -17,4 +18,16 @@ pub fn put_all<K: Sink>(sink: &mut K, bytes: &[u8]) -> Result<(), IoFault>
         at += sink.put(&bytes[at..])?;
     }
     Ok(())
+}
+
+/// Writes all of the bytes and then a number, in decimal digits. After a failed write a beginning of them went out, and not
+/// all. It takes no memory.
+pub fn put_with_number<K: Sink>(sink: &mut K, before: &[u8], number: u64) -> Result<(), IoFault>
+    ensures takes { OnOk result (Adds K.took sink.old (before.now ++ decimal number) sink.new) }
+    ensures well { OnOk result (K.failures sink.new ≡ K.failures sink.old) }
+    ensures begun { OnErr result (AddsBeginning K.took sink.old (before.now ++ decimal number) sink.new) }
+    ensures failed { OnErr result (K.failures sink.new ≡ one_more (K.failures sink.old)) }
+{
+    put_all(sink, before)?;
+    put_all(sink, Buffer::new().format(number).as_bytes())
 }

@@ -3,24 +3,19 @@
 //! ring's steps, and writes what each of them answers.
 #![tactic(auto)]
 
-mod judging;
 mod order;
-mod report;
-mod run;
-#[cfg(test)]
-mod tests;
 mod words;
 
 use clap::Error;
 use clap::error::ErrorKind;
 use order::Order;
-use run::run_judge;
 use std::io::ErrorKind as IoErrorKind;
 use std::process::ExitCode;
 use std::{env, io};
-use tmw_streams::{Sink, StdSink, StdSource};
+use tmw_judge::run_judge;
 use tmw_report::{FAULT_STATUS, Fault, answer_fault};
 use tmw_steps::run_steps;
+use tmw_streams::{Sink, StdSink, StdSource};
 use words::read_words;
 
 fn main(rt: HostRuntime) -> ExitCode {

@@ -1,14 +1,19 @@
 ghost use Rattle.std.specs.Prelude.{◌≡◌, ◌∷◌, [], IfErr, IfOk, IfSome, OnOk, false, map};
 ghost use Rattle.clap.specs.Words.{HasKind, app_of, fault_of, found_of, rows_of, rule_of, subcommand_rows_of};
-ghost use Rattle.tmwatch.specs.Words.{Asks, HasBounds, IsOrder, judge, number_rule, program, steps};
+ghost use Rattle.tmwatch.specs.Words.{Asks, HasBounds, IsOrder, judge, number_rule, one_to, program, steps};
 
 use crate::order::Order;
-use clap::builder::ValueParser;
 use clap::error::ErrorKind;
 use clap::{Arg, ArgMatches, Command, Error, value_parser};
 use std::alloc::{AllocError, Global};
 use std::convert::AsStr;
 use tmw_monitor::Bounds;
+
+const WINDOW_HELP: &str =
+    "The most transactions that a window may have, 1 to 8: past it the verdict is `undecided`";
+
+const STATES_HELP: &str =
+    "The most outcomes that the history may have at a cut, 1 to 64: past it the verdict is `undecided`";
 
 /// Reads the words of the command line, of which the first is the program's name and is passed over. The error is clap's, and
 /// tells by its kind a request for help, what is wrong with the words, or a want of memory.
@@ -72,20 +77,8 @@ fn new_program<'a>(alloc: Global) -> Result<Command<'a>, AllocError>
 fn new_judge<'a>(alloc: Global) -> Result<Command<'a>, AllocError>
     ensures { IfOk result (λ command. app_of command ≡ judge) }
 {
-    let window = number_option(
-        alloc,
-        "window",
-        value_parser!(u8).range(1..=8),
-        "8",
-        "The most transactions that a window may have, 1 to 8: past it the verdict is `undecided`",
-    );
-    let states = number_option(
-        alloc,
-        "states",
-        value_parser!(u8).range(1..=64),
-        "64",
-        "The most outcomes that the history may have at a cut, 1 to 64: past it the verdict is `undecided`",
-    );
+    let window = number_option(alloc, "window", 8, "8", WINDOW_HELP);
+    let states = number_option(alloc, "states", 64, "64", STATES_HELP);
     Command::new(alloc, "judge")
         .about(
             "Judge the trace on standard input: opaque so far, or which of its prefixes is the first that is not",
@@ -103,15 +96,15 @@ fn new_steps<'a>(alloc: Global) -> Command<'a>
     )
 }
 
-/// An option that takes one number.
+/// An option that takes one number, from 1 to `most`.
 fn number_option<'a>(
     alloc: Global,
     name: &'a str,
-    values: ValueParser<'a>,
+    most: u8,
     default: &'a str,
     help: &'a str,
 ) -> Arg<'a>
-    ensures rule { rule_of result ≡ number_rule name.entry.now values.entry default.entry.now }
+    ensures rule { rule_of result ≡ number_rule name.entry.now (one_to most) default.entry.now }
     ensures local { result.global ≡ false }
 {
     Arg::new(alloc, name)
@@ -119,7 +112,7 @@ fn number_option<'a>(
         .value_name("N")
         .help(help)
         .default_value(default)
-        .value_parser(values)
+        .value_parser(value_parser!(u8).range(1..=i64::from(most)))
 }
 
 #[cfg(test)]

@@ -2,6 +2,9 @@
 use crate::order::Order;
 use crate::words::read_words;
 use clap::error::ErrorKind;
+use std::alloc::{AllocError, Global};
+use std::process::Abort;
+use std::test::Fail;
 
 #[test]
 fn bounds_of_judge(rt: HostRuntime) {
@@ -50,93 +53,75 @@ fn order_of_steps(rt: HostRuntime) {
     }
 }
 
-#[test]
-fn words_that_are_refused(rt: HostRuntime) {
-    for (words, kind) in [
-        ([].as_slice(), ErrorKind::MissingSubcommand),
-        (["tmwatch"].as_slice(), ErrorKind::MissingSubcommand),
-        (
-            ["tmwatch", "judge", "--window", "0"].as_slice(),
-            ErrorKind::ValueValidation,
-        ),
-        (
-            ["tmwatch", "judge", "--window", "9"].as_slice(),
-            ErrorKind::ValueValidation,
-        ),
-        (
-            ["tmwatch", "judge", "--states", "0"].as_slice(),
-            ErrorKind::ValueValidation,
-        ),
-        (
-            ["tmwatch", "judge", "--states", "65"].as_slice(),
-            ErrorKind::ValueValidation,
-        ),
-        (
-            ["tmwatch", "judge", "--window", "x"].as_slice(),
-            ErrorKind::ValueValidation,
-        ),
-        (
-            ["tmwatch", "judge", "--window=-1"].as_slice(),
-            ErrorKind::ValueValidation,
-        ),
-        (
-            ["tmwatch", "judge", "--window=257"].as_slice(),
-            ErrorKind::ValueValidation,
-        ),
-        (
-            ["tmwatch", "judge", "--window="].as_slice(),
-            ErrorKind::ValueValidation,
-        ),
-        (
-            ["tmwatch", "judge", "--window"].as_slice(),
-            ErrorKind::InvalidValue,
-        ),
-        (
-            ["tmwatch", "judge", "--window", "3", "--window", "3"].as_slice(),
-            ErrorKind::ArgumentConflict,
-        ),
-        (
-            ["tmwatch", "judges"].as_slice(),
-            ErrorKind::InvalidSubcommand,
-        ),
-        (
-            ["tmwatch", "drive"].as_slice(),
-            ErrorKind::InvalidSubcommand,
-        ),
-        (
-            ["tmwatch", "judge", "extra"].as_slice(),
-            ErrorKind::UnknownArgument,
-        ),
-        (
-            ["tmwatch", "judge", "--bound", "3"].as_slice(),
-            ErrorKind::UnknownArgument,
-        ),
-        (
-            ["tmwatch", "--window", "3", "judge"].as_slice(),
-            ErrorKind::UnknownArgument,
-        ),
-        (
-            ["tmwatch", "steps", "--window", "3"].as_slice(),
-            ErrorKind::UnknownArgument,
-        ),
-        (
-            ["tmwatch", "steps", "x"].as_slice(),
-            ErrorKind::UnknownArgument,
-        ),
-        (
-            ["tmwatch", "steps", "judge"].as_slice(),
-            ErrorKind::UnknownArgument,
-        ),
-        (["tmwatch", "step"].as_slice(), ErrorKind::InvalidSubcommand),
-    ] {
-        match read_words(rt.alloc(), words) {
-            Ok(_) => assert!(rt; false, "{words:?} was taken"),
-            Err(error) => {
-                assert_eq!(rt; error.kind(), kind, "of {words:?}");
-                assert!(rt; error.use_stderr(), "of {words:?}");
-            }
+/// The words that spaces part.
+fn parted(alloc: Global, line: &str) -> Result<Vec<&str>, AllocError> {
+    let mut words = Vec::new(alloc);
+    for word in line.split(' ') {
+        words.push(word)?;
+    }
+    Ok(words)
+}
+
+/// Reads words that are refused.
+fn expect_refused(rt: &(impl Abort + AllocGlobal), words: &[&str], kind: ErrorKind) {
+    match read_words(rt.alloc(), words) {
+        Ok(_) => assert!(rt; false, "{words:?} was taken"),
+        Err(error) => {
+            assert_eq!(rt; error.kind(), kind, "of {words:?}");
+            assert!(rt; error.use_stderr(), "of {words:?}");
         }
     }
+}
+
+#[test]
+fn words_that_are_refused(rt: HostRuntime) -> Result<(), Fail> {
+    expect_refused(&rt, &[], ErrorKind::MissingSubcommand);
+    for (kind, lines) in [
+        (ErrorKind::MissingSubcommand, ["tmwatch"].as_slice()),
+        (
+            ErrorKind::ValueValidation,
+            [
+                "tmwatch judge --window 0",
+                "tmwatch judge --window 9",
+                "tmwatch judge --states 0",
+                "tmwatch judge --states 65",
+                "tmwatch judge --window x",
+                "tmwatch judge --window=-1",
+                "tmwatch judge --window=257",
+                "tmwatch judge --window=",
+            ]
+            .as_slice(),
+        ),
+        (
+            ErrorKind::InvalidValue,
+            ["tmwatch judge --window"].as_slice(),
+        ),
+        (
+            ErrorKind::ArgumentConflict,
+            ["tmwatch judge --window 3 --window 3"].as_slice(),
+        ),
+        (
+            ErrorKind::InvalidSubcommand,
+            ["tmwatch judges", "tmwatch drive", "tmwatch step"].as_slice(),
+        ),
+        (
+            ErrorKind::UnknownArgument,
+            [
+                "tmwatch judge extra",
+                "tmwatch judge --bound 3",
+                "tmwatch --window 3 judge",
+                "tmwatch steps --window 3",
+                "tmwatch steps x",
+                "tmwatch steps judge",
+            ]
+            .as_slice(),
+        ),
+    ] {
+        for line in lines {
+            expect_refused(&rt, &parted(rt.alloc(), line)?, kind);
+        }
+    }
+    Ok(())
 }
 
 #[test]

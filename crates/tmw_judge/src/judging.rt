@@ -1,20 +1,21 @@
 ghost use Rattle.std.specs.Prelude.{◌≡◌, ℕ, List};
 ghost use Rattle.tmw_streams.specs.Told.{Adds};
-ghost use Rattle.tmwatch.specs.Judging.{IsAnswer, failures_behind};
+ghost use Rattle.tmw_judge.specs.Judging.{AnswersTrace};
+ghost use Rattle.tmw_report.specs.CommandRun.{failures_after_answer};
 
 use crate::report::Report;
 use std::alloc::Global;
-use tmw_streams::Source;
-use tmw_trace::TraceLines;
 use tmw_monitor::{Bounds, Monitor};
 use tmw_report::{Fault, fault_of};
+use tmw_streams::Source;
+use tmw_trace::TraceLines;
 
 /// Reads a trace up to the source's end, and judges each event as its line is read. No event is kept, so the memory depends on
 /// the transactions since the last cut and not on the trace's length. Where memory is refused, nothing is read after it.
 pub fn judge<S: Source>(alloc: Global, source: &mut S, bounds: Bounds) -> Result<Report, Fault>
     ensures right { (bytes : List ℕ) × Adds S.told source.old bytes source.new
-        × IsAnswer (S.ended source.new) bounds bytes result }
-    ensures failures { S.failures source.new ≡ failures_behind result (S.failures source.old) }
+        × AnswersTrace bounds (S.ended source.new) bytes result }
+    ensures failures { S.failures source.new ≡ failures_after_answer result (S.failures source.old) }
 {
     let mut lines = TraceLines::new();
     let header = match lines.header(source) {

@@ -1,8 +1,8 @@
 -- What was told so far is what the reader of lines has read, and the monitor was fed its events.
 use Rattle.std.proofs.Common.{◌≡◌, ◌+◌, List}
 use Rattle.tmw_trace.specs.TraceLines.{unread}
-use Rattle.tmwatch.proofs.Taken.{HasFed}
-use Rattle.tmwatch.proofs.judging.judge.Given as goal
+use Rattle.tmw_judge.proofs.Taken.{HasFed}
+use Rattle.tmw_judge.proofs.judging.judge.Given as goal
 
 abbrev pub invariant-lines : goal.invariant-lines
 invariant-lines g l =

@@ -1,13 +1,15 @@
 ghost use Rattle.std.specs.Prelude.{◌≡◌, ◌⊎◌};
 ghost use Rattle.tmw_report.specs.declared.fault.Fault.TheVariants.{Memory};
-ghost use Rattle.tmwatch.specs.Judging.{IsPut, Runs};
+ghost use Rattle.tmw_report.specs.Lines.{fault_line};
+ghost use Rattle.tmw_report.specs.Putting.{IsPut};
+ghost use Rattle.tmw_judge.specs.Judging.{JudgesBytes, report_line, report_status};
 
 use crate::judging::judge;
 use crate::report::Report;
 use std::alloc::Global;
-use tmw_streams::{Sink, Source, put_all};
 use tmw_monitor::Bounds;
 use tmw_report::{FAULT_STATUS, Fault, answer_fault, report_text, status_of};
+use tmw_streams::{Sink, Source, put_all};
 
 /// Judges the trace that the source tells within these bounds, and writes the line that answers it. The result is the exit
 /// status: 0 for a history that is opaque so far, 1 for one that is violated, 2 for one that is undecided, 3 for one that is
@@ -18,7 +20,7 @@ pub fn run_judge<S: Source, K: Sink>(
     sink: &mut K,
     bounds: Bounds,
 ) -> u8
-    ensures { Runs S.told S.ended S.failures K.took K.failures bounds source.old source.new sink.old sink.new result }
+    ensures { JudgesBytes S.told S.ended S.failures K.took K.failures bounds source.old source.new sink.old sink.new result }
 {
     match judge(alloc, source, bounds) {
         Ok(report) => answer_report(alloc, sink, report),
@@ -29,8 +31,8 @@ pub fn run_judge<S: Source, K: Sink>(
 /// Writes the report's line and answers its exit status. Where memory for the line is refused, that fault stands in its
 /// place.
 fn answer_report<K: Sink>(alloc: Global, sink: &mut K, report: Report) -> u8
-    ensures { IsPut K.took K.failures sink.old sink.new (Ok report) result
-        ⊎ IsPut K.took K.failures sink.old sink.new (Err Memory) result }
+    ensures { IsPut K.took K.failures sink.old sink.new (report_line report) (report_status report) result
+        ⊎ IsPut K.took K.failures sink.old sink.new (fault_line Memory) 4 result }
 {
     let Ok(line) = report_text(alloc, report.events, &report.verdict) else {
         return answer_fault(sink, Fault::Memory);

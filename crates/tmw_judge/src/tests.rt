@@ -3,8 +3,8 @@ use crate::run::run_judge;
 use std::alloc::{AllocError, Global};
 use std::process::Abort;
 use std::test::Fail;
-use tmw_streams::{MemorySink, MemorySource};
 use tmw_monitor::Bounds;
+use tmw_streams::{MemorySink, MemorySource};
 
 mod streams;
 
@@ -70,39 +70,44 @@ fn expect_of(
     Ok(())
 }
 
+/// The line of a history that is opaque so far.
+fn opaque_line(alloc: Global, events: u64) -> Result<String, AllocError> {
+    format!(in alloc; "{{\"events\":{events},\"verdict\":\"opaque so far\"}}\n")
+}
+
+/// The line of a history whose verdict was settled at length `at`.
+fn settled_line(alloc: Global, at: u64, events: u64, verdict: &str) -> Result<String, AllocError> {
+    format!(in alloc; "{{\"at\":{at},\"events\":{events},\"verdict\":\"{verdict}\"}}\n")
+}
+
 #[test]
 fn histories_that_are_opaque(rt: HostRuntime) -> Result<(), Fail> {
-    for (events, line) in [
+    for (count, events) in [
         // Its own write, at the greatest value.
         (
+            6,
             "0 W 0 18446744073709551615, 0 K, 0 R 0, 0 V 18446744073709551615, 0 T, 0 C",
-            "{\"events\":6,\"verdict\":\"opaque so far\"}\n",
         ),
         // Eight writers at once.
         (
+            32,
             "0 W 0 1, 1 W 0 2, 2 W 0 3, 3 W 0 4, 4 W 0 5, 5 W 0 6, 6 W 0 7, 7 W 0 8, \
                 0 K, 1 K, 2 K, 3 K, 4 K, 5 K, 6 K, 7 K, \
                 0 T, 1 T, 2 T, 3 T, 4 T, 5 T, 6 T, 7 T, \
                 0 C, 1 C, 2 C, 3 C, 4 C, 5 C, 6 C, 7 C",
-            "{\"events\":32,\"verdict\":\"opaque so far\"}\n",
         ),
         // A read from a commit-pending transaction.
-        (
-            "0 W 0 1, 0 K, 0 T, 1 R 0, 1 V 1, 0 C",
-            "{\"events\":6,\"verdict\":\"opaque so far\"}\n",
-        ),
+        (6, "0 W 0 1, 0 K, 0 T, 1 R 0, 1 V 1, 0 C"),
         // An old value, read by a transaction that began before the commit.
-        (
-            "1 R 0, 0 W 0 1, 0 K, 0 T, 0 C, 1 V 0",
-            "{\"events\":6,\"verdict\":\"opaque so far\"}\n",
-        ),
+        (6, "1 R 0, 0 W 0 1, 0 K, 0 T, 0 C, 1 V 0"),
         // Eight transactions, of which one is live.
         (
+            15,
             "0 R 0, 1 T, 1 C, 1 T, 1 C, 1 T, 1 C, 1 T, 1 C, 1 T, 1 C, 1 T, 1 C, 1 T, 1 C",
-            "{\"events\":15,\"verdict\":\"opaque so far\"}\n",
         ),
     ] {
-        expect_of(&rt, events, line, OPAQUE)?;
+        let line = opaque_line(rt.alloc(), count)?;
+        expect_of(&rt, events, line.as_str(), OPAQUE)?;
     }
     expect(
         &rt,
@@ -127,42 +132,34 @@ fn histories_that_are_opaque(rt: HostRuntime) -> Result<(), Fail> {
 
 #[test]
 fn histories_that_are_not_opaque(rt: HostRuntime) -> Result<(), Fail> {
-    for (events, line) in [
+    for (at, count, events) in [
         // Not its own write.
         (
+            4,
+            6,
             "0 W 0 18446744073709551615, 0 K, 0 R 0, 0 V 0, 0 T, 0 C",
-            "{\"at\":4,\"events\":6,\"verdict\":\"violated\"}\n",
         ),
-        (
-            DIRTY_READ,
-            "{\"at\":4,\"events\":8,\"verdict\":\"violated\"}\n",
-        ),
+        (4, 8, DIRTY_READ),
         // Ill-formed only after it.
-        (
-            "0 W 0 1, 0 K, 1 R 0, 1 V 1, 0 V 1",
-            "{\"at\":4,\"events\":5,\"verdict\":\"violated\"}\n",
-        ),
+        (4, 5, "0 W 0 1, 0 K, 1 R 0, 1 V 1, 0 V 1"),
         // The commit-pending transaction that was read from aborts.
-        (
-            "0 W 0 1, 0 K, 0 T, 1 R 0, 1 V 1, 0 A",
-            "{\"at\":6,\"events\":6,\"verdict\":\"violated\"}\n",
-        ),
+        (6, 6, "0 W 0 1, 0 K, 0 T, 1 R 0, 1 V 1, 0 A"),
         // An old value, read after the commit.
-        (
-            "0 W 0 1, 0 K, 0 T, 0 C, 1 R 0, 1 V 0",
-            "{\"at\":6,\"events\":6,\"verdict\":\"violated\"}\n",
-        ),
+        (6, 6, "0 W 0 1, 0 K, 0 T, 0 C, 1 R 0, 1 V 0"),
         // Two readers that see two writers in opposite orders, and in each order once.
         (
+            14,
+            14,
             "0 W 0 1, 1 W 0 2, 0 K, 1 K, 0 T, 1 T, 0 C, 1 C, 0 R 0, 0 V 2, 0 T, 0 C, 1 R 0, 1 V 1",
-            "{\"at\":14,\"events\":14,\"verdict\":\"violated\"}\n",
         ),
         (
+            14,
+            14,
             "0 W 0 1, 1 W 0 2, 0 K, 1 K, 0 T, 1 T, 0 C, 1 C, 0 R 0, 0 V 1, 0 T, 0 C, 1 R 0, 1 V 2",
-            "{\"at\":14,\"events\":14,\"verdict\":\"violated\"}\n",
         ),
     ] {
-        expect_of(&rt, events, line, VIOLATED)?;
+        let line = settled_line(rt.alloc(), at, count, "violated")?;
+        expect_of(&rt, events, line.as_str(), VIOLATED)?;
     }
     // A reader that aborts counts too.
     let zombie = text(
@@ -214,32 +211,22 @@ fn initial_values_and_adds(rt: HostRuntime) -> Result<(), Fail> {
 
 #[test]
 fn histories_that_are_malformed(rt: HostRuntime) -> Result<(), Fail> {
-    for (events, line) in [
-        (
-            "0 V 1",
-            "{\"at\":1,\"events\":1,\"verdict\":\"malformed\"}\n",
-        ),
+    for (at, count, events) in [
+        (1, 1, "0 V 1"),
         // There is one register.
-        (
-            "0 R 1",
-            "{\"at\":1,\"events\":1,\"verdict\":\"malformed\"}\n",
-        ),
-        (
-            "0 R 0, 1 V 0",
-            "{\"at\":2,\"events\":2,\"verdict\":\"malformed\"}\n",
-        ),
+        (1, 1, "0 R 1"),
+        (2, 2, "0 R 0, 1 V 0"),
         // A read that no order explains, only after it.
-        (
-            "0 W 0 1, 0 K, 0 C, 1 R 0, 1 V 1, 1 R 0, 1 V 2",
-            "{\"at\":3,\"events\":7,\"verdict\":\"malformed\"}\n",
-        ),
+        (3, 7, "0 W 0 1, 0 K, 0 C, 1 R 0, 1 V 1, 1 R 0, 1 V 2"),
         // The answer without a call begins a ninth transaction too.
         (
+            16,
+            17,
             "0 R 0, 1 T, 1 C, 1 T, 1 C, 1 T, 1 C, 1 T, 1 C, 1 T, 1 C, 1 T, 1 C, 1 T, 1 C, 1 K, 1 T",
-            "{\"at\":16,\"events\":17,\"verdict\":\"malformed\"}\n",
         ),
     ] {
-        expect_of(&rt, events, line, MALFORMED)?;
+        let line = settled_line(rt.alloc(), at, count, "malformed")?;
+        expect_of(&rt, events, line.as_str(), MALFORMED)?;
     }
     Ok(())
 }

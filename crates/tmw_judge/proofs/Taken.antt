@@ -17,9 +17,10 @@ use Rattle.tmw_monitor.specs.declared.monitor.Monitor.{Monitor}
 use Rattle.tmw_monitor.specs.Fitting.{Fits, rules_of}
 use Rattle.tmw_report.specs.declared.fault.Fault.{Fault}
 use Rattle.tmw_report.specs.declared.fault.Fault.TheVariants.{Memory as WantsMemory}
-use Rattle.tmwatch.specs.declared.report.Report.{Report}
+use Rattle.tmw_judge.specs.declared.report.Report.{Report}
 use Rattle.tmw_report.specs.Putting.{fault_of}
-use Rattle.tmwatch.specs.Judging.{IsAnswer, IsReportOf, failures_behind}
+use Rattle.tmw_report.specs.CommandRun.{failures_after_answer}
+use Rattle.tmw_judge.specs.Judging.{AnswersTrace, IsReportOf}
 
 pub record HasFed {S : Type 0} (Told : S → List ℕ → Type 0) (old new : S) (lines : TraceLines) (bounds : Bounds) (monitor : Monitor)
     : Type 0 where
@@ -61,7 +62,7 @@ fed-push Told a b c old new bounds monitor more event bytes fed told gives feeds
 -- what was read when memory was refused
 pub wants_memory : {S : Type 0} (Told : S → List ℕ → Type 0) (Ended : Type 0) (a b : S) (lines : TraceLines) (header : Header)
     (history : List Event) (bounds : Bounds) → HasTaken Told a b lines header history
-    → (bytes : List ℕ) × Adds Told a bytes b × IsAnswer Ended bounds bytes (Err WantsMemory)
+    → (bytes : List ℕ) × Adds Told a bytes b × AnswersTrace bounds Ended bytes (Err WantsMemory)
 wants_memory Told Ended a b lines header history bounds taken =
     let begun = begun-taken Told a b lines header history taken in
     (begun.0, begun.1, (Memory, refl, begun.2))
@@ -70,7 +71,7 @@ wants_memory Told Ended a b lines header history bounds taken =
 pub reports-end : {S : Type 0} (Told : S → List ℕ → Type 0) (Ended : Type 0) (a b c : S) (lines : TraceLines) (bounds : Bounds)
     (monitor : Monitor) (bytes : List ℕ) (report : Report) → HasFed Told a b lines bounds monitor → Adds Told b bytes c
     → GivesEnd Ended lines bytes → report.events ≡ monitor.count → report.verdict ≡ monitor.verdict
-    → (all : List ℕ) × Adds Told a all c × IsAnswer Ended bounds all (Ok report)
+    → (all : List ℕ) × Adds Told a all c × AnswersTrace bounds Ended all (Ok report)
 reports-end Told Ended a b c lines bounds monitor bytes report fed told ends counted judged =
     let end = ends fed.header fed.history fed.taken.bytes fed.taken.read in (
       fed.taken.bytes ++ bytes,
@@ -92,7 +93,7 @@ reports-end Told Ended a b c lines bounds monitor bytes report fed told ends cou
 pub answers-fault : {S : Type 0} (Told : S → List ℕ → Type 0) (Ended : Type 0) (a b c : S) (lines : TraceLines) (bounds : Bounds)
     (monitor : Monitor) (bytes : List ℕ) (told : TraceFault) (fault : Fault) → HasFed Told a b lines bounds monitor → Adds Told b bytes c
     → GivesFault Ended lines bytes told → fault ≡ fault_of told
-    → (all : List ℕ) × Adds Told a all c × IsAnswer Ended bounds all (Err fault)
+    → (all : List ℕ) × Adds Told a all c × AnswersTrace bounds Ended all (Err fault)
 answers-fault Told Ended a b c lines bounds monitor bytes told fault fed adds gives is = (
   fed.taken.bytes ++ bytes,
   Adds-more Told a b c fed.taken.bytes bytes fed.taken.told adds,
@@ -100,11 +101,11 @@ answers-fault Told Ended a b c lines bounds monitor bytes told fault fed adds gi
 )
 
 -- a failed read is counted, and no other fault is
-pub failures_behind-fault : (told : TraceFault) (fault : Fault) (count : ℕ) → fault ≡ fault_of told
-    → failures_after told count ≡ failures_behind (Err fault) count
-failures_behind-fault BadHeader fault count is = rw is refl
-failures_behind-fault (BadLine line) fault count is = rw is refl
-failures_behind-fault (Cut line) fault count is = rw is refl
-failures_behind-fault Memory fault count is = rw is refl
-failures_behind-fault Io fault count is = rw is refl
-failures_behind-fault TooLong fault count is = rw is refl
+pub failures_after-fault : (told : TraceFault) (fault : Fault) (count : ℕ) → fault ≡ fault_of told
+    → failures_after told count ≡ failures_after_answer {Found = Report} (Err fault) count
+failures_after-fault BadHeader fault count is = rw is refl
+failures_after-fault (BadLine line) fault count is = rw is refl
+failures_after-fault (Cut line) fault count is = rw is refl
+failures_after-fault Memory fault count is = rw is refl
+failures_after-fault Io fault count is = rw is refl
+failures_after-fault TooLong fault count is = rw is refl

@@ -4,9 +4,9 @@ use Rattle.tmw_trace.specs.TextFault.{HasBegun}
 use Rattle.tmw_trace.specs.declared.trace_fault.TraceFault.TheVariants.{Memory as WantsMemory}
 use Rattle.tmw_monitor.specs.declared.bounds.Bounds.{Bounds}
 use Rattle.tmw_report.specs.declared.fault.Fault.TheVariants.{Memory}
-use Rattle.tmwatch.specs.Judging.{IsReportOf}
-use Rattle.tmwatch.specs.declared.report.Report.{Report}
-use Rattle.tmwatch.proofs.run.run_judge.Goals as goal
+use Rattle.tmw_judge.specs.Judging.{IsReportOf}
+use Rattle.tmw_judge.specs.declared.report.Report.{Report}
+use Rattle.tmw_judge.proofs.run.run_judge.Goals as goal
 
 begun : (bounds : Bounds) (bytes : List ℕ) (report : Report) → IsReportOf bounds bytes report → HasBegun bytes
 begun bounds bytes report t =

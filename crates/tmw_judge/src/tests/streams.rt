@@ -14,14 +14,9 @@ fn texts_that_are_cut(rt: HostRuntime) -> Result<(), Fail> {
                 String::from_str(rt.alloc(), "{\"fault\":\"bad header\"}\n")?,
                 FAULT,
             ),
-            Some(b'\n') if events < 4 => (
-                format!(in rt.alloc(); "{{\"events\":{events},\"verdict\":\"opaque so far\"}}\n")?,
-                OPAQUE,
-            ),
+            Some(b'\n') if events < 4 => (opaque_line(rt.alloc(), events as u64)?, OPAQUE),
             Some(b'\n') => (
-                format!(in rt.alloc();
-                    "{{\"at\":4,\"events\":{events},\"verdict\":\"violated\"}}\n"
-                )?,
+                settled_line(rt.alloc(), 4, events as u64, "violated")?,
                 VIOLATED,
             ),
             Some(_) => (

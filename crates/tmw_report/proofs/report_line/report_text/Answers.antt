@@ -1,0 +1,10 @@
+-- The line is the text of the object that reports the verdict, and its line feed.
+use Rattle.std.proofs.Common.{◌∙◌}
+use Rattle.tmw_report.proofs.ReportLines.{report_object-line}
+use Rattle.tmw_report.proofs.report_line.report_text.Goals as goal
+
+pub returns : goal.returns
+unfolding lib.Utf8.encode
+returns c =
+    c.in_ok-push.ensures.bytes
+    ∙ report_object-line c.args.events c.args.verdict.now _ _ c.in_ok-object_of.ensures c.in_ok-line.ensures.text
