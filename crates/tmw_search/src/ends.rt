@@ -77,4 +77,4 @@ pub fn outcomes(
 #[cfg(test)]
 mod compared;
 #[cfg(test)]
-pub(crate) mod tests;
+mod tests;

@@ -7,6 +7,8 @@ mod ends;
 mod forced;
 mod layers;
 mod nexts;
+#[cfg(test)]
+mod testing;
 mod walk;
 
 pub use end_states::EndStates;

@@ -215,4 +215,4 @@ pub fn finds_end(items: &[Txn], states: &[State]) -> bool
 }
 
 #[cfg(test)]
-pub(crate) mod tests;
+mod tests;

@@ -1,15 +1,11 @@
-use super::tests::window_of;
 use super::*;
-use tmw_plain_check::{Whole, judge_whole};
+use crate::testing::{FIRST, LAST, window_of};
 use std::test::Fail;
 use tmw_cuts::State;
 use tmw_defs::Status;
 use tmw_events::{Event, Ix, Kind, Registers};
+use tmw_plain_check::{Whole, judge_whole};
 use tmw_wellformed::Tracker;
-
-const FIRST: Ix = Ix { number: 0 };
-
-const LAST: Ix = Ix { number: 7 };
 
 /// The next number of a sequence that a seed begins.
 fn draw(seed: &mut u64) -> u64 {

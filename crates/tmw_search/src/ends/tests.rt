@@ -1,146 +1,81 @@
-ghost use Rattle.std.specs.Prelude.{◌≡◌, IfOk, IfSome};
-ghost use Rattle.tmw_cuts.specs.Standing.{StandsFor};
-
 use super::*;
+use crate::testing::{
+    ASKS, COMMITS, EIGHT, FIRST, LAST, ONE, SECOND, THREADS, few, holding, push_from_each,
+    push_writes, read, window_of, window_of_calls, write,
+};
 use std::test::Fail;
-use tmw_cuts::State;
-use tmw_events::{Event, Ix, Kind, Registers};
-use tmw_wellformed::Tracker;
+use tmw_events::{Event, Kind};
 
-const FIRST: Ix = Ix { number: 0 };
-
-const SECOND: Ix = Ix { number: 1 };
-
-const LAST: Ix = Ix { number: 7 };
-
-const ONE: Registers = Registers { number: 1 };
-
-const EIGHT: Registers = Registers { number: 8 };
-
-/// The window of these events, where they are a well-formed history of at most eight transactions.
-pub(crate) fn window_of(
-    alloc: Global,
-    registers: Registers,
-    events: &[Event],
-) -> Result<Option<Window>, AllocError>
-    ensures { IfOk result (λ found. IfSome found (λ window. StandsFor window events.now)) }
-{
-    let mut tracker = Tracker::new(registers);
-    let mut window = Window::open(alloc, registers);
-    for event in events {
-        let Ok(note) = tracker.step(*event) else {
-            return Ok(None);
-        };
-        if note.begins && window.count() == 8 {
-            return Ok(None);
-        }
-        window.push(*event, note)?;
-    }
-    Ok(Some(window))
-}
-
-/// The state with this value in register 0 and 0 in the others.
-const fn holding(value: u64) -> State {
-    [value, 0, 0, 0, 0, 0, 0, 0]
-}
-
-/// The set of the states with the values below `count` in register 0.
+/// The set of the states with the values below `count` in register 0 and 0 in the others.
 fn states_below(alloc: Global, count: u64) -> Result<States, AllocError> {
     let mut states = States::empty(alloc);
     for value in 0..count {
-        states.insert(holding(value))?;
+        states.insert(holding(value, 0))?;
     }
     Ok(states)
 }
 
-/// The members of what was answered, where they are few.
-fn few(ends: &EndStates) -> Option<&[State]> {
-    match ends {
-        EndStates::Few(states) => Some(states.states()),
-        EndStates::Many => None,
-    }
+/// The ends, asked for at most so many.
+fn ends_of(
+    alloc: Global,
+    states: &States,
+    window: &Window,
+    cap: u8,
+) -> Result<Option<EndStates>, AllocError> {
+    Ok(Some(outcomes(alloc, states, window, cap)?))
 }
 
-/// Adds an event of each thread: its step in writing its number and one more to register 0 and committing.
-fn push_writers(events: &mut Vec<Event>, step: u8) -> Result<(), AllocError> {
-    for number in 0..8u8 {
-        if let Some(thread) = Ix::new(number) {
-            let kind = match step {
-                0 => Kind::W(FIRST, u64::from(number) + 1),
-                1 => Kind::K,
-                2 => Kind::T,
-                _ => Kind::C,
-            };
-            events.push(Event { thread, kind })?;
-        }
+/// Each thread reads 0 in register 7, writes 1 to another and asks to commit.
+fn push_readers(events: &mut Vec<Event>) -> Result<(), AllocError> {
+    push_from_each(events, Kind::R(LAST))?;
+    push_from_each(events, Kind::V(0))?;
+    for thread in THREADS {
+        let register = if thread == LAST { FIRST } else { thread };
+        events.push(Event {
+            thread,
+            kind: Kind::W(register, 1),
+        })?;
     }
-    Ok(())
-}
-
-/// Adds an event of each thread: its step in reading 0 in register 7, writing 1 to another and committing.
-fn push_readers(events: &mut Vec<Event>, step: u8) -> Result<(), AllocError> {
-    for number in 0..8u8 {
-        if let Some(thread) = Ix::new(number) {
-            let kind = match step {
-                0 => Kind::R(LAST),
-                1 => Kind::V(0),
-                2 => Kind::W(if thread == LAST { FIRST } else { thread }, 1),
-                3 => Kind::K,
-                4 => Kind::T,
-                _ => Kind::C,
-            };
-            events.push(Event { thread, kind })?;
-        }
-    }
-    Ok(())
+    push_from_each(events, Kind::K)?;
+    push_from_each(events, Kind::T)
 }
 
 #[test]
 fn two_writers_leave_one_of_two_states(rt: HostRuntime) -> Result<(), Fail> {
-    let mut events = Vec::new(rt.alloc());
-    for kind in [Kind::W(FIRST, 1), Kind::K, Kind::T] {
-        events.push(Event {
-            thread: FIRST,
-            kind,
-        })?;
-    }
-    for kind in [Kind::W(FIRST, 2), Kind::K, Kind::T, Kind::C] {
-        events.push(Event {
-            thread: SECOND,
-            kind,
-        })?;
-    }
-    events.push(Event {
-        thread: FIRST,
-        kind: Kind::C,
-    })?;
-    let window = window_of(rt.alloc(), ONE, &events)?.expect(&rt, "well-formed");
+    let window = window_of_calls(
+        rt.alloc(),
+        ONE,
+        &[
+            (FIRST, write(FIRST, 1)),
+            (FIRST, ASKS),
+            (SECOND, write(FIRST, 2)),
+            (SECOND, COMMITS),
+            (FIRST, (Kind::C, None)),
+        ],
+    )?;
     let zeros = States::zeros(rt.alloc())?;
-    let ends = outcomes(rt.alloc(), &zeros, &window, 2)?;
-    assert_eq!(rt; few(&ends), Some([holding(1), holding(2)].as_slice()));
-    let more = outcomes(rt.alloc(), &zeros, &window, 1)?;
+    let ends = ends_of(rt.alloc(), &zeros, &window, 2)?;
+    assert_eq!(rt; few(&ends), Some([holding(1, 0), holding(2, 0)].as_slice()));
+    let more = ends_of(rt.alloc(), &zeros, &window, 1)?;
     assert_eq!(rt; few(&more), None);
     Ok(())
 }
 
 #[test]
 fn a_read_leaves_the_states_that_it_may_have_read(rt: HostRuntime) -> Result<(), Fail> {
-    let mut events = Vec::new(rt.alloc());
-    for kind in [Kind::R(FIRST), Kind::V(2), Kind::T, Kind::C] {
-        events.push(Event {
-            thread: FIRST,
-            kind,
-        })?;
-    }
-    let window = window_of(rt.alloc(), ONE, &events)?.expect(&rt, "well-formed");
-    let mut both = States::only(rt.alloc(), holding(1))?;
-    both.insert(holding(2))?;
+    let window = window_of_calls(
+        rt.alloc(),
+        ONE,
+        &[(FIRST, read(FIRST, 2)), (FIRST, COMMITS)],
+    )?;
+    let mut both = States::only(rt.alloc(), holding(1, 0))?;
+    both.insert(holding(2, 0))?;
     assert!(rt; possible(rt.alloc(), &both, &window)?);
-    let ends = outcomes(rt.alloc(), &both, &window, 2)?;
-    assert_eq!(rt; few(&ends), Some([holding(2)].as_slice()));
-    let other = States::only(rt.alloc(), holding(1))?;
+    let ends = ends_of(rt.alloc(), &both, &window, 2)?;
+    assert_eq!(rt; few(&ends), Some([holding(2, 0)].as_slice()));
+    let other = States::only(rt.alloc(), holding(1, 0))?;
     assert!(rt; !possible(rt.alloc(), &other, &window)?);
-    let none = outcomes(rt.alloc(), &other, &window, 0)?;
+    let none = ends_of(rt.alloc(), &other, &window, 0)?;
     assert_eq!(rt; few(&none), Some([].as_slice()));
     Ok(())
 }
@@ -149,11 +84,11 @@ fn a_read_leaves_the_states_that_it_may_have_read(rt: HostRuntime) -> Result<(),
 fn an_empty_window_keeps_the_states(rt: HostRuntime) -> Result<(), Fail> {
     let window = Window::open(rt.alloc(), ONE);
     let states = states_below(rt.alloc(), 5)?;
-    let under = outcomes(rt.alloc(), &states, &window, 6)?;
-    assert_eq!(rt; few(&under), Some(states.states()));
-    let at = outcomes(rt.alloc(), &states, &window, 5)?;
-    assert_eq!(rt; few(&at), Some(states.states()));
-    let over = outcomes(rt.alloc(), &states, &window, 4)?;
+    for cap in [5, 6] {
+        let ends = ends_of(rt.alloc(), &states, &window, cap)?;
+        assert_eq!(rt; few(&ends), Some(states.states()), "asked for {cap}");
+    }
+    let over = ends_of(rt.alloc(), &states, &window, 4)?;
     assert_eq!(rt; few(&over), None);
     Ok(())
 }
@@ -161,18 +96,19 @@ fn an_empty_window_keeps_the_states(rt: HostRuntime) -> Result<(), Fail> {
 #[test]
 fn eight_writers_leave_one_of_eight_states(rt: HostRuntime) -> Result<(), Fail> {
     let mut events = Vec::new(rt.alloc());
-    for step in 0..4 {
-        push_writers(&mut events, step)?;
+    push_writes(&mut events)?;
+    for kind in [Kind::K, Kind::T, Kind::C] {
+        push_from_each(&mut events, kind)?;
     }
     let window = window_of(rt.alloc(), ONE, &events)?.expect(&rt, "well-formed");
     let zeros = States::zeros(rt.alloc())?;
     assert!(rt; possible(rt.alloc(), &zeros, &window)?);
-    let ends = outcomes(rt.alloc(), &zeros, &window, 8)?;
-    let states = few(&ends).expect(&rt, "at most eight");
-    assert_eq!(rt; states.len(), 8);
-    assert_eq!(rt; states.first(), Some(&holding(1)));
-    assert_eq!(rt; states.last(), Some(&holding(8)));
-    let more = outcomes(rt.alloc(), &zeros, &window, 7)?;
+    let found = ends_of(rt.alloc(), &zeros, &window, 8)?;
+    let ends = few(&found).expect(&rt, "at most eight");
+    assert_eq!(rt; ends.len(), 8);
+    assert_eq!(rt; ends.first(), Some(&holding(1, 0)));
+    assert_eq!(rt; ends.last(), Some(&holding(8, 0)));
+    let more = ends_of(rt.alloc(), &zeros, &window, 7)?;
     assert_eq!(rt; few(&more), None);
     Ok(())
 }
@@ -180,12 +116,10 @@ fn eight_writers_leave_one_of_eight_states(rt: HostRuntime) -> Result<(), Fail> 
 #[test]
 fn readers_and_writers_from_many_states(rt: HostRuntime) -> Result<(), Fail> {
     let mut events = Vec::new(rt.alloc());
-    for step in 0..6 {
-        push_readers(&mut events, step)?;
-    }
+    push_readers(&mut events)?;
+    push_from_each(&mut events, Kind::C)?;
     let window = window_of(rt.alloc(), EIGHT, &events)?.expect(&rt, "well-formed");
-    let states = states_below(rt.alloc(), 64)?;
-    let ends = outcomes(rt.alloc(), &states, &window, 64)?;
+    let ends = ends_of(rt.alloc(), &states_below(rt.alloc(), 64)?, &window, 64)?;
     assert_eq!(rt; few(&ends), Some([[1, 1, 1, 1, 1, 1, 1, 0]].as_slice()));
     Ok(())
 }
@@ -193,14 +127,12 @@ fn readers_and_writers_from_many_states(rt: HostRuntime) -> Result<(), Fail> {
 #[test]
 fn pending_writers_leave_each_choice(rt: HostRuntime) -> Result<(), Fail> {
     let mut events = Vec::new(rt.alloc());
-    for step in 0..5 {
-        push_readers(&mut events, step)?;
-    }
+    push_readers(&mut events)?;
     let window = window_of(rt.alloc(), EIGHT, &events)?.expect(&rt, "well-formed");
     let states = states_below(rt.alloc(), 64)?;
     let last = layer(rt.alloc(), &states, &window, window.count())?;
     assert_eq!(rt; last.len(), 64 * 64);
-    let ends = outcomes(rt.alloc(), &states, &window, 255)?;
+    let ends = ends_of(rt.alloc(), &states, &window, 255)?;
     assert_eq!(rt; few(&ends), None);
     Ok(())
 }

@@ -1,34 +1,12 @@
 use super::*;
 use crate::ends::possible;
-use crate::ends::tests::window_of;
-use std::alloc::{AllocError, Global};
+use crate::testing::{
+    ABORTS, ASKS, COMMITS, Call, FIRST, SECOND, THIRD, TWO, holding, read, window_of_calls, write,
+};
+use std::alloc::Global;
 use std::test::Fail;
 use tmw_cuts::{States, Window};
-use tmw_events::{Event, Ix, Kind, Registers};
-
-const FIRST: Ix = Ix { number: 0 };
-
-const SECOND: Ix = Ix { number: 1 };
-
-const THIRD: Ix = Ix { number: 2 };
-
-const TWO: Registers = Registers { number: 2 };
-
-/// Adds these events of the thread.
-pub(crate) fn push(events: &mut Vec<Event>, thread: Ix, kinds: &[Kind]) -> Result<(), AllocError> {
-    for kind in kinds {
-        events.push(Event {
-            thread,
-            kind: *kind,
-        })?;
-    }
-    Ok(())
-}
-
-/// The state with these values in the first two registers and 0 in the others.
-pub(crate) const fn holding(first: u64, second: u64) -> State {
-    [first, second, 0, 0, 0, 0, 0, 0]
-}
+use tmw_events::Ix;
 
 /// Where the search ends from zeros, placing at most so many transactions.
 fn found(window: &Window, most: u32) -> Option<State> {
@@ -36,12 +14,23 @@ fn found(window: &Window, most: u32) -> Option<State> {
     find_end(window.transactions(), &holding(0, 0), &mut fuel)
 }
 
+/// Where it ends in the window of these calls.
+fn end_of(alloc: Global, most: u32, calls: &[(Ix, Call)]) -> Result<Option<State>, Fail> {
+    let window = window_of_calls(alloc, TWO, calls)?;
+    Ok(found(&window, most))
+}
+
 #[test]
 fn a_pending_transaction_is_held_where_another_reads_it(rt: HostRuntime) -> Result<(), Fail> {
-    let mut events = Vec::new(rt.alloc());
-    push(&mut events, FIRST, &[Kind::W(FIRST, 1), Kind::K, Kind::T])?;
-    push(&mut events, SECOND, &[Kind::R(FIRST), Kind::V(1)])?;
-    let window = window_of(rt.alloc(), TWO, &events)?.expect(&rt, "well-formed");
+    let window = window_of_calls(
+        rt.alloc(),
+        TWO,
+        &[
+            (FIRST, write(FIRST, 1)),
+            (FIRST, ASKS),
+            (SECOND, read(FIRST, 1)),
+        ],
+    )?;
     assert_eq!(rt; found(&window, 2), Some(holding(1, 0)));
     assert_eq!(rt; found(&window, 1), None);
     let zeros = States::zeros(rt.alloc())?;
@@ -54,33 +43,20 @@ fn a_pending_transaction_is_held_where_another_reads_it(rt: HostRuntime) -> Resu
 fn a_pending_transaction_is_left_out_where_another_reads_what_was_before(
     rt: HostRuntime,
 ) -> Result<(), Fail> {
-    let mut events = Vec::new(rt.alloc());
-    push(
-        &mut events,
-        FIRST,
+    let end = end_of(
+        rt.alloc(),
+        3,
         &[
-            Kind::R(FIRST),
-            Kind::V(0),
-            Kind::W(FIRST, 1),
-            Kind::K,
-            Kind::T,
+            (FIRST, read(FIRST, 0)),
+            (FIRST, write(FIRST, 1)),
+            (FIRST, ASKS),
+            (SECOND, read(FIRST, 0)),
+            (SECOND, write(FIRST, 2)),
+            (SECOND, COMMITS),
+            (THIRD, read(FIRST, 2)),
         ],
     )?;
-    push(
-        &mut events,
-        SECOND,
-        &[
-            Kind::R(FIRST),
-            Kind::V(0),
-            Kind::W(FIRST, 2),
-            Kind::K,
-            Kind::T,
-            Kind::C,
-        ],
-    )?;
-    push(&mut events, THIRD, &[Kind::R(FIRST), Kind::V(2)])?;
-    let window = window_of(rt.alloc(), TWO, &events)?.expect(&rt, "well-formed");
-    assert_eq!(rt; found(&window, 3), Some(holding(2, 0)));
+    assert_eq!(rt; end, Some(holding(2, 0)));
     Ok(())
 }
 
@@ -88,41 +64,23 @@ fn a_pending_transaction_is_left_out_where_another_reads_what_was_before(
 fn a_pending_transaction_is_left_out_where_only_another_writes_what_is_read(
     rt: HostRuntime,
 ) -> Result<(), Fail> {
-    let mut events = Vec::new(rt.alloc());
-    push(
-        &mut events,
-        FIRST,
+    let end = end_of(
+        rt.alloc(),
+        8,
         &[
-            Kind::R(SECOND),
-            Kind::V(0),
-            Kind::W(FIRST, 1),
-            Kind::K,
-            Kind::W(SECOND, 3),
-            Kind::K,
-            Kind::T,
+            (FIRST, read(SECOND, 0)),
+            (FIRST, write(FIRST, 1)),
+            (FIRST, write(SECOND, 3)),
+            (FIRST, ASKS),
+            (SECOND, read(SECOND, 0)),
+            (SECOND, write(FIRST, 1)),
+            (SECOND, write(SECOND, 2)),
+            (SECOND, COMMITS),
+            (THIRD, read(FIRST, 1)),
+            (THIRD, read(SECOND, 2)),
         ],
     )?;
-    push(
-        &mut events,
-        SECOND,
-        &[
-            Kind::R(SECOND),
-            Kind::V(0),
-            Kind::W(FIRST, 1),
-            Kind::K,
-            Kind::W(SECOND, 2),
-            Kind::K,
-            Kind::T,
-            Kind::C,
-        ],
-    )?;
-    push(
-        &mut events,
-        THIRD,
-        &[Kind::R(FIRST), Kind::V(1), Kind::R(SECOND), Kind::V(2)],
-    )?;
-    let window = window_of(rt.alloc(), TWO, &events)?.expect(&rt, "well-formed");
-    assert_eq!(rt; found(&window, 8), Some(holding(1, 2)));
+    assert_eq!(rt; end, Some(holding(1, 2)));
     Ok(())
 }
 
@@ -130,15 +88,17 @@ fn a_pending_transaction_is_left_out_where_only_another_writes_what_is_read(
 fn a_value_that_a_pending_transaction_writes_back_is_found_by_the_layers(
     rt: HostRuntime,
 ) -> Result<(), Fail> {
-    let mut events = Vec::new(rt.alloc());
-    push(&mut events, FIRST, &[Kind::W(FIRST, 0), Kind::K, Kind::T])?;
-    push(
-        &mut events,
-        SECOND,
-        &[Kind::W(FIRST, 1), Kind::K, Kind::T, Kind::C],
+    let window = window_of_calls(
+        rt.alloc(),
+        TWO,
+        &[
+            (FIRST, write(FIRST, 0)),
+            (FIRST, ASKS),
+            (SECOND, write(FIRST, 1)),
+            (SECOND, COMMITS),
+            (THIRD, read(FIRST, 0)),
+        ],
     )?;
-    push(&mut events, THIRD, &[Kind::R(FIRST), Kind::V(0)])?;
-    let window = window_of(rt.alloc(), TWO, &events)?.expect(&rt, "well-formed");
     assert_eq!(rt; found(&window, 64), None);
     let zeros = States::zeros(rt.alloc())?;
     assert!(rt; possible(rt.alloc(), &zeros, &window)?);
@@ -149,50 +109,47 @@ fn a_value_that_a_pending_transaction_writes_back_is_found_by_the_layers(
 fn a_committed_transaction_waits_for_one_that_reads_what_it_writes(
     rt: HostRuntime,
 ) -> Result<(), Fail> {
-    let mut events = Vec::new(rt.alloc());
-    push(&mut events, FIRST, &[Kind::W(FIRST, 1), Kind::K])?;
-    push(
-        &mut events,
-        SECOND,
+    let end = end_of(
+        rt.alloc(),
+        2,
         &[
-            Kind::R(FIRST),
-            Kind::V(0),
-            Kind::W(SECOND, 2),
-            Kind::K,
-            Kind::T,
-            Kind::C,
+            (FIRST, write(FIRST, 1)),
+            (SECOND, read(FIRST, 0)),
+            (SECOND, write(SECOND, 2)),
+            (SECOND, COMMITS),
+            (FIRST, COMMITS),
         ],
     )?;
-    push(&mut events, FIRST, &[Kind::T, Kind::C])?;
-    let window = window_of(rt.alloc(), TWO, &events)?.expect(&rt, "well-formed");
-    assert_eq!(rt; found(&window, 2), Some(holding(1, 2)));
+    assert_eq!(rt; end, Some(holding(1, 2)));
     Ok(())
 }
 
 #[test]
 fn an_aborted_transaction_writes_nothing(rt: HostRuntime) -> Result<(), Fail> {
-    let mut events = Vec::new(rt.alloc());
-    push(
-        &mut events,
-        FIRST,
-        &[Kind::W(FIRST, 1), Kind::K, Kind::X, Kind::A],
+    let end = end_of(
+        rt.alloc(),
+        2,
+        &[
+            (FIRST, write(FIRST, 1)),
+            (FIRST, ABORTS),
+            (SECOND, write(SECOND, 2)),
+        ],
     )?;
-    push(&mut events, SECOND, &[Kind::W(SECOND, 2), Kind::K])?;
-    let window = window_of(rt.alloc(), TWO, &events)?.expect(&rt, "well-formed");
-    assert_eq!(rt; found(&window, 2), Some(holding(0, 0)));
+    assert_eq!(rt; end, Some(holding(0, 0)));
     Ok(())
 }
 
 #[test]
 fn a_read_of_what_was_overwritten_has_no_end(rt: HostRuntime) -> Result<(), Fail> {
-    let mut events = Vec::new(rt.alloc());
-    push(
-        &mut events,
-        FIRST,
-        &[Kind::W(FIRST, 1), Kind::K, Kind::T, Kind::C],
+    let window = window_of_calls(
+        rt.alloc(),
+        TWO,
+        &[
+            (FIRST, write(FIRST, 1)),
+            (FIRST, COMMITS),
+            (SECOND, read(FIRST, 0)),
+        ],
     )?;
-    push(&mut events, SECOND, &[Kind::R(FIRST), Kind::V(0)])?;
-    let window = window_of(rt.alloc(), TWO, &events)?.expect(&rt, "well-formed");
     assert_eq!(rt; found(&window, 64), None);
     let mut states = States::zeros(rt.alloc())?;
     assert!(rt; !possible(rt.alloc(), &states, &window)?);
@@ -203,9 +160,7 @@ fn a_read_of_what_was_overwritten_has_no_end(rt: HostRuntime) -> Result<(), Fail
 
 #[test]
 fn an_end_from_one_of_the_states_is_enough(rt: HostRuntime) -> Result<(), Fail> {
-    let mut events = Vec::new(rt.alloc());
-    push(&mut events, FIRST, &[Kind::R(FIRST), Kind::V(7)])?;
-    let window = window_of(rt.alloc(), TWO, &events)?.expect(&rt, "well-formed");
+    let window = window_of_calls(rt.alloc(), TWO, &[(FIRST, read(FIRST, 7))])?;
     let mut states = States::zeros(rt.alloc())?;
     assert!(rt; !finds_end(window.transactions(), states.states()));
     states.insert(holding(7, 1))?;
