@@ -1,9 +1,8 @@
 -- A monitor whose verdict is opaque so far, with what the next event makes of what it keeps.
-use Rattle.std.proofs.Common.{◌≡◌, ◌+◌, ℕ, List, [], ◌∷◌, ◌++◌, length, refl, sym, ◌∙◌, arith}
+use Rattle.std.proofs.Common.{◌+◌, List, [], ◌∷◌, ◌++◌, arith}
 use Rattle.tmw_events.specs.declared.event.Event.{Event}
 use Rattle.tmw_defs.specs.declared.verdict.Verdict.{Verdict}
-use Rattle.tmw_defs.specs.declared.verdict.Verdict.TheVariants.{OpaqueSoFar}
-use Rattle.tmw_defs.specs.Verdict.{Rules, IsVerdict}
+use Rattle.tmw_defs.specs.Verdict.{Rules}
 use Rattle.tmw_defs.proofs.WindowsProof as windows
 use Rattle.tmw_monitor.specs.declared.monitor.Monitor.{Monitor}
 use Rattle.tmw_monitor.specs.declared.open.Open.{Open}

@@ -1,8 +1,7 @@
 -- Before its first event a history is summed up by the set of its start state.
-use Rattle.std.proofs.Common.{◌≡◌, ◌↔◌, ◌+◌, ◌<◌, ℕ, zero, suc, List, [], ◌∷◌, length, refl, sym, subst, ◌∙◌, arith}
+use Rattle.std.proofs.Common.{◌≡◌, ◌↔◌, ◌<◌, zero, suc, List, [], ◌∷◌, sym, subst, arith}
 use Rattle.std.specs.List.{Contains}
 use Rattle.tmw_defs.specs.Opaque.{State}
-use Rattle.tmw_defs.specs.Outcomes.{Only}
 use Rattle.tmw_defs.specs.Summary.{SumsUp}
 use Rattle.tmw_defs.specs.Verdict.{Rules}
 use Rattle.tmw_defs.proofs.VerdictProof.{sums_up-new}

@@ -1,13 +1,12 @@
 -- The open window of a history that is summed up: it is narrow, and so it is with an event more where the note allows it.
-use Rattle.std.proofs.Common.{◌≡◌, ◌⊎◌, ◌==◌, ◌&&◌, ◌+◌, ◌<◌, ◌≤◌, ℕ, Bool, true, false, not, List, [], ◌∷◌, ◌++◌, length, take, drop, IsTrue, refl, sym, ap, subst, ◌∙◌, inl, inr, arith}
+use Rattle.std.proofs.Common.{◌≡◌, ◌⊎◌, ◌+◌, ◌<◌, ◌≤◌, ℕ, true, List, [], ◌∷◌, ◌++◌, length, take, drop, refl, subst, inl, inr, arith}
 use Rattle.std.proofs.lemmas.Bool.{cases_Bool, cases_lt}
-use Rattle.std.proofs.lemmas.List.{take-append-drop, take_all, drop_all, drop-append-le}
+use Rattle.std.proofs.lemmas.List.{take-append-drop, take_all}
 use Rattle.tmw_events.specs.declared.event.Event.{Event}
-use Rattle.tmw_defs.specs.History.{Txn, is_ended, add_event, transactions}
+use Rattle.tmw_defs.specs.History.{Txn, add_event, transactions}
 use Rattle.tmw_defs.specs.Opaque.{State}
 use Rattle.tmw_defs.specs.Summary.{SumsUp}
 use Rattle.tmw_defs.specs.Verdict.{Rules, IsFine}
-use Rattle.tmw_defs.specs.Windows.{HasWide, between}
 use Rattle.tmw_defs.proofs.OneMore.{joins, add_event_here, add_event_past, transactions-push}
 use Rattle.tmw_wellformed.specs.declared.note.Note.{Note}
 use Rattle.tmw_wellformed.specs.Notes.{Notes}

@@ -1,11 +1,10 @@
 -- What was found of the open window with an event more is the verdict on the history, and what is then kept is kept of it.
-use Rattle.std.proofs.Common.{◌≡◌, ◌⊎◌, ◌+◌, ◌≤◌, ℕ, Bool, true, false, List, [], ◌∷◌, ◌++◌, length, take, drop, IsTrue, IsFalse, refl, sym, ap, subst, ◌∙◌, inl, inr, arith}
+use Rattle.std.proofs.Common.{◌≡◌, ◌⊎◌, ◌+◌, ◌≤◌, ℕ, Bool, List, [], ◌∷◌, ◌++◌, length, drop, IsTrue, IsFalse, sym, subst, ◌∙◌, inl, inr, arith}
 use Rattle.std.proofs.lemmas.List.{drop_all, drop-append-le}
 use Rattle.std.specs.List.{Contains}
 use Rattle.tmw_events.specs.declared.event.Event.{Event}
 use Rattle.tmw_defs.specs.declared.verdict.Verdict.{Verdict}
-use Rattle.tmw_defs.specs.declared.verdict.Verdict.TheVariants.{OpaqueSoFar, Violated, Undecided, Malformed}
-use Rattle.tmw_defs.specs.declared.verdict.Why.TheVariants.{Transactions, States}
+use Rattle.tmw_defs.specs.declared.verdict.Verdict.TheVariants.{OpaqueSoFar}
 use Rattle.tmw_defs.specs.Cuts.{is_cut}
 use Rattle.tmw_defs.specs.History.{transactions, is_well_formed}
 use Rattle.tmw_defs.specs.Opaque.{State}
@@ -21,10 +20,11 @@ use Rattle.tmw_cuts.specs.declared.states.States.{States as SetOfStates}
 use Rattle.tmw_cuts.specs.declared.window.Window.{Window}
 use Rattle.tmw_cuts.specs.Members.{members}
 use Rattle.tmw_cuts.specs.Standing.{StandsFor}
-use Rattle.tmw_search.specs.Ended.{EndsOf}
 use Rattle.tmw_monitor.specs.declared.open.Open.{Open}
+use Rattle.tmw_monitor.specs.declared.found.Found.{Found}
+use Rattle.tmw_monitor.specs.declared.found.Found.TheVariants.{Outcome, NoOutcome, TooMany}
 use Rattle.tmw_monitor.specs.Fitting.{Keeps}
-use Rattle.tmw_monitor.specs.Weighing.{StaysOpen, Closes, Tells}
+use Rattle.tmw_monitor.specs.Weighing.{StaysOpen, Closes, Tells, verdict_of}
 use Rattle.tmw_monitor.proofs.Counting.{not_more_among, more_than-rising}
 
 -- the verdict, and what is kept where it is opaque so far
@@ -80,25 +80,23 @@ follows-cut rules h e kept keeps cap states window tracker bound tracks narrow c
       },
     )
 
--- each verdict that was found
+-- each thing that was found
 pub follows-told : (rules : Rules) (h : List Event) (e : Event) (kept : Open) (keeps : Keeps rules h kept) (at cap : ℕ) (quiet : Bool)
-    (states : SetOfStates) (window : Window) (tracker : Tracker) (verdict : Verdict) → at ≡ length h + 1 → cap ≡ rules.states
+    (states : SetOfStates) (window : Window) (tracker : Tracker) (found : Found) → at ≡ length h + 1 → cap ≡ rules.states
     → Tracks rules.registers (h ++ e ∷ []) tracker → length (transactions (drop keeps.cut h ++ e ∷ [])) ≤ rules.window
     → quiet ≡ is_quiet (transactions (drop keeps.cut h)) e.thread.number e.kind
-    → Tells kept.states cap at quiet (drop keeps.cut h ++ e ∷ []) states window verdict
-    → Follows rules (h ++ e ∷ []) verdict (record { states = states; window = window; tracker = tracker })
-follows-told rules h e kept keeps at cap quiet states window tracker OpaqueSoFar length_is bound tracks narrow is (inl stays) =
+    → Tells kept.states cap quiet (drop keeps.cut h ++ e ∷ []) states window found
+    → Follows rules (h ++ e ∷ []) (verdict_of at found) (record { states = states; window = window; tracker = tracker })
+follows-told rules h e kept keeps at cap quiet states window tracker Outcome length_is bound tracks narrow is (inl stays) =
     follows-open rules h e kept keeps quiet states window tracker tracks narrow is stays
-follows-told rules h e kept keeps at cap quiet states window tracker OpaqueSoFar length_is bound tracks narrow is (inr closes) =
+follows-told rules h e kept keeps at cap quiet states window tracker Outcome length_is bound tracks narrow is (inr closes) =
     follows-cut rules h e kept keeps cap states window tracker bound tracks narrow closes
-follows-told rules h e kept keeps at cap quiet states window tracker (Violated m) length_is bound tracks narrow is (same, none_ends) = (
-  rw (same, length_is) (verdict-violated rules (Contains (members kept.states)) keeps.cut h e keeps.sums_up tracks.formed narrow none_ends),
+follows-told rules h e kept keeps at cap quiet states window tracker NoOutcome length_is bound tracks narrow is none_ends = (
+  rw length_is (verdict-violated rules (Contains (members kept.states)) keeps.cut h e keeps.sums_up tracks.formed narrow none_ends),
   λ other. absurd (cc),
 )
-follows-told rules h e kept keeps at cap quiet states window tracker (Undecided m States) length_is bound tracks narrow is (same, cut, more) = (
-  rw (same, length_is) (verdict-many rules (Contains (members kept.states)) keeps.cut h e keeps.sums_up tracks.formed narrow cut
+follows-told rules h e kept keeps at cap quiet states window tracker TooMany length_is bound tracks narrow is (cut, more) = (
+  rw length_is (verdict-many rules (Contains (members kept.states)) keeps.cut h e keeps.sums_up tracks.formed narrow cut
       (rw (← bound) (more_than-rising cap _ more))),
   λ other. absurd (cc),
 )
-follows-told rules h e kept keeps at cap quiet states window tracker (Undecided m Transactions) length_is bound tracks narrow is told = absurd told
-follows-told rules h e kept keeps at cap quiet states window tracker (Malformed m) length_is bound tracks narrow is told = absurd told

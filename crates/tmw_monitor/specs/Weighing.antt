@@ -3,8 +3,8 @@ use Rattle.std.specs.Prelude.{◌≡◌, ◌↔◌, ◌⊎◌, ◌≤◌, ℕ, B
 use Rattle.std.specs.List.{Contains}
 use Rattle.tmw_events.specs.declared.event.Event.{Event}
 use Rattle.tmw_defs.specs.declared.verdict.Verdict.{Verdict}
-use Rattle.tmw_defs.specs.declared.verdict.Verdict.TheVariants.{OpaqueSoFar, Violated, Undecided, Malformed}
-use Rattle.tmw_defs.specs.declared.verdict.Why.TheVariants.{Transactions, States}
+use Rattle.tmw_defs.specs.declared.verdict.Verdict.TheVariants.{OpaqueSoFar, Violated, Undecided}
+use Rattle.tmw_defs.specs.declared.verdict.Why.TheVariants.{States}
 use Rattle.tmw_defs.specs.Cuts.{is_cut}
 use Rattle.tmw_defs.specs.Opaque.{State}
 use Rattle.tmw_cuts.specs.declared.states.States.{States as SetOfStates}
@@ -12,6 +12,8 @@ use Rattle.tmw_cuts.specs.declared.window.Window.{Window}
 use Rattle.tmw_cuts.specs.Members.{members}
 use Rattle.tmw_cuts.specs.Standing.{StandsFor}
 use Rattle.tmw_search.specs.Ended.{EndsOf, HasMoreThan}
+use Rattle.tmw_monitor.specs.declared.found.Found.{Found}
+use Rattle.tmw_monitor.specs.declared.found.Found.TheVariants.{Outcome, NoOutcome, TooMany}
 
 -- The events are at no cut, and have an end state where that was in question. The set and the window stay.
 pub record StaysOpen (old : SetOfStates) (quiet : Bool) (events : List Event) (new : SetOfStates) (window : Window) : Type 0 where
@@ -30,12 +32,14 @@ pub record Closes (old : SetOfStates) (cap : ℕ) (events : List Event) (new : S
   pub few : length (members new) ≤ cap
   pub stands : StandsFor window []
 
--- What each verdict tells of the events, where the history with them has this length.
-abbrev pub Tells : SetOfStates → ℕ → ℕ → Bool → List Event → SetOfStates → Window → Verdict → Type 0
-Tells old cap at quiet events new window OpaqueSoFar =
-    StaysOpen old quiet events new window ⊎ Closes old cap events new window
-Tells old cap at quiet events new window (Violated m) = (m ≡ at) × ((end : State) → EndsOf old events end → ⊥)
-Tells old cap at quiet events new window (Undecided m States) =
-    (m ≡ at) × IsTrue (is_cut events) × HasMoreThan cap (EndsOf old events)
-Tells old cap at quiet events new window (Undecided m Transactions) = ⊥
-Tells old cap at quiet events new window (Malformed m) = ⊥
+-- What each finding tells of the events.
+abbrev pub Tells : SetOfStates → ℕ → Bool → List Event → SetOfStates → Window → Found → Type 0
+Tells old cap quiet events new window Outcome = StaysOpen old quiet events new window ⊎ Closes old cap events new window
+Tells old cap quiet events new window NoOutcome = (end : State) → EndsOf old events end → ⊥
+Tells old cap quiet events new window TooMany = IsTrue (is_cut events) × HasMoreThan cap (EndsOf old events)
+
+-- The verdict on a history of this length, where this was found of its last window.
+abbrev pub verdict_of : ℕ → Found → Verdict
+verdict_of at Outcome = OpaqueSoFar
+verdict_of at NoOutcome = Violated at
+verdict_of at TooMany = Undecided at States

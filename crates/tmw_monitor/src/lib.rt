@@ -4,6 +4,7 @@
 mod bounds;
 #[cfg(test)]
 mod compared;
+mod found;
 mod judging;
 mod monitor;
 mod next;

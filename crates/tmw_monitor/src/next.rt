@@ -41,12 +41,11 @@ pub fn next_verdict(
         &mut kept.states,
         &mut kept.window,
         bounds.states,
-        at,
         quiet,
     ) {
-        Ok(verdict) => {
+        Ok(found) => {
             kept.tracker = tracker;
-            Ok(verdict)
+            Ok(found.verdict(at))
         }
         Err(error) => {
             kept.window.take_back(mark);

@@ -5,34 +5,33 @@ ghost use Rattle.tmw_cuts.specs.Members.{members};
 ghost use Rattle.tmw_cuts.specs.Standing.{StandsFor};
 ghost use Rattle.tmw_monitor.specs.Weighing.{Tells};
 
+use crate::found::Found;
 use std::alloc::{AllocError, Global};
 use tmw_cuts::{States, Window};
-use tmw_defs::{Verdict, Why};
 use tmw_search::{EndStates, outcomes, possible};
 
-/// Weighs the events of a window from the outcomes at its beginning; `at` is the length of the whole history. They are searched
-/// at a cut, and elsewhere where the last of them is not quiet. At a cut the set becomes that of the outcomes there, where
-/// these are at most `cap`, and the window is cleared.
+/// Weighs the events of a window from the outcomes at its beginning. They are searched at a cut, and elsewhere where the last of
+/// them is not quiet. At a cut the set becomes that of the outcomes there, where these are at most `cap`, and the window is
+/// cleared.
 pub fn weigh(
     alloc: Global,
     states: &mut States,
     window: &mut Window,
     cap: u8,
-    at: u64,
     quiet: bool,
-) -> Result<Verdict, AllocError>
-    ensures ok { IfOk result (λ verdict. (events : List Event) → StandsFor window.old events
-        → Tells states.old cap at quiet events states.new window.new verdict) }
+) -> Result<Found, AllocError>
+    ensures ok { IfOk result (λ found. (events : List Event) → StandsFor window.old events
+        → Tells states.old cap quiet events states.new window.new found) }
     ensures states { OnErr result (members states.new ≡ members states.old) }
     ensures window { OnErr result ((events : List Event) → StandsFor window.old events → StandsFor window.new events) }
 {
     if window.is_cut() {
-        return close(alloc, states, window, cap, at);
+        return close(alloc, states, window, cap);
     }
     if quiet || possible(alloc, states, window)? {
-        Ok(Verdict::OpaqueSoFar)
+        Ok(Found::Outcome)
     } else {
-        Ok(Verdict::Violated(at))
+        Ok(Found::NoOutcome)
     }
 }
 
@@ -42,20 +41,19 @@ fn close(
     states: &mut States,
     window: &mut Window,
     cap: u8,
-    at: u64,
-) -> Result<Verdict, AllocError>
-    ensures ok { IfOk result (λ verdict. (quiet : Bool) (events : List Event) → StandsFor window.old events → IsTrue (is_cut events)
-        → Tells states.old cap at quiet events states.new window.new verdict) }
+) -> Result<Found, AllocError>
+    ensures ok { IfOk result (λ found. (quiet : Bool) (events : List Event) → StandsFor window.old events → IsTrue (is_cut events)
+        → Tells states.old cap quiet events states.new window.new found) }
     ensures states { OnErr result (members states.new ≡ members states.old) }
     ensures window { OnErr result ((events : List Event) → StandsFor window.old events → StandsFor window.new events) }
 {
     match outcomes(alloc, states, window, cap)? {
-        EndStates::Many => Ok(Verdict::Undecided(at, Why::States)),
-        EndStates::Few(ends) if ends.is_empty() => Ok(Verdict::Violated(at)),
+        EndStates::Many => Ok(Found::TooMany),
+        EndStates::Few(ends) if ends.is_empty() => Ok(Found::NoOutcome),
         EndStates::Few(ends) => {
             *states = ends;
             window.clear();
-            Ok(Verdict::OpaqueSoFar)
+            Ok(Found::Outcome)
         }
     }
 }

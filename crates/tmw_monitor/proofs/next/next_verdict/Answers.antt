@@ -1,14 +1,11 @@
 -- An event that begins one transaction too many makes the window too wide, and else what is found of the window tells the verdict.
-use Rattle.std.proofs.Common.{◌≡◌, ◌+◌, ◌<◌, ◌≤◌, ℕ, true, false, List, [], ◌∷◌, ◌++◌, length, drop, refl, sym, subst, ◌∙◌, arith}
+use Rattle.std.proofs.Common.{◌≡◌, true, false, List, [], ◌∷◌, ◌++◌, length, drop, sym, subst, ◌∙◌, arith}
 use Rattle.std.specs.List.{Contains}
-use Rattle.tmw_events.specs.declared.event.Event.{Event}
 use Rattle.tmw_defs.specs.History.{transactions}
 use Rattle.tmw_defs.specs.Opaque.{State}
 use Rattle.tmw_defs.specs.Summary.{SumsUp}
-use Rattle.tmw_defs.specs.Verdict.{Rules}
 use Rattle.tmw_defs.proofs.VerdictProof.{verdict-wide}
 use Rattle.tmw_cuts.specs.Members.{members}
-use Rattle.tmw_monitor.specs.Fitting.{Keeps}
 use Rattle.tmw_monitor.proofs.Opening.{notes_open, narrow-push, wide-push}
 use Rattle.tmw_monitor.proofs.Told.{follows-told}
 use Rattle.tmw_monitor.proofs.next.next_verdict.Goals.{else-note-via-then-note+else-count-bounds, else-note-via-else-note}
@@ -40,9 +37,9 @@ returns-in-Ok-weigh-clause-ok c rules history window states at keeps =
     ]) in
     let pushed = c.in_ok-push.ensures.ok rest keeps.stands (notes_open rules S keeps.cut history c.args.event c.in-Ok.note keeps.sums_up notes) in
     let told = c.in-Ok-weigh.ensures.ok (rest ++ c.args.event ∷ []) pushed in
-    follows-told rules history c.args.event c.args.kept.now keeps c.args.at c.args.bounds.states c.is_quiet-quiet.result
-    c.weigh.new.states c.weigh.new.window c.step.new.self c.in-Ok-weigh.verdict at states tracks narrow
-    (c.is_quiet-quiet.ensures rest keeps.stands) told
+    rw c.verdict.ensures (follows-told rules history c.args.event c.args.kept.now keeps c.args.at c.args.bounds.states c.is_quiet-quiet.result
+    c.weigh.new.states c.weigh.new.window c.step.new.self c.in-Ok-weigh.found at states tracks narrow
+    (c.is_quiet-quiet.ensures rest keeps.stands) told)
 
 pub returns-in-Err-clause-err : goal.returns-in-Err-clause-err
 returns-in-Err-clause-err c rules history keeps =

@@ -1,5 +1,5 @@
 -- No outcome is a violation, and else the set becomes that of the outcomes.
-use Rattle.std.proofs.Common.{◌≡◌, ◌<◌, Bool, true, false, ℕ, List, [], ◌∷◌, length, IsTrue, refl, sym, subst, ◌∙◌, inr, arith}
+use Rattle.std.proofs.Common.{◌≡◌, true, false, List, [], ◌∷◌, refl, sym, subst, ◌∙◌, inr, arith}
 use Rattle.std.specs.List.{Contains}
 use Rattle.tmw_defs.specs.Opaque.{State}
 use Rattle.tmw_cuts.specs.Members.{members}
@@ -15,7 +15,7 @@ none_in x (k, within, is) = absurd (omega arith)
 pub returns-in-Few-clause-ok : goal.returns-in-Few-clause-ok
 returns-in-Few-clause-ok c quiet events stands cut =
     let found = rw c.in-Few.is at (c.in_ok-outcomes.ensures events stands) in
-    (refl, λ end is. none_in end (subst (λ (xs : List State). Contains xs end) (c.is_empty.ensures.0 c.if-is_empty.true) ((found.1 end).1 is)))
+    λ end is. none_in end (subst (λ (xs : List State). Contains xs end) (c.is_empty.ensures.0 c.if-is_empty.true) ((found.1 end).1 is))
 
 pub returns-in-Few-2-clause-ok : goal.returns-in-Few-2-clause-ok
 returns-in-Few-2-clause-ok c quiet events stands cut =

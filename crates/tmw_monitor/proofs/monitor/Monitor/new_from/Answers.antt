@@ -1,9 +1,5 @@
 -- No event is opaque so far, with the start state as its one outcome.
-use Rattle.std.proofs.Common.{◌≡◌, ◌<◌, ℕ, List, [], ◌∷◌, refl, sym, subst, arith}
-use Rattle.std.specs.List.{Contains}
-use Rattle.tmw_defs.specs.Opaque.{State}
-use Rattle.tmw_defs.specs.Outcomes.{Only}
-use Rattle.tmw_defs.proofs.VerdictProof.{sums_up-new}
+use Rattle.std.proofs.Common.{refl}
 use Rattle.tmw_monitor.specs.Fitting.{rules_of}
 use Rattle.tmw_monitor.proofs.Fresh.{sums_up-one}
 use Rattle.tmw_monitor.proofs.monitor.Monitor.new_from.Goals as goal

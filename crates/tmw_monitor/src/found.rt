@@ -1,0 +1,28 @@
+ghost use Rattle.std.specs.Prelude.{◌≡◌};
+ghost use Rattle.tmw_monitor.specs.Weighing.{verdict_of};
+
+use tmw_defs::{Verdict, Why};
+
+/// What was found of the outcomes of a window, from those at its beginning.
+#[derive(Clone, Copy, PartialEq, Eq, Debug)]
+pub enum Found {
+    /// There is one, and at a cut there are not too many.
+    Outcome,
+    /// There is none.
+    NoOutcome,
+    /// The window is at a cut, and there are too many.
+    TooMany,
+}
+
+impl Found {
+    /// The verdict on a history of this length, where this was found of its last window.
+    pub fn verdict(self, at: u64) -> Verdict
+        ensures { result ≡ verdict_of at self }
+    {
+        match self {
+            Found::Outcome => Verdict::OpaqueSoFar,
+            Found::NoOutcome => Verdict::Violated(at),
+            Found::TooMany => Verdict::Undecided(at, Why::States),
+        }
+    }
+}
