@@ -3,9 +3,9 @@ ghost use Rattle.tmw_events.specs.Text.{digit, kind_text, event_text};
 ghost use Rattle.tmw_streams.specs.Told.{Adds, AddsBeginning, one_more};
 
 use crate::event::{Event, Kind};
-use tmw_streams::{IoFault, Sink, put_all};
 use crate::ix::Ix;
 use itoa::Buffer;
+use tmw_streams::{IoFault, Sink, put_all};
 
 /// Writes the event's text, without a line feed. It takes no memory. After a failed write a beginning of the text went
 /// out, and not all of it.

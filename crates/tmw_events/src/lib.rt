@@ -5,6 +5,8 @@ mod event;
 mod event_text;
 mod ix;
 mod kind_line;
+#[cfg(test)]
+mod kind_tests;
 mod number;
 mod packing;
 #[cfg(test)]
@@ -18,4 +20,6 @@ pub use kind_line::{ix_of, kind_of};
 pub use number::number_of;
 pub use packing::{join, pack, split, unpack};
 pub use registers::Registers;
-pub use tmw_streams::{IoFault, MemorySink, MemorySource, Sink, Source, StdSink, StdSource, put_all};
+pub use tmw_streams::{
+    IoFault, MemorySink, MemorySource, Sink, Source, StdSink, StdSource, put_all,
+};

@@ -8,9 +8,9 @@ ghost use Rattle.tmw_trace.specs.TextFault.{HasBadHeader, failures_after};
 
 use crate::header::Header;
 use crate::header_line::header_of;
+use crate::trace_fault::TraceFault;
 use tmw_lines::{Held, LineEnd, Piece, next_piece, skip_line};
 use tmw_streams::Source;
-use crate::trace_fault::TraceFault;
 
 /// Reads the first line of a trace: its header, or its fault.
 pub fn first_line<S: Source>(held: &mut Held, source: &mut S) -> Result<Header, TraceFault>

@@ -1,8 +1,8 @@
 ghost use Rattle.std.specs.Prelude.{IsTrue};
 ghost use Rattle.tmw_trace.specs.Start.{is_start};
 
-use tmw_events::Registers;
 use crate::version::Version;
+use tmw_events::Registers;
 
 /// The first line of a trace: its version, how many registers the run has, and what they hold at the start.
 /// Registers past the number hold 0, and in version `One` all do.

@@ -8,9 +8,9 @@ ghost use Rattle.tmw_events.specs.declared.registers.Registers.{Registers};
 ghost use Rattle.tmw_trace.specs.Values.{HasStart, IsFirstValue, IsNoFirstValue};
 
 use crate::header::Header;
+use crate::version::Version;
 use tmw_events::{Registers, number_of};
 use tmw_lines::length_before;
-use crate::version::Version;
 
 /// The header that these bytes are the text of: a trace's first line without its line feed. `None` for all other bytes.
 pub fn header_of(bytes: &[u8]) -> Option<Header>

@@ -4,12 +4,12 @@ ghost use Rattle.tmw_trace.specs.Line.{ReadsLine, IsEventLine, IsBadLine};
 ghost use Rattle.tmw_lines.specs.Parts.{IsFree};
 ghost use Rattle.tmw_trace.specs.TextFault.{failures_after};
 
-use tmw_events::Event;
 use crate::event_line::event_of;
-use tmw_lines::{Held, LineEnd, Piece, next_piece, skip_line};
-use tmw_streams::Source;
 use crate::trace_fault::TraceFault;
 use crate::version::Version;
+use tmw_events::Event;
+use tmw_lines::{Held, LineEnd, Piece, next_piece, skip_line};
+use tmw_streams::Source;
 
 /// The greatest number of events in a trace.
 pub const MOST_EVENTS: u64 = 1 << 40;

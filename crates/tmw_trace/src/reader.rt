@@ -3,11 +3,11 @@ ghost use Rattle.tmw_streams.specs.Told.{Adds};
 ghost use Rattle.tmw_trace.specs.Text.{trace_text, AreEvents};
 ghost use Rattle.tmw_trace.specs.TextFault.{HasTextFault, failures_after};
 
-use tmw_streams::Source;
 use crate::trace::Trace;
 use crate::trace_fault::TraceFault;
 use crate::trace_lines::TraceLines;
 use std::alloc::Global;
+use tmw_streams::Source;
 
 /// Reads a whole trace, up to the source's end. Lines are judged in order, each before any further read, and the first
 /// fault is answered; a whole bad line that was delivered before a failed read comes before `Io`. `Memory` comes only

@@ -1,29 +1,14 @@
 //! What the contracts of the reader don't say: that it succeeds, and that worked texts are read as their authors meant.
-use crate::{
-    Event, Ix, Kind, MemorySource, TraceFault, TraceLines, Version, event_of, kind_of, number_of,
-    read_trace,
-};
+use crate::{TraceFault, TraceLines, Version, event_of, read_trace};
 use std::test::Fail;
+use tmw_events::{Event, Ix, Kind};
+use tmw_streams::MemorySource;
 
 const DIRTY_READ: &[u8] = b"opacity-trace 1 1\n0 W 0 1\n0 K\n1 R 0\n1 V 1\n0 T\n0 C\n1 T\n1 C\n";
 
 #[test]
-fn numbers_and_kinds_have_one_text(rt: HostRuntime) {
-    for (text, want) in [
-        (b"0".as_slice(), Some(0)),
-        (b"18446744073709551615", Some(u64::MAX)),
-        (b"18446744073709551616", None),
-        (b"", None),
-        (b"00", None),
-        (b"01", None),
-        (b"+1", None),
-        (b"1 ", None),
-    ] {
-        assert_eq!(rt; number_of(text), want);
-    }
+fn version_two_alone_has_an_add_call(rt: HostRuntime) {
     let zero = Ix::new(0).expect(&rt, "below eight");
-    assert_eq!(rt; kind_of(b"N 0 7"), Some(Kind::N(zero, 7)));
-    assert_eq!(rt; kind_of(b"R 8"), None);
     assert_eq!(rt; event_of(Version::One, b"0 N 0 7"), None);
     assert_eq!(rt;
         event_of(Version::Two, b"0 N 0 7"),

@@ -1,8 +1,8 @@
 ghost use Rattle.std.specs.Prelude.{IsTrue};
 ghost use Rattle.tmw_trace.specs.Start.{are_spoken};
 
-use tmw_events::Event;
 use crate::header::Header;
+use tmw_events::Event;
 
 /// A recorded run: a header and the events in the order in which they happened. Version `One` has no add call.
 #[derive(Debug, Drop)]

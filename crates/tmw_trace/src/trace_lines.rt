@@ -4,14 +4,14 @@ ghost use Rattle.tmw_streams.specs.Told.{Adds};
 ghost use Rattle.tmw_trace.specs.TextFault.{HasTextFault, failures_after};
 ghost use Rattle.tmw_trace.specs.declared.trace_fault.TraceFault.{TraceFault};
 
-use tmw_events::Event;
 use crate::first_line::first_line;
 use crate::header::Header;
-use tmw_lines::Held;
 use crate::next_line::next_line;
-use tmw_streams::Source;
 use crate::trace_fault::TraceFault;
 use crate::version::Version;
+use tmw_events::Event;
+use tmw_lines::Held;
+use tmw_streams::Source;
 
 /// How far a reader has come.
 #[derive(Clone, Copy)]
