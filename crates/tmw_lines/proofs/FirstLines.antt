@@ -25,7 +25,7 @@ pub take_header-none : {F H E : Type 0} (grammar : Grammar F H E) (bytes : List 
     → IsFree 10 (take count bytes) → drop count bytes ≡ 10 ∷ drop (count + 1) bytes
     → IfNone found (IsNoHeader grammar (take count bytes)) → IfNone found (HasBadHeader grammar bytes)
 take_header-none grammar bytes count None free feed bad = record {
-  first = take count bytes;
+  text = take count bytes;
   rest = drop (count + 1) bytes;
   split = line-split bytes (take count bytes) count feed refl;
   unbroken = free;
@@ -43,7 +43,7 @@ module _ {F H E S : Type 0} (grammar : Grammar F H E) (Told : S → List ℕ →
     bytes = r.bytes ++ s.bytes;
     told = Adds-more Told a b c r.bytes s.bytes r.told s.told;
     is = rw (bytes-joined Told a b before held r s.bytes) (inr record {
-      first = held ++ s.is.front;
+      text = held ++ s.is.front;
       rest = s.is.rest;
       split = ap (λ xs. held ++ xs) s.is.split ∙ simp append_assoc;
       unbroken = free-append 10 held s.is.front free s.is.free;

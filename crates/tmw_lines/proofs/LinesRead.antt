@@ -1,5 +1,5 @@
 -- What a reader of lines has read, after one line more.
-use Rattle.std.proofs.Common.{◌≡◌, ◌≢◌, ℕ, ◌+◌, ◌≤◌, List, [], ◌∷◌, ◌++◌, length, refl, sym, ap, ◌∙◌, inr, length-append, length-take, append_assoc, arith}
+use Rattle.std.proofs.Common.{◌≡◌, ℕ, ◌+◌, ◌≤◌, List, [], ◌∷◌, ◌++◌, length, refl, sym, ap, ◌∙◌, inr, length-append, length-take, append_assoc, arith}
 use Rattle.std.proofs.lemmas.Grind.{flat_map-append}
 use Rattle.std.proofs.lemmas.List.{append-nil}
 use Rattle.std.proofs.lemmas.List.Elements.{All-push}
@@ -8,7 +8,7 @@ use Rattle.tmw_lines.specs.Held.{bytes_of}
 use Rattle.tmw_lines.specs.LineRead.{IsItemLine, HasLineFault}
 use Rattle.tmw_lines.specs.Lines.{HasRead}
 use Rattle.tmw_lines.specs.Text.{line}
-use Rattle.tmw_lines.specs.TextFault.{HasTextFault}
+use Rattle.tmw_lines.specs.TextFault.{HasTextFault, HasBegun}
 use Rattle.tmw_lines.specs.declared.held.Held.{Held}
 use Rattle.tmw_lines.specs.declared.lines.Lines.{Lines}
 use Rattle.tmw_lines.specs.declared.lines.State.TheVariants.{Reading}
@@ -17,10 +17,6 @@ use Rattle.tmw_lines.specs.declared.text_fault.TextFault.TheVariants.{BadHeader,
 
 few-held : (held : Held) → length (bytes_of held) ≤ 4096
 few-held held = simp length-take (omega (arith, held.within))
-
-first_of : (xs : List ℕ) → xs ≢ [] → (x : ℕ) × (ys : List ℕ) × (xs ≡ x ∷ ys)
-first_of [] some = absurd (some refl)
-first_of (x ∷ xs) some = (x, xs, refl)
 
 module _ {F H E : Type 0} (grammar : Grammar F H E) where
   AreLines-push : (header : H) (items : List E) (item : E) → AreLines grammar header items
@@ -74,33 +70,34 @@ module _ {F H E : Type 0} (grammar : Grammar F H E) where
     few = few-held lines.held;
   }
 
+  -- what was read has begun, whatever follows
+  begun-read : (lines : Lines F) (header : H) (items : List E) (before bytes : List ℕ)
+      → HasRead grammar lines header items before → HasBegun grammar (before ++ bytes)
+  begun-read lines header items before bytes r = record {
+    header = header;
+    items = items;
+    are_lines = r.are_lines;
+    rest = bytes_of lines.held ++ bytes;
+    split = read-more lines header items before bytes r;
+  }
+
   pub text_fault-line : (Ended : Type 0) (lines : Lines F) (bytes : List ℕ) (fault : TextFault)
       → HasLineFault grammar Ended lines.format lines.count (bytes_of lines.held ++ bytes) fault
       → (header : H) (items : List E) (before : List ℕ) → HasRead grammar lines header items before
       → HasTextFault grammar Ended (before ++ bytes) fault
+  unfolding begun-read
   text_fault-line Ended lines bytes BadHeader h header items before r = absurd h
   text_fault-line Ended lines bytes (BadLine number) h header items before r = record {
-    header = header;
-    items = items;
-    are_lines = r.are_lines;
+    begun = begun-read lines header items before bytes r;
     few = omega (arith, h.0, r.counted);
-    text = h.2.text;
-    rest = h.2.rest;
-    split = read-more lines header items before bytes r ∙ ap (λ xs. lines_text grammar header items ++ xs) h.2.split
-        ∙ sym (append_assoc (lines_text grammar header items) (line h.2.text) h.2.rest);
-    unbroken = h.2.unbroken;
-    bad = rw r.format at h.2.bad;
+    bad = rw r.format at h.2;
     counted = omega (arith, h.1, r.counted);
   }
   text_fault-line Ended lines bytes (Cut number) h header items before r = (
     h.2,
     inr record {
-      header = header;
-      items = items;
-      are_lines = r.are_lines;
+      begun = begun-read lines header items before bytes r;
       few = omega (arith, h.0, r.counted);
-      piece = bytes_of lines.held ++ bytes;
-      split = read-more lines header items before bytes r;
       unbroken = h.3;
       some = h.4;
       counted = omega (arith, h.1, r.counted);
@@ -108,22 +105,12 @@ module _ {F H E : Type 0} (grammar : Grammar F H E) where
   )
   text_fault-line Ended lines bytes Memory h header items before r = absurd h
   text_fault-line Ended lines bytes Io h header items before r = inr record {
-    header = header;
-    items = items;
-    are_lines = r.are_lines;
-    rest = bytes_of lines.held ++ bytes;
-    split = read-more lines header items before bytes r;
+    begun = begun-read lines header items before bytes r;
     unbroken = h.0;
     none = λ many. h.1 (r.counted ∙ many);
   }
-  text_fault-line Ended lines bytes TooLong h header items before r =
-      let some = first_of (bytes_of lines.held ++ bytes) h.1 in
-      record {
-        header = header;
-        items = items;
-        are_lines = r.are_lines;
-        many = sym r.counted ∙ h.0;
-        next = some.0;
-        rest = some.1;
-        split = read-more lines header items before bytes r ∙ ap (λ xs. lines_text grammar header items ++ xs) some.2;
-      }
+  text_fault-line Ended lines bytes TooLong h header items before r = record {
+    begun = begun-read lines header items before bytes r;
+    many = sym r.counted ∙ h.0;
+    some = h.1;
+  }

@@ -1,7 +1,8 @@
 -- One line of an item: held whole, or longer than can be held.
 use Rattle.std.proofs.Common.{◌≡◌, ℕ, ◌+◌, ◌<◌, ◌≤◌, ◌^◌, Option, Some, None, IfSome, IfNone, Err, List, ◌∷◌, ◌++◌, length, take, drop, refl, ap, ◌∙◌, length-append, append_assoc, arith}
 use Rattle.tmw_lines.specs.Grammar.{Grammar, IsNoItem}
-use Rattle.tmw_lines.specs.LineRead.{IsItemLine, IsBadLine, ReadsLine}
+use Rattle.tmw_lines.specs.LineRead.{IsItemLine, ReadsLine}
+use Rattle.tmw_lines.specs.TextFault.{IsBadLine}
 use Rattle.tmw_lines.specs.LongLine.{Skips}
 use Rattle.tmw_lines.specs.Parts.{IsFree}
 use Rattle.tmw_lines.specs.Piece.{Reads}

@@ -1,8 +1,8 @@
 -- What one line of a text gives: a header, an item, the end, or a fault.
 use Rattle.std.specs.Prelude.{◌≡◌, ◌≢◌, ℕ, ◌+◌, ◌<◌, ◌^◌, Option, Some, None, Result, Ok, Err, List, [], ◌++◌}
-use Rattle.tmw_lines.specs.Grammar.{Grammar, IsNoItem}
+use Rattle.tmw_lines.specs.Grammar.{Grammar}
 use Rattle.tmw_lines.specs.Text.{line}
-use Rattle.tmw_lines.specs.TextFault.{IsUnbroken, HasTextFault}
+use Rattle.tmw_lines.specs.TextFault.{IsUnbroken, IsBadLine, HasTextFault}
 use Rattle.tmw_lines.specs.declared.text_fault.TextFault.{TextFault}
 use Rattle.tmw_lines.specs.declared.text_fault.TextFault.TheVariants.{BadHeader, BadLine, Cut, Memory, Io, TooLong}
 use Rattle.tmw_streams.specs.Told.{Adds}
@@ -11,14 +11,6 @@ use Rattle.tmw_streams.specs.Told.{Adds}
 pub record IsItemLine {F H E : Type 0} (grammar : Grammar F H E) (format : F) (item : E) (bytes left : List ℕ) : Type 0 where
   pub split : bytes ≡ line (grammar.item_text item) ++ left
   pub fits : grammar.FitsItem format item
-
--- the bytes begin with a whole line that is no item of the format
-pub record IsBadLine {F H E : Type 0} (grammar : Grammar F H E) (format : F) (bytes : List ℕ) : Type 0 where
-  pub text : List ℕ
-  pub rest : List ℕ
-  pub split : bytes ≡ line text ++ rest
-  pub unbroken : IsUnbroken text
-  pub bad : IsNoItem grammar format text
 
 -- the bytes that follow so many items' lines have this fault; `Ended` says that the source has
 abbrev pub HasLineFault : {F H E : Type 0} → Grammar F H E → Type 0 → F → ℕ → List ℕ → TextFault → Type 0

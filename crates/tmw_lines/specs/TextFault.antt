@@ -1,5 +1,5 @@
 -- Which fault a text of lines has. Lines are judged in order, and the first fault counts.
-use Rattle.std.specs.Prelude.{◌≡◌, ◌≢◌, ℕ, ◌+◌, ◌<◌, ◌^◌, ◌⊎◌, List, [], ◌∷◌, ◌++◌, length}
+use Rattle.std.specs.Prelude.{◌≡◌, ◌≢◌, ℕ, ◌+◌, ◌<◌, ◌^◌, ◌⊎◌, List, [], ◌++◌, length}
 use Rattle.tmw_lines.specs.Grammar.{Grammar, lines_text, AreLines, IsNoHeader, IsNoItem}
 use Rattle.tmw_lines.specs.Parts.{IsFree}
 use Rattle.tmw_lines.specs.Text.{line}
@@ -11,52 +11,21 @@ use Rattle.tmw_streams.specs.Told.{one_more}
 abbrev pub IsUnbroken : List ℕ → Type 0
 IsUnbroken bytes = IsFree 10 bytes
 
--- the bytes begin with a whole line that is no header
-pub record HasBadHeader {F H E : Type 0} (grammar : Grammar F H E) (bytes : List ℕ) : Type 0 where
-  pub first : List ℕ
-  pub rest : List ℕ
-  pub split : bytes ≡ line first ++ rest
-  pub unbroken : IsUnbroken first
-  pub bad : IsNoHeader grammar first
-
--- after a header and fewer than 2^40 items' lines comes a whole line that is no item; lines are counted from 1
-pub record HasBadLine {F H E : Type 0} (grammar : Grammar F H E) (bytes : List ℕ) (number : ℕ) : Type 0 where
-  pub header : H
-  pub items : List E
-  pub are_lines : AreLines grammar header items
-  pub few : length items < 2 ^ 40
+-- the bytes begin with a whole line whose text is bad
+pub record BeginsWithBad (IsBad : List ℕ → Type 0) (bytes : List ℕ) : Type 0 where
   pub text : List ℕ
   pub rest : List ℕ
-  pub split : bytes ≡ lines_text grammar header items ++ line text ++ rest
+  pub split : bytes ≡ line text ++ rest
   pub unbroken : IsUnbroken text
-  pub bad : IsNoItem grammar (grammar.format_of header) text
-  pub counted : number ≡ length items + 2
+  pub bad : IsBad text
 
--- after a header and fewer than 2^40 items' lines come bytes, at least one, and no line feed
-pub record EndsInPiece {F H E : Type 0} (grammar : Grammar F H E) (bytes : List ℕ) (number : ℕ) : Type 0 where
-  pub header : H
-  pub items : List E
-  pub are_lines : AreLines grammar header items
-  pub few : length items < 2 ^ 40
-  pub piece : List ℕ
-  pub split : bytes ≡ lines_text grammar header items ++ piece
-  pub unbroken : IsUnbroken piece
-  pub some : piece ≢ []
-  pub counted : number ≡ length items + 2
+-- the bytes begin with a whole line that is no header
+abbrev pub HasBadHeader : {F H E : Type 0} → Grammar F H E → List ℕ → Type 0
+HasBadHeader grammar bytes = BeginsWithBad (IsNoHeader grammar) bytes
 
--- after a header and 2^40 items' lines comes one more byte
-pub record IsTooLong {F H E : Type 0} (grammar : Grammar F H E) (bytes : List ℕ) : Type 0 where
-  pub header : H
-  pub items : List E
-  pub are_lines : AreLines grammar header items
-  pub many : length items ≡ 2 ^ 40
-  pub next : ℕ
-  pub rest : List ℕ
-  pub split : bytes ≡ lines_text grammar header items ++ next ∷ rest
-
--- the last piece, which has this number, lacks its line feed
-abbrev pub IsCut : {F H E : Type 0} → Grammar F H E → List ℕ → ℕ → Type 0
-IsCut grammar bytes number = ((number ≡ 1) × (bytes ≢ []) × IsUnbroken bytes) ⊎ EndsInPiece grammar bytes number
+-- the bytes begin with a whole line that is no item of the format
+abbrev pub IsBadLine : {F H E : Type 0} → Grammar F H E → F → List ℕ → Type 0
+IsBadLine grammar format bytes = BeginsWithBad (IsNoItem grammar format) bytes
 
 -- a header and items' lines, and then whatever follows
 pub record HasBegun {F H E : Type 0} (grammar : Grammar F H E) (bytes : List ℕ) : Type 0 where
@@ -66,15 +35,36 @@ pub record HasBegun {F H E : Type 0} (grammar : Grammar F H E) (bytes : List ℕ
   pub rest : List ℕ
   pub split : bytes ≡ lines_text grammar header items ++ rest
 
+-- after a header and fewer than 2^40 items' lines comes a whole line that is no item; lines are counted from 1
+pub record HasBadLine {F H E : Type 0} (grammar : Grammar F H E) (bytes : List ℕ) (number : ℕ) : Type 0 where
+  pub begun : HasBegun grammar bytes
+  pub few : length begun.items < 2 ^ 40
+  pub bad : IsBadLine grammar (grammar.format_of begun.header) begun.rest
+  pub counted : number ≡ length begun.items + 2
+
+-- after a header and fewer than 2^40 items' lines come bytes, at least one, and no line feed
+pub record EndsInPiece {F H E : Type 0} (grammar : Grammar F H E) (bytes : List ℕ) (number : ℕ) : Type 0 where
+  pub begun : HasBegun grammar bytes
+  pub few : length begun.items < 2 ^ 40
+  pub unbroken : IsUnbroken begun.rest
+  pub some : begun.rest ≢ []
+  pub counted : number ≡ length begun.items + 2
+
+-- after a header and 2^40 items' lines comes one more byte
+pub record IsTooLong {F H E : Type 0} (grammar : Grammar F H E) (bytes : List ℕ) : Type 0 where
+  pub begun : HasBegun grammar bytes
+  pub many : length begun.items ≡ 2 ^ 40
+  pub some : begun.rest ≢ []
+
 -- a header and items' lines, and then less than a line, which is nothing after 2^40 of them
 pub record EndsInOrder {F H E : Type 0} (grammar : Grammar F H E) (bytes : List ℕ) : Type 0 where
-  pub header : H
-  pub items : List E
-  pub are_lines : AreLines grammar header items
-  pub rest : List ℕ
-  pub split : bytes ≡ lines_text grammar header items ++ rest
-  pub unbroken : IsUnbroken rest
-  pub none : length items ≡ 2 ^ 40 → rest ≡ []
+  pub begun : HasBegun grammar bytes
+  pub unbroken : IsUnbroken begun.rest
+  pub none : length begun.items ≡ 2 ^ 40 → begun.rest ≡ []
+
+-- the last piece, which has this number, lacks its line feed
+abbrev pub IsCut : {F H E : Type 0} → Grammar F H E → List ℕ → ℕ → Type 0
+IsCut grammar bytes number = ((number ≡ 1) × (bytes ≢ []) × IsUnbroken bytes) ⊎ EndsInPiece grammar bytes number
 
 -- the bytes told so far show no fault
 abbrev pub IsFaultless : {F H E : Type 0} → Grammar F H E → List ℕ → Type 0

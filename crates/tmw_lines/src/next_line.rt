@@ -1,7 +1,7 @@
 ghost use Rattle.std.specs.Prelude.{◌≡◌, ◌<◌, ◌≤◌, ◌+◌, ◌^◌, ◌∷◌, None, length, take, drop, IfSome, IfNone, IfOk, IfErr, OnOk, OnSome};
 ghost use Rattle.tmw_lines.specs.Held.{bytes_of};
-ghost use Rattle.tmw_lines.specs.LineRead.{ReadsLine, IsItemLine, IsBadLine};
-ghost use Rattle.tmw_lines.specs.TextFault.{IsUnbroken, failures_after};
+ghost use Rattle.tmw_lines.specs.LineRead.{ReadsLine, IsItemLine};
+ghost use Rattle.tmw_lines.specs.TextFault.{IsUnbroken, IsBadLine, failures_after};
 
 use crate::held::Held;
 use crate::line_format::LineFormat;

@@ -1,27 +1,12 @@
 -- The three numbers of a size, one after the other, and when a text is the text of no size.
-use Rattle.std.proofs.Common.{◌≡◌, ◌≢◌, ℕ, ◌<◌, ◌^◌, true, List, [], ◌∷◌, ◌++◌, length, drop, sym, ap, ◌∙◌, length-drop, take-append-drop, arith}
+use Rattle.std.proofs.Common.{◌≡◌, ◌≢◌, ℕ, List, [], ◌∷◌, ◌++◌, length, drop, ap, ◌∙◌, length-drop, arith}
 use Rattle.std.specs.Fmt.{decimal}
 use Rattle.std.proofs.lemmas.List.{drop_all}
-use Rattle.tmw_lines.specs.Parts.{is_next}
 use Rattle.tmw_trace.specs.Text.{values_text}
 use Rattle.tmw_trace.specs.Values.{IsFirstValue, IsNoFirstValue}
-use Rattle.tmw_lines.proofs.Splits.{free-decimal, split_free}
-use Rattle.tmw_trace.proofs.ValueParts.{next-values}
-use Rattle.tmw_ring_defs.specs.declared.ring_size.RingSize.{RingSize}
+use Rattle.tmw_trace.proofs.ValueParts.{next-values, value-split, value-rest}
+use Rattle.tmw_steps.specs.declared.size_line.SizeLine.{SizeLine}
 use Rattle.tmw_steps.specs.StepText.{size_numbers, FitsSize}
-
--- the first value, and what follows it
-value-split : (value count : ℕ) (bytes : List ℕ) → IsFirstValue value count bytes
-    → bytes ≡ (32 ∷ decimal value) ++ drop count bytes
-value-split value count bytes first = sym (rw first.text at (take-append-drop count bytes))
-
--- only one list of bytes follows a value at the front
-value-rest : (value count : ℕ) (bytes : List ℕ) (other : ℕ) (rest : List ℕ) → IsFirstValue value count bytes
-    → other < 2 ^ 64 → is_next 32 rest ≡ true → bytes ≡ 32 ∷ decimal other ++ rest → drop count bytes ≡ rest
-value-rest value count bytes other rest first small next is =
-    (split_free 32 (decimal value) (decimal other) (drop count bytes) rest (free-decimal 32 value (omega arith) first.small)
-    (free-decimal 32 other (omega arith) small) first.parted next
-    (ap (λ xs. drop 1 xs) (sym (value-split value count bytes first) ∙ is))).1
 
 pub numbers-some : (bytes : List ℕ) (a b c n m k : ℕ) → IsFirstValue a n bytes → IsFirstValue b m (drop n bytes)
     → IsFirstValue c k (drop m (drop n bytes)) → k ≡ length (drop m (drop n bytes))
@@ -33,38 +18,38 @@ numbers-some bytes a b c n m k first second third all =
     ∙ ap (λ xs. (32 ∷ decimal b) ++ xs) (value-split c k (drop m (drop n bytes)) third
     ∙ ap (λ xs. (32 ∷ decimal c) ++ xs) last))
 
-pub no_cells : (bytes : List ℕ) → IsNoFirstValue bytes → (size : RingSize) → FitsSize size
+pub no_cells : (bytes : List ℕ) → IsNoFirstValue bytes → (size : SizeLine) → FitsSize size
     → bytes ≡ values_text (size_numbers size) → ⊥
 no_cells bytes none size fits is =
     none size.cells (values_text (size.writers ∷ size.limit ∷ [])) fits.cells (next-values (size.writers ∷ size.limit ∷ [])) is
 
-after_cells : (bytes : List ℕ) (a n : ℕ) → IsFirstValue a n bytes → (size : RingSize) → FitsSize size
+after_cells : (bytes : List ℕ) (a n : ℕ) → IsFirstValue a n bytes → (size : SizeLine) → FitsSize size
     → bytes ≡ values_text (size_numbers size) → drop n bytes ≡ values_text (size.writers ∷ size.limit ∷ [])
 after_cells bytes a n first size fits is =
     value-rest a n bytes size.cells (values_text (size.writers ∷ size.limit ∷ [])) first fits.cells
     (next-values (size.writers ∷ size.limit ∷ [])) is
 
 pub no_writers : (bytes : List ℕ) (a n : ℕ) → IsFirstValue a n bytes → IsNoFirstValue (drop n bytes)
-    → (size : RingSize) → FitsSize size → bytes ≡ values_text (size_numbers size) → ⊥
+    → (size : SizeLine) → FitsSize size → bytes ≡ values_text (size_numbers size) → ⊥
 no_writers bytes a n first none size fits is =
     none size.writers (values_text (size.limit ∷ [])) fits.writers (next-values (size.limit ∷ []))
     (after_cells bytes a n first size fits is)
 
 after_writers : (bytes : List ℕ) (a b n m : ℕ) → IsFirstValue a n bytes → IsFirstValue b m (drop n bytes)
-    → (size : RingSize) → FitsSize size → bytes ≡ values_text (size_numbers size)
+    → (size : SizeLine) → FitsSize size → bytes ≡ values_text (size_numbers size)
     → drop m (drop n bytes) ≡ values_text (size.limit ∷ [])
 after_writers bytes a b n m first second size fits is =
     value-rest b m (drop n bytes) size.writers (values_text (size.limit ∷ [])) second fits.writers
     (next-values (size.limit ∷ [])) (after_cells bytes a n first size fits is)
 
 pub no_limit : (bytes : List ℕ) (a b n m : ℕ) → IsFirstValue a n bytes → IsFirstValue b m (drop n bytes)
-    → IsNoFirstValue (drop m (drop n bytes)) → (size : RingSize) → FitsSize size
+    → IsNoFirstValue (drop m (drop n bytes)) → (size : SizeLine) → FitsSize size
     → bytes ≡ values_text (size_numbers size) → ⊥
 no_limit bytes a b n m first second none size fits is =
     none size.limit (values_text []) fits.limit (next-values []) (after_writers bytes a b n m first second size fits is)
 
 pub no_more : (bytes : List ℕ) (a b c n m k : ℕ) → IsFirstValue a n bytes → IsFirstValue b m (drop n bytes)
-    → IsFirstValue c k (drop m (drop n bytes)) → k ≢ length (drop m (drop n bytes)) → (size : RingSize) → FitsSize size
+    → IsFirstValue c k (drop m (drop n bytes)) → k ≢ length (drop m (drop n bytes)) → (size : SizeLine) → FitsSize size
     → bytes ≡ values_text (size_numbers size) → ⊥
 no_more bytes a b c n m k first second third more size fits is =
     let last = value-rest c k (drop m (drop n bytes)) size.limit (values_text []) third fits.limit (next-values [])

@@ -1,10 +1,10 @@
 -- That a text of steps has one size and one list of steps.
 use Rattle.std.specs.Prelude.{◌≡◌, ℕ, List}
-use Rattle.tmw_ring_defs.specs.declared.ring_size.RingSize.{RingSize}
+use Rattle.tmw_steps.specs.declared.size_line.SizeLine.{SizeLine}
 use Rattle.tmw_ring_defs.specs.declared.ring_step.Step.{Step}
 use Rattle.tmw_steps.specs.Running.{IsText}
 
 -- Two lists of steps with one text have the same size and the same steps.
 abbrev pub StepsLaw : Type 0
-StepsLaw = (bytes : List ℕ) (size other_size : RingSize) (steps other_steps : List Step) → IsText bytes size steps
+StepsLaw = (bytes : List ℕ) (size other_size : SizeLine) (steps other_steps : List Step) → IsText bytes size steps
     → IsText bytes other_size other_steps → (size ≡ other_size) × (steps ≡ other_steps)

@@ -1,7 +1,8 @@
 -- What `steps` promises: from the bytes that its source tells to what its sink takes and the exit status.
 use Rattle.std.specs.Prelude.{◌≡◌, ◌⊎◌, ℕ, List, length, Result, Ok, Err}
 use Rattle.tmw_streams.specs.Told.{Adds}
-use Rattle.tmw_trace.specs.declared.trace_fault.TraceFault.{TraceFault}
+use Rattle.tmw_lines.specs.TextFault.{HasTextFault}
+use Rattle.tmw_lines.specs.declared.text_fault.TextFault.{TextFault}
 use Rattle.tmw_ring_defs.specs.Ring.{HasRoom, HasLimit, IsSize}
 use Rattle.tmw_ring_defs.specs.RingMachine.{new_machine, after, replies}
 use Rattle.tmw_ring_defs.specs.declared.ring_size.RingSize.{RingSize}
@@ -11,45 +12,49 @@ use Rattle.tmw_report.specs.Putting.{IsPut, fault_of, failures_behind}
 use Rattle.tmw_report.specs.declared.fault.Fault.{Fault}
 use Rattle.tmw_report.specs.declared.fault.Fault.TheVariants.{Size, Limit, Memory}
 use Rattle.tmw_steps.specs.ReplyText.{replies_text}
-use Rattle.tmw_steps.specs.StepFault.{HasStepsFault}
-use Rattle.tmw_steps.specs.StepText.{steps_text, AreSteps}
+use Rattle.tmw_steps.specs.StepText.{steps_grammar, steps_text, AreSteps}
 use Rattle.tmw_steps.specs.declared.run.Run.{Run}
+use Rattle.tmw_steps.specs.declared.size_line.SizeLine.{SizeLine}
+
+-- The size that a first line tells.
+abbrev pub ring_size : SizeLine → RingSize
+ring_size size = record { cells = size.cells; writers = size.writers; limit = size.limit }
 
 -- Of these steps a new ring's machine of this size makes this run.
-pub record IsRunOf (size : RingSize) (steps : List Step) (run : Run) : Type 0 where
-  pub sized : IsSize size
-  pub replies : run.replies.items ≡ replies steps (new_machine size)
-  pub log : run.log ≡ length (after steps (new_machine size)).core.log
-  pub taken : run.taken ≡ length (after steps (new_machine size)).core.taken
+pub record IsRunOf (size : SizeLine) (steps : List Step) (run : Run) : Type 0 where
+  pub sized : IsSize (ring_size size)
+  pub replies : run.replies.items ≡ replies steps (new_machine (ring_size size))
+  pub log : run.log ≡ length (after steps (new_machine (ring_size size))).core.log
+  pub taken : run.taken ≡ length (after steps (new_machine (ring_size size))).core.taken
 
 -- No ring has this size, and the fault says why: its number of cells or of writers, or else its limit of places.
-abbrev pub IsRefused : RingSize → Fault → Type 0
+abbrev pub IsRefused : SizeLine → Fault → Type 0
 IsRefused size fault =
-    ((fault ≡ Size) × (HasRoom size → ⊥)) ⊎ ((fault ≡ Limit) × HasRoom size × (HasLimit size → ⊥))
+    ((fault ≡ Size) × (HasRoom (ring_size size) → ⊥)) ⊎ ((fault ≡ Limit) × HasRoom (ring_size size) × (HasLimit (ring_size size) → ⊥))
 
 -- What the machine makes of these steps; `Memory` answers want of memory, of which only tests show that a growth was refused.
-abbrev pub IsMade : RingSize → List Step → Result Run Fault → Type 0
+abbrev pub IsMade : SizeLine → List Step → Result Run Fault → Type 0
 IsMade size steps (Ok run) = IsRunOf size steps run
 IsMade size steps (Err fault) = IsRefused size fault ⊎ (fault ≡ Memory)
 
 -- The bytes are the text of a size and steps.
-pub record IsText (bytes : List ℕ) (size : RingSize) (steps : List Step) : Type 0 where
+pub record IsText (bytes : List ℕ) (size : SizeLine) (steps : List Step) : Type 0 where
   pub are_steps : AreSteps size steps
   pub text : bytes ≡ steps_text size steps
 
 -- The bytes have this fault of a text.
 abbrev pub HasFault : Type 0 → List ℕ → Fault → Type 0
-HasFault Ended bytes fault = (told : TraceFault) × (fault ≡ fault_of told) × HasStepsFault Ended bytes told
+HasFault Ended bytes fault = (told : TextFault) × (fault ≡ fault_of told) × HasTextFault steps_grammar Ended bytes told
 
 -- This answers the bytes that a source told, which are all its bytes where `Ended` holds: the run of the steps of which they are
 -- the text, and there is but one such list (`law_steps`); that no ring has the size that they give; or the first fault that they
 -- have. `Io` answers a failed read after bytes that have no fault, and `Memory` want of memory, of which only tests show that a
 -- growth was refused.
 abbrev pub IsAnswer : Type 0 → List ℕ → Result Run Fault → Type 0
-IsAnswer Ended bytes (Ok run) = Ended × (size : RingSize) × (steps : List Step) × IsText bytes size steps × IsRunOf size steps run
+IsAnswer Ended bytes (Ok run) = Ended × (size : SizeLine) × (steps : List Step) × IsText bytes size steps × IsRunOf size steps run
 IsAnswer Ended bytes (Err fault) =
     HasFault Ended bytes fault
-    ⊎ (Ended × (size : RingSize) × (steps : List Step) × IsText bytes size steps × IsRefused size fault)
+    ⊎ (Ended × (size : SizeLine) × (steps : List Step) × IsText bytes size steps × IsRefused size fault)
 
 -- A source's count of failures after this answer: one more for a failed read, else as before.
 abbrev pub failures_after_answer : Result Run Fault → ℕ → ℕ

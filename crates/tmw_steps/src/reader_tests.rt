@@ -1,8 +1,9 @@
 //! What the contracts of the reader don't say: that it succeeds, and that worked texts are read as their authors meant.
+use crate::size_line::SizeLine;
 use crate::{read_steps, size_of, step_of};
 use std::test::Fail;
-use tmw_ring_defs::{RingSize, Step};
 use tmw_events::{Ix, Kind};
+use tmw_ring_defs::Step;
 use tmw_streams::MemorySource;
 use tmw_trace::TraceFault;
 
@@ -91,7 +92,7 @@ fn sizes_have_one_text(rt: HostRuntime) {
     ] {
         assert_eq!(rt;
             size_of(text),
-            Some(RingSize {
+            Some(SizeLine {
                 cells,
                 writers,
                 limit
@@ -125,7 +126,7 @@ fn steps_are_read_in_any_pieces(rt: HostRuntime) -> Result<(), Fail> {
         let list = read_steps(rt.alloc(), &mut source)?;
         assert_eq!(rt;
             list.size,
-            RingSize {
+            SizeLine {
                 cells: 4,
                 writers: 2,
                 limit: 100

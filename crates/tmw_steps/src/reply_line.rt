@@ -5,8 +5,8 @@ ghost use Rattle.tmw_ring_defs.specs.declared.ring_step.Reply.TheVariants.{Taken
 ghost use Rattle.tmw_steps.specs.ReplyText.{reply_text, counts_text, replies_text};
 
 use itoa::Buffer;
-use tmw_ring_defs::Reply;
 use tmw_events::{Event, put_event};
+use tmw_ring_defs::Reply;
 use tmw_streams::{IoFault, Sink, put_all};
 
 /// Writes a line for each reply, and then the line that counts the places that were claimed, `log`, and the events that

@@ -1,7 +1,7 @@
 //! What the contracts of the writer don't say: that it succeeds, and that each reply's line is the one that was meant.
 use crate::put_replies;
-use tmw_ring_defs::Reply;
 use tmw_events::{Event, Ix, Kind};
+use tmw_ring_defs::Reply;
 use tmw_streams::{IoFault, MemorySink};
 
 const LINES: &[u8] =

@@ -6,9 +6,9 @@ use crate::reader::read_steps;
 use crate::reply_line::put_replies;
 use crate::step_list::StepList;
 use std::alloc::Global;
-use tmw_streams::{Sink, Source};
 use tmw_report::{FAULT_STATUS, Fault, answer_fault, fault_of};
 use tmw_ring_steps::{Reply, RingFault, Sim};
+use tmw_streams::{Sink, Source};
 
 /// How a list of steps was answered, with the lengths of the log and of the list of events that were taken, after them.
 #[derive(Debug, Drop)]

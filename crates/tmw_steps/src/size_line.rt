@@ -1,18 +1,24 @@
 ghost use Rattle.std.specs.Prelude.{◌≡◌, IfSome, IfNone};
 ghost use Rattle.tmw_trace.specs.Text.{values_text};
-ghost use Rattle.tmw_ring_defs.specs.declared.ring_size.RingSize.{RingSize};
-ghost use Rattle.tmw_steps.specs.StepFault.{IsNoSize};
-ghost use Rattle.tmw_steps.specs.StepText.{size_numbers, size_text, FitsSize};
+ghost use Rattle.tmw_lines.specs.Grammar.{IsNoHeader};
+ghost use Rattle.tmw_steps.specs.StepText.{size_numbers, size_text, steps_grammar, FitsSize};
 
-use tmw_ring_defs::RingSize;
 use tmw_trace::first_value;
+
+/// The numbers of a first line: those of a ring's cells, of its writers and of its places in all. No ring may have them, or one may.
+#[derive(Clone, Copy, PartialEq, Eq, Debug)]
+pub struct SizeLine {
+    pub cells: u64,
+    pub writers: u64,
+    pub limit: u64,
+}
 
 /// The size that these bytes are the text of: the first line without its line feed. `None` for all other bytes. Whether a
 /// ring may have this size is not asked.
-pub fn size_of(bytes: &[u8]) -> Option<RingSize>
+pub fn size_of(bytes: &[u8]) -> Option<SizeLine>
     ensures some { IfSome result (λ size. bytes.now ≡ size_text size) }
     ensures fits { IfSome result FitsSize }
-    ensures none { IfNone result (IsNoSize bytes.now) }
+    ensures none { IfNone result (IsNoHeader steps_grammar bytes.now) }
 {
     match bytes {
         [
@@ -35,10 +41,10 @@ pub fn size_of(bytes: &[u8]) -> Option<RingSize>
 }
 
 /// The size whose numbers these bytes are the text of, each after one space.
-fn numbers_of(bytes: &[u8]) -> Option<RingSize>
+fn numbers_of(bytes: &[u8]) -> Option<SizeLine>
     ensures some { IfSome result (λ size. bytes.now ≡ values_text (size_numbers size)) }
     ensures fits { IfSome result FitsSize }
-    ensures none { IfNone result ((size : RingSize) → FitsSize size → bytes.now ≡ values_text (size_numbers size) → ⊥) }
+    ensures none { IfNone result ((size : SizeLine) → FitsSize size → bytes.now ≡ values_text (size_numbers size) → ⊥) }
 {
     let Some((cells, first)) = first_value(bytes) else {
         return None;
@@ -52,7 +58,7 @@ fn numbers_of(bytes: &[u8]) -> Option<RingSize>
         return None;
     };
     if third == after_writers.len() {
-        Some(RingSize {
+        Some(SizeLine {
             cells,
             writers,
             limit,

@@ -1,8 +1,9 @@
-use tmw_ring_defs::{RingSize, Step};
+use crate::size_line::SizeLine;
+use tmw_ring_defs::Step;
 
 /// Steps of a ring of this size, in the order in which its actors make them.
 #[derive(Debug, Drop)]
 pub struct StepList {
-    pub size: RingSize,
+    pub size: SizeLine,
     pub steps: Vec<Step>,
 }

@@ -1,11 +1,11 @@
 -- What `judge` promises: from the bytes that its source tells to the line that its sink takes and the exit status.
 use Rattle.std.specs.Prelude.{◌≡◌, ℕ, List, length, Result, Ok, Err}
-use Rattle.tmw_trace.specs.Text.{trace_text, AreEvents}
-use Rattle.tmw_trace.specs.TextFault.{HasTextFault}
+use Rattle.tmw_lines.specs.TextFault.{HasTextFault}
+use Rattle.tmw_lines.specs.declared.text_fault.TextFault.{TextFault}
+use Rattle.tmw_trace.specs.Text.{trace_grammar, trace_text, AreEvents}
 use Rattle.tmw_streams.specs.Told.{Adds}
 use Rattle.tmw_events.specs.declared.event.Event.{Event}
 use Rattle.tmw_trace.specs.declared.header.Header.{Header}
-use Rattle.tmw_trace.specs.declared.trace_fault.TraceFault.{TraceFault}
 use Rattle.tmw_defs.specs.declared.verdict.Verdict.{Verdict}
 use Rattle.tmw_defs.specs.Verdict.{IsVerdict}
 use Rattle.tmw_monitor.specs.declared.bounds.Bounds.{Bounds}
@@ -29,7 +29,7 @@ pub record IsReportOf (bounds : Bounds) (bytes : List ℕ) (report : Report) : T
 -- `Memory` a growth that was refused.
 abbrev pub IsAnswer : Type 0 → Bounds → List ℕ → Result Report Fault → Type 0
 IsAnswer Ended bounds bytes (Ok report) = Ended × IsReportOf bounds bytes report
-IsAnswer Ended bounds bytes (Err fault) = (told : TraceFault) × (fault ≡ fault_of told) × HasTextFault Ended bytes told
+IsAnswer Ended bounds bytes (Err fault) = (told : TextFault) × (fault ≡ fault_of told) × HasTextFault trace_grammar Ended bytes told
 
 -- A source's count of failures after this answer: one more for a failed read, else as before.
 abbrev pub failures_behind : Result Report Fault → ℕ → ℕ

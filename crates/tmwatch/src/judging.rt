@@ -4,10 +4,10 @@ ghost use Rattle.tmwatch.specs.Judging.{IsAnswer, failures_behind};
 
 use crate::report::Report;
 use std::alloc::Global;
-use tmw_streams::Source;
-use tmw_trace::TraceLines;
 use tmw_monitor::{Bounds, Monitor};
 use tmw_report::{Fault, fault_of};
+use tmw_streams::Source;
+use tmw_trace::TraceLines;
 
 /// Reads a trace up to the source's end, and judges each event as its line is read. No event is kept, so the memory depends on
 /// the transactions since the last cut and not on the trace's length. Where memory is refused, nothing is read after it.

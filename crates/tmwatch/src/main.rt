@@ -18,9 +18,9 @@ use run::run_judge;
 use std::io::ErrorKind as IoErrorKind;
 use std::process::ExitCode;
 use std::{env, io};
-use tmw_streams::{Sink, StdSink, StdSource};
 use tmw_report::{FAULT_STATUS, Fault, answer_fault};
 use tmw_steps::run_steps;
+use tmw_streams::{Sink, StdSink, StdSource};
 use words::read_words;
 
 fn main(rt: HostRuntime) -> ExitCode {

@@ -5,9 +5,9 @@ ghost use Rattle.tmwatch.specs.Judging.{IsPut, Runs};
 use crate::judging::judge;
 use crate::report::Report;
 use std::alloc::Global;
-use tmw_streams::{Sink, Source, put_all};
 use tmw_monitor::Bounds;
 use tmw_report::{FAULT_STATUS, Fault, answer_fault, report_text, status_of};
+use tmw_streams::{Sink, Source, put_all};
 
 /// Judges the trace that the source tells within these bounds, and writes the line that answers it. The result is the exit
 /// status: 0 for a history that is opaque so far, 1 for one that is violated, 2 for one that is undecided, 3 for one that is

@@ -3,8 +3,8 @@ use crate::run::run_judge;
 use std::alloc::{AllocError, Global};
 use std::process::Abort;
 use std::test::Fail;
-use tmw_streams::{MemorySink, MemorySource};
 use tmw_monitor::Bounds;
+use tmw_streams::{MemorySink, MemorySource};
 
 mod streams;
 

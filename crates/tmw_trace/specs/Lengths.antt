@@ -6,8 +6,8 @@ use Rattle.std.proofs.lemmas.Fmt.{length-decimal-le}
 use Rattle.std.proofs.lemmas.List.{length-take-le}
 use Rattle.std.proofs.lemmas.List.Elements.{All-take, recursion_from_All}
 use Rattle.tmw_events.specs.Text.{kind_text, event_text, FitsKind}
-use Rattle.tmw_trace.specs.Text.{values_text, initial_text, header_text, FitsHeader}
-use Rattle.tmw_trace.specs.TextFault.{IsNoEvent, IsNoHeader}
+use Rattle.tmw_lines.specs.Grammar.{IsNoHeader, IsNoItem}
+use Rattle.tmw_trace.specs.Text.{values_text, initial_text, header_text, trace_grammar, FitsHeader}
 use Rattle.tmw_events.specs.declared.event.Event.{Event}
 use Rattle.tmw_events.specs.declared.event.Kind.{Kind}
 use Rattle.tmw_events.specs.declared.event.Kind.TheVariants.{R, V, W, K, T, C, X, A, N}
@@ -29,9 +29,9 @@ length-kind_text X fits = omega arith
 length-kind_text A fits = omega arith
 length-kind_text (N r v) fits = omega (arith, length-decimal v fits)
 
-pub long_no_event : (version : Version) (text : List ℕ) → 4096 ≤ length text → IsNoEvent version text
-long_no_event version text long = λ event fits spoken is.
-    absurd (omega (arith, ap length is, length-kind_text event.kind fits))
+pub long_no_event : (version : Version) (text : List ℕ) → 4096 ≤ length text → IsNoItem trace_grammar version text
+long_no_event version text long = λ event fits is.
+    absurd (omega (arith, ap length is, length-kind_text event.kind fits.0))
 
 length-values_text : (values : List ℕ) → AllByRecursion (λ value. value < 2 ^ 64) values
     → length (values_text values) ≤ 21 * length values
@@ -45,7 +45,7 @@ length-initial_text One values few fit = omega arith
 length-initial_text Two values few fit =
     omega (arith, length-values_text values (recursion_from_All (λ value. value < 2 ^ 64) values fit))
 
-pub long_no_header : (text : List ℕ) → 4096 ≤ length text → IsNoHeader text
+pub long_no_header : (text : List ℕ) → 4096 ≤ length text → IsNoHeader trace_grammar text
 long_no_header text long = λ header fits is.
     let n = header.registers.number in
     let counted = length-take-le n header.initial (omega (arith, fits.0, header.registers.most)) in

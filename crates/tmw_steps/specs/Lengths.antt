@@ -2,14 +2,15 @@
 use Rattle.std.proofs.Common.{ℕ, ◌≤◌, List, [], ◌∷◌, length, ap, length-append, arith}
 use Rattle.std.specs.Fmt.{decimal}
 use Rattle.tmw_trace.specs.Text.{values_text}
-use Rattle.tmw_trace.proofs.Lengths.{length-decimal, length-kind_text}
-use Rattle.tmw_ring_defs.specs.declared.ring_size.RingSize.{RingSize}
+use Rattle.tmw_trace.specs.Lengths.{length-decimal, length-kind_text}
+use Rattle.tmw_steps.specs.declared.size_line.SizeLine.{SizeLine}
 use Rattle.tmw_ring_defs.specs.declared.ring_step.Step.{Step}
 use Rattle.tmw_ring_defs.specs.declared.ring_step.Step.TheVariants.{Front, Tail, Claim, Fill, Publish, Peek, Read, Free, Stop}
-use Rattle.tmw_steps.specs.StepFault.{IsNoSize, IsNoStep}
-use Rattle.tmw_steps.specs.StepText.{size_text, step_text, FitsSize, FitsStep}
+use Rattle.tmw_steps.specs.declared.steps_format.StepsFormat.{StepsFormat}
+use Rattle.tmw_lines.specs.Grammar.{IsNoHeader, IsNoItem}
+use Rattle.tmw_steps.specs.StepText.{size_text, step_text, steps_grammar, FitsSize, FitsStep}
 
-length-size_text : (size : RingSize) → FitsSize size → length (size_text size) ≤ 75
+length-size_text : (size : SizeLine) → FitsSize size → length (size_text size) ≤ 75
 length-size_text size fits =
     omega (
       arith,
@@ -32,8 +33,8 @@ length-step_text Read fits = omega arith
 length-step_text Free fits = omega arith
 length-step_text (Stop writer) fits = omega arith
 
-pub long_no_size : (text : List ℕ) → 4096 ≤ length text → IsNoSize text
+pub long_no_size : (text : List ℕ) → 4096 ≤ length text → IsNoHeader steps_grammar text
 long_no_size text long = λ size fits is. absurd (omega (arith, ap length is, length-size_text size fits))
 
-pub long_no_step : (text : List ℕ) → 4096 ≤ length text → IsNoStep text
-long_no_step text long = λ step fits is. absurd (omega (arith, ap length is, length-step_text step fits))
+pub long_no_step : (format : StepsFormat) (text : List ℕ) → 4096 ≤ length text → IsNoItem steps_grammar format text
+long_no_step format text long = λ step fits is. absurd (omega (arith, ap length is, length-step_text step fits))
