@@ -1,16 +1,17 @@
 -- Judging a trace as it is read: what was told is what the reader of lines has read, and its events are what the monitor was fed.
 use Rattle.std.proofs.Common.{◌≡◌, ◌+◌, ◌<◌, ◌≤◌, ◌^◌, ℕ, List, [], ◌∷◌, ◌++◌, length, Result, Ok, Err, refl, sym, ◌∙◌, arith, length-append}
-use Rattle.tmw_trace.specs.TraceLines.{HasRead, GivesEvent, GivesEnd, GivesFault}
-use Rattle.tmw_trace.specs.Text.{trace_text}
-use Rattle.tmw_trace.specs.TextFault.{HasTextFault, HasBegun, failures_after}
+use Rattle.tmw_lines.specs.Lines.{GivesItem, GivesEnd, GivesFault}
+use Rattle.tmw_lines.specs.TextFault.{failures_after}
+use Rattle.tmw_trace.specs.Text.{trace_grammar}
 use Rattle.tmw_streams.specs.Told.{Adds}
 use Rattle.tmw_events.specs.declared.event.Event.{Event}
 use Rattle.tmw_trace.specs.declared.header.Header.{Header}
-use Rattle.tmw_trace.specs.declared.trace_fault.TraceFault.{TraceFault}
-use Rattle.tmw_trace.specs.declared.trace_fault.TraceFault.TheVariants.{BadHeader, BadLine, Cut, Memory, Io, TooLong}
-use Rattle.tmw_trace.specs.declared.trace_lines.TraceLines.{TraceLines}
+use Rattle.tmw_trace.specs.declared.version.Version.{Version}
+use Rattle.tmw_lines.specs.declared.text_fault.TextFault.{TextFault}
+use Rattle.tmw_lines.specs.declared.text_fault.TextFault.TheVariants.{BadHeader, BadLine, Cut, Memory, Io, TooLong}
+use Rattle.tmw_lines.specs.declared.lines.Lines.{Lines}
 use Rattle.tmw_streams.proofs.ToldBytes.{Adds-more}
-use Rattle.tmw_trace.proofs.TracesRead.{HasTaken, HasTaken-push, begun-taken}
+use Rattle.tmw_lines.proofs.TextsRead.{HasTaken, HasTaken-push, begun-taken}
 use Rattle.tmw_defs.specs.Verdict.{Rules}
 use Rattle.tmw_monitor.specs.declared.bounds.Bounds.{Bounds}
 use Rattle.tmw_monitor.specs.declared.monitor.Monitor.{Monitor}
@@ -22,16 +23,16 @@ use Rattle.tmw_report.specs.Putting.{fault_of}
 use Rattle.tmw_report.specs.CommandRun.{failures_after_answer}
 use Rattle.tmw_judge.specs.Judging.{AnswersTrace, IsReportOf}
 
-pub record HasFed {S : Type 0} (Told : S → List ℕ → Type 0) (old new : S) (lines : TraceLines) (bounds : Bounds) (monitor : Monitor)
+pub record HasFed {S : Type 0} (Told : S → List ℕ → Type 0) (old new : S) (lines : Lines Version) (bounds : Bounds) (monitor : Monitor)
     : Type 0 where
   pub header : Header
   pub history : List Event
-  pub taken : HasTaken Told old new lines header history
+  pub taken : HasTaken trace_grammar Told old new lines header history
   pub fits : Fits (rules_of header.registers header.initial bounds) history monitor
 
 -- the monitor has room for an event that was read
-pub fed_room : {S : Type 0} (Told : S → List ℕ → Type 0) (a b : S) (old new : TraceLines) (bounds : Bounds) (monitor : Monitor)
-    (event : Event) (bytes : List ℕ) → HasFed Told a b old bounds monitor → GivesEvent old new bytes event → monitor.count < 2 ^ 40
+pub fed_room : {S : Type 0} (Told : S → List ℕ → Type 0) (a b : S) (old new : Lines Version) (bounds : Bounds) (monitor : Monitor)
+    (event : Event) (bytes : List ℕ) → HasFed Told a b old bounds monitor → GivesItem trace_grammar old new bytes event → monitor.count < 2 ^ 40
 fed_room Told a b old new bounds monitor event bytes fed gives =
     let read = gives fed.header fed.history fed.taken.bytes fed.taken.read in
     let counted = read.counted in
@@ -41,15 +42,15 @@ fed_room Told a b old new bounds monitor event bytes fed gives =
     omega (arith, counted, few, was, longer)
 
 -- an event more was read
-pub taken-push : {S : Type 0} (Told : S → List ℕ → Type 0) (a b c : S) (old new : TraceLines) (bounds : Bounds) (monitor : Monitor)
-    (event : Event) (bytes : List ℕ) → (fed : HasFed Told a b old bounds monitor) → Adds Told b bytes c → GivesEvent old new bytes event
-    → HasTaken Told a c new fed.header (fed.history ++ event ∷ [])
+pub taken-push : {S : Type 0} (Told : S → List ℕ → Type 0) (a b c : S) (old new : Lines Version) (bounds : Bounds) (monitor : Monitor)
+    (event : Event) (bytes : List ℕ) → (fed : HasFed Told a b old bounds monitor) → Adds Told b bytes c → GivesItem trace_grammar old new bytes event
+    → HasTaken trace_grammar Told a c new fed.header (fed.history ++ event ∷ [])
 taken-push Told a b c old new bounds monitor event bytes fed told gives =
-    HasTaken-push Told a b c old new fed.header fed.history (fed.history ++ event ∷ []) event bytes refl fed.taken told gives
+    HasTaken-push trace_grammar Told a b c old new fed.header fed.history (fed.history ++ event ∷ []) event bytes refl fed.taken told gives
 
 -- and fed
-pub fed-push : {S : Type 0} (Told : S → List ℕ → Type 0) (a b c : S) (old new : TraceLines) (bounds : Bounds) (monitor more : Monitor)
-    (event : Event) (bytes : List ℕ) → HasFed Told a b old bounds monitor → Adds Told b bytes c → GivesEvent old new bytes event
+pub fed-push : {S : Type 0} (Told : S → List ℕ → Type 0) (a b c : S) (old new : Lines Version) (bounds : Bounds) (monitor more : Monitor)
+    (event : Event) (bytes : List ℕ) → HasFed Told a b old bounds monitor → Adds Told b bytes c → GivesItem trace_grammar old new bytes event
     → ((rules : Rules) (history : List Event) → Fits rules history monitor → Fits rules (history ++ event ∷ []) more)
     → HasFed Told a c new bounds more
 fed-push Told a b c old new bounds monitor more event bytes fed told gives feeds = record {
@@ -60,17 +61,17 @@ fed-push Told a b c old new bounds monitor more event bytes fed told gives feeds
 }
 
 -- what was read when memory was refused
-pub wants_memory : {S : Type 0} (Told : S → List ℕ → Type 0) (Ended : Type 0) (a b : S) (lines : TraceLines) (header : Header)
-    (history : List Event) (bounds : Bounds) → HasTaken Told a b lines header history
+pub wants_memory : {S : Type 0} (Told : S → List ℕ → Type 0) (Ended : Type 0) (a b : S) (lines : Lines Version) (header : Header)
+    (history : List Event) (bounds : Bounds) → HasTaken trace_grammar Told a b lines header history
     → (bytes : List ℕ) × Adds Told a bytes b × AnswersTrace bounds Ended bytes (Err WantsMemory)
 wants_memory Told Ended a b lines header history bounds taken =
-    let begun = begun-taken Told a b lines header history taken in
+    let begun = begun-taken trace_grammar Told a b lines header history taken in
     (begun.0, begun.1, (Memory, refl, begun.2))
 
 -- the end was read
-pub reports-end : {S : Type 0} (Told : S → List ℕ → Type 0) (Ended : Type 0) (a b c : S) (lines : TraceLines) (bounds : Bounds)
+pub reports-end : {S : Type 0} (Told : S → List ℕ → Type 0) (Ended : Type 0) (a b c : S) (lines : Lines Version) (bounds : Bounds)
     (monitor : Monitor) (bytes : List ℕ) (report : Report) → HasFed Told a b lines bounds monitor → Adds Told b bytes c
-    → GivesEnd Ended lines bytes → report.events ≡ monitor.count → report.verdict ≡ monitor.verdict
+    → GivesEnd trace_grammar Ended lines bytes → report.events ≡ monitor.count → report.verdict ≡ monitor.verdict
     → (all : List ℕ) × Adds Told a all c × AnswersTrace bounds Ended all (Ok report)
 reports-end Told Ended a b c lines bounds monitor bytes report fed told ends counted judged =
     let end = ends fed.header fed.history fed.taken.bytes fed.taken.read in (
@@ -81,7 +82,7 @@ reports-end Told Ended a b c lines bounds monitor bytes report fed told ends cou
         record {
           header = fed.header;
           history = fed.history;
-          are_events = fed.taken.read.are_events;
+          are_events = fed.taken.read.are_lines;
           text = end.1;
           counted = counted ∙ fed.fits.counted;
           judged = rw judged fed.fits.judged;
@@ -90,9 +91,9 @@ reports-end Told Ended a b c lines bounds monitor bytes report fed told ends cou
     )
 
 -- a fault was read
-pub answers-fault : {S : Type 0} (Told : S → List ℕ → Type 0) (Ended : Type 0) (a b c : S) (lines : TraceLines) (bounds : Bounds)
-    (monitor : Monitor) (bytes : List ℕ) (told : TraceFault) (fault : Fault) → HasFed Told a b lines bounds monitor → Adds Told b bytes c
-    → GivesFault Ended lines bytes told → fault ≡ fault_of told
+pub answers-fault : {S : Type 0} (Told : S → List ℕ → Type 0) (Ended : Type 0) (a b c : S) (lines : Lines Version) (bounds : Bounds)
+    (monitor : Monitor) (bytes : List ℕ) (told : TextFault) (fault : Fault) → HasFed Told a b lines bounds monitor → Adds Told b bytes c
+    → GivesFault trace_grammar Ended lines bytes told → fault ≡ fault_of told
     → (all : List ℕ) × Adds Told a all c × AnswersTrace bounds Ended all (Err fault)
 answers-fault Told Ended a b c lines bounds monitor bytes told fault fed adds gives is = (
   fed.taken.bytes ++ bytes,
@@ -101,7 +102,7 @@ answers-fault Told Ended a b c lines bounds monitor bytes told fault fed adds gi
 )
 
 -- a failed read is counted, and no other fault is
-pub failures_after-fault : (told : TraceFault) (fault : Fault) (count : ℕ) → fault ≡ fault_of told
+pub failures_after-fault : (told : TextFault) (fault : Fault) (count : ℕ) → fault ≡ fault_of told
     → failures_after told count ≡ failures_after_answer {Found = Report} (Err fault) count
 failures_after-fault BadHeader fault count is = rw is refl
 failures_after-fault (BadLine line) fault count is = rw is refl

@@ -1,7 +1,7 @@
 -- What `judge` promises: from the bytes that its source tells to the line that its sink takes and the exit status.
 use Rattle.std.specs.Prelude.{◌≡◌, ℕ, List, length, Result, Ok, Err}
-use Rattle.tmw_trace.specs.Text.{trace_text, AreEvents}
-use Rattle.tmw_trace.specs.TextFault.{HasTextFault}
+use Rattle.tmw_lines.specs.TextFault.{HasTextFault}
+use Rattle.tmw_trace.specs.Text.{trace_grammar, trace_text, AreEvents}
 use Rattle.tmw_events.specs.declared.event.Event.{Event}
 use Rattle.tmw_trace.specs.declared.header.Header.{Header}
 use Rattle.tmw_defs.specs.declared.verdict.Verdict.{Verdict}
@@ -27,7 +27,7 @@ pub record IsReportOf (bounds : Bounds) (bytes : List ℕ) (report : Report) : T
 -- `Memory` a growth that was refused.
 abbrev pub AnswersTrace : Bounds → Type 0 → List ℕ → Result Report Fault → Type 0
 AnswersTrace bounds Ended bytes (Ok report) = Ended × IsReportOf bounds bytes report
-AnswersTrace bounds Ended bytes (Err fault) = AnswersTextFault (HasTextFault Ended bytes) fault
+AnswersTrace bounds Ended bytes (Err fault) = AnswersTextFault (HasTextFault trace_grammar Ended bytes) fault
 
 -- The one line that is written of a report, and the exit status that goes with it.
 abbrev pub report_line : Report → List ℕ

@@ -1,5 +1,5 @@
 -- Bytes in a buffer: those let go of at the front, moved to the front, and read behind the others.
-use Rattle.std.proofs.Common.{◌≡◌, ℕ, ◌+◌, ◌-◌, ◌<◌, ◌≤◌, List, ◌∷◌, ◌++◌, [], suc, length, take, drop, get_or, set, sym, ap, ◌∙◌, length-set, length-drop, arith}
+use Rattle.std.proofs.Common.{◌≡◌, ℕ, ◌+◌, ◌-◌, ◌<◌, ◌≤◌, List, ◌∷◌, ◌++◌, [], length, take, drop, get_or, set, sym, ap, ◌∙◌, length-set, length-drop, arith}
 use Rattle.std.proofs.Math.Seq.{take-append-add}
 use Rattle.std.proofs.lemmas.List.{take_more, take_more_set, drop-set-lt, drop-take, drop-drop, get_or-drop, length-take-le, take-append-le}
 use borrow.Rule.Slice.PartMut.{put_mid, post_of}

@@ -1,4 +1,10 @@
+mod FirstLines
 mod HeldBytes
+mod HeldLines
+mod LinesRead
 mod LongLines
+mod NextLines
 mod Pieces
 pub mod Splits
+pub mod TextNames
+pub mod TextsRead

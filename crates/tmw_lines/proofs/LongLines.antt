@@ -1,12 +1,11 @@
 -- Reading on through a line that is longer than can be held.
-use Rattle.std.proofs.Common.{◌≡◌, ℕ, ◌<◌, ◌≤◌, List, ◌∷◌, ◌++◌, [], length, take, drop, sym, ap, ◌∙◌, ◌==◌, ◌+◌, append_assoc, take-append-drop, arith}
+use Rattle.std.proofs.Common.{◌≡◌, ℕ, ◌<◌, ◌≤◌, List, ◌∷◌, ◌++◌, length, take, drop, sym, ap, ◌∙◌, ◌==◌, ◌+◌, append_assoc, take-append-drop}
 use Rattle.std.specs.List.{position_or_len}
 use Rattle.std.proofs.lemmas.List.{take_all}
 use Rattle.tmw_lines.specs.LongLine.{HasFeed}
 use Rattle.tmw_lines.specs.Parts.{IsFree}
 use Rattle.tmw_streams.specs.Told.{Adds}
 use Rattle.tmw_lines.proofs.Splits.{free-append, free-before, drop-before}
-use Rattle.tmw_streams.proofs.ToldBytes.{Adds-more}
 
 -- what the source told so far holds no line feed
 pub record HasSkipped {S : Type 0} (Told : S → List ℕ → Type 0) (old new : S) : Type 0 where

@@ -1,12 +1,11 @@
 -- Reading on through a line: the bytes seen so far hold no line feed.
-use Rattle.std.proofs.Common.{◌≡◌, ℕ, ◌+◌, ◌-◌, ◌<◌, ◌≤◌, List, ◌∷◌, ◌++◌, [], not, length, take, drop, sym, ap, ◌∙◌, ◌==◌, length-drop, length-append, append_assoc, arith}
+use Rattle.std.proofs.Common.{◌≡◌, ℕ, ◌+◌, ◌<◌, ◌≤◌, List, ◌∷◌, ◌++◌, not, length, take, drop, sym, ap, ◌∙◌, ◌==◌, length-drop, length-append, append_assoc, arith}
 use Rattle.std.specs.List.{position_or_len}
 use Rattle.std.proofs.Math.Seq.{take-add}
 use Rattle.std.proofs.lemmas.List.{drop-drop, take-append-le, take_all}
 use Rattle.std.proofs.lemmas.List.Sums.{prefix_len-le-length}
 use Rattle.tmw_lines.specs.Parts.{IsFree}
 use Rattle.tmw_lines.specs.Piece.{Reads, IsSeen}
-use Rattle.tmw_streams.specs.Told.{Adds}
 use Rattle.tmw_lines.proofs.Splits.{free-append, free-before, drop-before}
 use Rattle.tmw_streams.proofs.ToldBytes.{Adds-more}
 

@@ -1,6 +1,6 @@
 -- Parts of bytes round the first of a byte: what stands before it has none, and that fixes the parts.
-use Rattle.std.proofs.Common.{◌≡◌, ℕ, ◌+◌, ◌<◌, ◌≤◌, ◌^◌, Bool, true, false, not, ◌&&◌, List, [], ◌∷◌, ◌++◌, suc, length, take, drop, get_or, eqb, sym, ap, ◌∙◌, refl, inl, inr, ◌==◌, drop-cons, arith}
-use Rattle.std.specs.List.{list_all, position_or_len}
+use Rattle.std.proofs.Common.{◌≡◌, ℕ, ◌+◌, ◌<◌, ◌^◌, true, false, not, List, [], ◌∷◌, ◌++◌, suc, length, take, drop, sym, ap, refl, inl, inr, ◌==◌, arith}
+use Rattle.std.specs.List.{position_or_len}
 use Rattle.std.specs.Fmt.{decimal}
 use Rattle.std.specs.Str.Parse.{AllDigits}
 use Rattle.tmw_lines.specs.Parts.{IsFree, is_next}

@@ -1,5 +1,9 @@
+pub mod Grammar
 pub mod Held
+pub mod LineRead
+pub mod Lines
 pub mod LongLine
 pub mod Parts
 pub mod Piece
 pub mod Text
+pub mod TextFault

@@ -3,10 +3,13 @@ ghost use Rattle.tmw_streams.specs.Told.{Adds, one_more};
 
 use tmw_streams::{IoFault, Source};
 
+/// The greatest number of bytes that are held.
+pub const MOST_HELD: usize = 4096;
+
 /// Bytes that were read from a source and are still to be used: at most 4,096.
 #[derive(Drop)]
 pub struct Held {
-    buffer: [u8; 4096],
+    buffer: [u8; MOST_HELD],
     start: usize,
     end: usize,
     ghost ordered: { start ≤ end },
@@ -21,7 +24,7 @@ impl Held {
         ensures { bytes_of result ≡ [] }
     {
         Held {
-            buffer: [0; 4096],
+            buffer: [0; MOST_HELD],
             start: 0,
             end: 0,
         }

@@ -1,12 +1,24 @@
-//! Lines of a text, read from a source, of which at most 4,096 bytes are held.
+//! Lines of a text, read from a source, of which at most 4,096 bytes are held: a header's line, then a line for each item.
 #![tactic(auto)]
 
+mod first_line;
 mod held;
+mod line_format;
+mod lines;
+#[cfg(test)]
+mod lines_tests;
 mod long_line;
+mod next_line;
 mod piece;
+mod reader;
 mod splitting;
+mod text_fault;
 
 pub use held::Held;
+pub use line_format::LineFormat;
+pub use lines::Lines;
 pub use long_line::{LineEnd, skip_line};
 pub use piece::{Piece, next_piece};
+pub use reader::read_lines;
 pub use splitting::length_before;
+pub use text_fault::TextFault;

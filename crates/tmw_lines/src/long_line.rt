@@ -2,8 +2,8 @@ ghost use Rattle.std.specs.Prelude.{◌≡◌};
 ghost use Rattle.tmw_lines.specs.LongLine.{Skips, line_end_failures};
 
 use crate::held::Held;
-use tmw_streams::Source;
 use crate::splitting::length_before;
+use tmw_streams::Source;
 
 /// How a line ends.
 #[derive(Clone, Copy, PartialEq, Eq, Debug)]

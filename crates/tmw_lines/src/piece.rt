@@ -2,9 +2,9 @@ ghost use Rattle.std.specs.Prelude.{◌≡◌, ℕ, ◌+◌, ◌<◌, ◌≤◌,
 ghost use Rattle.tmw_lines.specs.Held.{bytes_of};
 ghost use Rattle.tmw_lines.specs.Piece.{Reads, IsSeen, IsPiece, UnlessFailed, piece_failures};
 
-use crate::held::Held;
-use tmw_streams::Source;
+use crate::held::{Held, MOST_HELD};
 use crate::splitting::length_before;
+use tmw_streams::Source;
 
 /// What stands at the front of the bytes held.
 #[derive(Clone, Copy, PartialEq, Eq, Debug)]
@@ -35,7 +35,7 @@ pub fn next_piece<S: Source>(held: &mut Held, source: &mut S) -> Piece
         if length < bytes.len() {
             return Piece::Line(length);
         }
-        if length == 4096 {
+        if length == MOST_HELD {
             return Piece::Long;
         }
         match held.read(source) {

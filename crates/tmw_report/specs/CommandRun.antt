@@ -1,14 +1,14 @@
 -- What a run of a command does: from the bytes that its source tells to what its sink takes and the exit status.
 use Rattle.std.specs.Prelude.{◌≡◌, ℕ, List, Result, Ok, Err}
 use Rattle.tmw_streams.specs.Told.{Adds}
-use Rattle.tmw_trace.specs.declared.trace_fault.TraceFault.{TraceFault}
+use Rattle.tmw_lines.specs.declared.text_fault.TextFault.{TextFault}
 use Rattle.tmw_report.specs.Lines.{fault_line}
 use Rattle.tmw_report.specs.Putting.{IsPut, fault_of, failures_behind}
 use Rattle.tmw_report.specs.declared.fault.Fault.{Fault}
 
 -- This answers a text by a fault that the text has.
-abbrev pub AnswersTextFault : (TraceFault → Type 0) → Fault → Type 0
-AnswersTextFault Has fault = (told : TraceFault) × (fault ≡ fault_of told) × Has told
+abbrev pub AnswersTextFault : (TextFault → Type 0) → Fault → Type 0
+AnswersTextFault Has fault = (told : TextFault) × (fault ≡ fault_of told) × Has told
 
 -- A source's count of failures after this answer: one more for a failed read, else as before.
 abbrev pub failures_after_answer : {Found : Type 0} → Result Found Fault → ℕ → ℕ

@@ -1,8 +1,8 @@
 -- What a sink takes as an answer, and the exit status that goes with it.
 use Rattle.std.specs.Prelude.{◌≡◌, ◌⊎◌, ℕ, List}
 use Rattle.tmw_streams.specs.Told.{Adds, AddsBeginning, one_more}
-use Rattle.tmw_trace.specs.declared.trace_fault.TraceFault.{TraceFault}
-use Rattle.tmw_trace.specs.declared.trace_fault.TraceFault.TheVariants.{BadHeader as IsBadHeader, BadLine as IsBadLine, Cut as IsCut, Memory as WantsMemory, Io as IsIo, TooLong as IsTooLong}
+use Rattle.tmw_lines.specs.declared.text_fault.TextFault.{TextFault}
+use Rattle.tmw_lines.specs.declared.text_fault.TextFault.TheVariants.{BadHeader as IsBadHeader, BadLine as IsBadLine, Cut as IsCut, Memory as WantsMemory, Io as IsIo, TooLong as IsTooLong}
 use Rattle.tmw_report.specs.declared.fault.Fault.{Fault}
 use Rattle.tmw_report.specs.declared.fault.Fault.TheVariants.{BadHeader, BadLine, Cut, Memory, Io, TooLong}
 
@@ -25,7 +25,7 @@ IsPut Took failures old new text wanted status =
     IsWritten Took failures old new text wanted status ⊎ IsCutShort Took failures old new text status
 
 -- The fault by which a fault of a text is answered.
-abbrev pub fault_of : TraceFault → Fault
+abbrev pub fault_of : TextFault → Fault
 fault_of IsBadHeader = BadHeader
 fault_of (IsBadLine line) = BadLine line
 fault_of (IsCut line) = Cut line

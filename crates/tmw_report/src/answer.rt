@@ -5,8 +5,8 @@ ghost use Rattle.tmw_report.specs.Putting.{IsPut, fault_of};
 use crate::fault::Fault;
 use crate::fault_line::write_fault;
 use crate::status::FAULT_STATUS;
+use tmw_lines::TextFault;
 use tmw_streams::Sink;
-use tmw_trace::TraceFault;
 
 /// Writes the fault's line and answers its exit status. It takes no memory.
 pub fn answer_fault<K: Sink>(sink: &mut K, fault: Fault) -> u8
@@ -17,15 +17,15 @@ pub fn answer_fault<K: Sink>(sink: &mut K, fault: Fault) -> u8
 }
 
 /// The fault by which a fault of a text is answered.
-pub const fn fault_of(fault: TraceFault) -> Fault
+pub const fn fault_of(fault: TextFault) -> Fault
     ensures { result ≡ fault_of fault }
 {
     match fault {
-        TraceFault::BadHeader => Fault::BadHeader,
-        TraceFault::BadLine(line) => Fault::BadLine(line),
-        TraceFault::Cut(line) => Fault::Cut(line),
-        TraceFault::Memory => Fault::Memory,
-        TraceFault::Io => Fault::Io,
-        TraceFault::TooLong => Fault::TooLong,
+        TextFault::BadHeader => Fault::BadHeader,
+        TextFault::BadLine(line) => Fault::BadLine(line),
+        TextFault::Cut(line) => Fault::Cut(line),
+        TextFault::Memory => Fault::Memory,
+        TextFault::Io => Fault::Io,
+        TextFault::TooLong => Fault::TooLong,
     }
 }

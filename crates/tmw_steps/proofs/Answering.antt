@@ -1,16 +1,17 @@
 -- What a machine makes of a text's steps answers the text.
 use Rattle.std.proofs.Common.{ℕ, List, [], Result, Ok, Err, inl, inr, sym, ◌∙◌, append-nil}
-use Rattle.tmw_trace.specs.declared.trace_fault.TraceFault.TheVariants.{Memory as WantsMemory}
+use Rattle.tmw_lines.specs.TextFault.{HasBegun}
+use Rattle.tmw_lines.specs.declared.text_fault.TextFault.TheVariants.{Memory as WantsMemory}
 use Rattle.tmw_steps.specs.declared.size_line.SizeLine.{SizeLine}
 use Rattle.tmw_ring_defs.specs.declared.ring_step.Step.{Step}
 use Rattle.tmw_report.specs.declared.fault.Fault.{Fault}
 use Rattle.tmw_steps.specs.Running.{AnswersSteps, IsMade, IsStepsText}
-use Rattle.tmw_steps.specs.StepFault.{HasBegun}
+use Rattle.tmw_steps.specs.StepText.{steps_grammar}
 use Rattle.tmw_steps.specs.declared.run.Run.{Run}
 
 -- a whole text is also the beginning of one
-begun : (bytes : List ℕ) (size : SizeLine) (steps : List Step) → IsStepsText bytes size steps → HasBegun bytes
-begun bytes size steps t = record { size = size; steps = steps; are_steps = t.are_steps; rest = []; split = t.text ∙ sym (append-nil _) }
+begun : (bytes : List ℕ) (size : SizeLine) (steps : List Step) → IsStepsText bytes size steps → HasBegun steps_grammar bytes
+begun bytes size steps t = record { header = size; items = steps; are_lines = t.are_steps; rest = []; split = t.text ∙ sym (append-nil _) }
 
 pub made-answers : (Ended : Type 0) (bytes : List ℕ) (size : SizeLine) (steps : List Step) (result : Result Run Fault)
     → Ended → IsStepsText bytes size steps → IsMade size steps result → AnswersSteps Ended bytes result

@@ -1,10 +1,6 @@
 mod Answering
-mod FirstSizes
 mod ListTexts
-mod LongTexts
-mod NextSteps
 mod ReplyLines
 mod SizeNumbers
 mod StepNames
 mod StepTexts
-mod StepsRead

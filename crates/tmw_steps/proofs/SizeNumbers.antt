@@ -1,27 +1,12 @@
 -- The three numbers of a size, one after the other, and when a text is the text of no size.
-use Rattle.std.proofs.Common.{◌≡◌, ◌≢◌, ℕ, ◌<◌, ◌^◌, true, List, [], ◌∷◌, ◌++◌, length, drop, sym, ap, ◌∙◌, length-drop, take-append-drop, arith}
+use Rattle.std.proofs.Common.{◌≡◌, ◌≢◌, ℕ, List, [], ◌∷◌, ◌++◌, length, drop, ap, ◌∙◌, length-drop, arith}
 use Rattle.std.specs.Fmt.{decimal}
 use Rattle.std.proofs.lemmas.List.{drop_all}
-use Rattle.tmw_lines.specs.Parts.{is_next}
 use Rattle.tmw_trace.specs.Text.{values_text}
 use Rattle.tmw_trace.specs.Values.{IsFirstValue, IsNoFirstValue}
-use Rattle.tmw_lines.proofs.Splits.{free-decimal, split_free}
-use Rattle.tmw_trace.proofs.ValueParts.{next-values}
+use Rattle.tmw_trace.proofs.ValueParts.{next-values, value-split, value-rest}
 use Rattle.tmw_steps.specs.declared.size_line.SizeLine.{SizeLine}
 use Rattle.tmw_steps.specs.StepText.{size_numbers, FitsSize}
-
--- the first value, and what follows it
-value-split : (value count : ℕ) (bytes : List ℕ) → IsFirstValue value count bytes
-    → bytes ≡ (32 ∷ decimal value) ++ drop count bytes
-value-split value count bytes first = sym (rw first.text at (take-append-drop count bytes))
-
--- only one list of bytes follows a value at the front
-value-rest : (value count : ℕ) (bytes : List ℕ) (other : ℕ) (rest : List ℕ) → IsFirstValue value count bytes
-    → other < 2 ^ 64 → is_next 32 rest ≡ true → bytes ≡ 32 ∷ decimal other ++ rest → drop count bytes ≡ rest
-value-rest value count bytes other rest first small next is =
-    (split_free 32 (decimal value) (decimal other) (drop count bytes) rest (free-decimal 32 value (omega arith) first.small)
-    (free-decimal 32 other (omega arith) small) first.parted next
-    (ap (λ xs. drop 1 xs) (sym (value-split value count bytes first) ∙ is))).1
 
 pub numbers-some : (bytes : List ℕ) (a b c n m k : ℕ) → IsFirstValue a n bytes → IsFirstValue b m (drop n bytes)
     → IsFirstValue c k (drop m (drop n bytes)) → k ≡ length (drop m (drop n bytes))

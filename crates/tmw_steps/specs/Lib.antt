@@ -1,6 +1,5 @@
+pub mod Lengths
 pub mod Naming
 pub mod ReplyText
 pub mod Running
-pub mod StepFault
-pub mod StepLine
 pub mod StepText

@@ -1,5 +1,6 @@
 -- What `steps` promises: from the bytes that its source tells to what its sink takes and the exit status.
 use Rattle.std.specs.Prelude.{◌≡◌, ◌⊎◌, ℕ, List, length, Result, Ok, Err}
+use Rattle.tmw_lines.specs.TextFault.{HasTextFault}
 use Rattle.tmw_ring_defs.specs.RingMachine.{new_machine, after, replies}
 use Rattle.tmw_ring_defs.specs.Sizes.{HasRoom, HasLimit, HasNumbers}
 use Rattle.tmw_ring_defs.specs.declared.ring_size.RingSize.{RingSize}
@@ -8,8 +9,7 @@ use Rattle.tmw_report.specs.CommandRun.{AnswersTextFault, IsCommandRun}
 use Rattle.tmw_report.specs.declared.fault.Fault.{Fault}
 use Rattle.tmw_report.specs.declared.fault.Fault.TheVariants.{Size, Limit, Memory}
 use Rattle.tmw_steps.specs.ReplyText.{replies_text}
-use Rattle.tmw_steps.specs.StepFault.{HasStepsFault}
-use Rattle.tmw_steps.specs.StepText.{steps_text, AreSteps}
+use Rattle.tmw_steps.specs.StepText.{steps_grammar, steps_text, AreSteps}
 use Rattle.tmw_steps.specs.declared.run.Run.{Run}
 use Rattle.tmw_steps.specs.declared.size_line.SizeLine.{SizeLine}
 
@@ -45,7 +45,7 @@ abbrev pub AnswersSteps : Type 0 → List ℕ → Result Run Fault → Type 0
 AnswersSteps Ended bytes (Ok run) =
     Ended × (size : SizeLine) × (steps : List Step) × IsStepsText bytes size steps × IsRunOf size steps run
 AnswersSteps Ended bytes (Err fault) =
-    AnswersTextFault (HasStepsFault Ended bytes) fault
+    AnswersTextFault (HasTextFault steps_grammar Ended bytes) fault
     ⊎ (Ended × (size : SizeLine) × (steps : List Step) × IsStepsText bytes size steps × IsRefused size fault)
 
 -- What is written of a run, and the exit status that goes with it.

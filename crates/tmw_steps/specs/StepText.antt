@@ -1,10 +1,10 @@
 -- The texts of a ring's size and of the steps in it. Numbers are decimal, without sign and without leading zeros.
-use Rattle.std.specs.Prelude.{ℕ, ◌<◌, ◌^◌, List, [], ◌∷◌, ◌++◌, codes, All}
-use Rattle.std.specs.List.{flat_map}
+use Rattle.std.specs.Prelude.{◌≡◌, ℕ, ◌<◌, ◌^◌, List, [], ◌∷◌, ◌++◌, codes}
 use Rattle.tmw_events.specs.Text.{digit, kind_text, FitsKind}
-use Rattle.tmw_lines.specs.Text.{line}
 use Rattle.tmw_trace.specs.Text.{values_text}
+use Rattle.tmw_lines.specs.Grammar.{Grammar, lines_text, AreLines}
 use Rattle.tmw_steps.specs.declared.size_line.SizeLine.{SizeLine}
+use Rattle.tmw_steps.specs.declared.steps_format.StepsFormat.{StepsFormat}
 use Rattle.tmw_ring_defs.specs.declared.ring_step.Step.{Step}
 use Rattle.tmw_ring_defs.specs.declared.ring_step.Step.TheVariants.{Front, Tail, Claim, Fill, Publish, Peek, Read, Free, Stop}
 
@@ -28,18 +28,14 @@ size_numbers size = size.cells ∷ size.writers ∷ size.limit ∷ []
 abbrev pub size_text : SizeLine → List ℕ
 size_text size = codes "ring-steps 1" ++ values_text (size_numbers size)
 
--- a line for each step
-abbrev pub lines_text : List Step → List ℕ
-lines_text steps = flat_map (λ step. line (step_text step)) steps
-
--- the size's line, then a line for each step
-abbrev pub steps_text : SizeLine → List Step → List ℕ
-steps_text size steps = line (size_text size) ++ lines_text steps
-
 -- the value of a step's event is a number of 64 bits
 abbrev pub FitsStep : Step → Type 0
 FitsStep (Front writer kind) = FitsKind kind
 FitsStep _ = Unit {0}
+
+-- no step has this text
+abbrev pub IsNoStep : List ℕ → Type 0
+IsNoStep text = (step : Step) → FitsStep step → text ≡ step_text step → ⊥
 
 -- the size's numbers have 64 bits
 pub record FitsSize (size : SizeLine) : Type 0 where
@@ -47,7 +43,20 @@ pub record FitsSize (size : SizeLine) : Type 0 where
   pub writers : size.writers < 2 ^ 64
   pub limit : size.limit < 2 ^ 64
 
+-- a list's lines: its size's, and behind it one for each step
+abbrev pub steps_grammar : Grammar StepsFormat SizeLine Step
+steps_grammar = record {
+  header_text = size_text;
+  item_text = step_text;
+  FitsHeader = FitsSize;
+  FitsItem = λ format step. FitsStep step;
+  format_of = λ size. record {};
+}
+
+-- the size's line, then a line for each step
+abbrev pub steps_text : SizeLine → List Step → List ℕ
+steps_text size steps = lines_text steps_grammar size steps
+
 -- these are the size and the steps of a text: their numbers have 64 bits
-pub record AreSteps (size : SizeLine) (steps : List Step) : Type 0 where
-  pub size_fits : FitsSize size
-  pub fit : All FitsStep steps
+abbrev pub AreSteps : SizeLine → List Step → Type 0
+AreSteps size steps = AreLines steps_grammar size steps

@@ -1,9 +1,7 @@
 //! The command `steps`: a list of a ring's steps, read from its text, made on a new ring's machine, and its replies' text.
 #![tactic(auto)]
 
-mod first_size;
 mod naming;
-mod next_step;
 mod reader;
 #[cfg(test)]
 mod reader_tests;
@@ -15,7 +13,9 @@ mod run;
 mod run_tests;
 mod size_line;
 mod step_line;
+mod step_lines;
 mod step_list;
+mod steps_format;
 
 pub use naming::law_steps;
 pub use reader::read_steps;

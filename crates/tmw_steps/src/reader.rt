@@ -1,39 +1,31 @@
 ghost use Rattle.std.specs.Prelude.{◌≡◌, ℕ, List, IfOk, IfErr, OnOk};
-ghost use Rattle.tmw_trace.specs.TextFault.{failures_after};
+ghost use Rattle.tmw_lines.specs.TextFault.{HasTextFault, failures_after};
+ghost use Rattle.tmw_steps.specs.StepText.{steps_grammar, steps_text, AreSteps};
 ghost use Rattle.tmw_streams.specs.Told.{Adds};
-ghost use Rattle.tmw_steps.specs.StepFault.{HasStepsFault};
-ghost use Rattle.tmw_steps.specs.StepText.{steps_text, AreSteps};
 
-use crate::first_size::first_size;
-use crate::next_step::next_step;
 use crate::step_list::StepList;
+use crate::steps_format::StepsFormat;
 use std::alloc::Global;
-use tmw_lines::Held;
+use tmw_lines::{TextFault, read_lines};
 use tmw_streams::Source;
-use tmw_trace::TraceFault;
 
 /// Reads a whole list of steps, up to the source's end. Lines are judged in order, each before any further read, and the
 /// first fault is answered; a whole bad line that was delivered before a failed read comes before `Io`. `Memory` answers
 /// want of memory, of which only tests show that a growth was refused, and nothing is read after it. Of the text at most 4,096
 /// bytes are held.
-pub fn read_steps<S: Source>(alloc: Global, source: &mut S) -> Result<StepList, TraceFault>
+pub fn read_steps<S: Source>(alloc: Global, source: &mut S) -> Result<StepList, TextFault>
     // The bytes told, up to the end, are exactly the list's text.
     ensures text { IfOk result (λ list. Adds S.told source.old (steps_text list.size list.steps.items) source.new) }
     ensures ended { OnOk result (S.ended source.new) }
     ensures steps { IfOk result (λ list. AreSteps list.size list.steps.items) }
     // The bytes told have the fault.
     ensures fault { IfErr result (λ fault. (bytes : List ℕ)
-        × Adds S.told source.old bytes source.new × HasStepsFault (S.ended source.new) bytes fault) }
+        × Adds S.told source.old bytes source.new × HasTextFault steps_grammar (S.ended source.new) bytes fault) }
     ensures well { OnOk result (S.failures source.new ≡ S.failures source.old) }
     ensures failed { IfErr result (λ fault. S.failures source.new ≡ failures_after fault (S.failures source.old)) }
 {
-    let mut held = Held::new();
-    let size = first_size(&mut held, source)?;
-    let mut steps = Vec::new(alloc);
-    'lines: loop {
-        let Some(step) = next_step(&mut held, source, steps.len() as u64)? else {
-            return Ok(StepList { size, steps });
-        };
-        steps.push(step)?;
+    match read_lines::<StepsFormat, S>(alloc, source) {
+        Ok((size, steps)) => Ok(StepList { size, steps }),
+        Err(fault) => Err(fault),
     }
 }

@@ -1,7 +1,7 @@
 ghost use Rattle.std.specs.Prelude.{◌≡◌, IfSome, IfNone};
 ghost use Rattle.tmw_trace.specs.Text.{values_text};
-ghost use Rattle.tmw_steps.specs.StepFault.{IsNoSize};
-ghost use Rattle.tmw_steps.specs.StepText.{size_numbers, size_text, FitsSize};
+ghost use Rattle.tmw_lines.specs.Grammar.{IsNoHeader};
+ghost use Rattle.tmw_steps.specs.StepText.{size_numbers, size_text, steps_grammar, FitsSize};
 
 use tmw_trace::first_value;
 
@@ -18,7 +18,7 @@ pub struct SizeLine {
 pub fn size_of(bytes: &[u8]) -> Option<SizeLine>
     ensures some { IfSome result (λ size. bytes.now ≡ size_text size) }
     ensures fits { IfSome result FitsSize }
-    ensures none { IfNone result (IsNoSize bytes.now) }
+    ensures none { IfNone result (IsNoHeader steps_grammar bytes.now) }
 {
     match bytes {
         [

@@ -2,11 +2,10 @@ ghost use Rattle.std.specs.Prelude.{◌≡◌, [], ◌∷◌, IfSome, IfNone};
 ghost use Rattle.tmw_events.specs.Text.{digit, kind_text, FitsKind};
 ghost use Rattle.tmw_events.specs.declared.event.Kind.{Kind};
 ghost use Rattle.tmw_events.specs.declared.ix.Ix.{Ix};
-ghost use Rattle.tmw_steps.specs.StepFault.{IsNoStep};
-ghost use Rattle.tmw_steps.specs.StepText.{step_text, FitsStep};
+ghost use Rattle.tmw_steps.specs.StepText.{step_text, FitsStep, IsNoStep};
 
+use tmw_events::{Ix, Kind, ix_of, kind_of};
 use tmw_ring_defs::Step;
-use tmw_events::{Ix, Kind, kind_of};
 
 /// The step that these bytes are the text of: a line without its line feed. `None` for all other bytes.
 pub fn step_of(bytes: &[u8]) -> Option<Step>
@@ -88,15 +87,4 @@ fn writer_of(bytes: &[u8]) -> Option<Ix>
         [byte] => ix_of(*byte),
         _ => None,
     }
-}
-
-/// The writer that this byte is the digit of.
-fn ix_of(byte: u8) -> Option<Ix>
-    ensures some { IfSome result (λ ix. byte ≡ digit ix) }
-    ensures none { IfNone result ((ix : Ix) → byte ≡ digit ix → ⊥) }
-{
-    if byte < b'0' {
-        return None;
-    }
-    Ix::new(byte - b'0')
 }

@@ -3,8 +3,8 @@ use Rattle.std.proofs.Common.{◌≡◌, ℕ, ◌+◌, ◌<◌, ◌≤◌, ◌^�
 use Rattle.std.specs.List.{All}
 use Rattle.std.proofs.lemmas.List.Elements.{All-take}
 use Rattle.std.proofs.lemmas.List.{length-take-le}
-use Rattle.tmw_trace.specs.Text.{version_digit, initial_text, numbers_text, values_text, FitsHeader}
-use Rattle.tmw_trace.specs.TextFault.{IsNoHeader}
+use Rattle.tmw_lines.specs.Grammar.{IsNoHeader}
+use Rattle.tmw_trace.specs.Text.{version_digit, initial_text, numbers_text, values_text, trace_grammar, FitsHeader}
 use Rattle.tmw_trace.specs.Values.{HasStart}
 use Rattle.tmw_trace.specs.declared.header.Header.{Header}
 use Rattle.tmw_events.specs.declared.registers.Registers.{Registers}
@@ -42,6 +42,6 @@ no_values text count none header fits start =
 
 pub no_header : (bytes : List ℕ) (found : Option Header)
     → IfNone found ((header : Header) → FitsHeader header → drop 14 bytes ≡ numbers_text header → ⊥)
-    → IfNone found (IsNoHeader bytes)
+    → IfNone found (IsNoHeader trace_grammar bytes)
 no_header bytes None none = λ header fits is. none header fits (ap (λ xs. drop 14 xs) is)
 no_header bytes (Some header) none = tt

@@ -1,9 +1,7 @@
 mod EventLines
-mod FirstLines
 mod HeaderLines
-pub mod Lengths
-mod LinesRead
-pub mod NextLines
-pub mod TextNames
-pub mod TracesRead
+pub mod KindTexts
+mod Spoken
+mod TextNames
 pub mod ValueParts
+pub mod ValueTexts

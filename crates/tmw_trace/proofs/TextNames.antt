@@ -12,8 +12,7 @@ use Rattle.std.proofs.lemmas.List.Elements.{All-take, recursion_from_All}
 use Rattle.tmw_lines.specs.Parts.{IsFree, is_next}
 use Rattle.tmw_trace.specs.Start.{are_zeros, is_start}
 use Rattle.tmw_events.specs.Text.{digit, kind_text, event_text, FitsKind}
-use Rattle.tmw_lines.specs.Text.{line}
-use Rattle.tmw_trace.specs.Text.{version_digit, values_text, initial_text, numbers_text, header_text, lines_text, trace_text, FitsHeader, AreEvents}
+use Rattle.tmw_trace.specs.Text.{version_digit, values_text, initial_text, numbers_text, header_text, trace_grammar, trace_text, FitsHeader, AreEvents}
 use Rattle.tmw_events.specs.declared.event.Event.{Event}
 use Rattle.tmw_events.specs.declared.event.Kind.{Kind}
 use Rattle.tmw_events.specs.declared.event.Kind.TheVariants.{R, V, W, K, T, C, X, A, N}
@@ -23,7 +22,9 @@ use Rattle.tmw_events.specs.declared.registers.Registers.{Registers}
 use Rattle.tmw_trace.specs.declared.version.Version.{Version}
 use Rattle.tmw_trace.specs.declared.version.Version.TheVariants.{One, Two}
 use Rattle.tmw_lines.proofs.Splits.{free-append, free-decimal, split_free}
-use Rattle.tmw_trace.proofs.ValueParts.{next-values}
+use Rattle.tmw_lines.proofs.TextNames.{IsNaming, lines_text-injective}
+use Rattle.tmw_trace.proofs.KindTexts.{no_feed, kind_text-injective, free-kind_text}
+use Rattle.tmw_trace.proofs.ValueTexts.{free-values_text, values_text-injective}
 use Rattle.tmw_events.proofs.Same.{same_ix}
 
 -- a number from 1 to 8 is one count of registers
@@ -46,20 +47,6 @@ same_header a b version registers initial =
     let two : Q b.version b.registers a.initial = subst (λ r. Q b.version r a.initial) registers one in
     subst (λ i. Q b.version b.registers i) initial two b.starts
 
-kind_text-injective : (k m : Kind) → FitsKind k → FitsKind m → kind_text k ≡ kind_text m → k ≡ m
-kind_text-injective (R r) (R s) f g is = ap R (same_ix r s (omega (arith, ap (λ xs. get_or xs 2 0) is)))
-kind_text-injective (V v) (V w) f g is = ap V (decimal_injective v w f g (ap (λ xs. drop 2 xs) is))
-kind_text-injective (W r v) (W s w) f g is =
-    ap (λ x. W x v) (same_ix r s (omega (arith, ap (λ xs. get_or xs 2 0) is))) ∙ ap (λ x. W s x) (decimal_injective v w f g (ap (λ xs. drop 4 xs) is))
-kind_text-injective K K f g is = refl
-kind_text-injective T T f g is = refl
-kind_text-injective C C f g is = refl
-kind_text-injective X X f g is = refl
-kind_text-injective A A f g is = refl
-kind_text-injective (N r v) (N s w) f g is =
-    ap (λ x. N x v) (same_ix r s (omega (arith, ap (λ xs. get_or xs 2 0) is))) ∙ ap (λ x. N s x) (decimal_injective v w f g (ap (λ xs. drop 4 xs) is))
-kind_text-injective _ _ f g is = absurd (omega (arith, ap (λ xs. get_or xs 0 0) is))
-
 event_text-injective : (e f : Event) → FitsKind e.kind → FitsKind f.kind → event_text e ≡ event_text f → e ≡ f
 event_text-injective e f a b is =
     let thread = same_ix e.thread f.thread (omega (arith, ap (λ xs. get_or xs 0 0) is)) in
@@ -67,28 +54,8 @@ event_text-injective e f a b is =
     ap (λ t. let r : Event = record { thread = t; kind = e.kind } in r) thread
     ∙ ap (λ k. let r : Event = record { thread = f.thread; kind = k } in r) kind
 
--- a digit is no line feed
-no_feed : (n : ℕ) → not (48 + n == 10) ≡ true
-no_feed n = let other : (48 + n == 10) ≡ false = grind (arith, nat_tests) in rw other refl
-
-free-kind_text : (k : Kind) → FitsKind k → IsFree 10 (kind_text k)
-free-kind_text (R r) f = and_from _ true (no_feed r.number) refl
-free-kind_text (V v) f = free-decimal 10 v (omega arith) f
-free-kind_text (W r v) f = and_from _ _ (no_feed r.number) (free-decimal 10 v (omega arith) f)
-free-kind_text (N r v) f = and_from _ _ (no_feed r.number) (free-decimal 10 v (omega arith) f)
-free-kind_text K f = refl
-free-kind_text T f = refl
-free-kind_text C f = refl
-free-kind_text X f = refl
-free-kind_text A f = refl
-
 free-event_text : (e : Event) → FitsKind e.kind → IsFree 10 (event_text e)
 free-event_text e f = and_from _ _ (no_feed e.thread.number) (free-kind_text e.kind f)
-
-free-values_text : (values : List ℕ) → AllByRecursion (λ value. value < 2 ^ 64) values → IsFree 10 (values_text values)
-free-values_text [] f = refl
-free-values_text (v ∷ vs) f =
-    free-append 10 (decimal v) (values_text vs) (free-decimal 10 v (omega arith) f.0) (free-values_text vs f.1)
 
 free-initial_text : (version : Version) (values : List ℕ) → AllByRecursion (λ value. value < 2 ^ 64) values
     → IsFree 10 (initial_text version values)
@@ -110,35 +77,6 @@ free-header_text : (header : Header) → FitsHeader header → IsFree 10 (header
 free-header_text header fits =
     and_from _ _ (free-version_digit header.version) (and_from _ _ (no_feed header.registers.number)
     (free-initial_text header.version (take header.registers.number header.initial) (told-values header fits)))
-
--- a line and what follows it are fixed by the bytes
-line-injective : (xs us ys vs : List ℕ) → IsFree 10 xs → IsFree 10 us → line xs ++ ys ≡ line us ++ vs → (xs ≡ us) × (ys ≡ vs)
-line-injective xs us ys vs a b is =
-    let e = sym (append_assoc xs (10 ∷ []) ys) ∙ is ∙ append_assoc us (10 ∷ []) vs in
-    let parts = split_free 10 xs us (10 ∷ ys) (10 ∷ vs) a b refl refl e in
-    (parts.0, ap (λ zs. drop 1 zs) parts.1)
-
-lines_text-injective : (es fs : List Event) → AllByRecursion (λ e. FitsKind e.kind) es → AllByRecursion (λ e. FitsKind e.kind) fs
-    → lines_text es ≡ lines_text fs → es ≡ fs
-lines_text-injective [] [] a b is = refl
-lines_text-injective [] (f ∷ fs) a b is = absurd (omega (arith, ap length is))
-lines_text-injective (e ∷ es) [] a b is = absurd (omega (arith, ap length is))
-lines_text-injective (e ∷ es) (f ∷ fs) a b is =
-    let parts = line-injective (event_text e) (event_text f) (lines_text es) (lines_text fs)
-    (free-event_text e a.0) (free-event_text f b.0) is in
-    ap (λ x. x ∷ es) (event_text-injective e f a.0 b.0 parts.0)
-    ∙ ap (λ xs. f ∷ xs) (lines_text-injective es fs a.1 b.1 parts.1)
-
-values_text-injective : (xs ys : List ℕ) → AllByRecursion (λ x. x < 2 ^ 64) xs → AllByRecursion (λ y. y < 2 ^ 64) ys
-    → values_text xs ≡ values_text ys → xs ≡ ys
-values_text-injective [] [] a b is = refl
-values_text-injective [] (y ∷ ys) a b is = absurd (omega (arith, ap length is))
-values_text-injective (x ∷ xs) [] a b is = absurd (omega (arith, ap length is))
-values_text-injective (x ∷ xs) (y ∷ ys) a b is =
-    let parts = split_free 32 (decimal x) (decimal y) (values_text xs) (values_text ys) (free-decimal 32 x (omega arith) a.0)
-    (free-decimal 32 y (omega arith) b.0) (next-values xs) (next-values ys) (ap (λ zs. drop 1 zs) is) in
-    ap (λ z. z ∷ xs) (decimal_injective x y a.0 b.0 parts.0)
-    ∙ ap (λ zs. y ∷ zs) (values_text-injective xs ys a.1 b.1 parts.1)
 
 version_digit-injective : (v w : Version) → version_digit v ≡ version_digit w → v ≡ w
 version_digit-injective One One is = refl
@@ -182,12 +120,16 @@ header_text-injective a b f g is =
     (same_initial-at a.version b.version a.registers.number b.registers.number a.initial b.initial version number
     a.starts b.starts same (told-values a f) (told-values b g) (ap (λ xs. drop 17 xs) is))
 
+-- headers and events have one text each, without a line feed
+trace_naming : IsNaming trace_grammar
+trace_naming = record {
+  free_header = free-header_text;
+  free_item = λ version event fits. free-event_text event fits.0;
+  one_header = header_text-injective;
+  one_item = λ version d e fits other. event_text-injective d e fits.0 other.0;
+}
+
 -- two traces with one text are one trace
 pub trace_text-injective : (a b : Header) (es fs : List Event) → AreEvents a es → AreEvents b fs
     → trace_text a es ≡ trace_text b fs → (a ≡ b) × (es ≡ fs)
-trace_text-injective a b es fs x y is =
-    let parts = line-injective (header_text a) (header_text b) (lines_text es) (lines_text fs)
-    (free-header_text a x.header_fits) (free-header_text b y.header_fits) is in (
-      header_text-injective a b x.header_fits y.header_fits parts.0,
-      lines_text-injective es fs (recursion_from_All (λ e. FitsKind e.kind) es x.fit) (recursion_from_All (λ e. FitsKind e.kind) fs y.fit) parts.1,
-    )
+trace_text-injective a b es fs x y is = lines_text-injective trace_grammar trace_naming a b es fs x y is

@@ -48,6 +48,19 @@ first_value-none bytes n at none = λ value rest small next is. none value small
     let m : n ≡ length (decimal value) = omega (arith, w, k, z) in
     rw (e, m) (take-append_seam (decimal value) rest))
 
+-- the first value, and what follows it
+pub value-split : (value count : ℕ) (bytes : List ℕ) → IsFirstValue value count bytes
+    → bytes ≡ (32 ∷ decimal value) ++ drop count bytes
+value-split value count bytes first = sym (rw first.text at (take-append-drop count bytes))
+
+-- only one list of bytes follows a value at the front
+pub value-rest : (value count : ℕ) (bytes : List ℕ) (other : ℕ) (rest : List ℕ) → IsFirstValue value count bytes
+    → other < 2 ^ 64 → is_next 32 rest ≡ true → bytes ≡ 32 ∷ decimal other ++ rest → drop count bytes ≡ rest
+value-rest value count bytes other rest first small next is =
+    (split_free 32 (decimal value) (decimal other) (drop count bytes) rest (free-decimal 32 value (omega arith) first.small)
+    (free-decimal 32 other (omega arith) small) first.parted next
+    (ap (λ xs. drop 1 xs) (sym (value-split value count bytes first) ∙ is))).1
+
 -- this many values of 64 bits are read from the bytes, the rest is to be read, and no other values are the bytes' values
 pub record AreRead (count index : ℕ) (values rest bytes : List ℕ) : Type 0 where
   pub eight : length values ≡ 8
@@ -69,22 +82,20 @@ pub AreRead-more : (count index value n : ℕ) (values rest bytes : List ℕ) �
     → AreRead count (index + 1) (set values index value) (drop n rest) bytes
 AreRead-more count index value n values rest bytes r more few first =
     let within : index < length values = omega (arith, r.eight) in
-    let parts : 32 ∷ decimal value ++ drop n rest ≡ rest = rw first.text at (take-append-drop n rest) in
     let later : index < index + 1 = omega arith in
     let zeros = rw (drop_step values index within) at r.zeros in
     record {
       eight = simp length-set r.eight;
       fit = All-set (λ v. v < 2 ^ 64) values index value first.small r.fit;
       text = rw (take_more_set values index value within, flat_map-append (λ v. 32 ∷ decimal v) (take index values) (value ∷ []))
-          (r.text ∙ ap (λ xs. values_text (take index values) ++ xs) (sym parts)
+          (r.text ∙ ap (λ xs. values_text (take index values) ++ xs) (value-split value n rest first)
           ∙ simp (append_assoc, append-nil));
       zeros = rw drop-set-lt (and_parts _ _ zeros).1;
       left = λ all counted fit is.
           let here : index < length all = omega (arith, counted) in
           let e = rw (drop_step all index here) at (r.left all counted fit is) in
-          (split_free 32 (decimal value) (decimal (get_or all index 0)) (drop n rest) (values_text (drop (index + 1) all))
-          (free-decimal 32 value (omega arith) first.small) (free-decimal 32 (get_or all index 0) (omega arith) (fit index 0 here))
-          first.parted (next-values (drop (index + 1) all)) (ap (λ xs. drop 1 xs) (parts ∙ e))).1;
+          value-rest value n rest (get_or all index 0) (values_text (drop (index + 1) all)) first (fit index 0 here)
+          (next-values (drop (index + 1) all)) e;
     }
 
 pub AreRead-none : (count index : ℕ) (values rest bytes : List ℕ) → AreRead count index values rest bytes

@@ -1,7 +1,5 @@
-pub mod Line
+pub mod Lengths
 pub mod Naming
 pub mod Start
 pub mod Text
-pub mod TextFault
-pub mod TraceLines
 pub mod Values

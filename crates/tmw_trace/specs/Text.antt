@@ -4,8 +4,8 @@ use Rattle.std.specs.List.{flat_map}
 use Rattle.std.specs.Fmt.{decimal}
 use Rattle.tmw_events.specs.Text.{event_text, FitsKind}
 use Rattle.tmw_events.specs.declared.event.Event.{Event}
-use Rattle.tmw_lines.specs.Text.{line}
-use Rattle.tmw_trace.specs.Start.{are_spoken}
+use Rattle.tmw_lines.specs.Grammar.{Grammar, lines_text, AreLines}
+use Rattle.tmw_trace.specs.Start.{is_spoken}
 use Rattle.tmw_trace.specs.declared.header.Header.{Header}
 use Rattle.tmw_trace.specs.declared.version.Version.{Version}
 use Rattle.tmw_trace.specs.declared.version.Version.TheVariants.{One, Two}
@@ -34,20 +34,28 @@ numbers_text header =
 abbrev pub header_text : Header → List ℕ
 header_text header = codes "opacity-trace " ++ numbers_text header
 
--- a line for each event
-abbrev pub lines_text : List Event → List ℕ
-lines_text events = flat_map (λ event. line (event_text event)) events
-
--- the header's line, then a line for each event
-abbrev pub trace_text : Header → List Event → List ℕ
-trace_text header events = line (header_text header) ++ lines_text events
-
 -- eight registers have a value at the start, each of 64 bits
 abbrev pub FitsHeader : Header → Type 0
 FitsHeader header = (length header.initial ≡ 8) × All (λ value. value < 2 ^ 64) header.initial
 
+-- an event of this version: its value is a number of 64 bits, and the version has its kind
+abbrev pub FitsEvent : Version → Event → Type 0
+FitsEvent version event = FitsKind event.kind × (is_spoken version event.kind ≡ true)
+
+-- a trace's lines: its header's, and behind it one for each event of the header's version
+abbrev pub trace_grammar : Grammar Version Header Event
+trace_grammar = record {
+  header_text = header_text;
+  item_text = event_text;
+  FitsHeader = FitsHeader;
+  FitsItem = FitsEvent;
+  format_of = λ header. header.version;
+}
+
+-- the header's line, then a line for each event
+abbrev pub trace_text : Header → List Event → List ℕ
+trace_text header events = lines_text trace_grammar header events
+
 -- these are events of a trace with this header: the version has them, and their values are numbers of 64 bits
-pub record AreEvents (header : Header) (events : List Event) : Type 0 where
-  pub header_fits : FitsHeader header
-  pub spoken : are_spoken header.version events ≡ true
-  pub fit : All (λ event. FitsKind event.kind) events
+abbrev pub AreEvents : Header → List Event → Type 0
+AreEvents header events = AreLines trace_grammar header events

@@ -1,7 +1,8 @@
-ghost use Rattle.std.specs.Prelude.{◌≡◌, true, IfSome, IfNone};
-ghost use Rattle.tmw_events.specs.Text.{event_text, FitsKind};
+ghost use Rattle.std.specs.Prelude.{◌≡◌, IfSome, IfNone};
+ghost use Rattle.tmw_events.specs.Text.{event_text};
+ghost use Rattle.tmw_lines.specs.Grammar.{IsNoItem};
 ghost use Rattle.tmw_trace.specs.Start.{is_spoken};
-ghost use Rattle.tmw_trace.specs.TextFault.{IsNoEvent};
+ghost use Rattle.tmw_trace.specs.Text.{trace_grammar, FitsEvent};
 
 use crate::version::Version;
 use tmw_events::{Event, Kind, ix_of, kind_of};
@@ -10,9 +11,8 @@ use tmw_events::{Event, Kind, ix_of, kind_of};
 /// other bytes.
 pub fn event_of(version: Version, bytes: &[u8]) -> Option<Event>
     ensures some { IfSome result (λ event. bytes.now ≡ event_text event) }
-    ensures fits { IfSome result (λ event. FitsKind event.kind) }
-    ensures spoken { IfSome result (λ event. is_spoken version event.kind ≡ true) }
-    ensures none { IfNone result (IsNoEvent version bytes.now) }
+    ensures fits { IfSome result (FitsEvent version) }
+    ensures none { IfNone result (IsNoItem trace_grammar version bytes.now) }
 {
     match bytes {
         [thread, b' ', kind @ ..] => {

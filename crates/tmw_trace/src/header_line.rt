@@ -1,8 +1,8 @@
 ghost use Rattle.std.specs.Prelude.{◌≡◌, ℕ, ◌+◌, ◌<◌, ◌≤◌, ◌^◌, true, List, ◌∷◌, ◌++◌, length, take, drop, All, IfSome, IfNone};
 ghost use Rattle.std.specs.Fmt.{decimal};
 ghost use Rattle.tmw_trace.specs.Start.{are_zeros};
-ghost use Rattle.tmw_trace.specs.Text.{header_text, numbers_text, values_text, FitsHeader};
-ghost use Rattle.tmw_trace.specs.TextFault.{IsNoHeader};
+ghost use Rattle.tmw_lines.specs.Grammar.{IsNoHeader};
+ghost use Rattle.tmw_trace.specs.Text.{header_text, numbers_text, values_text, trace_grammar, FitsHeader};
 ghost use Rattle.tmw_trace.specs.declared.header.Header.{Header};
 ghost use Rattle.tmw_events.specs.declared.registers.Registers.{Registers};
 ghost use Rattle.tmw_trace.specs.Values.{HasStart, IsFirstValue, IsNoFirstValue};
@@ -16,7 +16,7 @@ use tmw_lines::length_before;
 pub fn header_of(bytes: &[u8]) -> Option<Header>
     ensures some { IfSome result (λ header. bytes.now ≡ header_text header) }
     ensures fits { IfSome result FitsHeader }
-    ensures none { IfNone result (IsNoHeader bytes.now) }
+    ensures none { IfNone result (IsNoHeader trace_grammar bytes.now) }
 {
     match bytes {
         [

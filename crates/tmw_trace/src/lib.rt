@@ -2,16 +2,13 @@
 #![tactic(auto)]
 
 mod event_line;
-mod first_line;
 mod header;
 mod header_line;
 mod naming;
-mod next_line;
 mod reader;
 #[cfg(test)]
 mod reader_tests;
 mod trace;
-mod trace_fault;
 mod trace_lines;
 mod version;
 
@@ -20,7 +17,7 @@ pub use header::Header;
 pub use header_line::{first_value, header_of};
 pub use naming::law_3;
 pub use reader::read_trace;
+pub use tmw_lines::TextFault as TraceFault;
 pub use trace::Trace;
-pub use trace_fault::TraceFault;
 pub use trace_lines::TraceLines;
 pub use version::Version;

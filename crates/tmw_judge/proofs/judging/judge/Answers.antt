@@ -11,7 +11,7 @@ returns-in_default-clause-right g c =
 
 pub feed-requires : goal.feed-requires
 feed-requires g c =
-    let given = rw c.in-Ok-Some.field-0-is at c.in-Ok-Some.ensures.event in
+    let given = rw c.in-Ok-Some.field-0-is at c.in-Ok-Some.ensures.item in
     record {
       room = fed_room g.S.Source.told c.args.source.now c.lines.source c.lines.lines c.next.new.self c.args.bounds c.lines.monitor
           c.in-Ok-Some.event given.0 c.lines.invariant.0 given.2;
@@ -19,7 +19,7 @@ feed-requires g c =
 
 pub lines-preserved : goal.lines-preserved
 lines-preserved g c =
-    let given = rw c.in-Ok-Some.field-0-is at c.in-Ok-Some.ensures.event in (
+    let given = rw c.in-Ok-Some.field-0-is at c.in-Ok-Some.ensures.item in (
       fed-push g.S.Source.told c.args.source.now c.lines.source c.next.new.source c.lines.lines c.next.new.self c.args.bounds
           c.lines.monitor c.feed.new.self c.in-Ok-Some.event given.0 c.lines.invariant.0 given.1 given.2 c.in-Ok-feed.ensures.ok,
       c.in-Ok-Some.ensures.well ∙ c.lines.invariant.1,
@@ -27,7 +27,7 @@ lines-preserved g c =
 
 pub returns-in_default-feed-clause-right : goal.returns-in_default-feed-clause-right
 returns-in_default-feed-clause-right g c =
-    let given = rw c.in-Ok-Some.field-0-is at c.in-Ok-Some.ensures.event in
+    let given = rw c.in-Ok-Some.field-0-is at c.in-Ok-Some.ensures.item in
     let fed = c.lines.invariant.0 in
     wants_memory g.S.Source.told (g.S.Source.ended c.next.new.source) c.args.source.now c.next.new.source c.next.new.self fed.header
     (fed.history ++ c.in-Ok-Some.event ∷ []) c.args.bounds

@@ -1,16 +1,17 @@
 -- A report whose line found no memory is answered by that fault: what was told is a trace's text.
 use Rattle.std.proofs.Common.{◌≡◌, ℕ, List, [], Ok, Err, inl, inr, refl, sym, append-nil, ◌∙◌}
-use Rattle.tmw_trace.specs.TextFault.{HasBegun}
-use Rattle.tmw_trace.specs.declared.trace_fault.TraceFault.TheVariants.{Memory as WantsMemory}
+use Rattle.tmw_lines.specs.TextFault.{HasBegun}
+use Rattle.tmw_lines.specs.declared.text_fault.TextFault.TheVariants.{Memory as WantsMemory}
+use Rattle.tmw_trace.specs.Text.{trace_grammar}
 use Rattle.tmw_monitor.specs.declared.bounds.Bounds.{Bounds}
 use Rattle.tmw_report.specs.declared.fault.Fault.TheVariants.{Memory}
 use Rattle.tmw_judge.specs.Judging.{IsReportOf}
 use Rattle.tmw_judge.specs.declared.report.Report.{Report}
 use Rattle.tmw_judge.proofs.run.run_judge.Goals as goal
 
-begun : (bounds : Bounds) (bytes : List ℕ) (report : Report) → IsReportOf bounds bytes report → HasBegun bytes
+begun : (bounds : Bounds) (bytes : List ℕ) (report : Report) → IsReportOf bounds bytes report → HasBegun trace_grammar bytes
 begun bounds bytes report t =
-    record { header = t.header; events = t.history; are_events = t.are_events; rest = []; split = t.text ∙ sym (append-nil _) }
+    record { header = t.header; items = t.history; are_lines = t.are_events; rest = []; split = t.text ∙ sym (append-nil _) }
 
 pub returns-in-Ok : goal.returns-in-Ok
 returns-in-Ok g c =

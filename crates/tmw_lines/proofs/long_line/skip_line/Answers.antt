@@ -1,4 +1,4 @@
-use Rattle.std.proofs.Common.{◌≡◌, ◌<◌, ◌≤◌, ◌==◌, ◌++◌, ◌∙◌, List, ℕ, length, ap, arith}
+use Rattle.std.proofs.Common.{◌≡◌, ◌<◌, ◌≤◌, ◌==◌, ◌++◌, ◌∙◌, length, ap, arith}
 use Rattle.std.specs.List.{position_or_len}
 use Rattle.tmw_lines.proofs.LongLines.{feed-append, free-all}
 use Rattle.tmw_lines.proofs.Splits.{free-append}

@@ -1,6 +1,5 @@
-use Rattle.std.proofs.Common.{◌+◌, ◌≤◌, length, arith}
+use Rattle.std.proofs.Common.{arith}
 use Rattle.std.proofs.lemmas.List.{take_rest}
-use Rattle.tmw_lines.specs.Piece.{IsSeen}
 use Rattle.tmw_lines.proofs.Pieces.{IsSeen-more, drop-seen}
 use Rattle.tmw_lines.proofs.piece.seen_on.Goals as goal
 

@@ -1,6 +1,5 @@
 use Rattle.std.proofs.Common.{arith}
 use Rattle.std.proofs.lemmas.List.{drop_all}
-use Rattle.tmw_lines.proofs.Splits.{free-decimal, split_free, drop-before, free-before, position_or_len-free}
 use Rattle.tmw_lines.proofs.splitting.length_before.Goals as goal
 
 pub returns : goal.returns

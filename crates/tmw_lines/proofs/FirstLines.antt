@@ -1,0 +1,75 @@
+-- The first line of a text: held whole, or longer than can be held.
+use Rattle.std.proofs.Common.{◌≡◌, ℕ, ◌+◌, ◌≤◌, Option, Some, None, IfSome, IfNone, Err, List, ◌∷◌, ◌++◌, length, take, drop, refl, ap, ◌∙◌, inl, inr, length-append, append_assoc, arith}
+use Rattle.tmw_lines.specs.Grammar.{Grammar, IsNoHeader}
+use Rattle.tmw_lines.specs.LineRead.{ReadsHeader}
+use Rattle.tmw_lines.specs.LongLine.{Skips}
+use Rattle.tmw_lines.specs.Parts.{IsFree}
+use Rattle.tmw_lines.specs.Piece.{Reads}
+use Rattle.tmw_lines.specs.Text.{line}
+use Rattle.tmw_lines.specs.TextFault.{HasBadHeader}
+use Rattle.tmw_lines.specs.declared.long_line.LineEnd.TheVariants.{Feed, End, Failed}
+use Rattle.tmw_lines.specs.declared.text_fault.TextFault.TheVariants.{BadHeader, Cut, Io}
+use Rattle.tmw_lines.proofs.HeldLines.{line-split, bytes-joined}
+use Rattle.tmw_lines.proofs.Splits.{free-append}
+use Rattle.tmw_streams.proofs.ToldBytes.{Adds-more}
+
+pub take_header-some : {F H E : Type 0} (grammar : Grammar F H E) (bytes left : List ℕ) (count : ℕ) (found : Option H)
+    → drop count bytes ≡ 10 ∷ drop (count + 1) bytes → left ≡ drop (count + 1) bytes
+    → IfSome found (λ header. take count bytes ≡ grammar.header_text header)
+    → IfSome found (λ header. bytes ≡ line (grammar.header_text header) ++ left)
+take_header-some grammar bytes left count None feed is text = tt
+take_header-some grammar bytes left count (Some header) feed is text =
+    rw is (line-split bytes (grammar.header_text header) count feed text)
+
+pub take_header-none : {F H E : Type 0} (grammar : Grammar F H E) (bytes : List ℕ) (count : ℕ) (found : Option H)
+    → IsFree 10 (take count bytes) → drop count bytes ≡ 10 ∷ drop (count + 1) bytes
+    → IfNone found (IsNoHeader grammar (take count bytes)) → IfNone found (HasBadHeader grammar bytes)
+take_header-none grammar bytes count None free feed bad = record {
+  text = take count bytes;
+  rest = drop (count + 1) bytes;
+  split = line-split bytes (take count bytes) count feed refl;
+  unbroken = free;
+  bad = bad;
+}
+take_header-none grammar bytes count (Some header) free feed bad = tt
+
+-- a line longer than can be held
+module _ {F H E S : Type 0} (grammar : Grammar F H E) (Told : S → List ℕ → Type 0) (Ended : Type 0) (a b c : S)
+    (before held left : List ℕ) where
+  pub long_first-feed : ((text : List ℕ) → 4096 ≤ length text → IsNoHeader grammar text) → Reads Told a b before held
+      → length held ≡ 4096 → IsFree 10 held → Skips Told Ended b c Feed
+      → ReadsHeader grammar Told Ended a c before left (Err BadHeader)
+  long_first-feed long_header r long free s = record {
+    bytes = r.bytes ++ s.bytes;
+    told = Adds-more Told a b c r.bytes s.bytes r.told s.told;
+    is = rw (bytes-joined Told a b before held r s.bytes) (inr record {
+      text = held ++ s.is.front;
+      rest = s.is.rest;
+      split = ap (λ xs. held ++ xs) s.is.split ∙ simp append_assoc;
+      unbroken = free-append 10 held s.is.front free s.is.free;
+      bad = long_header (held ++ s.is.front) (simp length-append (omega (arith, long)));
+    });
+  }
+
+  pub long_first-end : Reads Told a b before held → length held ≡ 4096 → IsFree 10 held → Skips Told Ended b c End
+      → ReadsHeader grammar Told Ended a c before left (Err (Cut 1))
+  long_first-end r long free s = record {
+    bytes = r.bytes ++ s.bytes;
+    told = Adds-more Told a b c r.bytes s.bytes r.told s.told;
+    is = rw (bytes-joined Told a b before held r s.bytes) (
+      s.is.0,
+      inl (
+        refl,
+        λ empty. absurd (omega (arith, long, ap length empty, length-append held s.bytes)),
+        free-append 10 held s.bytes free s.is.1,
+      ),
+    );
+  }
+
+  pub long_first-failed : Reads Told a b before held → IsFree 10 held → Skips Told Ended b c Failed
+      → ReadsHeader grammar Told Ended a c before left (Err Io)
+  long_first-failed r free s = record {
+    bytes = r.bytes ++ s.bytes;
+    told = Adds-more Told a b c r.bytes s.bytes r.told s.told;
+    is = rw (bytes-joined Told a b before held r s.bytes) (inl (free-append 10 held s.bytes free s.is));
+  }

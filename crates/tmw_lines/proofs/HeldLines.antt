@@ -1,0 +1,21 @@
+-- A line that is held whole, and the bytes read for one that is not.
+use Rattle.std.proofs.Common.{◌≡◌, ℕ, ◌+◌, ◌<◌, List, [], ◌∷◌, ◌++◌, length, take, drop, sym, ap, ◌∙◌, length-drop, append_assoc, take-append-drop, arith}
+use Rattle.tmw_lines.specs.Piece.{Reads}
+use Rattle.tmw_lines.specs.Text.{line}
+
+-- the bytes up to a line feed, and those after it
+pub line-split : (bytes text : List ℕ) (count : ℕ) → drop count bytes ≡ 10 ∷ drop (count + 1) bytes → take count bytes ≡ text
+    → bytes ≡ line text ++ drop (count + 1) bytes
+line-split bytes text count feed is =
+    sym (take-append-drop count bytes) ∙ rw (is, feed) (sym (append_assoc text (10 ∷ []) (drop (count + 1) bytes)))
+
+-- what is left behind a line is shorter
+pub length-left : (bytes left : List ℕ) (count : ℕ) → drop count bytes ≡ 10 ∷ drop (count + 1) bytes
+    → left ≡ drop (count + 1) bytes → length left < length bytes
+length-left bytes left count feed is =
+    omega (arith, ap length is, ap length feed, length-drop count bytes, length-drop (count + 1) bytes)
+
+-- the bytes read for a line, and then more, behind those held before
+pub bytes-joined : {S : Type 0} (Told : S → List ℕ → Type 0) (a b : S) (before held : List ℕ) (r : Reads Told a b before held)
+    (more : List ℕ) → before ++ (r.bytes ++ more) ≡ held ++ more
+bytes-joined Told a b before held r more = sym (append_assoc before r.bytes more) ∙ ap (λ xs. xs ++ more) (sym r.is)

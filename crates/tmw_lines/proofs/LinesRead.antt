@@ -1,0 +1,116 @@
+-- What a reader of lines has read, after one line more.
+use Rattle.std.proofs.Common.{◌≡◌, ℕ, ◌+◌, ◌≤◌, List, [], ◌∷◌, ◌++◌, length, refl, sym, ap, ◌∙◌, inr, length-append, length-take, append_assoc, arith}
+use Rattle.std.proofs.lemmas.Grind.{flat_map-append}
+use Rattle.std.proofs.lemmas.List.{append-nil}
+use Rattle.std.proofs.lemmas.List.Elements.{All-push}
+use Rattle.tmw_lines.specs.Grammar.{Grammar, items_text, lines_text, AreLines}
+use Rattle.tmw_lines.specs.Held.{bytes_of}
+use Rattle.tmw_lines.specs.LineRead.{IsItemLine, HasLineFault}
+use Rattle.tmw_lines.specs.Lines.{HasRead}
+use Rattle.tmw_lines.specs.Text.{line}
+use Rattle.tmw_lines.specs.TextFault.{HasTextFault, HasBegun}
+use Rattle.tmw_lines.specs.declared.held.Held.{Held}
+use Rattle.tmw_lines.specs.declared.lines.Lines.{Lines}
+use Rattle.tmw_lines.specs.declared.lines.State.TheVariants.{Reading}
+use Rattle.tmw_lines.specs.declared.text_fault.TextFault.{TextFault}
+use Rattle.tmw_lines.specs.declared.text_fault.TextFault.TheVariants.{BadHeader, BadLine, Cut, Memory, Io, TooLong}
+
+few-held : (held : Held) → length (bytes_of held) ≤ 4096
+few-held held = simp length-take (omega (arith, held.within))
+
+module _ {F H E : Type 0} (grammar : Grammar F H E) where
+  AreLines-push : (header : H) (items : List E) (item : E) → AreLines grammar header items
+      → grammar.FitsItem (grammar.format_of header) item → AreLines grammar header (items ++ item ∷ [])
+  AreLines-push header items item a fits = record {
+    header_fits = a.header_fits;
+    fit = All-push (grammar.FitsItem (grammar.format_of header)) items item a.fit fits;
+  }
+
+  items_text-push : (front rest : List ℕ) (items : List E) (item : E)
+      → (front ++ items_text grammar items) ++ (line (grammar.item_text item) ++ rest)
+      ≡ (front ++ items_text grammar (items ++ item ∷ [])) ++ rest
+  items_text-push front rest items item =
+      let pushed = flat_map-append (λ i. line (grammar.item_text i)) items (item ∷ []) in
+      let last = append-nil (line (grammar.item_text item)) in
+      sym (append_assoc (front ++ items_text grammar items) (line (grammar.item_text item)) rest)
+      ∙ ap (λ xs. xs ++ rest) (append_assoc front (items_text grammar items) (line (grammar.item_text item))
+      ∙ ap (λ xs. front ++ xs) (sym (pushed ∙ ap (λ xs. items_text grammar items ++ xs) last)))
+
+  -- what was read, and then more bytes
+  read-more : (lines : Lines F) (header : H) (items : List E) (before bytes : List ℕ)
+      → HasRead grammar lines header items before
+      → before ++ bytes ≡ lines_text grammar header items ++ (bytes_of lines.held ++ bytes)
+  read-more lines header items before bytes r =
+      ap (λ xs. xs ++ bytes) r.text ∙ append_assoc (lines_text grammar header items) (bytes_of lines.held) bytes
+
+  pub HasRead-push : (old new : Lines F) (bytes : List ℕ) (item : E) → new.state ≡ old.state → new.format ≡ old.format
+      → new.count ≡ old.count + 1 → IsItemLine grammar old.format item (bytes_of old.held ++ bytes) (bytes_of new.held)
+      → (header : H) (items : List E) (before : List ℕ) → HasRead grammar old header items before
+      → HasRead grammar new header (items ++ item ∷ []) (before ++ bytes)
+  HasRead-push old new bytes item state format count given header items before r = record {
+    reading = state ∙ r.reading;
+    format = format ∙ r.format;
+    counted = simp length-append (omega (arith, count, r.counted));
+    are_lines = AreLines-push header items item r.are_lines (rw r.format at given.fits);
+    text = read-more old header items before bytes r ∙ ap (λ xs. lines_text grammar header items ++ xs) given.split
+        ∙ items_text-push (line (grammar.header_text header)) (bytes_of new.held) items item;
+    few = few-held new.held;
+  }
+
+  -- what was read of the first bytes is the header's line, and the rest is held
+  pub HasRead-first : (lines : Lines F) (header : H) (before bytes : List ℕ) → lines.state ≡ Reading
+      → lines.format ≡ grammar.format_of header → lines.count ≡ 0 → before ≡ [] → grammar.FitsHeader header
+      → before ++ bytes ≡ line (grammar.header_text header) ++ bytes_of lines.held → HasRead grammar lines header [] bytes
+  HasRead-first lines header before bytes reading format none nothing fits text = record {
+    reading = reading;
+    format = format;
+    counted = none;
+    are_lines = record { header_fits = fits; fit = λ i d within. absurd (omega arith) };
+    text = rw nothing at text ∙ ap (λ xs. xs ++ bytes_of lines.held) (sym (append-nil (line (grammar.header_text header))));
+    few = few-held lines.held;
+  }
+
+  -- what was read has begun, whatever follows
+  begun-read : (lines : Lines F) (header : H) (items : List E) (before bytes : List ℕ)
+      → HasRead grammar lines header items before → HasBegun grammar (before ++ bytes)
+  begun-read lines header items before bytes r = record {
+    header = header;
+    items = items;
+    are_lines = r.are_lines;
+    rest = bytes_of lines.held ++ bytes;
+    split = read-more lines header items before bytes r;
+  }
+
+  pub text_fault-line : (Ended : Type 0) (lines : Lines F) (bytes : List ℕ) (fault : TextFault)
+      → HasLineFault grammar Ended lines.format lines.count (bytes_of lines.held ++ bytes) fault
+      → (header : H) (items : List E) (before : List ℕ) → HasRead grammar lines header items before
+      → HasTextFault grammar Ended (before ++ bytes) fault
+  unfolding begun-read
+  text_fault-line Ended lines bytes BadHeader h header items before r = absurd h
+  text_fault-line Ended lines bytes (BadLine number) h header items before r = record {
+    begun = begun-read lines header items before bytes r;
+    few = omega (arith, h.0, r.counted);
+    bad = rw r.format at h.2;
+    counted = omega (arith, h.1, r.counted);
+  }
+  text_fault-line Ended lines bytes (Cut number) h header items before r = (
+    h.2,
+    inr record {
+      begun = begun-read lines header items before bytes r;
+      few = omega (arith, h.0, r.counted);
+      unbroken = h.3;
+      some = h.4;
+      counted = omega (arith, h.1, r.counted);
+    },
+  )
+  text_fault-line Ended lines bytes Memory h header items before r = absurd h
+  text_fault-line Ended lines bytes Io h header items before r = inr record {
+    begun = begun-read lines header items before bytes r;
+    unbroken = h.0;
+    none = λ many. h.1 (r.counted ∙ many);
+  }
+  text_fault-line Ended lines bytes TooLong h header items before r = record {
+    begun = begun-read lines header items before bytes r;
+    many = sym r.counted ∙ h.0;
+    some = h.1;
+  }

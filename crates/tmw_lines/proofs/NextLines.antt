@@ -1,0 +1,79 @@
+-- One line of an item: held whole, or longer than can be held.
+use Rattle.std.proofs.Common.{◌≡◌, ℕ, ◌+◌, ◌<◌, ◌≤◌, ◌^◌, Option, Some, None, IfSome, IfNone, Err, List, ◌∷◌, ◌++◌, length, take, drop, refl, ap, ◌∙◌, length-append, append_assoc, arith}
+use Rattle.tmw_lines.specs.Grammar.{Grammar, IsNoItem}
+use Rattle.tmw_lines.specs.LineRead.{IsItemLine, ReadsLine}
+use Rattle.tmw_lines.specs.TextFault.{IsBadLine}
+use Rattle.tmw_lines.specs.LongLine.{Skips}
+use Rattle.tmw_lines.specs.Parts.{IsFree}
+use Rattle.tmw_lines.specs.Piece.{Reads}
+use Rattle.tmw_lines.specs.declared.long_line.LineEnd.TheVariants.{Feed, End, Failed}
+use Rattle.tmw_lines.specs.declared.text_fault.TextFault.TheVariants.{BadLine, Cut, Io}
+use Rattle.tmw_lines.proofs.HeldLines.{line-split, bytes-joined}
+use Rattle.tmw_lines.proofs.Splits.{free-append}
+use Rattle.tmw_streams.proofs.ToldBytes.{Adds-more}
+
+pub take_item-some : {F H E : Type 0} (grammar : Grammar F H E) (format : F) (bytes left : List ℕ) (count : ℕ)
+    (found : Option E) → drop count bytes ≡ 10 ∷ drop (count + 1) bytes → left ≡ drop (count + 1) bytes
+    → IfSome found (λ item. take count bytes ≡ grammar.item_text item) → IfSome found (grammar.FitsItem format)
+    → IfSome found (λ item. IsItemLine grammar format item bytes left)
+take_item-some grammar format bytes left count None feed is text fits = tt
+take_item-some grammar format bytes left count (Some item) feed is text fits = record {
+  split = rw is (line-split bytes (grammar.item_text item) count feed text);
+  fits = fits;
+}
+
+pub take_item-none : {F H E : Type 0} (grammar : Grammar F H E) (format : F) (bytes : List ℕ) (count : ℕ) (found : Option E)
+    → IsFree 10 (take count bytes) → drop count bytes ≡ 10 ∷ drop (count + 1) bytes
+    → IfNone found (IsNoItem grammar format (take count bytes)) → IfNone found (IsBadLine grammar format bytes)
+take_item-none grammar format bytes count None free feed bad = record {
+  text = take count bytes;
+  rest = drop (count + 1) bytes;
+  split = line-split bytes (take count bytes) count feed refl;
+  unbroken = free;
+  bad = bad;
+}
+take_item-none grammar format bytes count (Some item) free feed bad = tt
+
+-- a line longer than can be held
+module _ {F H E S : Type 0} (grammar : Grammar F H E) (Told : S → List ℕ → Type 0) (Ended : Type 0) (a b c : S) (format : F)
+    (count : ℕ) (before held left : List ℕ) where
+  pub long-feed : ((text : List ℕ) → 4096 ≤ length text → IsNoItem grammar format text) → Reads Told a b before held
+      → length held ≡ 4096 → IsFree 10 held → Skips Told Ended b c Feed → count < 2 ^ 40
+      → ReadsLine grammar Told Ended a c format count before left (Err (BadLine (count + 2)))
+  long-feed long_item r long free s few = record {
+    bytes = r.bytes ++ s.bytes;
+    told = Adds-more Told a b c r.bytes s.bytes r.told s.told;
+    is = rw (bytes-joined Told a b before held r s.bytes) (
+      few,
+      refl,
+      record {
+        text = held ++ s.is.front;
+        rest = s.is.rest;
+        split = ap (λ xs. held ++ xs) s.is.split ∙ simp append_assoc;
+        unbroken = free-append 10 held s.is.front free s.is.free;
+        bad = long_item (held ++ s.is.front) (simp length-append (omega (arith, long)));
+      },
+    );
+  }
+
+  pub long-end : Reads Told a b before held → length held ≡ 4096 → IsFree 10 held → Skips Told Ended b c End → count < 2 ^ 40
+      → ReadsLine grammar Told Ended a c format count before left (Err (Cut (count + 2)))
+  long-end r long free s few = record {
+    bytes = r.bytes ++ s.bytes;
+    told = Adds-more Told a b c r.bytes s.bytes r.told s.told;
+    is = rw (bytes-joined Told a b before held r s.bytes) (
+      few,
+      refl,
+      s.is.0,
+      free-append 10 held s.bytes free s.is.1,
+      λ empty. absurd (omega (arith, long, ap length empty, length-append held s.bytes)),
+    );
+  }
+
+  pub long-failed : Reads Told a b before held → IsFree 10 held → Skips Told Ended b c Failed → count < 2 ^ 40
+      → ReadsLine grammar Told Ended a c format count before left (Err Io)
+  long-failed r free s few = record {
+    bytes = r.bytes ++ s.bytes;
+    told = Adds-more Told a b c r.bytes s.bytes r.told s.told;
+    is = rw (bytes-joined Told a b before held r s.bytes) (free-append 10 held s.bytes free s.is, λ last. absurd (omega (arith, last)));
+  }

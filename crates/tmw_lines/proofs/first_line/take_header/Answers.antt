@@ -1,0 +1,15 @@
+use Rattle.tmw_lines.specs.Held.{bytes_of}
+use Rattle.tmw_lines.proofs.FirstLines.{take_header-some, take_header-none}
+use Rattle.tmw_lines.proofs.first_line.take_header.Goals as goal
+
+pub returns-clause-some : goal.returns-clause-some
+returns-clause-some g c =
+    let found = rw c.bytes.ensures.value at c.header_of-found.ensures.some in
+    take_header-some g.F.LineFormat.grammar (bytes_of c.args.held.now) (bytes_of c.consume.new.self) c.args.count
+    c.header_of-found.result c.requires.feed c.consume.ensures found
+
+pub returns-clause-none : goal.returns-clause-none
+returns-clause-none g c =
+    let found = rw c.bytes.ensures.value at c.header_of-found.ensures.none in
+    take_header-none g.F.LineFormat.grammar (bytes_of c.args.held.now) c.args.count c.header_of-found.result c.requires.free
+    c.requires.feed found

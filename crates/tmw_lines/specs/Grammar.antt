@@ -1,0 +1,34 @@
+-- The lines of a text: a header's line first, and then a line for each item.
+use Rattle.std.specs.Prelude.{◌≡◌, ℕ, List, ◌++◌, All}
+use Rattle.std.specs.List.{flat_map}
+use Rattle.tmw_lines.specs.Text.{line}
+
+-- the texts of headers and items, without their line feeds, and which of them a text may have: the header tells the
+-- format of the lines behind it, and each item fits that format
+pub record Grammar (Format Header Item : Type 0) : Type 1 where
+  pub header_text : Header → List ℕ
+  pub item_text : Item → List ℕ
+  pub FitsHeader : Header → Type 0
+  pub FitsItem : Format → Item → Type 0
+  pub format_of : Header → Format
+
+-- a line for each item
+abbrev pub items_text : {F H E : Type 0} → Grammar F H E → List E → List ℕ
+items_text grammar items = flat_map (λ item. line (grammar.item_text item)) items
+
+-- the header's line, then a line for each item
+abbrev pub lines_text : {F H E : Type 0} → Grammar F H E → H → List E → List ℕ
+lines_text grammar header items = line (grammar.header_text header) ++ items_text grammar items
+
+-- a text may have this header and these items
+pub record AreLines {F H E : Type 0} (grammar : Grammar F H E) (header : H) (items : List E) : Type 0 where
+  pub header_fits : grammar.FitsHeader header
+  pub fit : All (grammar.FitsItem (grammar.format_of header)) items
+
+-- no header has this text
+abbrev pub IsNoHeader : {F H E : Type 0} → Grammar F H E → List ℕ → Type 0
+IsNoHeader grammar text = (header : _) → grammar.FitsHeader header → text ≡ grammar.header_text header → ⊥
+
+-- no item of the format has this text
+abbrev pub IsNoItem : {F H E : Type 0} → Grammar F H E → F → List ℕ → Type 0
+IsNoItem grammar format text = (item : _) → grammar.FitsItem format item → text ≡ grammar.item_text item → ⊥

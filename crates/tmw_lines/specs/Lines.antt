@@ -1,0 +1,62 @@
+-- What a reader of lines has read, and what each of its calls gives.
+use Rattle.std.specs.Prelude.{◌≡◌, ℕ, ◌≤◌, List, [], ◌∷◌, ◌++◌, length}
+use Rattle.tmw_lines.specs.Grammar.{Grammar, lines_text, AreLines}
+use Rattle.tmw_lines.specs.Held.{bytes_of}
+use Rattle.tmw_lines.specs.LineRead.{HasLineFault}
+use Rattle.tmw_lines.specs.TextFault.{HasTextFault}
+use Rattle.tmw_lines.specs.declared.lines.Lines.{Lines}
+use Rattle.tmw_lines.specs.declared.lines.State.TheVariants.{Reading, Over, Failed}
+use Rattle.tmw_lines.specs.declared.text_fault.TextFault.{TextFault}
+
+-- it has read nothing
+pub record IsNew {F : Type 0} (lines : Lines F) : Type 0 where
+  pub reading : lines.state ≡ Reading
+  pub none : lines.count ≡ 0
+  pub nothing : bytes_of lines.held ≡ []
+
+-- it has answered no fault and not the end
+abbrev pub IsReading : {F : Type 0} → Lines F → Type 0
+IsReading lines = lines.state ≡ Reading
+
+-- it has answered that the text has ended
+abbrev pub IsOver : {F : Type 0} → Lines F → Type 0
+IsOver lines = lines.state ≡ Over
+
+-- it has answered this fault
+abbrev pub HasFailed : {F : Type 0} → Lines F → TextFault → Type 0
+HasFailed lines fault = lines.state ≡ Failed fault
+
+-- how many bytes it has read and not used
+abbrev pub unread : {F : Type 0} → Lines F → ℕ
+unread lines = length (bytes_of lines.held)
+
+-- it has answered no fault and not the end, and the bytes read are the header's line, the lines of the items given,
+-- and at most 4,096 bytes that it holds
+pub record HasRead {F H E : Type 0} (grammar : Grammar F H E) (lines : Lines F) (header : H) (items : List E)
+    (bytes : List ℕ) : Type 0 where
+  pub reading : lines.state ≡ Reading
+  pub format : lines.format ≡ grammar.format_of header
+  pub counted : lines.count ≡ length items
+  pub are_lines : AreLines grammar header items
+  pub text : bytes ≡ lines_text grammar header items ++ bytes_of lines.held
+  pub few : length (bytes_of lines.held) ≤ 4096
+
+-- whatever it had read before, it now has given this item more, and read these bytes more
+abbrev pub GivesItem : {F H E : Type 0} → Grammar F H E → Lines F → Lines F → List ℕ → E → Type 0
+GivesItem grammar old new bytes item = (header : _) (items : List _) (before : List ℕ)
+    → HasRead grammar old header items before → HasRead grammar new header (items ++ item ∷ []) (before ++ bytes)
+
+-- whatever it had read before, the bytes up to the end are the text of the header and the items given
+abbrev pub GivesEnd : {F H E : Type 0} → Grammar F H E → Type 0 → Lines F → List ℕ → Type 0
+GivesEnd grammar Ended old bytes = (header : _) (items : List _) (before : List ℕ)
+    → HasRead grammar old header items before → Ended × (before ++ bytes ≡ lines_text grammar header items)
+
+-- where it had answered no fault and not the end, the line behind those given has this fault, whatever is behind that line
+abbrev pub FailsAtLine : {F H E : Type 0} → Grammar F H E → Type 0 → Lines F → List ℕ → TextFault → Type 0
+FailsAtLine grammar Ended old bytes fault =
+    IsReading old → HasLineFault grammar Ended old.format old.count (bytes_of old.held ++ bytes) fault
+
+-- whatever it had read before, all bytes told have this fault
+abbrev pub GivesFault : {F H E : Type 0} → Grammar F H E → Type 0 → Lines F → List ℕ → TextFault → Type 0
+GivesFault grammar Ended old bytes fault = (header : _) (items : List _) (before : List ℕ)
+    → HasRead grammar old header items before → HasTextFault grammar Ended (before ++ bytes) fault

@@ -1,0 +1,86 @@
+-- Which fault a text of lines has. Lines are judged in order, and the first fault counts.
+use Rattle.std.specs.Prelude.{◌≡◌, ◌≢◌, ℕ, ◌+◌, ◌<◌, ◌^◌, ◌⊎◌, List, [], ◌++◌, length}
+use Rattle.tmw_lines.specs.Grammar.{Grammar, lines_text, AreLines, IsNoHeader, IsNoItem}
+use Rattle.tmw_lines.specs.Parts.{IsFree}
+use Rattle.tmw_lines.specs.Text.{line}
+use Rattle.tmw_lines.specs.declared.text_fault.TextFault.{TextFault}
+use Rattle.tmw_lines.specs.declared.text_fault.TextFault.TheVariants.{BadHeader, BadLine, Cut, Memory, Io, TooLong}
+use Rattle.tmw_streams.specs.Told.{one_more}
+
+-- no line feed is among these bytes
+abbrev pub IsUnbroken : List ℕ → Type 0
+IsUnbroken bytes = IsFree 10 bytes
+
+-- the bytes begin with a whole line whose text is bad
+pub record BeginsWithBad (IsBad : List ℕ → Type 0) (bytes : List ℕ) : Type 0 where
+  pub text : List ℕ
+  pub rest : List ℕ
+  pub split : bytes ≡ line text ++ rest
+  pub unbroken : IsUnbroken text
+  pub bad : IsBad text
+
+-- the bytes begin with a whole line that is no header
+abbrev pub HasBadHeader : {F H E : Type 0} → Grammar F H E → List ℕ → Type 0
+HasBadHeader grammar bytes = BeginsWithBad (IsNoHeader grammar) bytes
+
+-- the bytes begin with a whole line that is no item of the format
+abbrev pub IsBadLine : {F H E : Type 0} → Grammar F H E → F → List ℕ → Type 0
+IsBadLine grammar format bytes = BeginsWithBad (IsNoItem grammar format) bytes
+
+-- a header and items' lines, and then whatever follows
+pub record HasBegun {F H E : Type 0} (grammar : Grammar F H E) (bytes : List ℕ) : Type 0 where
+  pub header : H
+  pub items : List E
+  pub are_lines : AreLines grammar header items
+  pub rest : List ℕ
+  pub split : bytes ≡ lines_text grammar header items ++ rest
+
+-- after a header and fewer than 2^40 items' lines comes a whole line that is no item; lines are counted from 1
+pub record HasBadLine {F H E : Type 0} (grammar : Grammar F H E) (bytes : List ℕ) (number : ℕ) : Type 0 where
+  pub begun : HasBegun grammar bytes
+  pub few : length begun.items < 2 ^ 40
+  pub bad : IsBadLine grammar (grammar.format_of begun.header) begun.rest
+  pub counted : number ≡ length begun.items + 2
+
+-- after a header and fewer than 2^40 items' lines come bytes, at least one, and no line feed
+pub record EndsInPiece {F H E : Type 0} (grammar : Grammar F H E) (bytes : List ℕ) (number : ℕ) : Type 0 where
+  pub begun : HasBegun grammar bytes
+  pub few : length begun.items < 2 ^ 40
+  pub unbroken : IsUnbroken begun.rest
+  pub some : begun.rest ≢ []
+  pub counted : number ≡ length begun.items + 2
+
+-- after a header and 2^40 items' lines comes one more byte
+pub record IsTooLong {F H E : Type 0} (grammar : Grammar F H E) (bytes : List ℕ) : Type 0 where
+  pub begun : HasBegun grammar bytes
+  pub many : length begun.items ≡ 2 ^ 40
+  pub some : begun.rest ≢ []
+
+-- a header and items' lines, and then less than a line, which is nothing after 2^40 of them
+pub record EndsInOrder {F H E : Type 0} (grammar : Grammar F H E) (bytes : List ℕ) : Type 0 where
+  pub begun : HasBegun grammar bytes
+  pub unbroken : IsUnbroken begun.rest
+  pub none : length begun.items ≡ 2 ^ 40 → begun.rest ≡ []
+
+-- the last piece, which has this number, lacks its line feed
+abbrev pub IsCut : {F H E : Type 0} → Grammar F H E → List ℕ → ℕ → Type 0
+IsCut grammar bytes number = ((number ≡ 1) × (bytes ≢ []) × IsUnbroken bytes) ⊎ EndsInPiece grammar bytes number
+
+-- the bytes told so far show no fault
+abbrev pub IsFaultless : {F H E : Type 0} → Grammar F H E → List ℕ → Type 0
+IsFaultless grammar bytes = IsUnbroken bytes ⊎ EndsInOrder grammar bytes
+
+-- the bytes, which end here where `Ended` holds, have this fault; where a read failed, what was judged of them has none, and
+-- for want of memory the first line at least is a header
+abbrev pub HasTextFault : {F H E : Type 0} → Grammar F H E → Type 0 → List ℕ → TextFault → Type 0
+HasTextFault grammar Ended bytes BadHeader = (Ended × (bytes ≡ [])) ⊎ HasBadHeader grammar bytes
+HasTextFault grammar Ended bytes (BadLine number) = HasBadLine grammar bytes number
+HasTextFault grammar Ended bytes (Cut number) = Ended × IsCut grammar bytes number
+HasTextFault grammar Ended bytes Memory = HasBegun grammar bytes
+HasTextFault grammar Ended bytes Io = IsFaultless grammar bytes
+HasTextFault grammar Ended bytes TooLong = IsTooLong grammar bytes
+
+-- a source's count of failures after this fault: one more for a failed read, else as before
+abbrev pub failures_after : TextFault → ℕ → ℕ
+failures_after Io count = one_more count
+failures_after _ count = count

@@ -1,0 +1,52 @@
+ghost use Rattle.std.specs.Prelude.{◌≡◌, ◌+◌, ◌∷◌, ◌++◌, take, drop, IfSome, IfNone, IfErr, OnOk};
+ghost use Rattle.tmw_lines.specs.Held.{bytes_of};
+ghost use Rattle.tmw_lines.specs.LineRead.{IsOfFirstLine, ReadsHeader};
+ghost use Rattle.tmw_lines.specs.Text.{line};
+ghost use Rattle.tmw_lines.specs.TextFault.{IsUnbroken, HasBadHeader, failures_after};
+
+use crate::held::Held;
+use crate::line_format::LineFormat;
+use crate::long_line::{LineEnd, skip_line};
+use crate::piece::{Piece, next_piece};
+use crate::text_fault::TextFault;
+use tmw_streams::Source;
+
+/// Reads the first line of a text: its header, or its fault.
+pub fn first_line<F: LineFormat, S: Source>(
+    held: &mut Held,
+    source: &mut S,
+) -> Result<F::Header, TextFault>
+    ensures reads { ReadsHeader F.grammar S.told (S.ended source.new) source.old source.new
+        (bytes_of held.old) (bytes_of held.new) result }
+    ensures first { IfErr result IsOfFirstLine }
+    ensures well { OnOk result (S.failures source.new ≡ S.failures source.old) }
+    ensures failed { IfErr result (λ fault. S.failures source.new ≡ failures_after fault (S.failures source.old)) }
+{
+    match next_piece(held, source) {
+        Piece::Line(length) => match take_header::<F>(held, length) {
+            Some(header) => Ok(header),
+            None => Err(TextFault::BadHeader),
+        },
+        Piece::End if held.bytes().is_empty() => Err(TextFault::BadHeader),
+        Piece::End => Err(TextFault::Cut(1)),
+        Piece::Failed => Err(TextFault::Io),
+        Piece::Long => match skip_line(held, source) {
+            LineEnd::Feed => Err(TextFault::BadHeader),
+            LineEnd::End => Err(TextFault::Cut(1)),
+            LineEnd::Failed => Err(TextFault::Io),
+        },
+    }
+}
+
+/// Takes the line of so many bytes, with its line feed: its header, where it has one.
+fn take_header<F: LineFormat>(held: &mut Held, count: usize) -> Option<F::Header>
+    requires free { IsUnbroken (take count (bytes_of held.old)) }
+    requires feed { drop count (bytes_of held.old) ≡ 10 ∷ drop (count + 1) (bytes_of held.old) }
+    ensures some { IfSome result (λ header. bytes_of held.old ≡ line (F.grammar.header_text header) ++ bytes_of held.new) }
+    ensures fits { IfSome result F.grammar.FitsHeader }
+    ensures none { IfNone result (HasBadHeader F.grammar (bytes_of held.old)) }
+{
+    let found = F::header_of(&held.bytes()[..count]);
+    held.consume(count + 1);
+    found
+}

@@ -1,0 +1,38 @@
+ghost use Rattle.std.specs.Prelude.{◌≡◌, ℕ, ◌≤◌, List, length, IfSome, IfNone};
+ghost use Rattle.tmw_lines.specs.Grammar.{Grammar, IsNoHeader, IsNoItem};
+
+/// What the lines of a text tell: the first a header, and each other an item. A value is the format of the lines behind a
+/// header, and says which items these may be.
+pub trait LineFormat: Copy {
+    /// What the first line tells.
+    type Header: Copy;
+    /// What each other line tells.
+    type Item: Copy;
+
+    /// The format that a reader keeps before it has read a header.
+    const UNREAD: Self;
+
+    /// The texts of headers and items, and which of them a text may have.
+    ghost grammar: { Grammar Self Self.Header Self.Item };
+
+    /// The format of the lines behind this header.
+    fn behind(header: &Self::Header) -> Self
+        ensures { result ≡ grammar.format_of header.now };
+
+    /// The header that these bytes are the text of: a first line without its line feed. `None` for all other bytes.
+    fn header_of(bytes: &[u8]) -> Option<Self::Header>
+        ensures some { IfSome result (λ header. bytes.now ≡ grammar.header_text header) }
+        ensures fits { IfSome result grammar.FitsHeader }
+        ensures none { IfNone result (IsNoHeader grammar bytes.now) };
+
+    /// The item of this format that these bytes are the text of: a line without its line feed. `None` for all other bytes.
+    fn item_of(self, bytes: &[u8]) -> Option<Self::Item>
+        ensures some { IfSome result (λ item. bytes.now ≡ grammar.item_text item) }
+        ensures fits { IfSome result (grammar.FitsItem self) }
+        ensures none { IfNone result (IsNoItem grammar self bytes.now) };
+
+    /// A header's line is shorter than what can be held.
+    ghost long_header: { (text : List ℕ) → 4096 ≤ length text → IsNoHeader grammar text };
+    /// An item's line is shorter than what can be held.
+    ghost long_item: { (format : Self) (text : List ℕ) → 4096 ≤ length text → IsNoItem grammar format text };
+}

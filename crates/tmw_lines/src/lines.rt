@@ -1,0 +1,118 @@
+ghost use Rattle.std.specs.Prelude.{◌≡◌, ℕ, ◌+◌, ◌<◌, ◌≤◌, ◌^◌, List, [], IfOk, IfErr, IfSome, IfNone, OnOk, OnSome, Ok, Err, None};
+ghost use Rattle.tmw_lines.specs.LineRead.{IsOfFirstLine};
+ghost use Rattle.tmw_lines.specs.TextFault.{HasTextFault, failures_after};
+ghost use Rattle.tmw_lines.specs.declared.text_fault.TextFault.{TextFault};
+ghost use Rattle.tmw_streams.specs.Told.{Adds};
+
+use crate::first_line::first_line;
+use crate::held::Held;
+use crate::line_format::LineFormat;
+use crate::next_line::next_line;
+use crate::text_fault::TextFault;
+use tmw_streams::Source;
+
+/// How far a reader has come.
+#[derive(Clone, Copy)]
+pub enum State {
+    /// A line may follow.
+    Reading,
+    /// The text has ended.
+    Over,
+    /// A fault was found, which stays.
+    Failed(TextFault),
+}
+
+/// Reads a text line by line, and holds at most 4,096 bytes of it. First `header` is called once; where that is `Ok`,
+/// `next` gives one item after another. All calls take the same source, which nobody else reads meanwhile.
+/// It allocates nothing, so `Memory` is not among its faults.
+#[derive(Drop)]
+pub struct Lines<F> {
+    held: Held,
+    format: F,
+    count: u64,
+    state: State,
+    ghost few: { count ≤ 2 ^ 40 },
+}
+
+impl<F: LineFormat> Lines<F> {
+    ghost use Rattle.tmw_lines.specs.Lines.{IsNew, IsReading, IsOver, HasFailed, HasRead, unread, GivesItem, GivesEnd, FailsAtLine, GivesFault};
+
+    /// Nothing is read.
+    pub const fn new() -> Lines<F>
+        ensures { IsNew result }
+    {
+        Lines {
+            held: Held::new(),
+            format: F::UNREAD,
+            count: 0,
+            state: State::Reading,
+        }
+    }
+
+    /// Reads the first line: the header, or the fault of the bytes told.
+    pub fn header<S: Source>(&mut self, source: &mut S) -> Result<F::Header, TextFault>
+        requires { IsNew self.old }
+        ensures header { IfOk result (λ header. (bytes : List ℕ)
+            × Adds S.told source.old bytes source.new × HasRead F.grammar self.new header [] bytes) }
+        ensures fault { IfErr result (λ fault. (bytes : List ℕ)
+            × Adds S.told source.old bytes source.new × HasTextFault F.grammar (S.ended source.new) bytes fault) }
+        ensures first { IfErr result IsOfFirstLine }
+        ensures stays { IfErr result (HasFailed self.new) }
+        ensures well { OnOk result (S.failures source.new ≡ S.failures source.old) }
+        ensures failed { IfErr result (λ fault. S.failures source.new ≡ failures_after fault (S.failures source.old)) }
+    {
+        match first_line::<F, S>(&mut self.held, source) {
+            Ok(header) => {
+                self.format = F::behind(&header);
+                Ok(header)
+            }
+            Err(fault) => {
+                self.state = State::Failed(fault);
+                Err(fault)
+            }
+        }
+    }
+
+    /// Reads the next line: its item, `None` where the text has ended, or the fault of all bytes told. Once it
+    /// answered `None` or a fault, it answers so again and reads nothing.
+    pub fn next<S: Source>(&mut self, source: &mut S) -> Result<Option<F::Item>, TextFault>
+        ensures item { IfOk result (λ found. IfSome found (λ item. (bytes : List ℕ)
+            × Adds S.told source.old bytes source.new × GivesItem F.grammar self.old self.new bytes item)) }
+        ensures end { IfOk result (λ found. IfNone found ((bytes : List ℕ)
+            × Adds S.told source.old bytes source.new × GivesEnd F.grammar (S.ended source.new) self.old bytes)) }
+        ensures fault { IfErr result (λ fault. (bytes : List ℕ)
+            × Adds S.told source.old bytes source.new × GivesFault F.grammar (S.ended source.new) self.old bytes fault) }
+        ensures at_line { IfErr result (λ fault. (bytes : List ℕ)
+            × Adds S.told source.old bytes source.new × FailsAtLine F.grammar (S.ended source.new) self.old bytes fault) }
+        ensures falls { IfOk result (λ found. OnSome found
+            (S.left source.new + unread self.new < S.left source.old + unread self.old)) }
+        ensures well { OnOk result (S.failures source.new ≡ S.failures source.old) }
+        ensures failed { IfErr result (λ fault. IsReading self.old
+            → S.failures source.new ≡ failures_after fault (S.failures source.old)) }
+        ensures over { IfOk result (λ found. IfNone found (IsOver self.new)) }
+        ensures over_again { IsOver self.old → (result ≡ Ok None) × (source.new ≡ source.old) }
+        ensures stays { IfErr result (HasFailed self.new) }
+        ensures fault_again { (fault : TextFault) → HasFailed self.old fault
+            → (result ≡ Err fault) × (source.new ≡ source.old) }
+    {
+        match self.state {
+            State::Failed(fault) => return Err(fault),
+            State::Over => return Ok(None),
+            State::Reading => {}
+        }
+        match next_line(&mut self.held, source, self.format, self.count) {
+            Ok(Some(item)) => {
+                self.count += 1;
+                Ok(Some(item))
+            }
+            Ok(None) => {
+                self.state = State::Over;
+                Ok(None)
+            }
+            Err(fault) => {
+                self.state = State::Failed(fault);
+                Err(fault)
+            }
+        }
+    }
+}

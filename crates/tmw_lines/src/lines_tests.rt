@@ -1,0 +1,102 @@
+//! Lines of a format of one letter a line: that generic reading serves it, in any pieces, and answers each fault.
+ghost use Rattle.std.specs.Prelude.{◌≡◌, ◌≤◌, [], ◌∷◌};
+ghost use Rattle.std.proofs.Common.{rules};
+ghost use Rattle.tmw_lines.specs.Grammar.{Grammar};
+
+use crate::{LineFormat, Lines, TextFault, read_lines};
+use std::test::Fail;
+use tmw_streams::MemorySource;
+
+/// The greatest letter that a line may be.
+#[derive(Clone, Copy, PartialEq, Eq, Debug)]
+struct UpTo(u8);
+
+impl LineFormat for UpTo {
+    type Header = u8;
+
+    type Item = u8;
+
+    const UNREAD: UpTo = UpTo(0);
+
+    ghost grammar = { record {
+      header_text = λ letter. letter ∷ [];
+      item_text = λ letter. letter ∷ [];
+      FitsHeader = λ letter. letter ≤ 122;
+      FitsItem = λ most letter. letter ≤ most.0;
+      format_of = λ letter. record { 0 = letter };
+    } };
+
+    fn behind(header: &u8) -> UpTo {
+        UpTo(*header)
+    }
+
+    fn header_of(bytes: &[u8]) -> Option<u8> {
+        match bytes {
+            [letter] if *letter <= b'z' => Some(*letter),
+            _ => None,
+        }
+    }
+
+    fn item_of(self, bytes: &[u8]) -> Option<u8> {
+        match bytes {
+            [letter] if *letter <= self.0 => Some(*letter),
+            _ => None,
+        }
+    }
+
+    ghost long_header = { Prim.search rules };
+
+    ghost long_item = { Prim.search rules };
+}
+
+#[test]
+fn lines_are_read_in_any_pieces(rt: HostRuntime) -> Result<(), Fail> {
+    for most in [1, 2, 3, 4096] {
+        let mut source = MemorySource::limited(b"c\na\nb\nc\n", most, None);
+        let (header, items) = read_lines::<UpTo, MemorySource>(rt.alloc(), &mut source)?;
+        assert_eq!(rt; header, b'c');
+        assert_eq!(rt; items.as_slice(), b"abc".as_slice());
+    }
+    Ok(())
+}
+
+#[test]
+fn the_first_fault_is_answered(rt: HostRuntime) {
+    for (text, fault) in [
+        (b"".as_slice(), TextFault::BadHeader),
+        (b"~\n", TextFault::BadHeader),
+        (b"c", TextFault::Cut(1)),
+        (b"c\n\n", TextFault::BadLine(2)),
+        (b"c\na\nd\n", TextFault::BadLine(3)),
+        (b"c\na\nb", TextFault::Cut(3)),
+        (b"c\nd\na", TextFault::BadLine(2)),
+    ] {
+        let mut source = MemorySource::new(text);
+        assert_eq!(rt;
+            read_lines::<UpTo, MemorySource>(rt.alloc(), &mut source).err(),
+            Some(fault)
+        );
+    }
+    for call in 1..6 {
+        let mut source = MemorySource::limited(b"c\na\n", 1, Some(call));
+        assert_eq!(rt;
+            read_lines::<UpTo, MemorySource>(rt.alloc(), &mut source).err(),
+            Some(TextFault::Io)
+        );
+    }
+}
+
+#[test]
+fn a_reader_answers_a_fault_and_the_end_again(rt: HostRuntime) {
+    let mut source = MemorySource::new(b"c\na\nd\nb\n");
+    let mut lines = Lines::<UpTo>::new();
+    assert_eq!(rt; lines.header(&mut source), Ok(b'c'));
+    assert_eq!(rt; lines.next(&mut source), Ok(Some(b'a')));
+    assert_eq!(rt; lines.next(&mut source), Err(TextFault::BadLine(3)));
+    assert_eq!(rt; lines.next(&mut source), Err(TextFault::BadLine(3)));
+    let mut short = MemorySource::new(b"c\n");
+    let mut none = Lines::<UpTo>::new();
+    assert_eq!(rt; none.header(&mut short), Ok(b'c'));
+    assert_eq!(rt; none.next(&mut short), Ok(None));
+    assert_eq!(rt; none.next(&mut short), Ok(None));
+}

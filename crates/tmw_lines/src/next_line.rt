@@ -1,0 +1,83 @@
+ghost use Rattle.std.specs.Prelude.{◌≡◌, ◌<◌, ◌≤◌, ◌+◌, ◌^◌, ◌∷◌, None, length, take, drop, IfSome, IfNone, IfOk, IfErr, OnOk, OnSome};
+ghost use Rattle.tmw_lines.specs.Held.{bytes_of};
+ghost use Rattle.tmw_lines.specs.LineRead.{ReadsLine, IsItemLine};
+ghost use Rattle.tmw_lines.specs.TextFault.{IsUnbroken, IsBadLine, failures_after};
+
+use crate::held::Held;
+use crate::line_format::LineFormat;
+use crate::long_line::{LineEnd, skip_line};
+use crate::piece::{Piece, next_piece};
+use crate::text_fault::TextFault;
+use tmw_streams::Source;
+
+/// The greatest number of items' lines in a text.
+const MOST_ITEMS: u64 = 1 << 40;
+
+/// Reads the line that follows so many items' lines: its item, nothing at the source's end, or its fault.
+pub fn next_line<F: LineFormat, S: Source>(
+    held: &mut Held,
+    source: &mut S,
+    format: F,
+    count: u64,
+) -> Result<Option<F::Item>, TextFault>
+    requires { count ≤ 2 ^ 40 }
+    ensures reads { ReadsLine F.grammar S.told (S.ended source.new) source.old source.new format count
+        (bytes_of held.old) (bytes_of held.new) result }
+    ensures falls { IfOk result (λ found. OnSome found (S.left source.new + length (bytes_of held.new)
+        < S.left source.old + length (bytes_of held.old))) }
+    ensures well { OnOk result (S.failures source.new ≡ S.failures source.old) }
+    ensures failed { IfErr result (λ fault. S.failures source.new ≡ failures_after fault (S.failures source.old)) }
+{
+    if count == MOST_ITEMS {
+        return past_last(held, source, format);
+    }
+    match next_piece(held, source) {
+        Piece::Line(length) => match take_item(held, length, format) {
+            Some(item) => Ok(Some(item)),
+            None => Err(TextFault::BadLine(count + 2)),
+        },
+        Piece::End if held.bytes().is_empty() => Ok(None),
+        Piece::End => Err(TextFault::Cut(count + 2)),
+        Piece::Failed => Err(TextFault::Io),
+        Piece::Long => match skip_line(held, source) {
+            LineEnd::Feed => Err(TextFault::BadLine(count + 2)),
+            LineEnd::End => Err(TextFault::Cut(count + 2)),
+            LineEnd::Failed => Err(TextFault::Io),
+        },
+    }
+}
+
+/// Sees that nothing follows the greatest number of items' lines.
+fn past_last<F: LineFormat, S: Source>(
+    held: &mut Held,
+    source: &mut S,
+    format: F,
+) -> Result<Option<F::Item>, TextFault>
+    ensures reads { ReadsLine F.grammar S.told (S.ended source.new) source.old source.new format (2 ^ 40)
+        (bytes_of held.old) (bytes_of held.new) result }
+    ensures none { IfOk result (λ found. found ≡ None) }
+    ensures well { OnOk result (S.failures source.new ≡ S.failures source.old) }
+    ensures failed { IfErr result (λ fault. S.failures source.new ≡ failures_after fault (S.failures source.old)) }
+{
+    if !held.bytes().is_empty() {
+        return Err(TextFault::TooLong);
+    }
+    match held.read(source) {
+        Err(_) => Err(TextFault::Io),
+        Ok(0) => Ok(None),
+        Ok(_) => Err(TextFault::TooLong),
+    }
+}
+
+/// Takes the line of so many bytes, with its line feed: its item, where it has one.
+fn take_item<F: LineFormat>(held: &mut Held, count: usize, format: F) -> Option<F::Item>
+    requires free { IsUnbroken (take count (bytes_of held.old)) }
+    requires feed { drop count (bytes_of held.old) ≡ 10 ∷ drop (count + 1) (bytes_of held.old) }
+    ensures some { IfSome result (λ item. IsItemLine F.grammar format item (bytes_of held.old) (bytes_of held.new)) }
+    ensures none { IfNone result (IsBadLine F.grammar format (bytes_of held.old)) }
+    ensures less { length (bytes_of held.new) < length (bytes_of held.old) }
+{
+    let found = format.item_of(&held.bytes()[..count]);
+    held.consume(count + 1);
+    found
+}

@@ -1,0 +1,47 @@
+ghost use Rattle.std.specs.Prelude.{◌≡◌, ℕ, List, IfOk, IfErr, OnOk};
+ghost use Rattle.tmw_lines.specs.Grammar.{lines_text, AreLines};
+ghost use Rattle.tmw_lines.specs.TextFault.{HasTextFault, failures_after};
+ghost use Rattle.tmw_streams.specs.Told.{Adds};
+
+use crate::line_format::LineFormat;
+use crate::lines::Lines;
+use crate::text_fault::TextFault;
+use std::alloc::Global;
+use tmw_streams::Source;
+
+/// Reads a whole text, up to the source's end: its header and its items. Lines are judged in order, each before any further
+/// read, and the first fault is answered; a whole bad line that was delivered before a failed read comes before `Io`.
+/// `Memory` answers want of memory, of which only tests show that a growth was refused, and nothing is read after it. Of
+/// the text at most 4,096 bytes are held.
+pub fn read_lines<F: LineFormat, S: Source>(
+    alloc: Global,
+    source: &mut S,
+) -> Result<(F::Header, Vec<F::Item>), TextFault>
+    // The bytes told, up to the end, are exactly the text of the header and the items.
+    ensures text { IfOk result (λ read. Adds S.told source.old (lines_text F.grammar read.0 read.1.items) source.new) }
+    ensures ended { OnOk result (S.ended source.new) }
+    ensures lines { IfOk result (λ read. AreLines F.grammar read.0 read.1.items) }
+    // The bytes told have the fault.
+    ensures fault { IfErr result (λ fault. (bytes : List ℕ)
+        × Adds S.told source.old bytes source.new × HasTextFault F.grammar (S.ended source.new) bytes fault) }
+    ensures well { OnOk result (S.failures source.new ≡ S.failures source.old) }
+    ensures failed { IfErr result (λ fault. S.failures source.new ≡ failures_after fault (S.failures source.old)) }
+{
+    let mut lines = Lines::<F>::new();
+    let header = match lines.header(source) {
+        Ok(header) => header,
+        Err(fault) => return Err(fault),
+    };
+    let mut items = Vec::new(alloc);
+    'lines: loop {
+        match lines.next(source) {
+            Ok(Some(item)) => {
+                let Ok(()) = items.push(item) else {
+                    return Err(TextFault::Memory);
+                };
+            }
+            Ok(None) => return Ok((header, items)),
+            Err(fault) => return Err(fault),
+        }
+    }
+}
