@@ -64,7 +64,7 @@ phase_keeps core writer phase next sound at free freed looks room limited =
   where
     before : (other : ℕ) (found : WriterPhase) → IsIn (with_phase writer next core) other found
         → ((other ≡ writer) × (next ≡ found)) ⊎ ((other ≢ writer) × IsIn core other found)
-    before other found is = phase_cases core.writers writer other next found (slice_get_within core.writers writer phase at) is
+    before other found is = phase_cases core.writers writer other next found is
 
     claimed_before : (other place : ℕ) (kind : Kind) (is_filled : Bool)
         → IsIn (with_phase writer next core) other (Claimed place kind is_filled) → IsIn core other (Claimed place kind is_filled)
