@@ -7,7 +7,7 @@ use lib.ListN.{get_elem?}
 use Rattle.atomic_table.specs.Table.{State, Me, Allows, keeps, stepped}
 use Rattle.tmw_events.proofs.PackedWords.{stamped-parts}
 use Rattle.tmw_events.proofs.Unpacks.{pack-words}
-use Rattle.tmw_events.specs.Packing.{kind_value, stamp_of, header_of, IsHeader}
+use Rattle.tmw_events.specs.Packing.{stamp_of, header_of, IsHeader}
 use Rattle.tmw_events.specs.Unpacking.{unpacked}
 use Rattle.tmw_events.specs.declared.event.Event.{Event}
 use Rattle.tmw_ring_defs.specs.Ring.{Core}

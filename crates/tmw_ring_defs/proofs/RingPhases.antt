@@ -1,7 +1,6 @@
 -- What the phases of a ring's writers are after one was set, and how many of them are cleared.
-use Rattle.std.proofs.Common.{◌≡◌, ◌≢◌, ◌⊎◌, ◌+◌, ◌<◌, ◌≤◌, ℕ, zero, suc, Bool, List, [], ◌∷◌, length, replicate, Some, refl, sym, ap, ◌∙◌, inl, inr, arith}
+use Rattle.std.proofs.Common.{◌≡◌, ◌≢◌, ◌⊎◌, ◌+◌, ◌<◌, ◌≤◌, ℕ, zero, suc, Bool, List, [], ◌∷◌, length, replicate, Some, refl, ap, inl, inr, arith}
 use Rattle.std.specs.Prelude.{slice_get, slice_set}
-use Rattle.std.proofs.lemmas.Bool.{cases_eq}
 use Rattle.std.proofs.lemmas.Option.{same_Some}
 use Rattle.tmw_events.specs.declared.event.Kind.{Kind}
 use Rattle.tmw_ring_defs.specs.RingSound.{one_if_cleared, cleared}

@@ -1,5 +1,5 @@
 -- What the words of a sound ring are: a claimed place is small, and what the reader has read is an event's.
-use Rattle.std.proofs.Common.{◌≡◌, ◌+◌, ◌<◌, ◌^◌, ◌++◌, ℕ, Bool, [], ◌∷◌, length, sym, ap, ◌∙◌, subst, arith}
+use Rattle.std.proofs.Common.{◌≡◌, ◌+◌, ◌<◌, ◌^◌, ◌++◌, ℕ, Bool, [], ◌∷◌, length, ap, subst, arith}
 use Rattle.std.proofs.lemmas.Option.{slice_get_within}
 use Rattle.tmw_events.proofs.Unpacks.{unpacked-words, pack-words}
 use Rattle.tmw_events.specs.Packing.{pack, kind_value}
