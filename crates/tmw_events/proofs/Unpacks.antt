@@ -1,7 +1,7 @@
 -- The words of an event tell that event.
-use Rattle.std.proofs.Common.{◌≡◌, ◌+◌, ◌*◌, ◌/◌, ◌%◌, ◌<◌, ℕ, refl, ap, ◌∙◌, arith, get_or}
+use Rattle.std.proofs.Common.{◌≡◌, ◌+◌, ◌*◌, ◌/◌, ◌%◌, ◌<◌, ℕ, refl, sym, ap, ◌∙◌, arith, get_or}
 use Rattle.tmw_events.proofs.Same.{same_ix}
-use Rattle.tmw_events.specs.Packing.{packed_header, kind_code, kind_register, kind_value}
+use Rattle.tmw_events.specs.Packing.{packed_header, kind_code, kind_register, kind_value, pack}
 use Rattle.tmw_events.specs.Unpacking.{unpacked, ix_of, kinds}
 use Rattle.tmw_events.specs.declared.event.Event.{Event}
 use Rattle.tmw_events.specs.declared.event.Kind.{Kind}
@@ -50,3 +50,15 @@ of_kind thread (N register value) = told (N register value) thread register valu
 
 pub unpacked-pack : (event : Event) → unpacked (packed_header event) (kind_value event.kind) ≡ event
 unpacked-pack event = of_kind event.thread event.kind
+
+-- So do two words that are an event's.
+pub unpacked-words : (header value : ℕ) (event : Event) → pack event ≡ (header, value) → unpacked header value ≡ event
+unpacked-words header value event words =
+    let tell : ℕ × ℕ → Event = λ w. unpacked w.0 w.1 in ap tell (sym words) ∙ unpacked-pack event
+
+-- the two words of an event
+pub pack-words : (header value : ℕ) (event : Event) → header ≡ packed_header event → value ≡ kind_value event.kind
+    → pack event ≡ (header, value)
+pack-words header value event is_header is_value =
+    let both : ℕ → ℕ → ℕ × ℕ = λ h v. (h, v) in
+    ap (λ h. both h (kind_value event.kind)) (sym is_header) ∙ ap (both header) (sym is_value)

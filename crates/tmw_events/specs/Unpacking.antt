@@ -1,8 +1,10 @@
 -- The event that two words of a ring tell.
-use Rattle.std.specs.Prelude.{◌/◌, ◌%◌, ℕ, List, [], ◌∷◌, get_or}
+use Rattle.std.specs.Prelude.{◌≡◌, ◌/◌, ◌%◌, ℕ, List, [], ◌∷◌, get_or}
 use Rattle.std.proofs.Math.Nat.{mod-lt}
 use Rattle.std.proofs.Common.{refl}
 use Rattle.std.proofs.lemmas.Bool.{ltb-true}
+use Rattle.tmw_events.specs.Packing.{pack}
+use Rattle.tmw_events.specs.Text.{FitsKind}
 use Rattle.tmw_events.specs.declared.event.Event.{Event}
 use Rattle.tmw_events.specs.declared.event.Kind.{Kind}
 use Rattle.tmw_events.specs.declared.event.Kind.TheVariants.{R, V, W, K, T, C, X, A, N}
@@ -21,3 +23,9 @@ kinds register value =
 -- base 8 and the register's
 abbrev pub unpacked : ℕ → ℕ → Event
 unpacked header value = record { thread = ix_of (header / 8); kind = get_or (kinds (ix_of header) value) (header / 64) K }
+
+-- These are the words of an event.
+pub record AreOfEvent (header value : ℕ) : Type 0 where
+  pub event : Event
+  pub fits : FitsKind event.kind
+  pub words : pack event ≡ (header, value)

@@ -10,7 +10,7 @@ use Rattle.tmw_ring_defs.specs.RingSound.{Sound}
 use Rattle.tmw_ring_defs.specs.declared.ring_size.RingSize.{RingSize}
 use Rattle.tmw_ring.specs.Meeting.{with_tail, IsOfLog, HasFoundTail}
 use Rattle.tmw_ring.specs.Parts.{Parts, key}
-use Rattle.tmw_ring.specs.Rule.{Fits, Shown}
+use Rattle.tmw_ring.specs.Rule.{PartFits, Shown}
 use Rattle.tmw_ring.specs.Words.{words_of, tail_word}
 use Rattle.tmw_ring.specs.declared.part.Part.{Part}
 use Rattle.tmw_ring.specs.declared.part.Part.TheVariants.{Writes, Reads}
@@ -31,7 +31,7 @@ loaded_words core words are =
     (refl, refl)
 
 -- A part that has found tail fits the ring still.
-fits_still : (core : Core) (part : Part) → Fits core part → Fits core (with_tail core.tail part)
+fits_still : (core : Core) (part : Part) → PartFits core part → PartFits core (with_tail core.tail part)
 fits_still core (Writes part) fits = record { sized = fits.sized; phase = fits.phase; made = fits.made; seen = omega arith }
 fits_still core (Reads part) fits = fits
 
@@ -40,18 +40,18 @@ same_key tail (Writes part) = refl
 same_key tail (Reads part) = refl
 
 -- What a part that fits knows is of the ring's log.
-of_log : (core : Core) → Sound core → (part : Part) → Fits core part → IsOfLog core.log part
+of_log : (core : Core) → Sound core → (part : Part) → PartFits core part → IsOfLog core.log part
 of_log core sound (Writes part) fits = (fits.made, let seen = fits.seen in let tail = sound.tail in omega (arith, seen, tail))
 of_log core sound (Reads part) fits =
     let begins : core.log ≡ core.taken ++ drop core.front core.log =
     sym (take-append-drop core.front core.log) ∙ ap (λ (first : List Event). first ++ drop core.front core.log) (sym sound.begins) in
     (drop core.front core.log, begins ∙ ap (λ (taken : List Event). taken ++ drop core.front core.log) (sym fits.taken))
 
-all_follow : (core : Core) (old : Parts) → ((place : ℕ) (part : Part) → get_elem? old place ≡ some part → Fits core part)
+all_follow : (core : Core) (old : Parts) → ((place : ℕ) (part : Part) → get_elem? old place ≡ some part → PartFits core part)
     → Follows core old (map (with_tail core.tail) old)
 all_follow core old fit place part placed =
     let (was, at, is) = at_mapped (with_tail core.tail) old part place placed in
-    (was, at, ap key is ∙ same_key core.tail was, subst (Fits core) (sym is) (fits_still core was (fit place was at)))
+    (was, at, ap key is ∙ same_key core.tail was, subst (PartFits core) (sym is) (fits_still core was (fit place was at)))
 
 module _ {S : Type 0} where
   -- The load changes no word, so the ring stays as it was.
@@ -59,7 +59,7 @@ module _ {S : Type 0} where
       → Allows (Shown {S = S} size) slots seat me tail_word (λ n. n) (HasFoundTail (step slots tail_word 0 0 none) me)
   finds_tail size slots seat me state shown counted seated small =
       let loaded = loaded_words shown.core state.words shown.words in
-      let fit : (place : ℕ) (part : Part) → get_elem? me.0 place ≡ some part → Fits shown.core part =
+      let fit : (place : ℕ) (part : Part) → get_elem? me.0 place ≡ some part → PartFits shown.core part =
       λ place part at. (shown.each seat place part (record { view = me.0; seated = seated; placed = at })).0 in
       let follow = subst (λ (n : ℕ). Follows shown.core me.0 (map (with_tail n) me.0)) (sym loaded.0) (all_follow shown.core me.0 fit) in (
         map (with_tail (slice_index state.words tail_word)) me.0,

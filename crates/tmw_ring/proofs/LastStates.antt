@@ -11,7 +11,7 @@ use Rattle.tmw_ring_defs.specs.declared.ring_phase.WriterPhase.TheVariants.{Idle
 use Rattle.tmw_ring_defs.specs.declared.ring_size.RingSize.{RingSize}
 use Rattle.tmw_ring.specs.Ends.{WriterIs}
 use Rattle.tmw_ring.specs.Parts.{Parts}
-use Rattle.tmw_ring.specs.Rule.{Fits, IsReal, ReaderFits, Shown}
+use Rattle.tmw_ring.specs.Rule.{PartFits, IsReal, ReaderFits, Shown}
 use Rattle.tmw_ring.specs.Seats.{reader_in, IsReader}
 use Rattle.tmw_ring.specs.Settling.{AreInOrder, part_of}
 use Rattle.tmw_ring.specs.Words.{words_of}
@@ -26,7 +26,7 @@ pub record Ended (size : RingSize) (reader : ReaderPart) (writers : List WriterI
   pub real : IsReal core
   pub shown : words ≡ words_of core
   pub reads : ReaderFits core reader
-  pub writes : (number : ℕ) (fallback : WriterIs) → number < length writers → Fits core (part_of (get_or writers number fallback))
+  pub writes : (number : ℕ) (fallback : WriterIs) → number < length writers → PartFits core (part_of (get_or writers number fallback))
 
 -- A writer's part stands where the writer does.
 part_at : (writers : List WriterIs) (number : ℕ) (fallback : WriterIs) → number < length writers

@@ -4,7 +4,7 @@ use Rattle.std.proofs.lemmas.List.{drop_all}
 use Rattle.std.proofs.lemmas.Option.{same_Some}
 use Rattle.std.specs.Prelude.{slice_get}
 use Rattle.tmw_events.proofs.PackedWords.{stamped-parts}
-use Rattle.tmw_events.proofs.Unpacks.{unpacked-pack}
+use Rattle.tmw_events.proofs.Unpacks.{unpacked-pack, pack-words}
 use Rattle.tmw_events.specs.Packing.{packed_header, kind_value, pack, header_of}
 use Rattle.tmw_events.specs.Text.{FitsKind}
 use Rattle.tmw_events.specs.Unpacking.{unpacked}
@@ -48,8 +48,8 @@ has_event core place sound real published =
     let read = read_published core place sound real published in
     record {
       packed = ap pack read.told
-          ∙ ap (λ (h : ℕ). let words : ℕ × ℕ = (h, kind_value event.kind) in words) (sym read.header)
-          ∙ ap (λ (v : ℕ). let words : ℕ × ℕ = (header_at (words_of core) core.size.cells place, v) in words) (sym read.value);
+          ∙ pack-words (header_at (words_of core) core.size.cells place) (value_at (words_of core) core.size.cells place) event read.header
+          read.value;
       fits = subst (λ (e : Event). FitsKind e.kind) (sym read.told) (real.events place event published.logged).value;
     }
 

@@ -8,14 +8,14 @@ use Rattle.tmw_ring_defs.specs.Ring.{Core}
 use Rattle.tmw_ring_defs.specs.RingSound.{Sound}
 use Rattle.tmw_ring_defs.specs.declared.ring_size.RingSize.{RingSize}
 use Rattle.tmw_ring.specs.Parts.{Parts, key}
-use Rattle.tmw_ring.specs.Rule.{Fits, IsReal, Lies, Shown}
+use Rattle.tmw_ring.specs.Rule.{PartFits, IsReal, Lies, Shown}
 use Rattle.tmw_ring.specs.Words.{words_of}
 use Rattle.tmw_ring.specs.declared.part.Part.{Part}
 
 -- Each new part is the same actor's, and fits the new ring.
 abbrev pub Follows : Core → Parts → Parts → Type 0
 Follows next old new = (place : ℕ) (part : Part) → get_elem? new place ≡ some part
-    → (was : Part) × (get_elem? old place ≡ some was) × (key part ≡ key was) × Fits next part
+    → (was : Part) × (get_elem? old place ≡ some was) × (key part ≡ key was) × PartFits next part
 
 -- No actor whose part is among these is the part's.
 abbrev pub IsAnothers : Parts → Part → Type 0
@@ -26,7 +26,7 @@ module _ {S : Type 0} where
   pub moves_each : (size : RingSize) (state : State S Parts) (shown : Shown size state) (seat word value : ℕ) (old new : Parts) (next : Core)
       → get_elem? state.views seat ≡ some old → next.size ≡ shown.core.size → Sound next → IsReal next
       → set state.words word value ≡ words_of next → Follows next old new
-      → ((other : Part) → IsAnothers old other → Fits shown.core other → Fits next other)
+      → ((other : Part) → IsAnothers old other → PartFits shown.core other → PartFits next other)
       → Shown size (stepped state word value seat [] new keeps)
   moves_each size state shown seat word value old new next seated sized sound real words follows others = record {
     core = next;
@@ -39,7 +39,7 @@ module _ {S : Type 0} where
   }
     where
       each : (at place : ℕ) (part : Part) → Lies (stepped state word value seat [] new keeps) at place part
-          → Fits next part × (shown.where_is (key part) ≡ (at, place))
+          → PartFits next part × (shown.where_is (key part) ≡ (at, place))
       each at place part lies =
           elim (at_set state.views seat at new lies.view lies.seated) [
             | inl here ↦
@@ -61,8 +61,8 @@ module _ {S : Type 0} where
   -- The same of a seat that has one part.
   pub moves : (size : RingSize) (state : State S Parts) (shown : Shown size state) (seat word value : ℕ) (old new : Part) (next : Core)
       → get_elem? state.views seat ≡ some (old ∷ []) → next.size ≡ shown.core.size → Sound next → IsReal next
-      → set state.words word value ≡ words_of next → key new ≡ key old → Fits next new
-      → ((other : Part) → key other ≢ key old → Fits shown.core other → Fits next other)
+      → set state.words word value ≡ words_of next → key new ≡ key old → PartFits next new
+      → ((other : Part) → key other ≢ key old → PartFits shown.core other → PartFits next other)
       → Shown size (stepped state word value seat [] (new ∷ []) keeps)
   moves size state shown seat word value old new next seated sized sound real words same fits others =
       moves_each size state shown seat word value (old ∷ []) (new ∷ []) next seated sized sound real words follows
@@ -70,7 +70,7 @@ module _ {S : Type 0} where
     where
       follows : Follows next (old ∷ []) (new ∷ [])
       follows zero part placed =
-          (old, refl, ap key (sym (some-injective new part placed)) ∙ same, subst (Fits next) (some-injective new part placed) fits)
+          (old, refl, ap key (sym (some-injective new part placed)) ∙ same, subst (PartFits next) (some-injective new part placed) fits)
       follows (suc place) part placed = absurd (some-ne-none part (sym placed))
 
   -- Each part of these views lay in one of the state's, and `to` says where it lies now.

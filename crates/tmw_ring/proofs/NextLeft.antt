@@ -18,6 +18,16 @@ pub record Found (words : List ℕ) (cells place first value : ℕ) (halves : �
   pub at_second : get_elem? words (value_word cells place) ≡ some value
   pub split : halves ≡ (stamp_of first, header_of first)
 
+-- So they were, where the code reads them.
+pub found_at : (words : List ℕ) (cells place first value : ℕ) (halves : ℕ × ℕ) (at_stamp at_value : ℕ)
+    → at_stamp ≡ stamp_word cells place → at_value ≡ value_word cells place → get_elem? words at_stamp ≡ some first
+    → get_elem? words at_value ≡ some value → halves ≡ (stamp_of first, header_of first) → Found words cells place first value halves
+found_at words cells place first value halves at_stamp at_value is_stamp is_value first_there second_there split = record {
+  at_first = ap (get_elem? words) (sym is_stamp) ∙ first_there;
+  at_second = ap (get_elem? words) (sym is_value) ∙ second_there;
+  split = split;
+}
+
 found_words : (words : List ℕ) (cells place first value : ℕ) (halves : ℕ × ℕ) → Found words cells place first value halves
     → (halves.1 ≡ header_at words cells place) × (value ≡ value_at words cells place)
 found_words words cells place first value halves found = (

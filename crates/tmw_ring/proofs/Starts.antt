@@ -14,7 +14,7 @@ use Rattle.tmw_ring_defs.specs.declared.ring_size.RingSize.{RingSize}
 use Rattle.tmw_ring_defs.proofs.RingPhases.{all_idle}
 use Rattle.tmw_ring_defs.proofs.RingStart.{new_core-sound}
 use Rattle.tmw_ring.specs.Parts.{Parts, key, new_writer, new_writers, new_reader, new_parts}
-use Rattle.tmw_ring.specs.Rule.{Fits, FitsPhase, IsReal, Lies, Shown, WriterFits}
+use Rattle.tmw_ring.specs.Rule.{PartFits, FitsPhase, IsReal, Lies, Shown, WriterFits}
 use Rattle.tmw_ring.specs.Words.{word_count}
 use Rattle.tmw_ring.specs.declared.part.Part.{Part}
 use Rattle.tmw_ring.specs.declared.part.Part.TheVariants.{Writes, Reads}
@@ -46,7 +46,7 @@ new_core-real size = record {
 
 -- A new writer knows what is so.
 new_writer-fits : (size : RingSize) (number : ℕ) → number < size.writers
-    → Fits (new_core size) (Writes (new_writer size number)) × (key (Writes (new_writer size number)) ≡ suc number)
+    → PartFits (new_core size) (Writes (new_writer size number)) × (key (Writes (new_writer size number)) ≡ suc number)
 new_writer-fits size number within =
     let few = size.most_writers in
     let same : number % 8 ≡ number = omega (arith, few) in
@@ -59,15 +59,15 @@ new_writer-fits size number within =
     (fits, omega (arith, same))
 
 part_at : (size : RingSize) (place : ℕ) (part : Part) → get_elem? (new_parts size) place ≡ some part
-    → Fits (new_core size) part × (key part ≡ place)
+    → PartFits (new_core size) part × (key part ≡ place)
 part_at size zero part at =
-    subst (λ (found : Part). Fits (new_core size) found × (key found ≡ 0)) (some-injective (Reads (new_reader size)) part at)
+    subst (λ (found : Part). PartFits (new_core size) found × (key found ≡ 0)) (some-injective (Reads (new_reader size)) part at)
     (record { sized = refl; phase = refl; taken = refl }, refl)
 part_at size (suc place) part at =
     let (within, new) = writers_at size 0 size.writers place part at in
     let from : 0 + place ≡ place = omega arith in
     let known = new_writer-fits size place within in
-    subst (λ (found : Part). Fits (new_core size) found × (key found ≡ suc place))
+    subst (λ (found : Part). PartFits (new_core size) found × (key found ≡ suc place))
     (ap (λ (n : ℕ). Writes (new_writer size n)) (sym from) ∙ sym new) known
 
 module _ {S : Type 0} where
@@ -87,7 +87,7 @@ module _ {S : Type 0} where
   }
     where
       each : (seat place : ℕ) (part : Part) → Lies (opened size) seat place part
-          → Fits (new_core size) part × (◌≡◌ {A = ℕ × ℕ} (0, key part) (seat, place))
+          → PartFits (new_core size) part × (◌≡◌ {A = ℕ × ℕ} (0, key part) (seat, place))
       each zero place part lies =
           let known = part_at size place part
           (subst (λ (view : Parts). get_elem? view place ≡ some part) (sym (some-injective (new_parts size) lies.view lies.seated)) lies.placed) in

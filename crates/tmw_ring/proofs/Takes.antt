@@ -6,7 +6,8 @@ use mathlib.Core.Option.{some}
 use lib.ListN.{get_elem?}
 use Rattle.atomic_table.specs.Table.{State, Me, Allows, keeps, stepped}
 use Rattle.tmw_events.proofs.PackedWords.{stamped-parts}
-use Rattle.tmw_events.specs.Packing.{kind_value, stamp_of, header_of, IsHeader}
+use Rattle.tmw_events.proofs.Unpacks.{pack-words}
+use Rattle.tmw_events.specs.Packing.{stamp_of, header_of, IsHeader}
 use Rattle.tmw_events.specs.Unpacking.{unpacked}
 use Rattle.tmw_events.specs.declared.event.Event.{Event}
 use Rattle.tmw_ring_defs.specs.Ring.{Core}
@@ -21,7 +22,7 @@ use Rattle.tmw_ring_defs.specs.declared.ring_step.Reply.TheVariants.{Ready as Is
 use Rattle.tmw_ring_defs.proofs.RingStores.{has_cell}
 use Rattle.tmw_ring_defs.proofs.RingTakes.{peek_keeps, read_keeps, free_keeps}
 use Rattle.tmw_ring.specs.Parts.{Parts, key}
-use Rattle.tmw_ring.specs.Rule.{Fits, IsReal, ReaderFits, Shown}
+use Rattle.tmw_ring.specs.Rule.{PartFits, IsReal, ReaderFits, Shown}
 use Rattle.tmw_ring.specs.Seats.{reader_in, IsWaitingReader}
 use Rattle.tmw_ring.specs.Takes.{phase_after, after_look, phase_with, after_read, next_event, after_free, IsToldEvent, IsReadyReader, IsToldReader, StampSeen, ValueRead, PlaceFreed}
 use Rattle.tmw_ring.specs.Words.{cell_words, words_of, front_word, stamp_word, value_word}
@@ -38,8 +39,8 @@ abbrev with_reader : Core → ℕ → ReaderPhase → List Event → Core
 with_reader core front phase taken = record core { front = front; reader = phase; taken = taken }
 
 -- The writers' parts fit it.
-others_fit : (core : Core) (front : ℕ) (phase : ReaderPhase) (taken : List Event) (other : Part) → key other ≢ 0 → Fits core other
-    → Fits (with_reader core front phase taken) other
+others_fit : (core : Core) (front : ℕ) (phase : ReaderPhase) (taken : List Event) (other : Part) → key other ≢ 0 → PartFits core other
+    → PartFits (with_reader core front phase taken) other
 others_fit core front phase taken (Writes part) apart fits = record {
   sized = fits.sized;
   phase = fits.phase;
@@ -83,11 +84,10 @@ read_event : (core : Core) (header value : ℕ) → Sound core → IsReal core �
     → (cell_at core core.front).value ≡ value → IsToldEvent (Told header value)
 read_event core header value sound real ready is =
     let read : HasRead core (Ready header) = subst (HasRead core) ready sound.reads in
-    let both : ℕ → ℕ → ℕ × ℕ = λ h v. (h, v) in
     record {
       event = read.0.event;
       fits = (real.events core.front read.0.event read.0.logged).value;
-      words = ap (λ h. both h (kind_value read.0.event.kind)) (sym read.1) ∙ ap (both header) (sym read.0.shown.value ∙ is);
+      words = pack-words header value read.0.event read.1 (sym is ∙ read.0.shown.value);
     }
 
 -- Freeing the next place leaves a sound ring.

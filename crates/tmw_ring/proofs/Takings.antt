@@ -2,9 +2,8 @@
 use Rattle.std.proofs.Common.{◌≡◌, ◌≢◌, ◌+◌, ◌≤◌, ◌^◌, ℕ, [], ◌∷◌, ◌++◌, length, eq-eqb, refl, sym, ap, ◌∙◌, subst}
 use Rattle.atomic_table.specs.Seated.{TableId}
 use Rattle.atomic_table.specs.Table.{Me}
-use Rattle.tmw_events.proofs.Unpacks.{unpacked-pack}
+use Rattle.tmw_events.proofs.Unpacks.{unpacked-words}
 use Rattle.tmw_events.specs.Packing.{pack, stamp_of, header_of}
-use Rattle.tmw_events.specs.Unpacking.{unpacked}
 use Rattle.tmw_events.specs.declared.event.Event.{Event}
 use Rattle.tmw_ring_defs.specs.declared.ring_phase.ReaderPhase.{ReaderPhase}
 use Rattle.tmw_ring_defs.specs.declared.ring_phase.ReaderPhase.TheVariants.{Ready}
@@ -17,11 +16,6 @@ use Rattle.tmw_ring.specs.declared.part.ReaderPart.{ReaderPart}
 -- how far the reader is where it found the next place's stamp
 phase_ready : (count word : ℕ) → stamp_of word ≡ count + 1 → phase_after count word ≡ Ready (header_of word)
 phase_ready count word is = rw (eq-eqb (stamp_of word) (count + 1) is) refl
-
--- The words of an event tell it.
-told_event : (header value : ℕ) (event : Event) → pack event ≡ (header, value) → unpacked header value ≡ event
-told_event header value event words =
-    let tell : ℕ × ℕ → Event = λ w. unpacked w.0 w.1 in ap tell (sym words) ∙ unpacked-pack event
 
 module _ {S : Type 0} where
   pub looked_ready : (front word : ℕ) (me after : Me S Parts) → IsWaitingReader front me → StampSeen me word after
@@ -80,7 +74,7 @@ module _ {S : Type 0} where
       part_freed read after freed ∙ ap after_free was_read in
       let named : next_event (phase_with (phase_after (length old.taken) word) value) ≡ event =
       ap (λ (phase : ReaderPhase). next_event (phase_with phase value)) (phase_ready (length old.taken) word stamp)
-      ∙ told_event (header_of word) value event words in
+      ∙ unpacked-words (header_of word) value event words in
       record {
         taken = ap (λ (part : ReaderPart). part.taken) all ∙ ap (λ (e : Event). old.taken ++ e ∷ []) named;
         looks = ap (λ (part : ReaderPart). part.looks) all ∙ ap (λ (n : ℕ). old.looks ++ Stamp n ∷ []) stamp;

@@ -1,5 +1,5 @@
 -- A writer may claim a place.
-use Rattle.std.proofs.Common.{◌≡◌, ◌≢◌, ◌==◌, ◌+◌, ◌++◌, ◌%◌, ◌≤◌, ◌<◌, ℕ, zero, suc, Bool, true, false, eq-eqb, ne_eqb, if◌then◌else◌, List, [], ◌∷◌, length, Some, set, slice_set, refl, sym, ap, ◌∙◌, subst, arith}
+use Rattle.std.proofs.Common.{◌≡◌, ◌≢◌, ◌==◌, ◌+◌, ◌++◌, ◌%◌, ◌≤◌, ◌<◌, ℕ, zero, suc, Bool, true, false, eq-eqb, ne_eqb, if◌then◌else◌, List, [], ◌∷◌, length, Some, set, refl, sym, ap, ◌∙◌, subst, arith}
 use Rattle.std.proofs.lemmas.Option.{slice_get_within}
 use Rattle.std.specs.Prelude.{slice_get, slice_index}
 use Rattle.atomic_table.specs.Table.{Me, Allows, keeps}
@@ -10,10 +10,11 @@ use Rattle.tmw_events.specs.declared.ix.Ix.{Ix}
 use Rattle.tmw_ring_defs.specs.Ring.{Core}
 use Rattle.tmw_ring_defs.specs.RingSound.{IsIn, Sound, cleared}
 use Rattle.tmw_ring_defs.specs.declared.ring_phase.WriterPhase.{WriterPhase}
-use Rattle.tmw_ring_defs.specs.declared.ring_phase.WriterPhase.TheVariants.{Cleared, Claimed}
+use Rattle.tmw_ring_defs.specs.declared.ring_phase.WriterPhase.TheVariants.{Cleared}
 use Rattle.tmw_ring_defs.specs.declared.ring_size.RingSize.{RingSize}
 use Rattle.tmw_ring_defs.specs.declared.ring_step.Reply.TheVariants.{Place}
-use Rattle.tmw_ring_defs.proofs.RingClaims.{claim_keeps}
+use Rattle.tmw_ring_defs.proofs.RingClaims.{with_claim, claim_keeps}
+use Rattle.tmw_ring_defs.proofs.RingPlaces.{event_of}
 use Rattle.tmw_ring.specs.Parts.{Parts, made_from}
 use Rattle.tmw_ring.specs.Recording.{made_at}
 use Rattle.tmw_ring.specs.Rule.{Shown, WriterFits, IsReal, IsRecorded}
@@ -25,32 +26,20 @@ use Rattle.tmw_ring.specs.declared.part.Part.TheVariants.{Writes}
 use Rattle.tmw_ring.specs.declared.part.WriterPart.{WriterPart}
 use Rattle.tmw_ring.proofs.Writing.{Goes, writer_fits, writer_moves}
 
--- the writer's event of this kind
-abbrev event_by : Ix → Kind → Event
-event_by writer kind = record { thread = writer; kind = kind }
-
--- the state after the claim
-abbrev with_claim : Ix → Kind → Core → Core
-with_claim writer kind core = record core {
-  tail = core.tail + 1;
-  writers = slice_set core.writers writer.number (Claimed core.tail kind false);
-  log = core.log ++ event_by writer kind ∷ [];
-}
-
 -- Places of a longer log: the writer's own event stands at its end,
 made_from-own : (writer : Ix) (kind : Kind) (from : ℕ) (log : List Event)
-    → made_from writer.number from (log ++ event_by writer kind ∷ [])
+    → made_from writer.number from (log ++ event_of writer kind ∷ [])
     ≡ made_from writer.number from log ++ made_at writer kind (from + length log) ∷ []
 made_from-own writer kind from [] =
     let last : from + 0 ≡ from = omega arith in
     rw (eq-eqb writer.number writer.number refl) (ap (λ (place : ℕ). made_at writer kind place ∷ []) (sym last))
 made_from-own writer kind from (event ∷ log) =
     let next : from + 1 + length log ≡ from + suc (length log) = omega arith in
-    let later : made_from writer.number (from + 1) (log ++ event_by writer kind ∷ [])
+    let later : made_from writer.number (from + 1) (log ++ event_of writer kind ∷ [])
     ≡ made_from writer.number (from + 1) log ++ made_at writer kind (from + suc (length log)) ∷ [] =
     made_from-own writer kind (from + 1) log
     ∙ ap (λ (place : ℕ). made_from writer.number (from + 1) log ++ made_at writer kind place ∷ []) next in
-    by_test (event.thread.number == writer.number) (made_from writer.number (from + 1) (log ++ event_by writer kind ∷ []))
+    by_test (event.thread.number == writer.number) (made_from writer.number (from + 1) (log ++ event_of writer kind ∷ []))
     (made_from writer.number (from + 1) log) (made_at writer kind (from + suc (length log))) later
   where
     by_test : (test : Bool) (longer rest : List Made) (last : Made) → longer ≡ rest ++ last ∷ []
@@ -61,7 +50,7 @@ made_from-own writer kind from (event ∷ log) =
 
 -- and another's adds nothing.
 made_from-other : (writer : Ix) (kind : Kind) (other from : ℕ) (log : List Event) → other ≢ writer.number
-    → made_from other from (log ++ event_by writer kind ∷ []) ≡ made_from other from log
+    → made_from other from (log ++ event_of writer kind ∷ []) ≡ made_from other from log
 made_from-other writer kind other from [] apart = rw (ne_eqb writer.number other (λ same. apart (sym same))) refl
 made_from-other writer kind other from (event ∷ log) apart =
     ap (λ (rest : List Made). if event.thread.number == other then record { place = from; event = event } ∷ rest else rest)
@@ -102,7 +91,7 @@ claim_goes kind core part sound real fits is_cleared =
       later = omega arith;
       headers = real.headers;
       events = λ place event found.
-          log_cases core.log (event_by part.number kind) place event (IsRecorded core.size) real.events
+          log_cases core.log (event_of part.number kind) place event (IsRecorded core.size) real.events
           (record { thread = omega (arith, within, sound.writers); value = fits_kind }) found;
       phase_fits = fits_kind;
     }

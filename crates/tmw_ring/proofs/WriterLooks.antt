@@ -20,28 +20,7 @@ use Rattle.tmw_ring.specs.Words.{words_of}
 use Rattle.tmw_ring.specs.WriterSteps.{front_seen, tail_seen, front_in, IsSeatOf, HasSeenFront, HasSeenTail}
 use Rattle.tmw_ring.specs.declared.part.Part.TheVariants.{Writes}
 use Rattle.tmw_ring.specs.declared.part.WriterPart.{WriterPart}
-use Rattle.tmw_ring.proofs.Writing.{Goes, writer_fits, writer_moves}
-
--- A writer goes on to another phase, and nothing else changes.
-phase_goes : (core : Core) (old new : WriterPart) → WriterFits core old → IsReal core → Sound (with_phase old.number.number new.phase core)
-    → new.size ≡ old.size → new.number ≡ old.number → new.made ≡ old.made → new.seen ≤ core.tail → FitsPhase new.phase
-    → Goes core (with_phase old.number.number new.phase core) old new
-phase_goes core old new fits real sound same_size same_number made seen phase_fits = record {
-  sized = refl;
-  sound = sound;
-  same_size = same_size;
-  same_number = same_number;
-  writers = refl;
-  reader = refl;
-  taken = refl;
-  made = made ∙ fits.made;
-  others = λ other apart. refl;
-  seen = seen;
-  later = omega arith;
-  headers = real.headers;
-  events = real.events;
-  phase_fits = phase_fits;
-}
+use Rattle.tmw_ring.proofs.Writing.{Goes, cells_go, writer_fits, writer_moves}
 
 front_goes : (kind : Kind) (core : Core) (part : WriterPart) → Sound core → IsReal core → WriterFits core part → part.phase ≡ Idle
     → FitsKind kind → Goes core (with_phase part.number.number (Looked kind core.front) core) part (front_seen kind core.front part)
@@ -49,7 +28,7 @@ front_goes kind core part sound real fits idle fits_kind =
     let at : IsIn core part.number.number Idle = fits.phase ∙ ap Some idle in
     let next : Core = with_phase part.number.number (Looked kind core.front) core in
     let sound_next : Sound next = (front_keeps part.number kind core Idle (Saw core.front) next sound at refl).0 in
-    phase_goes core part (front_seen kind core.front part) fits real sound_next refl refl refl fits.seen fits_kind
+    cells_go core core.cells part (front_seen kind core.front part) fits real sound_next real.headers refl refl refl fits.seen fits_kind
 
 room_fits : (spent full : Bool) (kind : Kind) → FitsKind kind → FitsPhase (room_phase spent full kind)
 room_fits true full kind fits_kind = tt
@@ -71,7 +50,7 @@ tail_goes kind front core part sound real fits looked =
     sym (ap (λ size. phase size (front_in part.phase)) fits.sized ∙ ap (λ found. phase core.size (front_in found)) looked) in
     let sound_next : Sound (with_phase part.number.number (tail_seen kind core.tail part).phase core) =
     subst (λ (found : WriterPhase). Sound (with_phase part.number.number found core)) same sound_step in
-    phase_goes core part (tail_seen kind core.tail part) fits real sound_next refl refl refl (omega arith)
+    cells_go core core.cells part (tail_seen kind core.tail part) fits real sound_next real.headers refl refl refl (omega arith)
     (room_fits (is_spent part.size core.tail) (is_full part.size (front_in part.phase) core.tail) kind
     (real.phases part.number.number (Looked kind front) at))
 

@@ -6,7 +6,7 @@ use Rattle.tmw_events.proofs.PackedWords.{packed_header-small}
 use Rattle.tmw_events.specs.Packing.{packed_header, kind_value, joined, IsHeader}
 use Rattle.tmw_events.specs.declared.event.Kind.{Kind}
 use Rattle.tmw_ring_defs.specs.Ring.{Core}
-use Rattle.tmw_ring_defs.specs.RingCells.{empty_cell, filled, published}
+use Rattle.tmw_ring_defs.specs.RingCells.{empty_cell, set_cell, filled, published}
 use Rattle.tmw_ring_defs.specs.RingSound.{IsIn, Sound}
 use Rattle.tmw_ring_defs.specs.RingSteps.{cell_at, with_cell, with_phase}
 use Rattle.tmw_ring_defs.specs.declared.ring_cell.RingCell.{RingCell}
@@ -26,7 +26,7 @@ use Rattle.tmw_ring.specs.WriterSteps.{place_in, value_filled, done, IsSeatOf, H
 use Rattle.tmw_ring.specs.declared.part.Part.TheVariants.{Writes}
 use Rattle.tmw_ring.specs.declared.part.WriterPart.{WriterPart}
 use Rattle.tmw_ring.proofs.Words.{filled_words, published_words}
-use Rattle.tmw_ring.proofs.Writing.{Goes, writer_fits, writer_moves}
+use Rattle.tmw_ring.proofs.Writing.{Goes, cells_go, writer_fits, writer_moves}
 
 -- the state after a store to the place's cell, by a writer that goes on to the phase
 abbrev with_store : ℕ → ℕ → RingCell → WriterPhase → Core → Core
@@ -37,22 +37,10 @@ store_goes : (core : Core) (place : ℕ) (cell : RingCell) (old new : WriterPart
     → Sound (with_store old.number.number place cell new.phase core) → IsHeader cell.header
     → new.size ≡ old.size → new.number ≡ old.number → new.made ≡ old.made → new.seen ≡ old.seen → FitsPhase new.phase
     → Goes core (with_store old.number.number place cell new.phase core) old new
-store_goes core place cell old new sound fits real sound_next header same_size same_number made seen phase_fits = record {
-  sized = refl;
-  sound = sound_next;
-  same_size = same_size;
-  same_number = same_number;
-  writers = refl;
-  reader = refl;
-  taken = refl;
-  made = made ∙ fits.made;
-  others = λ other apart. refl;
-  seen = omega (arith, seen, fits.seen);
-  later = omega arith;
-  headers = All-set (λ (c : RingCell). IsHeader c.header) core.cells (place % core.size.cells) cell header real.headers;
-  events = real.events;
-  phase_fits = phase_fits;
-}
+store_goes core place cell old new sound fits real sound_next header same_size same_number made seen phase_fits =
+    cells_go core (set_cell core.size.cells place cell core.cells) old new fits real sound_next
+    (All-set (λ (c : RingCell). IsHeader c.header) core.cells (place % core.size.cells) cell header real.headers)
+    same_size same_number made (omega (arith, seen, fits.seen)) phase_fits
 
 -- The place's cell has a real header.
 cell_header : (core : Core) (place : ℕ) → Sound core → IsReal core → IsHeader (cell_at core place).header

@@ -1,5 +1,5 @@
 -- A writer's step keeps the rule of a ring's table, if what the writer then knows is so.
-use Rattle.std.proofs.Common.{◌≡◌, ◌≢◌, ◌+◌, ◌≤◌, ℕ, [], ◌∷◌, Some, slice_set, set, All, refl, sym, ap, ◌∙◌, subst, inl, inr, arith}
+use Rattle.std.proofs.Common.{◌≡◌, ◌≢◌, ◌+◌, ◌≤◌, ℕ, List, [], ◌∷◌, Some, slice_set, set, All, refl, sym, ap, ◌∙◌, subst, inl, inr, arith}
 use Rattle.std.proofs.lemmas.Option.{slice_get_within}
 use Rattle.std.specs.Prelude.{slice_get}
 use mathlib.Core.Option.{some}
@@ -9,10 +9,11 @@ use Rattle.tmw_events.specs.Packing.{IsHeader}
 use Rattle.tmw_events.specs.declared.event.Event.{Event}
 use Rattle.tmw_ring_defs.specs.Ring.{Core}
 use Rattle.tmw_ring_defs.specs.RingSound.{Sound}
+use Rattle.tmw_ring_defs.specs.declared.ring_cell.RingCell.{RingCell}
 use Rattle.tmw_ring_defs.specs.declared.ring_size.RingSize.{RingSize}
 use Rattle.tmw_ring_defs.proofs.RingPhases.{phase_set, phase_kept, phase_cases}
 use Rattle.tmw_ring.specs.Parts.{Parts, key, made_from}
-use Rattle.tmw_ring.specs.Rule.{Fits, FitsPhase, IsReal, IsRecorded, Shown, WriterFits}
+use Rattle.tmw_ring.specs.Rule.{PartFits, FitsPhase, IsReal, IsRecorded, Shown, WriterFits}
 use Rattle.tmw_ring.specs.Words.{words_of}
 use Rattle.tmw_ring.specs.declared.part.Part.{Part}
 use Rattle.tmw_ring.specs.declared.part.Part.TheVariants.{Writes, Reads}
@@ -36,15 +37,37 @@ pub record Goes (core next : Core) (old new : WriterPart) : Type 0 where
   pub events : (place : ℕ) (event : Event) → slice_get next.log place ≡ Some event → IsRecorded core.size event
   pub phase_fits : FitsPhase new.phase
 
+-- A writer goes on to another phase, with other cells in the ring, and nothing else changes.
+pub cells_go : (core : Core) (cells : List RingCell) (old new : WriterPart) → WriterFits core old → IsReal core
+    → Sound (record core { cells = cells; writers = slice_set core.writers old.number.number new.phase })
+    → All (λ cell. IsHeader cell.header) cells → new.size ≡ old.size → new.number ≡ old.number → new.made ≡ old.made
+    → new.seen ≤ core.tail → FitsPhase new.phase
+    → Goes core (record core { cells = cells; writers = slice_set core.writers old.number.number new.phase }) old new
+cells_go core cells old new fits real sound headers same_size same_number made seen phase_fits = record {
+  sized = refl;
+  sound = sound;
+  same_size = same_size;
+  same_number = same_number;
+  writers = refl;
+  reader = refl;
+  taken = refl;
+  made = made ∙ fits.made;
+  others = λ other apart. refl;
+  seen = seen;
+  later = omega arith;
+  headers = headers;
+  events = real.events;
+  phase_fits = phase_fits;
+}
+
 next-real : (core next : Core) (old new : WriterPart) → WriterFits core old → IsReal core → Goes core next old new → IsReal next
 next-real core next old new fits real goes = record {
   headers = goes.headers;
   events = λ place event at. subst (λ (size : RingSize). IsRecorded size event) (sym goes.sized) (goes.events place event at);
   phases = λ writer phase at.
-      let within = slice_get_within core.writers old.number.number old.phase fits.phase in
       let found : slice_get (slice_set core.writers old.number.number new.phase) writer ≡ Some phase =
       ap (λ phases. slice_get phases writer) (sym goes.writers) ∙ at in
-      elim (phase_cases core.writers old.number.number writer new.phase phase within found) [
+      elim (phase_cases core.writers old.number.number writer new.phase phase found) [
         | inl set ↦ subst FitsPhase set.1 goes.phase_fits
         | inr kept ↦ real.phases writer phase kept.1
       ];
@@ -63,7 +86,7 @@ new-fits core next old new fits goes =
     }
 
 others-fit : (core next : Core) (old new : WriterPart) → Goes core next old new → (other : Part) → key other ≢ key (Writes old)
-    → Fits core other → Fits next other
+    → PartFits core other → PartFits next other
 others-fit core next old new goes (Writes part) apart fits =
     let another : part.number.number ≢ old.number.number = λ same. apart (ap (λ (n : ℕ). n + 1) same) in
     record {

@@ -31,9 +31,9 @@ pub record ReaderFits (core : Core) (part : ReaderPart) : Type 0 where
   pub phase : part.phase ≡ core.reader
   pub taken : part.taken ≡ core.taken
 
-abbrev pub Fits : Core → Part → Type 0
-Fits core (Writes part) = WriterFits core part
-Fits core (Reads part) = ReaderFits core part
+abbrev pub PartFits : Core → Part → Type 0
+PartFits core (Writes part) = WriterFits core part
+PartFits core (Reads part) = ReaderFits core part
 
 -- The event is one of a writer of this ring, and its value has 64 bits.
 pub record IsRecorded (size : RingSize) (event : Event) : Type 0 where
@@ -68,4 +68,4 @@ pub record Shown {S : Type 0} (size : RingSize) (state : State S Parts) : Type 0
   pub words : state.words ≡ words_of core
   -- where the part of each actor lies, if anywhere
   pub where_is : ℕ → ℕ × ℕ
-  pub each : (seat place : ℕ) (part : Part) → Lies state seat place part → Fits core part × (where_is (key part) ≡ (seat, place))
+  pub each : (seat place : ℕ) (part : Part) → Lies state seat place part → PartFits core part × (where_is (key part) ≡ (seat, place))

@@ -1,9 +1,8 @@
 -- What each step of the reader tells it, and what a caller is told of a taking.
 use Rattle.std.specs.Prelude.{◌≡◌, ◌≢◌, ◌==◌, ◌+◌, ◌^◌, ◌≤◌, ℕ, [], ◌∷◌, ◌++◌, length, if◌then◌else◌}
 use Rattle.atomic_table.specs.Table.{Me}
-use Rattle.tmw_events.specs.Packing.{pack, stamp_of, header_of}
-use Rattle.tmw_events.specs.Text.{FitsKind}
-use Rattle.tmw_events.specs.Unpacking.{unpacked}
+use Rattle.tmw_events.specs.Packing.{stamp_of, header_of}
+use Rattle.tmw_events.specs.Unpacking.{unpacked, AreOfEvent}
 use Rattle.tmw_events.specs.declared.event.Event.{Event}
 use Rattle.tmw_ring_defs.specs.declared.ring_phase.ReaderPhase.{ReaderPhase}
 use Rattle.tmw_ring_defs.specs.declared.ring_phase.ReaderPhase.TheVariants.{Waiting, Ready, Told}
@@ -40,12 +39,6 @@ next_event (Told header value) = unpacked header value
 
 abbrev pub after_free : ReaderPart → ReaderPart
 after_free part = record part { phase = Waiting; taken = part.taken ++ next_event part.phase ∷ [] }
-
--- These are the words of an event.
-pub record AreOfEvent (header value : ℕ) : Type 0 where
-  pub event : Event
-  pub fits : FitsKind event.kind
-  pub words : pack event ≡ (header, value)
 
 -- If the reader was told both words, they are an event's.
 abbrev pub IsToldEvent : ReaderPhase → Type 0

@@ -6,7 +6,6 @@ use Rattle.tmw_ring.specs.Ends.{RingIs, WriterIs, ReaderIs, WriterOf, ReaderOf}
 pub record CanRun (ring : RingIs) (writers : List WriterIs) (reader : ReaderIs) (share : ℕ) : Type 0 where
   pub writers_of : All (WriterOf ring) writers
   pub count : length writers ≡ ring.size.writers
-  pub few : ring.size.writers ≤ 8
   pub reader_of : ReaderOf ring reader
   pub short : share ≤ 2 ^ 39
 

@@ -1,7 +1,6 @@
 //! A ring with all its threads.
 ghost use Rattle.std.specs.Prelude.{◌≡◌, ◌≤◌, ◌*◌, All, IfOk, length};
 ghost use Rattle.tmw_ring.specs.Ends.{WriterOf};
-ghost use Rattle.tmw_ring_bench.specs.Plans.{IsPlan};
 ghost use Rattle.tmw_ring_bench.specs.Runs.{CanRun, HasRun};
 
 use crate::plan::Plan;
@@ -19,11 +18,10 @@ pub fn run<R: Threads + Wait + Sync>(
     alloc: Global,
     plan: Plan,
 ) -> Result<(u64, Reader), RingFault>
-    requires { IsPlan plan }
-    ensures all { IfOk result (λ ran. ran.0 ≡ plan.writers * plan.share) }
+    ensures all { IfOk result (λ ran. ran.0 ≡ plan.size.writers * plan.share) }
     ensures taken { IfOk result (λ ran. length ran.1.taken ≡ ran.0) }
 {
-    let (ring, writers, reader) = ring(alloc, plan.cells, plan.writers, 1 << 40)?;
+    let (ring, writers, reader) = ring(alloc, plan.size.cells, plan.size.writers, plan.size.limit)?;
     let shared = &ring;
     let share = plan.share;
     let (started, reader) = thread::scope(
@@ -34,7 +32,7 @@ pub fn run<R: Threads + Wait + Sync>(
             ensures { HasRun shared.entry.now share reader result.0 result.1 }
         { record_and_take(scope, rt, shared, writers, reader, share) },
     );
-    if started < plan.writers {
+    if started < plan.size.writers {
         return Err(RingFault::Memory);
     }
     Ok((started * share, reader))

@@ -1,5 +1,5 @@
 -- Each step of a sound ring is answered as the sequential log would answer it, where what its writers announced is known.
-use Rattle.std.proofs.Common.{◌≡◌, ◌≢◌, ◌⊎◌, ◌==◌, ◌+◌, ℕ, zero, suc, Bool, true, false, List, [], ◌∷◌, length, Option, Some, None, refl, sym, ap, ◌∙◌, inl, inr, slice_get, slice_set, option_and_then, arith, if◌then◌else◌, length-append}
+use Rattle.std.proofs.Common.{◌≡◌, ◌==◌, ◌+◌, ℕ, Bool, true, false, [], ◌∷◌, length, Option, Some, None, refl, sym, ap, ◌∙◌, inl, inr, slice_get, option_and_then, if◌then◌else◌, length-append}
 use Rattle.std.proofs.lemmas.Bool.{eq-eqb, ne_eqb}
 use Rattle.tmw_events.proofs.Unpacks.{unpacked-pack}
 use Rattle.tmw_events.specs.Packing.{packed_header}
@@ -7,6 +7,7 @@ use Rattle.tmw_events.specs.Unpacking.{unpacked}
 use Rattle.tmw_events.specs.declared.event.Event.{Event}
 use Rattle.tmw_events.specs.declared.event.Kind.{Kind}
 use Rattle.tmw_events.specs.declared.ix.Ix.{Ix}
+use Rattle.tmw_ring_defs.proofs.RingPhases.{phase_cases}
 use Rattle.tmw_ring_defs.specs.OneLog.{Sequential, appended, Announced, announced_by, announces, Asks, sequential_of}
 use Rattle.tmw_ring_defs.specs.Ring.{Core}
 use Rattle.tmw_ring_defs.specs.Room.{is_spent, is_full, room_phase, room_reply}
@@ -37,24 +38,11 @@ IsAnswered kinds step core None = Unit {0}
 IsAnswered kinds step core (Some (reply, next)) =
     Asks kinds step reply (sequential_of core) (sequential_of next) × Knows (announces step reply kinds) next
 
--- An item of a list in which one was set is that one, or stood there before.
-set_get : {X : Type 0} (items : List X) (i j : ℕ) (item found : X) → slice_get (slice_set items i item) j ≡ Some found
-    → ((j ≡ i) × (item ≡ found)) ⊎ ((j ≢ i) × (slice_get items j ≡ Some found))
-set_get [] i j item found at = absurd (cc)
-set_get (first ∷ items) zero zero item found at = inl (refl, (cc))
-set_get (first ∷ items) zero (suc j) item found at = inr ((λ same. absurd (omega (arith, same))), at)
-set_get (first ∷ items) (suc i) zero item found at = inr ((λ same. absurd (omega (arith, same))), at)
-set_get (first ∷ items) (suc i) (suc j) item found at =
-    elim (set_get items i j item found at) [
-      | inl set ↦ inl (omega (arith, set.0), set.1)
-      | inr kept ↦ inr ((λ same. absurd (kept.0 (omega (arith, same)))), kept.1)
-    ]
-
 -- A writer's new phase is known, where the kind that it has to record was announced.
 knows_phase : (kinds : Announced) (core : Core) (writer : ℕ) (phase : WriterPhase) → Knows kinds core → IsAnnounced (kinds writer) phase
     → Knows kinds (with_phase writer phase core)
 knows_phase kinds core writer phase knows is other found at =
-    elim (set_get core.writers writer other phase found at) [
+    elim (phase_cases core.writers writer other phase found at) [
       | inl set ↦ rw (set.0, ← set.1) is
       | inr kept ↦ knows other found kept.1
     ]
@@ -63,7 +51,7 @@ knows_phase kinds core writer phase knows is other found at =
 knows_front : (kinds : Announced) (writer : Ix) (kind : Kind) (core : Core) → Knows kinds core
     → Knows (announced_by (Front writer kind) kinds) (with_phase writer.number (Looked kind core.front) core)
 knows_front kinds writer kind core knows other found at =
-    elim (set_get core.writers writer.number other (Looked kind core.front) found at) [
+    elim (phase_cases core.writers writer.number other (Looked kind core.front) found at) [
       | inl set ↦ let own : (other == writer.number) ≡ true = eq-eqb other writer.number set.0 in rw (own, ← set.1) refl
       | inr kept ↦ let past : (other == writer.number) ≡ false = ne_eqb other writer.number kept.0 in rw past (knows other found kept.1)
     ]

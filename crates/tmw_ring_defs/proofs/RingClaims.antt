@@ -21,7 +21,7 @@ use Rattle.tmw_ring_defs.proofs.RingPlaces.{event_of, published_still, holds_sti
 use Rattle.tmw_ring_defs.proofs.RingStores.{held_stands, stamp_low}
 
 -- the state after the claim
-abbrev with_claim : Ix → Kind → Core → Core
+abbrev pub with_claim : Ix → Kind → Core → Core
 with_claim writer kind core = record core {
   tail = core.tail + 1;
   writers = slice_set core.writers writer.number (Claimed core.tail kind false);
@@ -77,8 +77,7 @@ claim-holds : (writer : Ix) (kind : Kind) (old : Core) → Sound old → IsIn ol
     → (other place : ℕ) (found : Kind) (is_filled : Bool) → IsIn (with_claim writer kind old) other (Claimed place found is_filled)
     → Holds (with_claim writer kind old) other place found is_filled
 claim-holds writer kind old sound at other place found is_filled claimed =
-    elim (phase_cases old.writers writer.number other (Claimed old.tail kind false) (Claimed place found is_filled)
-    (slice_get_within old.writers writer.number (Cleared kind) at) claimed) [
+    elim (phase_cases old.writers writer.number other (Claimed old.tail kind false) (Claimed place found is_filled) claimed) [
       | inl set ↦
           let parts = claimed_parts old.tail place kind found false is_filled set.1 in
           record {
@@ -116,8 +115,7 @@ claim-once writer kind old sound at a b place k l p q at_a at_b =
         → ((other ≡ writer.number) × (Claimed old.tail kind false ≡ Claimed place found is_filled))
         ⊎ ((other ≢ writer.number) × IsIn old other (Claimed place found is_filled))
     cases other found is_filled claimed =
-        phase_cases old.writers writer.number other (Claimed old.tail kind false) (Claimed place found is_filled)
-        (slice_get_within old.writers writer.number (Cleared kind) at) claimed
+        phase_cases old.writers writer.number other (Claimed old.tail kind false) (Claimed place found is_filled) claimed
 
     older : (other : ℕ) (found : Kind) (is_filled : Bool) → IsIn old other (Claimed place found is_filled) → old.tail ≡ place → ⊥
     older other found is_filled claimed last =
@@ -126,7 +124,6 @@ claim-once writer kind old sound at a b place k l p q at_a at_b =
 claim-sound : (writer : Ix) (kind : Kind) (old : Core) → Sound old → IsIn old writer.number (Cleared kind)
     → Sound (with_claim writer kind old)
 claim-sound writer kind old sound at =
-    let within = slice_get_within old.writers writer.number (Cleared kind) at in
     let phase : WriterPhase = Claimed old.tail kind false in
     let fewer : cleared (slice_set old.writers writer.number phase) + 1 ≡ cleared old.writers + 0 =
     cleared-set old.writers writer.number (Cleared kind) phase at in
@@ -141,7 +138,7 @@ claim-sound writer kind old sound at =
       room = omega (arith, sound.room, fewer);
       limited = omega (arith, sound.limited, fewer);
       looks = λ other front found looked.
-          elim (phase_cases old.writers writer.number other phase (Looked found front) within looked) [
+          elim (phase_cases old.writers writer.number other phase (Looked found front) looked) [
             | inl set ↦ absurd (let same = set.1 in cc)
             | inr kept ↦ sound.looks other front found kept.1
           ];

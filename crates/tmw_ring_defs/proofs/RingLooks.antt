@@ -2,7 +2,7 @@
 use Rattle.std.proofs.Common.{◌≡◌, ◌≢◌, ◌⊎◌, ◌+◌, ◌-◌, ◌≤◌, ◌<◌, ℕ, Bool, true, false, Some, length, slice_set, subst, refl, sym, ◌∙◌, inl, inr, arith}
 use Rattle.std.proofs.lemmas.Bool.{ltb-false}
 use Rattle.std.proofs.lemmas.List.{length-set}
-use Rattle.std.proofs.lemmas.Option.{none-some, some_pair_parts, slice_get_within}
+use Rattle.std.proofs.lemmas.Option.{none-some, some_pair_parts}
 use Rattle.tmw_events.specs.declared.event.Kind.{Kind}
 use Rattle.tmw_events.specs.declared.ix.Ix.{Ix}
 use Rattle.tmw_ring_defs.specs.Ring.{Core}
@@ -64,7 +64,7 @@ phase_keeps core writer phase next sound at free freed looks room limited =
   where
     before : (other : ℕ) (found : WriterPhase) → IsIn (with_phase writer next core) other found
         → ((other ≡ writer) × (next ≡ found)) ⊎ ((other ≢ writer) × IsIn core other found)
-    before other found is = phase_cases core.writers writer other next found (slice_get_within core.writers writer phase at) is
+    before other found is = phase_cases core.writers writer other next found is
 
     claimed_before : (other place : ℕ) (kind : Kind) (is_filled : Bool)
         → IsIn (with_phase writer next core) other (Claimed place kind is_filled) → IsIn core other (Claimed place kind is_filled)

@@ -1,7 +1,6 @@
 -- What the phases of a ring's writers are after one was set, and how many of them are cleared.
-use Rattle.std.proofs.Common.{◌≡◌, ◌≢◌, ◌⊎◌, ◌+◌, ◌<◌, ◌≤◌, ℕ, zero, suc, Bool, List, [], ◌∷◌, length, replicate, Some, refl, sym, ap, ◌∙◌, inl, inr, arith}
+use Rattle.std.proofs.Common.{◌≡◌, ◌≢◌, ◌⊎◌, ◌+◌, ◌<◌, ◌≤◌, ℕ, zero, suc, Bool, List, [], ◌∷◌, length, replicate, Some, refl, ap, inl, inr, arith}
 use Rattle.std.specs.Prelude.{slice_get, slice_set}
-use Rattle.std.proofs.lemmas.Bool.{cases_eq}
 use Rattle.std.proofs.lemmas.Option.{same_Some}
 use Rattle.tmw_events.specs.declared.event.Kind.{Kind}
 use Rattle.tmw_ring_defs.specs.RingSound.{one_if_cleared, cleared}
@@ -25,13 +24,17 @@ phase_kept (first ∷ phases) (suc writer) zero phase apart = refl
 phase_kept (first ∷ phases) (suc writer) (suc other) phase apart = phase_kept phases writer other phase (λ same. apart (ap suc same))
 
 -- So whoever has a phase is the set writer, with the new one, or another, which had it.
-pub phase_cases : (phases : List WriterPhase) (writer other : ℕ) (phase found : WriterPhase) → writer < length phases
+pub phase_cases : (phases : List WriterPhase) (writer other : ℕ) (phase found : WriterPhase)
     → slice_get (slice_set phases writer phase) other ≡ Some found
     → ((other ≡ writer) × (phase ≡ found)) ⊎ ((other ≢ writer) × (slice_get phases other ≡ Some found))
-phase_cases phases writer other phase found within at =
-    elim (cases_eq other writer) [
-      | inl same ↦ inl (same, (let set = phase_set phases writer phase within in let was = rw same at at in cc))
-      | inr apart ↦ inr (apart, sym (phase_kept phases writer other phase apart) ∙ at)
+phase_cases [] writer other phase found at = absurd (cc)
+phase_cases (first ∷ phases) zero zero phase found at = inl (refl, (cc))
+phase_cases (first ∷ phases) zero (suc other) phase found at = inr ((λ same. absurd (omega (arith, same))), at)
+phase_cases (first ∷ phases) (suc writer) zero phase found at = inr ((λ same. absurd (omega (arith, same))), at)
+phase_cases (first ∷ phases) (suc writer) (suc other) phase found at =
+    elim (phase_cases phases writer other phase found at) [
+      | inl set ↦ inl (omega (arith, set.0), set.1)
+      | inr kept ↦ inr ((λ same. absurd (kept.0 (omega (arith, same)))), kept.1)
     ]
 
 -- Those who have two phases are two.

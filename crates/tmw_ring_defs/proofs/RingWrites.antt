@@ -4,7 +4,6 @@ use Rattle.std.specs.Prelude.{slice_set}
 use Rattle.std.proofs.lemmas.Bool.{cases_eq}
 use Rattle.std.proofs.lemmas.List.{length-set}
 use Rattle.std.proofs.lemmas.List.Elements.{All-set}
-use Rattle.std.proofs.lemmas.Option.{slice_get_within}
 use Rattle.tmw_events.specs.declared.event.Kind.{Kind}
 use Rattle.tmw_ring_defs.specs.Ring.{Core}
 use Rattle.tmw_ring_defs.specs.RingSound.{Sound, Spares, IsIn, IsHeld, IsPublished, Holds, cleared, one_if_cleared}
@@ -75,8 +74,7 @@ store-holds : (old : Core) (writer place : ℕ) (kind : Kind) (is_filled : Bool)
     → IsIn old writer (Claimed place kind is_filled) → IsFit old writer place cell phase → (other p : ℕ) (found : Kind) (f : Bool)
     → IsIn (stored writer place cell phase old) other (Claimed p found f) → Holds (stored writer place cell phase old) other p found f
 store-holds old writer place kind is_filled cell phase sound at fit other p found f claimed =
-    elim (phase_cases old.writers writer other phase (Claimed p found f)
-    (slice_get_within old.writers writer (Claimed place kind is_filled) at) claimed) [
+    elim (phase_cases old.writers writer other phase (Claimed p found f) claimed) [
       | inl set ↦
           subst (λ (w : ℕ). Holds (stored writer place cell phase old) w p found f) (sym set.0) (fit.holds p found f set.1).1
       | inr kept ↦
@@ -109,14 +107,12 @@ store-once old writer place kind is_filled cell phase sound at fit a b p k l f g
     cases : (other : ℕ) (found : Kind) (h : Bool) → IsIn (stored writer place cell phase old) other (Claimed p found h)
         → ((other ≡ writer) × (phase ≡ Claimed p found h)) ⊎ ((other ≢ writer) × IsIn old other (Claimed p found h))
     cases other found h claimed =
-        phase_cases old.writers writer other phase (Claimed p found h)
-        (slice_get_within old.writers writer (Claimed place kind is_filled) at) claimed
+        phase_cases old.writers writer other phase (Claimed p found h) claimed
 
 pub store_keeps : (old : Core) (writer place : ℕ) (kind : Kind) (is_filled : Bool) (cell : RingCell) (phase : WriterPhase) → Sound old
     → IsIn old writer (Claimed place kind is_filled) → IsFit old writer place cell phase
     → Sound (stored writer place cell phase old) × Spares old (stored writer place cell phase old)
 store_keeps old writer place kind is_filled cell phase sound at fit =
-    let within = slice_get_within old.writers writer (Claimed place kind is_filled) at in
     let same : cleared (slice_set old.writers writer phase) + 0 ≡ cleared old.writers + one_if_cleared phase =
     cleared-set old.writers writer (Claimed place kind is_filled) phase at in
     let spares = store-spares old writer place kind is_filled cell sound at in (
@@ -130,7 +126,7 @@ store_keeps old writer place kind is_filled cell phase sound at fit =
         room = omega (arith, sound.room, same, fit.uncleared);
         limited = omega (arith, sound.limited, same, fit.uncleared);
         looks = λ other front found looked.
-            elim (phase_cases old.writers writer other phase (Looked found front) within looked) [
+            elim (phase_cases old.writers writer other phase (Looked found front) looked) [
               | inl set ↦ absurd (fit.unlooked found front set.1)
               | inr kept ↦ sound.looks other front found kept.1
             ];

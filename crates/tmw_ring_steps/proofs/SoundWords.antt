@@ -1,10 +1,10 @@
 -- What the words of a sound ring are: a claimed place is small, and what the reader has read is an event's.
-use Rattle.std.proofs.Common.{◌≡◌, ◌+◌, ◌<◌, ◌^◌, ◌++◌, ℕ, Bool, [], ◌∷◌, length, sym, ap, ◌∙◌, subst, arith}
+use Rattle.std.proofs.Common.{◌≡◌, ◌+◌, ◌<◌, ◌^◌, ◌++◌, ℕ, Bool, [], ◌∷◌, length, ap, subst, arith}
 use Rattle.std.proofs.lemmas.Option.{slice_get_within}
-use Rattle.tmw_events.proofs.Unpacks.{unpacked-pack}
+use Rattle.tmw_events.proofs.Unpacks.{unpacked-words, pack-words}
 use Rattle.tmw_events.specs.Packing.{pack, kind_value}
 use Rattle.tmw_events.specs.Text.{FitsKind}
-use Rattle.tmw_events.specs.Unpacking.{unpacked}
+use Rattle.tmw_events.specs.Unpacking.{AreOfEvent}
 use Rattle.tmw_events.specs.declared.event.Event.{Event}
 use Rattle.tmw_events.specs.declared.event.Kind.{Kind}
 use Rattle.tmw_events.specs.declared.event.Kind.TheVariants.{R, V, W, K, T, C, X, A, N}
@@ -42,51 +42,31 @@ kind_fits X small = tt
 kind_fits A small = tt
 kind_fits (N register value) small = small
 
--- the event whose words the reader has read
-pub record IsTold (header value : ℕ) : Type 0 where
-  pub event : Event
-  pub fits : FitsKind event.kind
-  pub words : pack event ≡ (header, value)
-
-pub has_told : (core : Core) (header value : ℕ) → Sound core → core.reader ≡ Told header value → value < 2 ^ 64 → IsTold header value
+-- What the reader has read is an event's.
+pub has_told : (core : Core) (header value : ℕ) → Sound core → core.reader ≡ Told header value → value < 2 ^ 64 → AreOfEvent header value
 has_told core header value sound told small =
     let read : HasRead core (Told header value) = subst (HasRead core) told sound.reads in
     let event = read.0.event in
-    let both : ℕ → ℕ → ℕ × ℕ = λ h v. (h, v) in
     record {
       event = event;
       fits = kind_fits event.kind (subst (λ (v : ℕ). v < 2 ^ 64) read.2 small);
-      words = ap (λ h. both h (kind_value event.kind)) (sym read.1) ∙ ap (both header) (sym read.2);
+      words = pack-words header value event read.1 read.2;
     }
 
--- the words of an event tell it
-told_event : (header value : ℕ) (event : Event) → pack event ≡ (header, value) → unpacked header value ≡ event
-told_event header value event words =
-    let tell : ℕ × ℕ → Event = λ w. unpacked w.0 w.1 in ap tell (sym words) ∙ unpacked-pack event
+-- the answer to a reader that has taken the event, and the machine after it
+abbrev pub freed : Machine → Event → Reply × Machine
+freed machine event = (
+  Taken event,
+  record machine {
+    core = record machine.core {
+      front = machine.core.front + 1;
+      reader = Waiting;
+      taken = machine.core.taken ++ event ∷ [];
+    };
+  },
+)
 
--- the reader takes the event whose words it has read
+-- The reader takes the event whose words it has read.
 pub free-told : (machine : Machine) (header value : ℕ) (event : Event) → machine.core.reader ≡ Told header value
-    → pack event ≡ (header, value)
-    → answered machine (core_step Free machine.core)
-    ≡ (
-      Taken event,
-      record machine {
-        core = record machine.core {
-          front = machine.core.front + 1;
-          reader = Waiting;
-          taken = machine.core.taken ++ event ∷ [];
-        };
-      },
-    )
-free-told machine header value event told words =
-    let freed : Event → Reply × Machine = λ e. (
-      Taken e,
-      record machine {
-        core = record machine.core {
-          front = machine.core.front + 1;
-          reader = Waiting;
-          taken = machine.core.taken ++ e ∷ [];
-        };
-      },
-    ) in
-    rw told (ap freed (told_event header value event words))
+    → pack event ≡ (header, value) → answered machine (core_step Free machine.core) ≡ freed machine event
+free-told machine header value event told words = rw told (ap (freed machine) (unpacked-words header value event words))

@@ -2,10 +2,10 @@
 #![tactic(auto)]
 
 mod reading;
+mod ring_state;
 #[cfg(test)]
 mod seeded;
 mod sim;
-mod state;
 mod stepping;
 #[cfg(test)]
 mod tests;

@@ -2,14 +2,14 @@ ghost use Rattle.std.specs.Prelude.{◌≡◌, IfOk, OnErr};
 ghost use Rattle.tmw_ring_defs.specs.RingMachine.{answered};
 ghost use Rattle.tmw_ring_defs.specs.RingSound.{Sound};
 ghost use Rattle.tmw_ring_defs.specs.RingSteps.{core_step};
-ghost use Rattle.tmw_ring_steps.specs.State.{core_of, machine_of};
+ghost use Rattle.tmw_ring_steps.specs.RingState.{core_of, machine_of};
 
-use crate::state::State;
+use crate::ring_state::RingState;
 use std::alloc::AllocError;
 use tmw_events::unpack;
 use tmw_ring_defs::{ReaderPhase, Reply, Step};
 
-impl State {
+impl RingState {
     /// The reader loads the next place's stamp and header.
     pub fn peek(&mut self) -> Reply
         requires { Sound (core_of self.old) }

@@ -4,7 +4,7 @@ ghost use Rattle.tmw_ring_defs.specs.RingSound.{Sound, Spares};
 ghost use Rattle.tmw_ring_steps.specs.NewSim.{IsNewSim};
 ghost use Rattle.tmw_ring_steps.specs.Runs.{GoesOnAsOneLog, RanFirst};
 
-use crate::state::State;
+use crate::ring_state::RingState;
 use std::alloc::{AllocError, Global};
 use std::marker::Model;
 use tmw_events::Event;
@@ -13,7 +13,7 @@ use tmw_ring_defs::{Reply, RingFault, RingSize, Step};
 /// A ring in which threads record events, as a machine that is stepped in whatever order its actors make their steps.
 #[derive(Debug, Drop)]
 pub struct Sim {
-    state: State,
+    state: RingState,
     made: u64,
 }
 
@@ -23,7 +23,7 @@ impl Model for Sim {
     ghost Value = { Simulated };
 
     ghost use Rattle.tmw_ring_defs.specs.RingSound.{Sound};
-    ghost use Rattle.tmw_ring_steps.specs.State.{core_of, machine_of};
+    ghost use Rattle.tmw_ring_steps.specs.RingState.{core_of, machine_of};
 
     ghost view = { λ sim. record { machine = machine_of sim.state; made = sim.made } };
 
@@ -37,7 +37,7 @@ impl Sim {
         ensures { IsNewSim cells writers limit result }
     {
         let size = RingSize::new(cells, writers, limit)?;
-        let state = State::new(alloc, size)?;
+        let state = RingState::new(alloc, size)?;
         Ok(Sim { state, made: 0 })
     }
 

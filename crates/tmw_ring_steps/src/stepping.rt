@@ -1,13 +1,13 @@
 ghost use Rattle.std.specs.Prelude.{◌≡◌, IfOk, OnErr};
 ghost use Rattle.tmw_ring_defs.specs.RingMachine.{machine_step};
 ghost use Rattle.tmw_ring_defs.specs.RingSound.{Sound};
-ghost use Rattle.tmw_ring_steps.specs.State.{core_of, machine_of};
+ghost use Rattle.tmw_ring_steps.specs.RingState.{core_of, machine_of};
 
-use crate::state::State;
+use crate::ring_state::RingState;
 use std::alloc::AllocError;
 use tmw_ring_defs::{Reply, Step};
 
-impl State {
+impl RingState {
     /// Makes the step, and answers it.
     pub fn step(&mut self, step: Step) -> Result<Reply, AllocError>
         requires { Sound (core_of self.old) }

@@ -2,14 +2,14 @@ ghost use Rattle.std.specs.Prelude.{◌≡◌, IfOk, OnErr};
 ghost use Rattle.tmw_ring_defs.specs.RingMachine.{answered};
 ghost use Rattle.tmw_ring_defs.specs.RingSound.{Sound, IsIn};
 ghost use Rattle.tmw_ring_defs.specs.RingSteps.{core_step, tail_step};
-ghost use Rattle.tmw_ring_steps.specs.State.{core_of, machine_of};
+ghost use Rattle.tmw_ring_steps.specs.RingState.{core_of, machine_of};
 
-use crate::state::State;
+use crate::ring_state::RingState;
 use std::alloc::AllocError;
 use tmw_events::{Event, Ix, Kind, pack};
 use tmw_ring_defs::{Reply, RingCell, Step, WriterPhase};
 
-impl State {
+impl RingState {
     /// The writer, which has an event of this kind to record, loads front.
     pub fn see_front(&mut self, writer: Ix, kind: Kind) -> Reply
         ensures { (result, machine_of self.new) ≡ answered (machine_of self.old) (core_step (Step.Front writer kind) (core_of self.old)) }

@@ -1,20 +1,18 @@
-use Rattle.std.proofs.Common.{◌≡◌, ◌<◌, ℕ, sym, ap, ◌∙◌, arith}
-use Rattle.tmw_ring_defs.specs.declared.ring_size.RingSize.{RingSize}
+use Rattle.std.proofs.Common.{sym, ap, ◌∙◌}
 use Rattle.tmw_ring.specs.Ends.{RingIs}
 use Rattle.tmw_ring.specs.Words.{stamp_word}
+use Rattle.tmw_ring.proofs.TableWords.{in_table}
 use Rattle.tmw_ring.proofs.Takes.{may_look}
 use Rattle.tmw_ring.proofs.Words.{stamp_word-within}
 use Rattle.tmw_ring.proofs.ends.Ring.see_stamp.Goals as goal
 
 pub load-requires : goal.load-requires
 load-requires c =
-    let size : RingSize = c.self.inside.size in
-    let place : ℕ = c.args.words.place in
-    let at : c.args.words.stamp ≡ stamp_word size.cells place =
-    c.requires.word ∙ ap (λ (ring : RingIs). stamp_word ring.size.cells place) (sym c.self.view_is) in
-    let some : 0 < size.cells = omega (arith, size.some_writers, size.enough_cells) in (
+    let word =
+    in_table stamp_word stamp_word-within c.self.inside.size c.self.inside.table.shared.key c.self.inside.table.shared.table_id
+    c.args.self.now c.args.words.place c.args.words.stamp c.self.invariant c.self.view_is c.requires.word in (
       c.requires.table ∙ sym (ap (λ (ring : RingIs). ring.table) c.self.view_is),
-      omega (arith, at, stamp_word-within size.cells place some, c.self.invariant.words),
-      may_look c.self.inside.table.shared.key c.self.inside.table.shared.table_id.slots c.args.seat.now.id place c.args.words.stamp
-          c.args.seat.now.me (at ∙ ap (λ (z : RingSize). stamp_word z.cells place) (sym c.self.invariant.told_it)) c.requires.waiting,
+      word.within,
+      may_look c.self.inside.table.shared.key c.self.inside.table.shared.table_id.slots c.args.seat.now.id c.args.words.place
+          c.args.words.stamp c.args.seat.now.me word.told_at c.requires.waiting,
     )

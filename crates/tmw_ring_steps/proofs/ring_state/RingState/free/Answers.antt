@@ -1,7 +1,7 @@
 use Rattle.std.proofs.Common.{sym, arith}
 use Rattle.tmw_ring_steps.proofs.SoundWords.{has_told, free-told}
-use Rattle.tmw_ring_steps.specs.State.{core_of, machine_of}
-use Rattle.tmw_ring_steps.proofs.state.State.free.Goals as goal
+use Rattle.tmw_ring_steps.specs.RingState.{core_of, machine_of}
+use Rattle.tmw_ring_steps.proofs.ring_state.RingState.free.Goals as goal
 
 pub returns-in_ok-push-in-Told-clause-ok : goal.returns-in_ok-push-in-Told-clause-ok
 returns-in_ok-push-in-Told-clause-ok c =

@@ -1,9 +1,9 @@
 -- The machine that a state stands for.
 use Rattle.tmw_ring_defs.specs.Ring.{Core}
 use Rattle.tmw_ring_defs.specs.RingMachine.{Machine}
-use Rattle.tmw_ring_steps.specs.declared.state.State.{State}
+use Rattle.tmw_ring_steps.specs.declared.ring_state.RingState.{RingState}
 
-abbrev pub core_of : State → Core
+abbrev pub core_of : RingState → Core
 core_of state = record {
   size = state.size;
   front = state.front;
@@ -15,5 +15,5 @@ core_of state = record {
   taken = state.taken.items;
 }
 
-abbrev pub machine_of : State → Machine
+abbrev pub machine_of : RingState → Machine
 machine_of state = record { core = core_of state; stopped = state.stopped.items }

@@ -3,7 +3,7 @@ ghost use Rattle.tmw_ring_defs.specs.RingCells.{set_cell};
 ghost use Rattle.tmw_ring_defs.specs.RingMachine.{new_machine, writer_of, has_stopped};
 ghost use Rattle.tmw_ring_defs.specs.RingSound.{Sound};
 ghost use Rattle.tmw_ring_defs.specs.RingSteps.{cell_at, with_cell, with_phase};
-ghost use Rattle.tmw_ring_steps.specs.State.{core_of, machine_of};
+ghost use Rattle.tmw_ring_steps.specs.RingState.{core_of, machine_of};
 
 use std::alloc::{AllocError, Global};
 use tmw_events::{Event, Ix};
@@ -18,7 +18,7 @@ const EMPTY: RingCell = RingCell {
 /// A ring's words, how far its writers and its reader have come, the events that were claimed for and those that were taken,
 /// and which writers have stopped.
 #[derive(Debug, Drop)]
-pub struct State {
+pub struct RingState {
     pub size: RingSize,
     pub front: u64,
     pub tail: u64,
@@ -30,12 +30,12 @@ pub struct State {
     pub stopped: Vec<bool>,
 }
 
-impl State {
+impl RingState {
     /// The state of a new ring.
-    pub fn new(alloc: Global, size: RingSize) -> Result<State, AllocError>
+    pub fn new(alloc: Global, size: RingSize) -> Result<RingState, AllocError>
         ensures { IfOk result (λ state. machine_of state ≡ new_machine size) }
     {
-        Ok(State {
+        Ok(RingState {
             size,
             front: 0,
             tail: 0,

@@ -1,7 +1,7 @@
 use Rattle.std.proofs.Common.{Some, sym, ap, ◌∙◌, arith, length}
 use Rattle.tmw_ring_steps.proofs.SoundWords.{claimed_small, has_writer}
-use Rattle.tmw_ring_steps.specs.State.{core_of}
-use Rattle.tmw_ring_steps.proofs.state.State.publish.Goals as goal
+use Rattle.tmw_ring_steps.specs.RingState.{core_of}
+use Rattle.tmw_ring_steps.proofs.ring_state.RingState.publish.Goals as goal
 
 pub overflow_add-place : goal.overflow_add-place
 overflow_add-place c =

@@ -1,0 +1,23 @@
+-- Where a word of a place's cell stands in a ring's table, from where it stands in the ring that callers see.
+use Rattle.std.proofs.Common.{◌≡◌, ◌<◌, ℕ, sym, ap, ◌∙◌, arith}
+use Rattle.atomic_table.specs.Seated.{TableId}
+use Rattle.tmw_ring_defs.specs.declared.ring_size.RingSize.{RingSize}
+use Rattle.tmw_ring.specs.Ends.{RingIs}
+use Rattle.tmw_ring.specs.Seats.{IsRingTable}
+use Rattle.tmw_ring.specs.Words.{word_count}
+
+-- The word is within the table, and is that of the size that the table was told.
+pub record InTable (stands : ℕ → ℕ → ℕ) (told : RingSize) (table : TableId) (place word : ℕ) : Type 0 where
+  pub within : word < table.words
+  pub told_at : word ≡ stands told.cells place
+
+pub in_table : (stands : ℕ → ℕ → ℕ) → ((cells place : ℕ) → 0 < cells → stands cells place < word_count cells)
+    → (size told : RingSize) (table : TableId) (ring : RingIs) (place word : ℕ) → IsRingTable size told table
+    → record { table = table; size = size } ≡ ring → word ≡ stands ring.size.cells place → InTable stands told table place word
+in_table stands below size told table ring place word is seen at =
+    let here : word ≡ stands size.cells place = at ∙ ap (λ (r : RingIs). stands r.size.cells place) (sym seen) in
+    let some : 0 < size.cells = omega (arith, size.some_writers, size.enough_cells) in
+    record {
+      within = omega (arith, here, below size.cells place some, is.words);
+      told_at = here ∙ ap (λ (s : RingSize). stands s.cells place) (sym is.told_it);
+    }
