@@ -1,8 +1,7 @@
 -- Judging a trace as it is read: what was told is what the reader of lines has read, and its events are what the monitor was fed.
-use Rattle.std.proofs.Common.{◌≡◌, ◌+◌, ◌<◌, ◌≤◌, ◌^◌, ℕ, List, [], ◌∷◌, ◌++◌, length, Result, Ok, Err, refl, sym, ◌∙◌, arith, length-append}
-use Rattle.tmw_trace.specs.TraceLines.{HasRead, GivesEvent, GivesEnd, GivesFault}
-use Rattle.tmw_trace.specs.Text.{trace_text}
-use Rattle.tmw_trace.specs.TextFault.{HasTextFault, HasBegun, failures_after}
+use Rattle.std.proofs.Common.{◌≡◌, ◌+◌, ◌<◌, ◌^◌, ℕ, List, [], ◌∷◌, ◌++◌, length, Ok, Err, refl, ◌∙◌, arith, length-append}
+use Rattle.tmw_trace.specs.TraceLines.{GivesEvent, GivesEnd, GivesFault}
+use Rattle.tmw_trace.specs.TextFault.{failures_after}
 use Rattle.tmw_streams.specs.Told.{Adds}
 use Rattle.tmw_events.specs.declared.event.Event.{Event}
 use Rattle.tmw_trace.specs.declared.header.Header.{Header}
@@ -20,7 +19,7 @@ use Rattle.tmw_report.specs.declared.fault.Fault.TheVariants.{Memory as WantsMem
 use Rattle.tmw_judge.specs.declared.report.Report.{Report}
 use Rattle.tmw_report.specs.Putting.{fault_of}
 use Rattle.tmw_report.specs.CommandRun.{failures_after_answer}
-use Rattle.tmw_judge.specs.Judging.{AnswersTrace, IsReportOf}
+use Rattle.tmw_judge.specs.Judging.{AnswersTrace}
 
 pub record HasFed {S : Type 0} (Told : S → List ℕ → Type 0) (old new : S) (lines : TraceLines) (bounds : Bounds) (monitor : Monitor)
     : Type 0 where

@@ -1,5 +1,5 @@
 -- A report whose line found no memory is answered by that fault: what was told is a trace's text.
-use Rattle.std.proofs.Common.{◌≡◌, ℕ, List, [], Ok, Err, inl, inr, refl, sym, append-nil, ◌∙◌}
+use Rattle.std.proofs.Common.{ℕ, List, [], Ok, Err, inl, inr, refl, sym, append-nil, ◌∙◌}
 use Rattle.tmw_trace.specs.TextFault.{HasBegun}
 use Rattle.tmw_trace.specs.declared.trace_fault.TraceFault.TheVariants.{Memory as WantsMemory}
 use Rattle.tmw_monitor.specs.declared.bounds.Bounds.{Bounds}
