@@ -21,7 +21,7 @@ use Rattle.tmw_report.specs.declared.fault.Fault.TheVariants.{Memory as WantsMem
 use Rattle.tmw_judge.specs.declared.report.Report.{Report}
 use Rattle.tmw_report.specs.Putting.{fault_of}
 use Rattle.tmw_report.specs.CommandRun.{failures_after_answer}
-use Rattle.tmw_judge.specs.Judging.{AnswersTrace, IsReportOf}
+use Rattle.tmw_judge.specs.Judging.{AnswersTrace}
 
 pub record HasFed {S : Type 0} (Told : S → List ℕ → Type 0) (old new : S) (lines : Lines Version) (bounds : Bounds) (monitor : Monitor)
     : Type 0 where

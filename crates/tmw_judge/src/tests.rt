@@ -80,6 +80,20 @@ fn settled_line(alloc: Global, at: u64, events: u64, verdict: &str) -> Result<St
     format!(in alloc; "{{\"at\":{at},\"events\":{events},\"verdict\":\"{verdict}\"}}\n")
 }
 
+/// Judges histories over one register whose verdict was settled: each with the length at which, and with its length.
+fn expect_settled(
+    rt: &(impl Abort + AllocGlobal),
+    verdict: &str,
+    status: u8,
+    histories: &[(u64, u64, &str)],
+) -> Result<(), Fail> {
+    for (at, count, events) in histories {
+        let line = settled_line(rt.alloc(), *at, *count, verdict)?;
+        expect_of(rt, events, line.as_str(), status)?;
+    }
+    Ok(())
+}
+
 #[test]
 fn histories_that_are_opaque(rt: HostRuntime) -> Result<(), Fail> {
     for (count, events) in [
@@ -132,7 +146,7 @@ fn histories_that_are_opaque(rt: HostRuntime) -> Result<(), Fail> {
 
 #[test]
 fn histories_that_are_not_opaque(rt: HostRuntime) -> Result<(), Fail> {
-    for (at, count, events) in [
+    let histories = [
         // Not its own write.
         (
             4,
@@ -157,10 +171,8 @@ fn histories_that_are_not_opaque(rt: HostRuntime) -> Result<(), Fail> {
             14,
             "0 W 0 1, 1 W 0 2, 0 K, 1 K, 0 T, 1 T, 0 C, 1 C, 0 R 0, 0 V 1, 0 T, 0 C, 1 R 0, 1 V 2",
         ),
-    ] {
-        let line = settled_line(rt.alloc(), at, count, "violated")?;
-        expect_of(&rt, events, line.as_str(), VIOLATED)?;
-    }
+    ];
+    expect_settled(&rt, "violated", VIOLATED, &histories)?;
     // A reader that aborts counts too.
     let zombie = text(
         rt.alloc(),
@@ -211,7 +223,7 @@ fn initial_values_and_adds(rt: HostRuntime) -> Result<(), Fail> {
 
 #[test]
 fn histories_that_are_malformed(rt: HostRuntime) -> Result<(), Fail> {
-    for (at, count, events) in [
+    let histories = [
         (1, 1, "0 V 1"),
         // There is one register.
         (1, 1, "0 R 1"),
@@ -224,11 +236,8 @@ fn histories_that_are_malformed(rt: HostRuntime) -> Result<(), Fail> {
             17,
             "0 R 0, 1 T, 1 C, 1 T, 1 C, 1 T, 1 C, 1 T, 1 C, 1 T, 1 C, 1 T, 1 C, 1 T, 1 C, 1 K, 1 T",
         ),
-    ] {
-        let line = settled_line(rt.alloc(), at, count, "malformed")?;
-        expect_of(&rt, events, line.as_str(), MALFORMED)?;
-    }
-    Ok(())
+    ];
+    expect_settled(&rt, "malformed", MALFORMED, &histories)
 }
 
 #[test]

@@ -1,5 +1,5 @@
 -- What was told in two steps, one after the other.
-use Rattle.std.proofs.Common.{◌≡◌, ℕ, List, ◌++◌, append_assoc}
+use Rattle.std.proofs.Common.{ℕ, List, ◌++◌, append_assoc}
 use Rattle.tmw_streams.specs.Told.{Adds}
 
 pub Adds-more : {S : Type 0} (Told : S → List ℕ → Type 0) (a b c : S) (xs ys : List ℕ)

@@ -1,9 +1,8 @@
 -- Each builder says which part of the command it changes.
-use Rattle.std.proofs.Common.{◌≡◌, ◌∙◌, ap, ap₂, codes, rules}
+use Rattle.std.proofs.Common.{◌≡◌, ◌∙◌, ap, ap₂, codes}
 use Rattle.std.proofs.lemmas.Result.{IfOk-weaker}
 use Rattle.clap.specs.Simple.{app_of_fields}
-use Rattle.clap.specs.Words.{app_of, new_app, rule_of, with_rule}
-use Rattle.tmwatch.specs.Words.{number_rule, one_to}
+use Rattle.clap.specs.Words.{app_of, new_app, with_rule}
 use Rattle.tmwatch.proofs.words.new_judge.Goals as goal
 
 pub returns : goal.returns
