@@ -21,8 +21,8 @@ use Rattle.tmw_cuts.specs.declared.window.Window.{Window}
 use Rattle.tmw_cuts.specs.Members.{members}
 use Rattle.tmw_cuts.specs.Standing.{StandsFor}
 use Rattle.tmw_monitor.specs.declared.open.Open.{Open}
-use Rattle.tmw_monitor.specs.declared.found.Found.{Found}
-use Rattle.tmw_monitor.specs.declared.found.Found.TheVariants.{Outcome, NoOutcome, TooMany}
+use Rattle.tmw_monitor.specs.declared.weighed.Weighed.{Weighed}
+use Rattle.tmw_monitor.specs.declared.weighed.Weighed.TheVariants.{Outcome, NoOutcome, TooMany}
 use Rattle.tmw_monitor.specs.Fitting.{Keeps}
 use Rattle.tmw_monitor.specs.Weighing.{StaysOpen, Closes, Tells, verdict_of}
 use Rattle.tmw_monitor.proofs.Counting.{not_more_among, more_than-rising}
@@ -82,7 +82,7 @@ follows-cut rules h e kept keeps cap states window tracker bound tracks narrow c
 
 -- each thing that was found
 pub follows-told : (rules : Rules) (h : List Event) (e : Event) (kept : Open) (keeps : Keeps rules h kept) (at cap : ℕ) (quiet : Bool)
-    (states : SetOfStates) (window : Window) (tracker : Tracker) (found : Found) → at ≡ length h + 1 → cap ≡ rules.states
+    (states : SetOfStates) (window : Window) (tracker : Tracker) (found : Weighed) → at ≡ length h + 1 → cap ≡ rules.states
     → Tracks rules.registers (h ++ e ∷ []) tracker → length (transactions (drop keeps.cut h ++ e ∷ [])) ≤ rules.window
     → quiet ≡ is_quiet (transactions (drop keeps.cut h)) e.thread.number e.kind
     → Tells kept.states cap quiet (drop keeps.cut h ++ e ∷ []) states window found

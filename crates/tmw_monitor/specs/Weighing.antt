@@ -12,8 +12,8 @@ use Rattle.tmw_cuts.specs.declared.window.Window.{Window}
 use Rattle.tmw_cuts.specs.Members.{members}
 use Rattle.tmw_cuts.specs.Standing.{StandsFor}
 use Rattle.tmw_search.specs.Ended.{EndsOf, HasMoreThan}
-use Rattle.tmw_monitor.specs.declared.found.Found.{Found}
-use Rattle.tmw_monitor.specs.declared.found.Found.TheVariants.{Outcome, NoOutcome, TooMany}
+use Rattle.tmw_monitor.specs.declared.weighed.Weighed.{Weighed}
+use Rattle.tmw_monitor.specs.declared.weighed.Weighed.TheVariants.{Outcome, NoOutcome, TooMany}
 
 -- The events are at no cut, and have an end state where that was in question. The set and the window stay.
 pub record StaysOpen (old : SetOfStates) (quiet : Bool) (events : List Event) (new : SetOfStates) (window : Window) : Type 0 where
@@ -33,13 +33,13 @@ pub record Closes (old : SetOfStates) (cap : ℕ) (events : List Event) (new : S
   pub stands : StandsFor window []
 
 -- What each finding tells of the events.
-abbrev pub Tells : SetOfStates → ℕ → Bool → List Event → SetOfStates → Window → Found → Type 0
+abbrev pub Tells : SetOfStates → ℕ → Bool → List Event → SetOfStates → Window → Weighed → Type 0
 Tells old cap quiet events new window Outcome = StaysOpen old quiet events new window ⊎ Closes old cap events new window
 Tells old cap quiet events new window NoOutcome = (end : State) → EndsOf old events end → ⊥
 Tells old cap quiet events new window TooMany = IsTrue (is_cut events) × HasMoreThan cap (EndsOf old events)
 
 -- The verdict on a history of this length, where this was found of its last window.
-abbrev pub verdict_of : ℕ → Found → Verdict
+abbrev pub verdict_of : ℕ → Weighed → Verdict
 verdict_of at Outcome = OpaqueSoFar
 verdict_of at NoOutcome = Violated at
 verdict_of at TooMany = Undecided at States

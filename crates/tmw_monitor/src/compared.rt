@@ -1,43 +1,21 @@
 //! The monitor beside the plain check of the whole history, on seeded histories of four threads over two registers.
 use super::*;
+use crate::tests::{WIDEST, verdicts};
 use std::alloc::{AllocError, Global};
 use std::test::Fail;
-use tmw_events::{Event, Ix, Kind, Registers};
+use tmw_events::{Event, Kind, Registers};
 use tmw_plain_check::{Whole, WholeFault, judge_whole};
+use tmw_testing::{FIRST, SECOND, Seed};
 use tmw_wellformed::Tracker;
 
 const TWO: Registers = Registers { number: 2 };
 
-const WIDEST: Bounds = Bounds {
-    window: 8,
-    states: 64,
-};
-
-/// The next number of a sequence that a seed begins.
-fn draw(seed: &mut u64) -> u64 {
-    let mut number = *seed;
-    number ^= number << 13;
-    number ^= number >> 7;
-    number ^= number << 17;
-    *seed = number;
-    number >> 8
-}
-
 /// An event of one of so many threads, at most four, whose value is 1 once in so many times and else 0.
-fn draw_event(seed: &mut u64, threads: u64, ones: u64) -> Event {
-    let thread = match draw(seed) % threads.max(1) {
-        0 => Ix { number: 0 },
-        1 => Ix { number: 1 },
-        2 => Ix { number: 2 },
-        _ => Ix { number: 3 },
-    };
-    let register = if draw(seed) % 3 == 0 {
-        Ix { number: 1 }
-    } else {
-        Ix { number: 0 }
-    };
-    let value = u64::from(draw(seed) % ones.max(1) == 0);
-    let kind = match draw(seed) % 12 {
+fn draw_event(seed: &mut Seed, threads: u64, ones: u64) -> Event {
+    let thread = seed.draw_name(threads);
+    let register = if seed.draw() % 3 == 0 { SECOND } else { FIRST };
+    let value = u64::from(seed.draw() % ones.max(1) == 0);
+    let kind = match seed.draw() % 12 {
         0 | 1 => Kind::R(register),
         2 | 3 => Kind::V(value),
         4 => Kind::W(register, value),
@@ -53,7 +31,7 @@ fn draw_event(seed: &mut u64, threads: u64, ones: u64) -> Event {
 /// A history of `length` events, which is well-formed but for its last event where that is asked for.
 fn draw_events(
     alloc: Global,
-    seed: &mut u64,
+    seed: &mut Seed,
     length: u64,
     threads: u64,
     ones: u64,
@@ -71,17 +49,6 @@ fn draw_events(
         }
     }
     Ok(events)
-}
-
-/// The verdict of a monitor that is fed the events, and after how many of them it was reached.
-fn fed(alloc: Global, events: &[Event]) -> Result<Verdict, AllocError> {
-    let mut monitor = Monitor::new(alloc, TWO, WIDEST)?;
-    for event in events {
-        if monitor.fed() < 1_000_000 {
-            monitor.feed(*event)?;
-        }
-    }
-    Ok(monitor.verdict())
 }
 
 /// What the plain check answers, as a verdict, where it decides.
@@ -129,7 +96,7 @@ impl Met {
 
 #[test]
 fn the_monitor_agrees_with_the_plain_check(rt: HostRuntime) -> Result<(), Fail> {
-    let mut seed = 88172645463325252;
+    let mut seed = Seed::new();
     let mut met = Met {
         opaque: 0,
         violated: 0,
@@ -147,9 +114,9 @@ fn the_monitor_agrees_with_the_plain_check(rt: HostRuntime) -> Result<(), Fail> 
             number % 5 == 0,
         )?;
         let answer = plain(judge_whole(rt.alloc(), TWO, &events));
-        let verdict = fed(rt.alloc(), &events)?;
+        let told = verdicts(rt.alloc(), TWO, WIDEST, &events)?;
         if let Some(expected) = answer {
-            assert_eq!(rt; verdict, expected, "of {events:?}");
+            assert_eq!(rt; told.last().copied(), Some(expected), "of {events:?}");
         }
         met = met.with(answer);
         taken = taken.saturating_add(events.len());

@@ -4,7 +4,6 @@
 mod bounds;
 #[cfg(test)]
 mod compared;
-mod found;
 mod judging;
 mod monitor;
 mod next;
@@ -12,6 +11,7 @@ mod open;
 #[cfg(test)]
 mod tests;
 mod weigh;
+mod weighed;
 
 pub use bounds::{BadBounds, Bounds};
 pub use judging::{judge, judge_from};

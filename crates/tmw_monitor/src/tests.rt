@@ -2,48 +2,15 @@
 use super::*;
 use std::alloc::{AllocError, Global};
 use std::test::Fail;
-use tmw_events::{Event, Ix, Kind, Registers};
-
-const FIRST: Ix = Ix { number: 0 };
-
-const SECOND: Ix = Ix { number: 1 };
+use tmw_events::{Event, Kind, Registers};
+use tmw_testing::{FIRST, dirty_read, one, other};
 
 const ONE: Registers = Registers { number: 1 };
 
-const WIDEST: Bounds = Bounds {
+pub(crate) const WIDEST: Bounds = Bounds {
     window: 8,
     states: 64,
 };
-
-/// An event of the first thread.
-const fn one(kind: Kind) -> Event {
-    Event {
-        thread: FIRST,
-        kind,
-    }
-}
-
-/// An event of the second thread.
-const fn other(kind: Kind) -> Event {
-    Event {
-        thread: SECOND,
-        kind,
-    }
-}
-
-/// The second reads what the first has written before it asks to commit.
-const fn dirty_read() -> [Event; 8] {
-    [
-        one(Kind::W(FIRST, 1)),
-        one(Kind::K),
-        other(Kind::R(FIRST)),
-        other(Kind::V(1)),
-        one(Kind::T),
-        one(Kind::C),
-        other(Kind::T),
-        other(Kind::C),
-    ]
-}
 
 /// The first writes 1 and the second 2, both at once.
 const fn writers() -> [Event; 8] {
@@ -60,8 +27,13 @@ const fn writers() -> [Event; 8] {
 }
 
 /// The verdicts of a monitor after each of the events.
-fn verdicts(alloc: Global, bounds: Bounds, events: &[Event]) -> Result<Vec<Verdict>, AllocError> {
-    let mut monitor = Monitor::new(alloc, ONE, bounds)?;
+pub(crate) fn verdicts(
+    alloc: Global,
+    registers: Registers,
+    bounds: Bounds,
+    events: &[Event],
+) -> Result<Vec<Verdict>, AllocError> {
+    let mut monitor = Monitor::new(alloc, registers, bounds)?;
     let mut list = Vec::new(alloc);
     for event in events {
         if monitor.fed() < 1_000_000 {
@@ -87,7 +59,7 @@ fn bounds_in_their_ranges(rt: HostRuntime) {
 
 #[test]
 fn a_final_verdict_stays(rt: HostRuntime) -> Result<(), Fail> {
-    let list = verdicts(rt.alloc(), WIDEST, &dirty_read())?;
+    let list = verdicts(rt.alloc(), ONE, WIDEST, &dirty_read())?;
     let so_far = Verdict::OpaqueSoFar;
     let violated = Verdict::Violated(4);
     assert_eq!(rt;

@@ -5,7 +5,7 @@ ghost use Rattle.tmw_cuts.specs.Members.{members};
 ghost use Rattle.tmw_cuts.specs.Standing.{StandsFor};
 ghost use Rattle.tmw_monitor.specs.Weighing.{Tells};
 
-use crate::found::Found;
+use crate::weighed::Weighed;
 use std::alloc::{AllocError, Global};
 use tmw_cuts::{States, Window};
 use tmw_search::{EndStates, outcomes, possible};
@@ -19,7 +19,7 @@ pub fn weigh(
     window: &mut Window,
     cap: u8,
     quiet: bool,
-) -> Result<Found, AllocError>
+) -> Result<Weighed, AllocError>
     ensures ok { IfOk result (λ found. (events : List Event) → StandsFor window.old events
         → Tells states.old cap quiet events states.new window.new found) }
     ensures states { OnErr result (members states.new ≡ members states.old) }
@@ -29,9 +29,9 @@ pub fn weigh(
         return close(alloc, states, window, cap);
     }
     if quiet || possible(alloc, states, window)? {
-        Ok(Found::Outcome)
+        Ok(Weighed::Outcome)
     } else {
-        Ok(Found::NoOutcome)
+        Ok(Weighed::NoOutcome)
     }
 }
 
@@ -41,19 +41,19 @@ fn close(
     states: &mut States,
     window: &mut Window,
     cap: u8,
-) -> Result<Found, AllocError>
+) -> Result<Weighed, AllocError>
     ensures ok { IfOk result (λ found. (quiet : Bool) (events : List Event) → StandsFor window.old events → IsTrue (is_cut events)
         → Tells states.old cap quiet events states.new window.new found) }
     ensures states { OnErr result (members states.new ≡ members states.old) }
     ensures window { OnErr result ((events : List Event) → StandsFor window.old events → StandsFor window.new events) }
 {
     match outcomes(alloc, states, window, cap)? {
-        EndStates::Many => Ok(Found::TooMany),
-        EndStates::Few(ends) if ends.is_empty() => Ok(Found::NoOutcome),
+        EndStates::Many => Ok(Weighed::TooMany),
+        EndStates::Few(ends) if ends.is_empty() => Ok(Weighed::NoOutcome),
         EndStates::Few(ends) => {
             *states = ends;
             window.clear();
-            Ok(Found::Outcome)
+            Ok(Weighed::Outcome)
         }
     }
 }

@@ -1,11 +1,11 @@
 -- What a call has done, turn by turn: each turn judges one event more.
-use Rattle.std.proofs.Common.{◌≡◌, ◌+◌, ◌++◌, ℕ, List, [], ◌∷◌, Option, Some, None, refl, sym, ap, ◌∙◌, subst, append_assoc}
+use Rattle.std.proofs.Common.{◌≡◌, ◌+◌, ◌++◌, ℕ, List, [], ◌∷◌, Option, refl, sym, ap, ◌∙◌, subst, append_assoc}
 use Rattle.std.proofs.lemmas.List.{append-nil, length_push}
 use Rattle.tmw_events.specs.declared.event.Event.{Event}
 use Rattle.tmw_monitor.specs.Fitting.{Fits}
 use Rattle.tmw_monitor.specs.declared.monitor.Monitor.{Monitor}
 use Rattle.tmw_ring.specs.Ends.{ReaderIs}
-use Rattle.tmw_pump.specs.Fronts.{came, KeepsFit, HasJudged}
+use Rattle.tmw_pump.specs.Fronts.{came, Holds, KeepsFit, HasJudged}
 use Rattle.tmw_pump.specs.Held.{listed}
 use Rattle.tmw_pump.specs.Pumping.{HasTakenAll, HasPumped}
 use Rattle.tmw_pump.specs.declared.front.Front.{Front}
@@ -23,11 +23,11 @@ pub came-same : (old new : Front) → new.judged.items ≡ old.judged.items → 
 came-same old new judged held =
     ap (λ (l : List Event). l ++ listed new.held) judged ∙ ap (λ (h : Option Event). old.judged.items ++ listed h) held
 
--- A front with the same judged events and the same monitor fits as before.
-pub keeps-same : (old new : Front) → new.judged ≡ old.judged → new.monitor ≡ old.monitor → KeepsFit old new
-keeps-same old new judged monitor by fits =
-    subst (λ (m : Monitor). Fits by new.judged.items m) (sym monitor)
-    (subst (λ (l : List Event). Fits by l old.monitor) (ap (λ v. v.items) (sym judged)) fits)
+-- A front that holds an event fits as before.
+pub fits-held : (event : Option Event) (old new : Front) → Holds event old new → KeepsFit old new
+fits-held event old new holds by fits =
+    subst (λ (m : Monitor). Fits by new.judged.items m) (sym holds.monitor)
+    (subst (λ (l : List Event). Fits by l old.monitor) (ap (λ v. v.items) (sym holds.judged)) fits)
 
 pub judged-none : (front : Front) → HasJudged 0 front front
 judged-none front = record { more = []; counted = refl; judged = sym (append-nil front.judged.items); fits = λ by fits. fits }
@@ -41,6 +41,12 @@ judged-same count old mid new done same keeps = record {
   fits = λ by fits. keeps by (done.fits by fits);
 }
 
+-- A turn that has found the next event, or none, has judged nothing yet.
+pub judged-held : (count : ℕ) (event : Option Event) (old mid new : Front) → HasJudged count old mid → Holds event mid new
+    → HasJudged count old new
+judged-held count event old mid new done holds =
+    judged-same count old mid new done (ap (λ v. v.items) holds.judged) (fits-held event mid new holds)
+
 pub judged-more : (count : ℕ) (old mid new : Front) (event : Event) → HasJudged count old mid
     → new.judged.items ≡ mid.judged.items ++ event ∷ [] → KeepsFit mid new → HasJudged (count + 1) old new
 judged-more count old mid new event done one keeps = record {
@@ -53,26 +59,22 @@ judged-more count old mid new event done one keeps = record {
 pub pumped-none : (pump : Pump) → HasPumped 0 pump pump.reader pump.front
 pumped-none pump = record { fresh = []; taken = refl; judged = judged-none pump.front }
 
--- A turn that has found none has judged nothing.
-pub pumped-same : (count : ℕ) (old : Pump) (reader : ReaderIs) (mid new : Front) → HasPumped count old reader mid
-    → new.judged ≡ mid.judged → new.monitor ≡ mid.monitor → HasPumped count old reader new
-pumped-same count old reader mid new done judged monitor = record {
+pub pumped-held : (count : ℕ) (event : Option Event) (old : Pump) (reader : ReaderIs) (mid new : Front) → HasPumped count old reader mid
+    → Holds event mid new → HasPumped count old reader new
+pumped-held count event old reader mid new done holds = record {
   fresh = done.fresh;
   taken = done.taken;
-  judged = judged-same count old.front mid new done.judged (ap (λ v. v.items) judged) (keeps-same mid new judged monitor);
+  judged = judged-held count event old.front mid new done.judged holds;
 }
 
--- A turn that has found the next event has judged nothing yet.
-pub pumped-next : (count : ℕ) (old mid next : Pump) → HasPumped count old mid.reader mid.front
-    → (fresh : List Event) × HasTakenAll mid.reader fresh next.reader
-    → next.front.judged ≡ mid.front.judged → next.front.monitor ≡ mid.front.monitor → HasPumped count old next.reader next.front
-pumped-next count old mid next done (fresh, taken) judged monitor =
-    let same = pumped-same count old mid.reader mid.front next.front done judged monitor in
-    record {
-      fresh = done.fresh ++ fresh;
-      taken = taken-append old.reader mid.reader next.reader done.fresh fresh done.taken taken;
-      judged = same.judged;
-    }
+pub pumped-next : (count : ℕ) (event : Option Event) (old mid next : Pump) → HasPumped count old mid.reader mid.front
+    → (fresh : List Event) × HasTakenAll mid.reader fresh next.reader → Holds event mid.front next.front
+    → HasPumped count old next.reader next.front
+pumped-next count event old mid next done (fresh, taken) holds = record {
+  fresh = done.fresh ++ fresh;
+  taken = taken-append old.reader mid.reader next.reader done.fresh fresh done.taken taken;
+  judged = judged-held count event old.front mid.front next.front done.judged holds;
+}
 
 -- A turn that was refused memory has judged nothing.
 pub pumped-refused : (count : ℕ) (old : Pump) (reader : ReaderIs) (mid new : Front) → HasPumped count old reader mid
@@ -92,15 +94,11 @@ pumped-more count old reader mid new event done judged keeps = record {
   judged = judged-more count old.front mid new event done.judged judged keeps;
 }
 
-pub rested-none : (rest : Rest) → HasRested 0 rest rest
-rested-none rest = record { all = refl; judged = judged-none rest.front }
-
-pub rested-next : (count : ℕ) (old mid next : Rest) → HasRested count old mid → all_of next ≡ all_of mid
-    → next.front.judged ≡ mid.front.judged → next.front.monitor ≡ mid.front.monitor → HasRested count old next
-rested-next count old mid next done all judged monitor = record {
+pub rested-next : (count : ℕ) (event : Option Event) (old mid next : Rest) → HasRested count old mid → all_of next ≡ all_of mid
+    → Holds event mid.front next.front → HasRested count old next
+rested-next count event old mid next done all holds = record {
   all = all ∙ done.all;
-  judged = judged-same count old.front mid.front next.front done.judged (ap (λ v. v.items) judged)
-      (keeps-same mid.front next.front judged monitor);
+  judged = judged-held count event old.front mid.front next.front done.judged holds;
 }
 
 pub rested-same : (count : ℕ) (old mid new : Rest) → HasRested count old mid → new.settled ≡ mid.settled
@@ -111,15 +109,3 @@ rested-same count old mid new done left judged held keeps = record {
       ∙ ap (λ (l : List Event). l ++ mid.settled) (came-same mid.front new.front judged held) ∙ done.all;
   judged = judged-same count old.front mid.front new.front done.judged judged keeps;
 }
-
-pub rested-more : (count : ℕ) (old mid new : Rest) (event : Event) → HasRested count old mid → new.settled ≡ mid.settled
-    → mid.front.held ≡ Some event → new.front.held ≡ None → new.front.judged.items ≡ mid.front.judged.items ++ event ∷ []
-    → KeepsFit mid.front new.front → HasRested (count + 1) old new
-rested-more count old mid new event done left was free judged keeps =
-    let kept : came new.front ≡ came mid.front =
-    ap (λ (h : Option Event). new.front.judged.items ++ listed h) free ∙ append-nil new.front.judged.items ∙ judged
-    ∙ ap (λ (h : Option Event). mid.front.judged.items ++ listed h) (sym was) in
-    record {
-      all = ap (λ (l : List Event). came new.front ++ l) left ∙ ap (λ (l : List Event). l ++ mid.settled) kept ∙ done.all;
-      judged = judged-more count old.front mid.front new.front event done.judged judged keeps;
-    }

@@ -1,5 +1,5 @@
 -- What a call to pump has done.
-use Rattle.std.specs.Prelude.{◌≡◌, ◌⊎◌, ◌<◌, ℕ, List, [], ◌∷◌, Some, None}
+use Rattle.std.specs.Prelude.{◌≡◌, ◌⊎◌, ◌<◌, ℕ, List, [], ◌∷◌, None}
 use Rattle.tmw_events.specs.declared.event.Event.{Event}
 use Rattle.tmw_ring.specs.Ends.{ReaderIs}
 use Rattle.tmw_ring.specs.Takes.{HasTaken, HasFoundNone}
@@ -28,11 +28,3 @@ pub record IsPumped (max : ℕ) (pumped : Pumped) (old new : Pump) : Type 0 wher
   pub verdict : pumped.verdict ≡ new.front.monitor.verdict
   pub held : 0 < max → new.front.held ≡ None
   pub idle : max ≡ 0 → new ≡ old
-
--- The call has judged fewer events than it was to, and holds the next one, for which memory was refused.
-pub record HasStopped (max : ℕ) (old new : Pump) : Type 0 where
-  pub count : ℕ
-  pub fewer : count < max
-  pub counted : HasPumped count old new.reader new.front
-  pub event : Event
-  pub held : new.front.held ≡ Some event

@@ -1,5 +1,5 @@
 -- What a call to pump has done with what a settled ring has left.
-use Rattle.std.specs.Prelude.{◌≡◌, ◌++◌, ◌≤◌, ◌<◌, ℕ, List, [], Some, None}
+use Rattle.std.specs.Prelude.{◌≡◌, ◌++◌, ◌≤◌, ◌<◌, ℕ, List, [], None}
 use Rattle.tmw_events.specs.declared.event.Event.{Event}
 use Rattle.tmw_pump.specs.Fronts.{came, HasJudged}
 use Rattle.tmw_pump.specs.declared.pumped.Pumped.{Pumped}
@@ -23,11 +23,3 @@ pub record IsRested (max : ℕ) (pumped : Pumped) (old new : Rest) : Type 0 wher
   pub held : 0 < max → new.front.held ≡ None
   pub idle : max ≡ 0 → new ≡ old
   pub none_left : pumped.judged < max → new.settled ≡ []
-
--- The call has judged fewer events than it was to, and holds the next one, for which memory was refused.
-pub record HasStopped (max : ℕ) (old new : Rest) : Type 0 where
-  pub count : ℕ
-  pub fewer : count < max
-  pub counted : HasRested count old new
-  pub event : Event
-  pub held : new.front.held ≡ Some event

@@ -1,6 +1,4 @@
 ghost use Rattle.std.specs.Prelude.{◌≡◌, ◌∷◌, ◌++◌, ◌+◌, ◌<◌, ◌≤◌, ◌^◌, [], length, Some, None, OnOk, OnErr};
-ghost use Rattle.tmw_monitor.specs.Fitting.{Fits};
-ghost use Rattle.tmw_defs.specs.Verdict.{Rules, IsVerdict};
 ghost use Rattle.tmw_pump.specs.Held.{listed, WasFed};
 
 use crate::pumped::Pumped;
@@ -20,7 +18,7 @@ pub struct Front {
 }
 
 impl Front {
-    ghost use Rattle.tmw_pump.specs.Fronts.{KeepsFit};
+    ghost use Rattle.tmw_pump.specs.Fronts.{Holds, KeepsFit, TellsVerdict};
 
     /// Before the first event, over a monitor that was fed none.
     pub(crate) fn new(alloc: Global, monitor: Monitor) -> Front
@@ -39,9 +37,7 @@ impl Front {
     /// Holds an event that came.
     pub(crate) fn hold(&mut self, event: Event)
         requires few { length self.old.judged.items < 2 ^ 40 }
-        ensures judged { self.new.judged ≡ self.old.judged }
-        ensures held { self.new.held ≡ Some event }
-        ensures monitor { self.new.monitor ≡ self.old.monitor }
+        ensures { Holds (Some event) self.old self.new }
     {
         self.held = Some(event);
     }
@@ -78,8 +74,7 @@ impl Front {
 
     /// The verdict on the events that were judged.
     pub(crate) fn verdict(&self) -> Verdict
-        ensures shown { result ≡ self.now.monitor.verdict }
-        ensures fits { (rules : Rules) → Fits rules self.now.judged.items self.now.monitor → IsVerdict rules self.now.judged.items result }
+        ensures { TellsVerdict self.now result }
     {
         self.monitor.verdict()
     }

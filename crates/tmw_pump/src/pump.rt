@@ -1,8 +1,6 @@
 //! Judging the events of a running ring.
 ghost use Rattle.std.specs.Prelude.{◌≡◌, ◌++◌, List, [], ◌∷◌, length, All, Some, None, IfOk, OnErr, IfSome, IfNone, IsSome, IsTrue, ◌↔◌};
-ghost use Rattle.tmw_defs.specs.Verdict.{Rules, IsVerdict};
 ghost use Rattle.tmw_events.specs.declared.event.Event.{Event};
-ghost use Rattle.tmw_monitor.specs.Fitting.{Fits};
 ghost use Rattle.tmw_pump.specs.Held.{listed, WasFed};
 ghost use Rattle.tmw_ring.specs.Ends.{ReaderOf, WriterOf};
 ghost use Rattle.tmw_ring.specs.Meeting.{HaveMet};
@@ -31,7 +29,8 @@ pub struct Pump {
 
 impl Pump {
     ghost use Rattle.tmw_pump.specs.Headline.{IsLogOf, GivesHeadline};
-    ghost use Rattle.tmw_pump.specs.Pumping.{HasTakenAll, IsPumped, HasStopped};
+    ghost use Rattle.tmw_pump.specs.Fronts.{Holds, TellsVerdict, WasRefusedMemory};
+    ghost use Rattle.tmw_pump.specs.Pumping.{HasTakenAll, HasPumped, IsPumped};
     ghost use Rattle.tmw_pump.specs.Resting.{all_of};
 
     /// A pump that takes by a reader that has taken nothing, and judges by a monitor that was fed nothing.
@@ -55,7 +54,7 @@ impl Pump {
         requires { ReaderOf ring.now self.old.reader }
         ensures of_ring { ReaderOf ring.now self.new.reader }
         ensures ok { IfOk result (λ pumped. IsPumped max pumped self.old self.new) }
-        ensures err { OnErr result (HasStopped max self.old self.new) }
+        ensures err { OnErr result (WasRefusedMemory max (λ count. HasPumped count self.old self.new.reader self.new.front) self.new.front) }
         ensures headline { GivesHeadline self.old.front self.new.reader.taken self.new.front.judged.items self.new.front.monitor.verdict }
     {
         for judged in 0..max {
@@ -71,9 +70,7 @@ impl Pump {
     fn next(&mut self, ring: &Ring) -> Option<Event>
         requires { ReaderOf ring.now self.old.reader }
         ensures of_ring { ReaderOf ring.now self.new.reader }
-        ensures judged { self.new.front.judged ≡ self.old.front.judged }
-        ensures held { self.new.front.held ≡ result }
-        ensures monitor { self.new.front.monitor ≡ self.old.front.monitor }
+        ensures front { Holds result self.old.front self.new.front }
         ensures taken { IfSome result (λ _. (fresh : List Event) × HasTakenAll self.old.reader fresh self.new.reader) }
         ensures none { IfNone result (HasFoundNone self.old.reader self.new.reader) }
     {
@@ -103,8 +100,7 @@ impl Pump {
 
     /// The verdict on the judged front.
     pub fn verdict(&self) -> Verdict
-        ensures shown { result ≡ self.now.front.monitor.verdict }
-        ensures fits { (rules : Rules) → Fits rules self.now.front.judged.items self.now.front.monitor → IsVerdict rules self.now.front.judged.items result }
+        ensures { TellsVerdict self.now.front result }
     {
         self.front.verdict()
     }

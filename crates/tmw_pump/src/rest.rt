@@ -1,7 +1,5 @@
 //! Judging what a settled ring has left.
 ghost use Rattle.std.specs.Prelude.{◌≡◌, ◌+◌, [], ◌≤◌, ◌^◌, length, IfOk, OnErr, IfNone, IsSome, IsTrue, ◌↔◌};
-ghost use Rattle.tmw_defs.specs.Verdict.{Rules, IsVerdict};
-ghost use Rattle.tmw_monitor.specs.Fitting.{Fits};
 ghost use Rattle.tmw_pump.specs.Held.{listed};
 
 use crate::front::Front;
@@ -21,7 +19,8 @@ pub struct Rest {
 
 impl Rest {
     ghost use Rattle.tmw_pump.specs.Headline.{GivesHeadline};
-    ghost use Rattle.tmw_pump.specs.Resting.{all_of, IsRested, HasStopped};
+    ghost use Rattle.tmw_pump.specs.Fronts.{Holds, TellsVerdict, WasRefusedMemory};
+    ghost use Rattle.tmw_pump.specs.Resting.{all_of, HasRested, IsRested};
 
     /// What is left when the ring of a pump is settled.
     pub(crate) fn new(settled: Settled, front: Front) -> Rest
@@ -36,7 +35,7 @@ impl Rest {
     /// judged is held, and is judged first by the next call; those judged before it in this call stay judged.
     pub fn pump(&mut self, max: u64) -> Result<Pumped, AllocError>
         ensures ok { IfOk result (λ pumped. IsRested max pumped self.old self.new) }
-        ensures err { OnErr result (HasStopped max self.old self.new) }
+        ensures err { OnErr result (WasRefusedMemory max (λ count. HasRested count self.old self.new) self.new.front) }
         ensures headline { GivesHeadline self.old.front (all_of self.new) self.new.front.judged.items self.new.front.monitor.verdict }
     {
         for judged in 0..max {
@@ -50,9 +49,7 @@ impl Rest {
 
     /// The event to be judged next: the one that is held, or else the next of what is left, which is held from now on.
     fn next(&mut self) -> Option<Event>
-        ensures judged { self.new.front.judged ≡ self.old.front.judged }
-        ensures held { self.new.front.held ≡ result }
-        ensures monitor { self.new.front.monitor ≡ self.old.front.monitor }
+        ensures front { Holds result self.old.front self.new.front }
         ensures all { all_of self.new ≡ all_of self.old }
         ensures none { IfNone result (self.new.settled ≡ []) }
     {
@@ -82,8 +79,7 @@ impl Rest {
 
     /// The verdict on the judged front.
     pub fn verdict(&self) -> Verdict
-        ensures shown { result ≡ self.now.front.monitor.verdict }
-        ensures fits { (rules : Rules) → Fits rules self.now.front.judged.items self.now.front.monitor → IsVerdict rules self.now.front.judged.items result }
+        ensures { TellsVerdict self.now.front result }
     {
         self.front.verdict()
     }

@@ -8,11 +8,10 @@ use super::*;
 use std::alloc::{AllocError, Global};
 use std::test::Fail;
 use tmw_defs::{Verdict, Why};
-use tmw_events::{Event, Ix, Kind, Registers};
+use tmw_events::{Event, Kind, Registers};
 use tmw_monitor::{Bounds, Monitor};
 use tmw_ring::{Reader, Refused, Ring, Writer, ring};
-
-const FIRST: Ix = Ix { number: 0 };
+use tmw_testing::{FIRST, dirty_read};
 
 const ONE: Registers = Registers { number: 1 };
 
@@ -20,11 +19,6 @@ const WIDEST: Bounds = Bounds {
     window: 8,
     states: 64,
 };
-
-/// An event of the thread of this number.
-const fn event(thread: Ix, kind: Kind) -> Event {
-    Event { thread, kind }
-}
 
 /// A pump over a run of one register.
 fn new_pump(alloc: Global, reader: Reader) -> Result<Pump, AllocError>
@@ -34,42 +28,24 @@ fn new_pump(alloc: Global, reader: Reader) -> Result<Pump, AllocError>
     Ok(Pump::new(alloc, reader, Monitor::new(alloc, ONE, WIDEST)?))
 }
 
-/// Records by the first of two writers.
-fn record_first(ring: &Ring, writers: &mut Vec<Writer>, kind: Kind) -> Result<u64, Refused>
-    requires two { length writers.old.items ≡ 2 }
+/// Records by the writer of this number.
+fn record_by(
+    ring: &Ring,
+    writers: &mut Vec<Writer>,
+    number: usize,
+    kind: Kind,
+) -> Result<u64, Refused>
+    requires some { number < length writers.old.items }
     requires of_ring { All (WriterOf ring.now) writers.old.items }
     requires order { AreInOrder writers.old.items }
-    ensures two { length writers.new.items ≡ 2 }
+    ensures count { length writers.new.items ≡ length writers.old.items }
     ensures of_ring { All (WriterOf ring.now) writers.new.items }
     ensures order { AreInOrder writers.new.items }
 {
-    ring.record(&mut writers[0], kind)
+    ring.record(&mut writers[number], kind)
 }
 
-/// Records by the second of two writers.
-fn record_second(ring: &Ring, writers: &mut Vec<Writer>, kind: Kind) -> Result<u64, Refused>
-    requires two { length writers.old.items ≡ 2 }
-    requires of_ring { All (WriterOf ring.now) writers.old.items }
-    requires order { AreInOrder writers.old.items }
-    ensures two { length writers.new.items ≡ 2 }
-    ensures of_ring { All (WriterOf ring.now) writers.new.items }
-    ensures order { AreInOrder writers.new.items }
-{
-    ring.record(&mut writers[1], kind)
-}
-
-/// The second reads what the first has written before it asks to commit.
-const fn dirty_read() -> [Event; 4] {
-    let second = Ix { number: 1 };
-    [
-        event(FIRST, Kind::W(FIRST, 1)),
-        event(FIRST, Kind::K),
-        event(second, Kind::R(FIRST)),
-        event(second, Kind::V(1)),
-    ]
-}
-
-/// Records the dirty read.
+/// Records the dirty read, as far as it is one.
 fn record_dirty_read(ring: &Ring, writers: &mut Vec<Writer>)
     requires two { length writers.old.items ≡ 2 }
     requires of_ring { All (WriterOf ring.now) writers.old.items }
@@ -78,10 +54,10 @@ fn record_dirty_read(ring: &Ring, writers: &mut Vec<Writer>)
     ensures of_ring { All (WriterOf ring.now) writers.new.items }
     ensures order { AreInOrder writers.new.items }
 {
-    let _ = record_first(ring, writers, Kind::W(FIRST, 1));
-    let _ = record_first(ring, writers, Kind::K);
-    let _ = record_second(ring, writers, Kind::R(FIRST));
-    let _ = record_second(ring, writers, Kind::V(1));
+    let _ = record_by(ring, writers, 0, Kind::W(FIRST, 1));
+    let _ = record_by(ring, writers, 0, Kind::K);
+    let _ = record_by(ring, writers, 1, Kind::R(FIRST));
+    let _ = record_by(ring, writers, 1, Kind::V(1));
 }
 
 /// The pump meets a writer, which is still of the ring.
@@ -123,7 +99,7 @@ fn a_dirty_read_is_judged_as_it_comes(rt: HostRuntime) -> Result<(), Fail> {
     assert!(rt; !pump.held());
     assert_eq!(rt; pump.verdict(), Verdict::Violated(4));
     let (events, verdict) = pump.settle(ring, writers).finish();
-    assert_eq!(rt; events.as_slice(), dirty_read().as_slice());
+    assert_eq!(rt; events.as_slice(), &dirty_read()[..4]);
     assert_eq!(rt; verdict, Verdict::Violated(4));
     Ok(())
 }
@@ -157,7 +133,7 @@ fn what_a_settled_ring_has_left_is_judged(rt: HostRuntime) -> Result<(), Fail> {
     assert_eq!(rt; rest.pump(2), done(0, Verdict::Violated(4)));
     assert!(rt; !rest.held());
     assert_eq!(rt; rest.verdict(), Verdict::Violated(4));
-    assert_eq!(rt; rest.finish().0.as_slice(), dirty_read().as_slice());
+    assert_eq!(rt; rest.finish().0.as_slice(), &dirty_read()[..4]);
     Ok(())
 }
 
@@ -177,23 +153,49 @@ fn a_left_transaction_keeps_its_window_open(rt: HostRuntime) -> Result<(), Fail>
     Ok(())
 }
 
-/// Whether a call to pump that was to judge up to three events has answered as it should, where so many were judged before.
-fn is_answer(answer: Result<Pumped, AllocError>, before: usize, now: usize, held: bool) -> bool {
-    let Some(more) = now.checked_sub(before) else {
-        return false;
-    };
-    match answer {
-        Ok(pumped) => !held && more as u64 == pumped.judged,
-        Err(_) => held && more < 3,
-    }
+/// What is seen of a pump or a rest.
+#[derive(Clone, Copy, Debug)]
+struct Seen<'a> {
+    judged: &'a [Event],
+    held: bool,
+    verdict: Verdict,
 }
 
-/// Whether these are the first events of the dirty read, with their verdict.
-fn is_dirty_read_so_far(judged: &[Event], verdict: Verdict) -> bool {
-    let all = dirty_read();
-    judged.len() <= 4
-        && judged == &all.as_slice()[..judged.len()]
-        && (verdict == Verdict::Violated(4)) == (judged.len() == 4)
+impl<'a> Seen<'a> {
+    fn of_pump(pump: &'a Pump) -> Seen<'a> {
+        Seen {
+            judged: pump.judged(),
+            held: pump.held(),
+            verdict: pump.verdict(),
+        }
+    }
+
+    fn of_rest(rest: &'a Rest) -> Seen<'a> {
+        Seen {
+            judged: rest.judged(),
+            held: rest.held(),
+            verdict: rest.verdict(),
+        }
+    }
+
+    /// Whether a call that was to judge up to three events, where so many were judged before, may have answered so.
+    fn is_after(&self, before: usize, answer: Result<Pumped, AllocError>) -> bool {
+        let Some(more) = self.judged.len().checked_sub(before) else {
+            return false;
+        };
+        match answer {
+            Ok(pumped) => !self.held && more as u64 == pumped.judged,
+            Err(_) => self.held && more < 3,
+        }
+    }
+
+    /// Whether the first events of the dirty read are judged, with their verdict.
+    fn is_dirty_read_so_far(&self) -> bool {
+        let all = dirty_read();
+        self.judged.len() <= 4
+            && self.judged == &all.as_slice()[..self.judged.len()]
+            && (self.verdict == Verdict::Violated(4)) == (self.judged.len() == 4)
+    }
 }
 
 /// Judges the dirty read of a running ring, three events at a time, and tells whether each answer was as it should be.
@@ -204,11 +206,8 @@ fn pump_all(ring: &Ring, pump: &mut Pump) -> bool
     for _ in 0..8 {
         let before = pump.judged().len();
         let answer = pump.pump(ring, 3);
-        let now = pump.judged().len();
-        if !is_answer(answer, before, now, pump.held()) {
-            return false;
-        }
-        if !is_dirty_read_so_far(pump.judged(), pump.verdict()) {
+        let seen = Seen::of_pump(pump);
+        if !seen.is_after(before, answer) || !seen.is_dirty_read_so_far() {
             return false;
         }
     }
@@ -220,11 +219,8 @@ fn judge_rest(rest: &mut Rest) -> bool {
     for _ in 0..8 {
         let before = rest.judged().len();
         let answer = rest.pump(3);
-        let now = rest.judged().len();
-        if !is_answer(answer, before, now, rest.held()) {
-            return false;
-        }
-        if !is_dirty_read_so_far(rest.judged(), rest.verdict()) {
+        let seen = Seen::of_rest(rest);
+        if !seen.is_after(before, answer) || !seen.is_dirty_read_so_far() {
             return false;
         }
     }

@@ -1,5 +1,5 @@
 //! Threads that record the runs of a little memory, judged as they come and then to the end of the settled ring.
-ghost use Rattle.std.specs.Prelude.{◌≡◌, ◌<◌, ℕ, length, get_or, IfSome, All};
+ghost use Rattle.std.specs.Prelude.{◌≡◌, length, IfSome, All};
 ghost use Rattle.tmw_ring.specs.Ends.{ReaderOf, WriterOf};
 ghost use Rattle.tmw_ring.specs.Settling.{AreInOrder};
 
@@ -8,13 +8,14 @@ use std::alloc::{AllocError, Global};
 use std::sync::{Mutex, Wait};
 use std::test::Fail;
 use std::thread;
-use std::thread::{Promise, PromisedHandle, Scope, Threads};
+use std::thread::{Scope, Threads};
 use tmw_defs::Verdict;
 use tmw_events::{Event, Ix, Kind, Registers};
 use tmw_monitor::{Bounds, Monitor, judge};
 use tmw_ring::{Ring, Writer, ring};
+use tmw_ring_testing::{record_soon, start_all};
 
-/// So often a record or a pump is tried before its thread gives up.
+/// So often a pump is tried before its thread gives up.
 const TRIES: u64 = 1_000_000_000;
 
 /// So many transactions each of three writers makes.
@@ -40,32 +41,6 @@ const BOUNDS: Bounds = Bounds {
 struct Memory {
     register: Mutex<u64>,
     broken: bool,
-}
-
-/// A thread gives back the writer of this number of this ring.
-#[derive(Clone, Copy)]
-struct Returning<'a> {
-    ring: &'a Ring,
-    number: Ix,
-}
-
-impl<'a> Promise<Writer> for Returning<'a> {
-    ghost kept_by = { λ promise writer. WriterOf promise.ring.now writer × (writer.number ≡ promise.number) };
-}
-
-/// Records an event as soon as there is room, and tells whether there was.
-fn record_soon(ring: &Ring, writer: &mut Writer, kind: Kind) -> bool
-    requires { WriterOf ring.now writer.old }
-    ensures of_ring { WriterOf ring.now writer.new }
-    ensures number { writer.new.number ≡ writer.old.number }
-{
-    for _ in 0..TRIES {
-        if ring.record(writer, kind).is_ok() {
-            return true;
-        }
-        thread::yield_now();
-    }
-    false
 }
 
 /// Adds one to the register in a transaction, whose events are recorded while the register is held, and tells whether all were.
@@ -128,36 +103,6 @@ fn pump_running(ring: &Ring, pump: &mut Pump) -> Result<(), AllocError>
     Ok(())
 }
 
-/// Gives each writer a thread in which it makes its transactions, if there are threads for all.
-fn start_all<'s, E, R: Wait + Sync>(
-    rt: &'s R,
-    scope: &Scope<'s, E>,
-    alloc: Global,
-    memory: &'s Memory,
-    ring: &'s Ring,
-    writers: Vec<Writer>,
-) -> Option<Vec<PromisedHandle<Writer, Returning<'s>>>>
-    requires of_ring { All (WriterOf ring.now) writers.items }
-    requires order { AreInOrder writers.items }
-    ensures count { IfSome result (λ handles. length handles.items ≡ length writers.items) }
-    ensures of_ring { IfSome result (λ handles. All (λ handle. handle.promise.ring.now ≡ ring.now) handles.items) }
-    ensures order { IfSome result (λ handles. (place : ℕ) (fallback : _) → place < length handles.items → (get_or handles.items place fallback).promise.number.number ≡ place) }
-{
-    let mut handles = Vec::new(alloc);
-    for writer in writers {
-        let number = writer.number();
-        let promise = Returning { ring, number };
-        let Ok(handle) = scope.spawn_with(promise, move || record_run(rt, memory, ring, writer))
-        else {
-            return None;
-        };
-        let Ok(()) = handles.push(handle) else {
-            return None;
-        };
-    }
-    Some(handles)
-}
-
 /// Lets the writers record while their events are judged, and gives all back when the threads have ended.
 fn run<'s, E, R: Threads + Wait + Sync>(
     rt: &'s R,
@@ -176,7 +121,9 @@ fn run<'s, E, R: Threads + Wait + Sync>(
     ensures count { IfSome result (λ back. length back.1.items ≡ length writers.items) }
     ensures order { IfSome result (λ back. AreInOrder back.1.items) }
 {
-    let handles = start_all(rt, scope, alloc, memory, ring, writers)?;
+    let handles = start_all(scope, alloc, ring, writers, move |writer| {
+        record_run(rt, memory, ring, writer)
+    })?;
     let Ok(()) = pump_running(ring, &mut pump) else {
         return None;
     };

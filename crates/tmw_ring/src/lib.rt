@@ -19,15 +19,11 @@ mod settle;
 #[cfg(test)]
 mod settle_tests;
 mod settled;
-#[cfg(test)]
-mod settled_thread_tests;
 mod take;
 #[cfg(test)]
 mod take_tests;
 #[cfg(test)]
 mod tests;
-#[cfg(test)]
-mod thread_tests;
 
 pub use cuts::{AllParts, BothParts, SecondPart};
 pub use ends::{Reader, Ring, Writer};

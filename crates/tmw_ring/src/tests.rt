@@ -1,6 +1,7 @@
 //! New rings, and the sizes that are refused.
 use super::*;
 use std::test::Fail;
+use tmw_testing::{LIMITS_OUT_OF_RANGE, SIZES_IN_RANGE, SIZES_OUT_OF_RANGE};
 
 #[test]
 fn the_writers_of_a_new_ring(rt: HostRuntime) -> Result<(), Fail> {
@@ -16,16 +17,15 @@ fn the_writers_of_a_new_ring(rt: HostRuntime) -> Result<(), Fail> {
 
 #[test]
 fn sizes_in_the_order_of_their_tests(rt: HostRuntime) {
-    for (cells, writers, limit, fault) in [
-        (1, 1, 1, None),
-        (4096, 8, 1 << 40, None),
-        (4, 0, 0, Some(RingFault::BadSize)),
-        (9, 9, 0, Some(RingFault::BadSize)),
-        (1, 2, 0, Some(RingFault::BadSize)),
-        (4097, 8, 0, Some(RingFault::BadSize)),
-        (2, 2, 1, Some(RingFault::BadLimit)),
-        (2, 2, (1 << 40) + 1, Some(RingFault::BadLimit)),
-    ] {
-        assert_eq!(rt; ring(rt.alloc(), cells, writers, limit).err(), fault);
+    for (cells, writers, limit) in SIZES_IN_RANGE {
+        assert_eq!(rt; ring(rt.alloc(), cells, writers, limit).err(), None);
+    }
+    for (cells, writers, limit) in SIZES_OUT_OF_RANGE {
+        let fault = ring(rt.alloc(), cells, writers, limit).err();
+        assert_eq!(rt; fault, Some(RingFault::BadSize));
+    }
+    for (cells, writers, limit) in LIMITS_OUT_OF_RANGE {
+        let fault = ring(rt.alloc(), cells, writers, limit).err();
+        assert_eq!(rt; fault, Some(RingFault::BadLimit));
     }
 }

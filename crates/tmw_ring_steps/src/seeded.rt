@@ -3,30 +3,11 @@ use super::*;
 use std::alloc::{AllocError, Global};
 use std::test::Fail;
 use tmw_events::{Event, Ix, Kind};
+use tmw_testing::Seed;
 
-/// The next number of a sequence that a seed begins.
-fn draw(seed: &mut u64) -> u64 {
-    let mut number = *seed;
-    number ^= number << 13;
-    number ^= number >> 7;
-    number ^= number << 17;
-    *seed = number;
-    number >> 8
-}
-
-/// One of so many writers.
-fn draw_writer(seed: &mut u64, writers: u64) -> Ix {
-    match draw(seed) % writers.max(1) {
-        0 => Ix { number: 0 },
-        1 => Ix { number: 1 },
-        2 => Ix { number: 2 },
-        _ => Ix { number: 3 },
-    }
-}
-
-fn draw_kind(seed: &mut u64, register: Ix) -> Kind {
-    let value = draw(seed);
-    match draw(seed) % 9 {
+fn draw_kind(seed: &mut Seed, register: Ix) -> Kind {
+    let value = seed.draw();
+    match seed.draw() % 9 {
         0 => Kind::R(register),
         1 => Kind::V(value),
         2 => Kind::W(register, value),
@@ -40,12 +21,12 @@ fn draw_kind(seed: &mut u64, register: Ix) -> Kind {
 }
 
 /// A step of one of so many writers or of the reader.
-fn draw_step(seed: &mut u64, writers: u64) -> Step {
-    let writer = draw_writer(seed, writers);
-    match draw(seed) % 64 {
+fn draw_step(seed: &mut Seed, writers: u64) -> Step {
+    let writer = seed.draw_name(writers);
+    match seed.draw() % 64 {
         0 => Step::Stop(writer),
         1..=10 => {
-            let register = draw_writer(seed, 4);
+            let register = seed.draw_name(4);
             Step::Front(writer, draw_kind(seed, register))
         }
         11..=20 => Step::Tail(writer),
@@ -60,7 +41,7 @@ fn draw_step(seed: &mut u64, writers: u64) -> Step {
 
 fn draw_steps(
     alloc: Global,
-    seed: &mut u64,
+    seed: &mut Seed,
     length: u64,
     writers: u64,
 ) -> Result<Vec<Step>, AllocError> {
@@ -132,15 +113,15 @@ impl Told {
 
 #[test]
 fn the_replies_are_those_of_one_list(rt: HostRuntime) -> Result<(), Fail> {
-    let mut seed = 88172645463325252;
+    let mut seed = Seed::new();
     let mut claimed = 0usize;
     let mut taken = 0usize;
     let mut full = 0u64;
     let mut spent = 0u64;
     for number in 0..300u64 {
         let writers = 1 + number % 4;
-        let cells = writers + draw(&mut seed) % (7 - writers);
-        let limit = writers + draw(&mut seed) % 12;
+        let cells = writers + seed.draw() % (7 - writers);
+        let limit = writers + seed.draw() % 12;
         let mut sim = Sim::new(rt.alloc(), cells, writers, limit)?;
         let steps = draw_steps(rt.alloc(), &mut seed, 150, writers)?;
         let said = sim.run(rt.alloc(), &steps)?;

@@ -2,29 +2,10 @@
 use super::*;
 use std::alloc::Global;
 use std::test::Fail;
-use tmw_events::{Event, Ix, Kind};
-
-const FIRST: Ix = Ix { number: 0 };
-
-const SECOND: Ix = Ix { number: 1 };
-
-const THIRD: Ix = Ix { number: 2 };
-
-/// An event of the first writer.
-const fn one(kind: Kind) -> Event {
-    Event {
-        thread: FIRST,
-        kind,
-    }
-}
-
-/// An event of the second writer.
-const fn other(kind: Kind) -> Event {
-    Event {
-        thread: SECOND,
-        kind,
-    }
-}
+use tmw_events::Kind;
+use tmw_testing::{
+    FIRST, LIMITS_OUT_OF_RANGE, SECOND, SIZES_IN_RANGE, SIZES_OUT_OF_RANGE, THIRD, one, other,
+};
 
 /// A new ring after these steps, and what they were answered.
 fn run_new(
@@ -250,16 +231,15 @@ fn after_the_last_place(rt: HostRuntime) -> Result<(), Fail> {
 
 #[test]
 fn sizes_in_the_order_of_their_tests(rt: HostRuntime) {
-    for (cells, writers, limit, fault) in [
-        (1, 1, 1, None),
-        (4096, 8, 1 << 40, None),
-        (4, 0, 0, Some(RingFault::BadSize)),
-        (9, 9, 0, Some(RingFault::BadSize)),
-        (1, 2, 0, Some(RingFault::BadSize)),
-        (4097, 8, 0, Some(RingFault::BadSize)),
-        (2, 2, 1, Some(RingFault::BadLimit)),
-        (2, 2, (1 << 40) + 1, Some(RingFault::BadLimit)),
-    ] {
-        assert_eq!(rt; Sim::new(rt.alloc(), cells, writers, limit).err(), fault);
+    for (cells, writers, limit) in SIZES_IN_RANGE {
+        assert_eq!(rt; Sim::new(rt.alloc(), cells, writers, limit).err(), None);
+    }
+    for (cells, writers, limit) in SIZES_OUT_OF_RANGE {
+        let fault = Sim::new(rt.alloc(), cells, writers, limit).err();
+        assert_eq!(rt; fault, Some(RingFault::BadSize));
+    }
+    for (cells, writers, limit) in LIMITS_OUT_OF_RANGE {
+        let fault = Sim::new(rt.alloc(), cells, writers, limit).err();
+        assert_eq!(rt; fault, Some(RingFault::BadLimit));
     }
 }

@@ -1,32 +1,23 @@
 use super::*;
-use crate::testing::{FIRST, LAST, window_of};
+use crate::testing::{LAST, window_of};
 use std::test::Fail;
 use tmw_cuts::State;
 use tmw_defs::Status;
 use tmw_events::{Event, Ix, Kind, Registers};
 use tmw_plain_check::{Whole, judge_whole};
+use tmw_testing::{FIRST, Seed};
 use tmw_wellformed::Tracker;
 
-/// The next number of a sequence that a seed begins.
-fn draw(seed: &mut u64) -> u64 {
-    let mut number = *seed;
-    number ^= number << 13;
-    number ^= number >> 7;
-    number ^= number << 17;
-    *seed = number;
-    number >> 8
-}
-
 /// An event of one of three threads.
-fn draw_event(seed: &mut u64, far: Ix) -> Event {
-    let thread = match draw(seed) % 3 {
+fn draw_event(seed: &mut Seed, far: Ix) -> Event {
+    let thread = match seed.draw() % 3 {
         0 => FIRST,
         1 => far,
         _ => LAST,
     };
-    let register = if draw(seed) % 3 == 0 { far } else { FIRST };
-    let value = draw(seed) % 2;
-    let kind = match draw(seed) % 13 {
+    let register = if seed.draw() % 3 == 0 { far } else { FIRST };
+    let value = seed.draw() % 2;
+    let kind = match seed.draw() % 13 {
         0 | 1 => Kind::R(register),
         2 | 3 | 4 => Kind::V(value),
         5 => Kind::W(register, value),
@@ -43,7 +34,7 @@ fn draw_event(seed: &mut u64, far: Ix) -> Event {
 /// A well-formed history of at most five transactions.
 fn draw_events(
     alloc: Global,
-    seed: &mut u64,
+    seed: &mut Seed,
     registers: Registers,
     far: Ix,
 ) -> Result<Vec<Event>, AllocError> {
@@ -197,7 +188,7 @@ fn are_read(
 fn layers_agree_with_the_plain_check(rt: HostRuntime) -> Result<(), Fail> {
     let alloc = rt.alloc();
     let zeros = States::zeros(alloc)?;
-    let mut seed = 88172645463325252;
+    let mut seed = Seed::new();
     let mut statuses = 0;
     let mut kinds = 0;
     let mut violated = 0u32;

@@ -1,7 +1,7 @@
 use Rattle.std.proofs.Common.{refl, sym, ◌∙◌, subst, inr, arith}
 use Rattle.std.proofs.lemmas.Result.{err_from_is_err_and}
 use Rattle.tmw_pump.proofs.HeadlineProof.{gives_headline}
-use Rattle.tmw_pump.proofs.Turns.{came-same, pumped-none, pumped-same, pumped-next, pumped-refused, pumped-more}
+use Rattle.tmw_pump.proofs.Turns.{came-same, pumped-none, pumped-held, pumped-next, pumped-refused, pumped-more}
 use Rattle.tmw_pump.proofs.pump.Pump.pump.Goals as goal
 use Rattle.tmw_pump.specs.Pumping.{IsPumped}
 use Rattle.tmw_pump.specs.declared.pumped.Pumped.{Pumped}
@@ -18,10 +18,10 @@ returns-in_default-clause-ok c =
     let below = c.loop-judged-test.true in
     subst (λ (p : Pumped). IsPumped c.args.max p old next) (sym c.pumped.ensures) (record {
       last = mid.reader;
-      counted = pumped-same c.loop-judged.judged old mid.reader mid.front next.front c.loop-judged.invariant.0 found.judged found.monitor;
+      counted = pumped-held c.loop-judged.judged c.next.result old mid.reader mid.front next.front c.loop-judged.invariant.0 found.front;
       ended = inr (below, c.in_default.ensures.none);
       verdict = refl;
-      held = λ _. found.held ∙ c.in_default.is;
+      held = λ _. found.front.held ∙ c.in_default.is;
       idle = λ zero. absurd (omega (arith, zero, below));
     })
 
@@ -31,7 +31,7 @@ returns-in_default-clause-headline c =
     let mid = c.loop-judged.self in
     let next = c.next.new.self in
     let found = c.next.ensures in
-    let done = pumped-same c.loop-judged.judged old mid.reader mid.front next.front c.loop-judged.invariant.0 found.judged found.monitor in
+    let done = pumped-held c.loop-judged.judged c.next.result old mid.reader mid.front next.front c.loop-judged.invariant.0 found.front in
     gives_headline old.front next.reader.taken next.front done.judged.fits next.all
 
 pub returns-in_err-judge-clause-err : goal.returns-in_err-judge-clause-err
@@ -41,13 +41,13 @@ returns-in_err-judge-clause-err c =
     let next = c.next.new.self in
     let found = c.next.ensures in
     let err = c.in_err-judge.ensures in
-    let done = pumped-next c.loop-judged.judged old c.loop-judged.self next c.loop-judged.invariant.0 c.in-Some.ensures.taken found.judged found.monitor in
+    let done = pumped-next c.loop-judged.judged c.next.result old c.loop-judged.self next c.loop-judged.invariant.0 c.in-Some.ensures.taken found.front in
     rw p.1 (record {
       count = c.loop-judged.judged;
       fewer = c.loop-judged-test.true;
       counted = pumped-refused c.loop-judged.judged old next.reader next.front c.judge.new.self done err.stays err.fits;
       event = c.in-Some.event;
-      held = err.held ∙ found.held ∙ c.in-Some.is;
+      held = err.held ∙ found.front.held ∙ c.in-Some.is;
     })
 
 pub returns-in_err-judge-clause-headline : goal.returns-in_err-judge-clause-headline
@@ -56,7 +56,7 @@ returns-in_err-judge-clause-headline c =
     let next = c.next.new.self in
     let found = c.next.ensures in
     let err = c.in_err-judge.ensures in
-    let done = pumped-next c.loop-judged.judged old c.loop-judged.self next c.loop-judged.invariant.0 c.in-Some.ensures.taken found.judged found.monitor in
+    let done = pumped-next c.loop-judged.judged c.next.result old c.loop-judged.self next c.loop-judged.invariant.0 c.in-Some.ensures.taken found.front in
     gives_headline old.front next.reader.taken c.judge.new.self (λ by fits. err.fits by (done.judged.fits by fits))
     (came-same next.front c.judge.new.self err.stays err.held ∙ next.all)
 
@@ -66,7 +66,7 @@ loop-judged-preserved c =
     let next = c.next.new.self in
     let found = c.next.ensures in
     let ok = c.in_ok-judge.ensures in
-    let done = pumped-next c.loop-judged.judged old c.loop-judged.self next c.loop-judged.invariant.0 c.in-Some.ensures.taken found.judged found.monitor in (
+    let done = pumped-next c.loop-judged.judged c.next.result old c.loop-judged.self next c.loop-judged.invariant.0 c.in-Some.ensures.taken found.front in (
       pumped-more c.loop-judged.judged old next.reader next.front c.judge.new.self c.in-Some.event done ok.judged ok.fits,
       found.of_ring,
       λ _. ok.free,

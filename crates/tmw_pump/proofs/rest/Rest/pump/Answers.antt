@@ -9,7 +9,7 @@ returns-in_default-clause-headline c =
     let old = c.args.self.now in
     let next = c.next.new.self in
     let found = c.next.ensures in
-    let done = rested-next c.loop-judged.judged old c.loop-judged.self next c.loop-judged.invariant.0 found.all found.judged found.monitor in
+    let done = rested-next c.loop-judged.judged c.next.result old c.loop-judged.self next c.loop-judged.invariant.0 found.all found.front in
     gives_rest old.front next.front next.settled done.judged.fits
 
 pub returns-in_err-judge-clause-err : goal.returns-in_err-judge-clause-err
@@ -19,13 +19,13 @@ returns-in_err-judge-clause-err c =
     let next = c.next.new.self in
     let found = c.next.ensures in
     let err = c.in_err-judge.ensures in
-    let done = rested-next c.loop-judged.judged old c.loop-judged.self next c.loop-judged.invariant.0 found.all found.judged found.monitor in
+    let done = rested-next c.loop-judged.judged c.next.result old c.loop-judged.self next c.loop-judged.invariant.0 found.all found.front in
     rw p.1 (record {
       count = c.loop-judged.judged;
       fewer = c.loop-judged-test.true;
       counted = rested-same c.loop-judged.judged old next _ done refl err.stays err.held err.fits;
       event = c.in-Some.event;
-      held = err.held ∙ found.held ∙ c.in-Some.is;
+      held = err.held ∙ found.front.held ∙ c.in-Some.is;
     })
 
 pub returns-in_err-judge-clause-headline : goal.returns-in_err-judge-clause-headline
@@ -33,7 +33,7 @@ returns-in_err-judge-clause-headline c =
     let old = c.args.self.now in
     let next = c.next.new.self in
     let found = c.next.ensures in
-    let done = rested-next c.loop-judged.judged old c.loop-judged.self next c.loop-judged.invariant.0 found.all found.judged found.monitor in
+    let done = rested-next c.loop-judged.judged c.next.result old c.loop-judged.self next c.loop-judged.invariant.0 found.all found.front in
     gives_rest old.front c.judge.new.self next.settled (λ by fits. c.in_err-judge.ensures.fits by (done.judged.fits by fits))
 
 pub returns-clause-headline : goal.returns-clause-headline

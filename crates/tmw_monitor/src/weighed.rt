@@ -5,7 +5,7 @@ use tmw_defs::{Verdict, Why};
 
 /// What was found of the outcomes of a window, from those at its beginning.
 #[derive(Clone, Copy, PartialEq, Eq, Debug)]
-pub enum Found {
+pub enum Weighed {
     /// There is one, and at a cut there are not too many.
     Outcome,
     /// There is none.
@@ -14,15 +14,15 @@ pub enum Found {
     TooMany,
 }
 
-impl Found {
+impl Weighed {
     /// The verdict on a history of this length, where this was found of its last window.
     pub fn verdict(self, at: u64) -> Verdict
         ensures { result ≡ verdict_of at self }
     {
         match self {
-            Found::Outcome => Verdict::OpaqueSoFar,
-            Found::NoOutcome => Verdict::Violated(at),
-            Found::TooMany => Verdict::Undecided(at, Why::States),
+            Weighed::Outcome => Verdict::OpaqueSoFar,
+            Weighed::NoOutcome => Verdict::Violated(at),
+            Weighed::TooMany => Verdict::Undecided(at, Why::States),
         }
     }
 }

@@ -7,8 +7,8 @@ use Rattle.tmw_events.specs.declared.ix.Ix.{Ix}
 use Rattle.tmw_ring.specs.Ends.{WriterIs}
 use Rattle.tmw_ring.specs.Settling.{AreInOrder}
 use Rattle.tmw_ring.specs.declared.ends.Writer.{Writer}
-use Rattle.tmw_pump.specs.declared.thread_tests.Returning.{Returning}
-use Rattle.tmw_pump.proofs.thread_tests.start_all.Goals as goal
+use Rattle.tmw_ring_testing.specs.declared.returning.Returning.{Returning}
+use Rattle.tmw_ring_testing.proofs.returning.start_all.Goals as goal
 
 abbrev Handle : Type 0
 Handle = PromisedHandle Writer Returning

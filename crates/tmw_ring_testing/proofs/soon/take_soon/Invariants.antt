@@ -1,5 +1,5 @@
 use Rattle.tmw_ring.specs.Ends.{ReaderOf}
-use Rattle.tmw_ring.proofs.settled_thread_tests.take_all.Given as goal
+use Rattle.tmw_ring_testing.proofs.soon.take_soon.Given as goal
 
 abbrev pub invariant-loop : goal.invariant-loop
 invariant-loop l = ReaderOf l.ring l.reader

@@ -1,5 +1,0 @@
-use Rattle.tmw_ring.specs.Ends.{WriterOf}
-use Rattle.tmw_ring.proofs.thread_tests.record_all.Given as goal
-
-abbrev pub invariant-loop-done : goal.invariant-loop-done
-invariant-loop-done l = WriterOf l.ring l.writer
