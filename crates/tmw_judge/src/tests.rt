@@ -223,6 +223,8 @@ fn initial_values_and_adds(rt: HostRuntime) -> Result<(), Fail> {
 
 #[test]
 fn histories_that_are_malformed(rt: HostRuntime) -> Result<(), Fail> {
+    let ninth =
+        "0 R 0, 1 T, 1 C, 1 T, 1 C, 1 T, 1 C, 1 T, 1 C, 1 T, 1 C, 1 T, 1 C, 1 T, 1 C, 1 K, 1 T";
     let histories = [
         (1, 1, "0 V 1"),
         // There is one register.
@@ -231,11 +233,7 @@ fn histories_that_are_malformed(rt: HostRuntime) -> Result<(), Fail> {
         // A read that no order explains, only after it.
         (3, 7, "0 W 0 1, 0 K, 0 C, 1 R 0, 1 V 1, 1 R 0, 1 V 2"),
         // The answer without a call begins a ninth transaction too.
-        (
-            16,
-            17,
-            "0 R 0, 1 T, 1 C, 1 T, 1 C, 1 T, 1 C, 1 T, 1 C, 1 T, 1 C, 1 T, 1 C, 1 T, 1 C, 1 K, 1 T",
-        ),
+        (16, 17, ninth),
     ];
     expect_settled(&rt, "malformed", MALFORMED, &histories)
 }
