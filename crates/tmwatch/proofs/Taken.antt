@@ -1,5 +1,5 @@
 -- Judging a trace as it is read: what was told is what the reader of lines has read, and its events are what the monitor was fed.
-use Rattle.std.proofs.Common.{◌≡◌, ◌+◌, ◌<◌, ◌≤◌, ◌^◌, ℕ, List, [], ◌∷◌, ◌++◌, length, Result, Ok, Err, refl, sym, ◌∙◌, arith, length-append}
+use Rattle.std.proofs.Common.{◌≡◌, ◌+◌, ◌<◌, ◌^◌, ℕ, List, [], ◌∷◌, ◌++◌, length, Ok, Err, refl, ◌∙◌, arith, length-append}
 use Rattle.tmw_lines.specs.Lines.{GivesItem, GivesEnd, GivesFault}
 use Rattle.tmw_lines.specs.TextFault.{failures_after}
 use Rattle.tmw_trace.specs.Text.{trace_grammar}
@@ -20,7 +20,7 @@ use Rattle.tmw_report.specs.declared.fault.Fault.{Fault}
 use Rattle.tmw_report.specs.declared.fault.Fault.TheVariants.{Memory as WantsMemory}
 use Rattle.tmwatch.specs.declared.report.Report.{Report}
 use Rattle.tmw_report.specs.Putting.{fault_of}
-use Rattle.tmwatch.specs.Judging.{IsAnswer, IsReportOf, failures_behind}
+use Rattle.tmwatch.specs.Judging.{IsAnswer, failures_behind}
 
 pub record HasFed {S : Type 0} (Told : S → List ℕ → Type 0) (old new : S) (lines : Lines Version) (bounds : Bounds) (monitor : Monitor)
     : Type 0 where

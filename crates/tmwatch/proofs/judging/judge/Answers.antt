@@ -1,6 +1,6 @@
 -- Each event that was read is fed, and at the end the monitor's verdict is the one on the trace's history.
-use Rattle.std.proofs.Common.{◌≡◌, ◌<◌, ◌^◌, ℕ, List, [], ◌∷◌, ◌++◌, refl, sym, ◌∙◌}
-use Rattle.tmwatch.proofs.Taken.{HasFed, fed_room, taken-push, fed-push, wants_memory, reports-end, answers-fault, failures_behind-fault}
+use Rattle.std.proofs.Common.{[], ◌∷◌, ◌++◌, ◌∙◌}
+use Rattle.tmwatch.proofs.Taken.{fed_room, taken-push, fed-push, wants_memory, reports-end, answers-fault}
 use Rattle.tmwatch.proofs.judging.judge.Goals as goal
 
 pub returns-in_default-clause-right : goal.returns-in_default-clause-right
