@@ -1,5 +1,5 @@
 -- Judging a trace as it is read: what was told is what the reader of lines has read, and its events are what the monitor was fed.
-use Rattle.std.proofs.Common.{◌≡◌, ◌+◌, ◌<◌, ◌≤◌, ◌^◌, ℕ, List, [], ◌∷◌, ◌++◌, length, Result, Ok, Err, refl, sym, ◌∙◌, arith, length-append}
+use Rattle.std.proofs.Common.{◌≡◌, ◌+◌, ◌<◌, ◌^◌, ℕ, List, [], ◌∷◌, ◌++◌, length, Ok, Err, refl, ◌∙◌, arith, length-append}
 use Rattle.tmw_lines.specs.Lines.{GivesItem, GivesEnd, GivesFault}
 use Rattle.tmw_lines.specs.TextFault.{failures_after}
 use Rattle.tmw_trace.specs.Text.{trace_grammar}

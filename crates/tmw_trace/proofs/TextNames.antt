@@ -1,27 +1,19 @@
 -- A text names its trace: two traces with one text are one trace.
-use Rattle.std.proofs.Common.{◌≡◌, ℕ, ◌+◌, ◌-◌, ◌<◌, ◌≤◌, ◌^◌, ◌==◌, Bool, true, false, not, List, [], ◌∷◌, ◌++◌, length, take, drop, get_or, refl, sym, ap, subst, ◌∙◌, append_assoc, length-drop, take-append-drop, arith}
-use Rattle.std.specs.Fmt.{decimal}
-use Rattle.std.specs.List.{All, AllByRecursion}
+use Rattle.std.proofs.Common.{◌≡◌, ℕ, ◌<◌, ◌≤◌, ◌^◌, ◌==◌, true, not, List, [], ◌∷◌, ◌++◌, length, take, drop, get_or, refl, sym, ap, subst, ◌∙◌, length-drop, take-append-drop, arith}
+use Rattle.std.specs.List.{AllByRecursion}
 use Rattle.std.proofs.Math.Bool.{Bool-set}
 use Rattle.std.proofs.Math.Bridge.{le_prop}
 use Rattle.std.proofs.lemmas.Bool.{and_parts, and_from, eqb-true}
-use Rattle.std.proofs.lemmas.Bool.Decides.{nat_tests}
-use Rattle.std.proofs.lemmas.Fmt.{decimal_injective}
-use Rattle.std.proofs.lemmas.List.{length-take-le}
 use Rattle.std.proofs.lemmas.List.Elements.{All-take, recursion_from_All}
-use Rattle.tmw_lines.specs.Parts.{IsFree, is_next}
+use Rattle.tmw_lines.specs.Parts.{IsFree}
 use Rattle.tmw_trace.specs.Start.{are_zeros, is_start}
-use Rattle.tmw_events.specs.Text.{digit, kind_text, event_text, FitsKind}
-use Rattle.tmw_trace.specs.Text.{version_digit, values_text, initial_text, numbers_text, header_text, trace_grammar, trace_text, FitsHeader, AreEvents}
+use Rattle.tmw_events.specs.Text.{event_text, FitsKind}
+use Rattle.tmw_trace.specs.Text.{version_digit, initial_text, header_text, trace_grammar, trace_text, FitsHeader, AreEvents}
 use Rattle.tmw_events.specs.declared.event.Event.{Event}
-use Rattle.tmw_events.specs.declared.event.Kind.{Kind}
-use Rattle.tmw_events.specs.declared.event.Kind.TheVariants.{R, V, W, K, T, C, X, A, N}
 use Rattle.tmw_trace.specs.declared.header.Header.{Header}
-use Rattle.tmw_events.specs.declared.ix.Ix.{Ix}
 use Rattle.tmw_events.specs.declared.registers.Registers.{Registers}
 use Rattle.tmw_trace.specs.declared.version.Version.{Version}
 use Rattle.tmw_trace.specs.declared.version.Version.TheVariants.{One, Two}
-use Rattle.tmw_lines.proofs.Splits.{free-append, free-decimal, split_free}
 use Rattle.tmw_lines.proofs.TextNames.{IsNaming, lines_text-injective}
 use Rattle.tmw_trace.proofs.KindTexts.{no_feed, kind_text-injective, free-kind_text}
 use Rattle.tmw_trace.proofs.ValueTexts.{free-values_text, values_text-injective}

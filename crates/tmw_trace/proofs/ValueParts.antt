@@ -9,7 +9,7 @@ use Rattle.std.proofs.lemmas.List.Sums.{prefix_len-le-length}
 use Rattle.std.proofs.lemmas.Grind.{flat_map-append}
 use Rattle.std.proofs.lemmas.List.{drop_all, take_more_set, drop-set-lt, append-nil}
 use Rattle.std.specs.List.{All}
-use Rattle.tmw_lines.specs.Parts.{IsFree, is_next}
+use Rattle.tmw_lines.specs.Parts.{is_next}
 use Rattle.tmw_trace.specs.Start.{are_zeros}
 use Rattle.tmw_trace.specs.Text.{values_text}
 use Rattle.tmw_trace.specs.Values.{IsFirstValue, IsNoFirstValue}

@@ -1,5 +1,5 @@
 -- What was told so far is what the reader of lines has read, and the monitor was fed its events.
-use Rattle.std.proofs.Common.{◌≡◌, ◌+◌, List}
+use Rattle.std.proofs.Common.{◌≡◌, ◌+◌}
 use Rattle.tmw_lines.specs.Lines.{unread}
 use Rattle.tmw_judge.proofs.Taken.{HasFed}
 use Rattle.tmw_judge.proofs.judging.judge.Given as goal

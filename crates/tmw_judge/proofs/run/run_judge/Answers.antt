@@ -1,5 +1,5 @@
 -- A report whose line found no memory is answered by that fault: what was told is a trace's text.
-use Rattle.std.proofs.Common.{◌≡◌, ℕ, List, [], Ok, Err, inl, inr, refl, sym, append-nil, ◌∙◌}
+use Rattle.std.proofs.Common.{ℕ, List, [], Ok, Err, inl, inr, refl, sym, append-nil, ◌∙◌}
 use Rattle.tmw_lines.specs.TextFault.{HasBegun}
 use Rattle.tmw_lines.specs.declared.text_fault.TextFault.TheVariants.{Memory as WantsMemory}
 use Rattle.tmw_trace.specs.Text.{trace_grammar}

@@ -1,6 +1,6 @@
-use Rattle.std.proofs.Common.{ℕ, List, drop, take, length, arith}
+use Rattle.std.proofs.Common.{arith}
 use Rattle.std.proofs.lemmas.List.{take_rest}
-use Rattle.tmw_trace.proofs.ValueParts.{AreRead-more, AreRead-none, AreRead-over}
+use Rattle.tmw_trace.proofs.ValueParts.{AreRead-more, AreRead-none}
 use Rattle.tmw_trace.proofs.header_line.values_of.Goals as goal
 
 pub returns-in_default-clause-none : goal.returns-in_default-clause-none
