@@ -5,7 +5,7 @@ use Rattle.tmw_events.specs.declared.event.Event.{Event}
 use Rattle.tmw_monitor.specs.Fitting.{Fits}
 use Rattle.tmw_monitor.specs.declared.monitor.Monitor.{Monitor}
 use Rattle.tmw_ring.specs.Ends.{ReaderIs}
-use Rattle.tmw_pump.specs.Fronts.{came, Holds, KeepsFit, HasJudged}
+use Rattle.tmw_pump.specs.Fronts.{came, HasCome, KeepsFit, HasJudged}
 use Rattle.tmw_pump.specs.Held.{listed}
 use Rattle.tmw_pump.specs.Pumping.{HasTakenAll, HasPumped}
 use Rattle.tmw_pump.specs.declared.front.Front.{Front}
@@ -23,11 +23,11 @@ pub came-same : (old new : Front) → new.judged.items ≡ old.judged.items → 
 came-same old new judged held =
     ap (λ (l : List Event). l ++ listed new.held) judged ∙ ap (λ (h : Option Event). old.judged.items ++ listed h) held
 
--- A front that holds an event fits as before.
-pub fits-held : (event : Option Event) (old new : Front) → Holds event old new → KeepsFit old new
-fits-held event old new holds by fits =
-    subst (λ (m : Monitor). Fits by new.judged.items m) (sym holds.monitor)
-    (subst (λ (l : List Event). Fits by l old.monitor) (ap (λ v. v.items) (sym holds.judged)) fits)
+-- A front to which an event has come fits as before.
+pub fits-came : (event : Option Event) (old new : Front) → HasCome event old new → KeepsFit old new
+fits-came event old new come by fits =
+    subst (λ (m : Monitor). Fits by new.judged.items m) (sym come.monitor)
+    (subst (λ (l : List Event). Fits by l old.monitor) (ap (λ v. v.items) (sym come.judged)) fits)
 
 pub judged-none : (front : Front) → HasJudged 0 front front
 judged-none front = record { more = []; counted = refl; judged = sym (append-nil front.judged.items); fits = λ by fits. fits }
@@ -42,10 +42,10 @@ judged-same count old mid new done same keeps = record {
 }
 
 -- A turn that has found the next event, or none, has judged nothing yet.
-pub judged-held : (count : ℕ) (event : Option Event) (old mid new : Front) → HasJudged count old mid → Holds event mid new
+pub judged-came : (count : ℕ) (event : Option Event) (old mid new : Front) → HasJudged count old mid → HasCome event mid new
     → HasJudged count old new
-judged-held count event old mid new done holds =
-    judged-same count old mid new done (ap (λ v. v.items) holds.judged) (fits-held event mid new holds)
+judged-came count event old mid new done come =
+    judged-same count old mid new done (ap (λ v. v.items) come.judged) (fits-came event mid new come)
 
 pub judged-more : (count : ℕ) (old mid new : Front) (event : Event) → HasJudged count old mid
     → new.judged.items ≡ mid.judged.items ++ event ∷ [] → KeepsFit mid new → HasJudged (count + 1) old new
@@ -59,21 +59,21 @@ judged-more count old mid new event done one keeps = record {
 pub pumped-none : (pump : Pump) → HasPumped 0 pump pump.reader pump.front
 pumped-none pump = record { fresh = []; taken = refl; judged = judged-none pump.front }
 
-pub pumped-held : (count : ℕ) (event : Option Event) (old : Pump) (reader : ReaderIs) (mid new : Front) → HasPumped count old reader mid
-    → Holds event mid new → HasPumped count old reader new
-pumped-held count event old reader mid new done holds = record {
+pub pumped-came : (count : ℕ) (event : Option Event) (old : Pump) (reader : ReaderIs) (mid new : Front) → HasPumped count old reader mid
+    → HasCome event mid new → HasPumped count old reader new
+pumped-came count event old reader mid new done come = record {
   fresh = done.fresh;
   taken = done.taken;
-  judged = judged-held count event old.front mid new done.judged holds;
+  judged = judged-came count event old.front mid new done.judged come;
 }
 
 pub pumped-next : (count : ℕ) (event : Option Event) (old mid next : Pump) → HasPumped count old mid.reader mid.front
-    → (fresh : List Event) × HasTakenAll mid.reader fresh next.reader → Holds event mid.front next.front
+    → (fresh : List Event) × HasTakenAll mid.reader fresh next.reader → HasCome event mid.front next.front
     → HasPumped count old next.reader next.front
-pumped-next count event old mid next done (fresh, taken) holds = record {
+pumped-next count event old mid next done (fresh, taken) come = record {
   fresh = done.fresh ++ fresh;
   taken = taken-append old.reader mid.reader next.reader done.fresh fresh done.taken taken;
-  judged = judged-held count event old.front mid.front next.front done.judged holds;
+  judged = judged-came count event old.front mid.front next.front done.judged come;
 }
 
 -- A turn that was refused memory has judged nothing.
@@ -95,10 +95,10 @@ pumped-more count old reader mid new event done judged keeps = record {
 }
 
 pub rested-next : (count : ℕ) (event : Option Event) (old mid next : Rest) → HasRested count old mid → all_of next ≡ all_of mid
-    → Holds event mid.front next.front → HasRested count old next
-rested-next count event old mid next done all holds = record {
+    → HasCome event mid.front next.front → HasRested count old next
+rested-next count event old mid next done all come = record {
   all = all ∙ done.all;
-  judged = judged-held count event old.front mid.front next.front done.judged holds;
+  judged = judged-came count event old.front mid.front next.front done.judged come;
 }
 
 pub rested-same : (count : ℕ) (old mid new : Rest) → HasRested count old mid → new.settled ≡ mid.settled

@@ -22,8 +22,8 @@ pub record HasJudged (count : ℕ) (old new : Front) : Type 0 where
   pub judged : new.judged.items ≡ old.judged.items ++ more
   pub fits : KeepsFit old new
 
--- The front holds this event, if any, and has judged what it had.
-pub record Holds (event : Option Event) (old new : Front) : Type 0 where
+-- This event has come, if any: the front holds it, and has judged what it had.
+pub record HasCome (event : Option Event) (old new : Front) : Type 0 where
   pub judged : new.judged ≡ old.judged
   pub held : new.held ≡ event
   pub monitor : new.monitor ≡ old.monitor

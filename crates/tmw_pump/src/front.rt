@@ -18,7 +18,7 @@ pub struct Front {
 }
 
 impl Front {
-    ghost use Rattle.tmw_pump.specs.Fronts.{Holds, KeepsFit, TellsVerdict};
+    ghost use Rattle.tmw_pump.specs.Fronts.{HasCome, KeepsFit, TellsVerdict};
 
     /// Before the first event, over a monitor that was fed none.
     pub(crate) fn new(alloc: Global, monitor: Monitor) -> Front
@@ -37,7 +37,7 @@ impl Front {
     /// Holds an event that came.
     pub(crate) fn hold(&mut self, event: Event)
         requires few { length self.old.judged.items < 2 ^ 40 }
-        ensures { Holds (Some event) self.old self.new }
+        ensures { HasCome (Some event) self.old self.new }
     {
         self.held = Some(event);
     }

@@ -29,7 +29,7 @@ pub struct Pump {
 
 impl Pump {
     ghost use Rattle.tmw_pump.specs.Headline.{IsLogOf, GivesHeadline};
-    ghost use Rattle.tmw_pump.specs.Fronts.{Holds, TellsVerdict, WasRefusedMemory};
+    ghost use Rattle.tmw_pump.specs.Fronts.{HasCome, TellsVerdict, WasRefusedMemory};
     ghost use Rattle.tmw_pump.specs.Pumping.{HasTakenAll, HasPumped, IsPumped};
     ghost use Rattle.tmw_pump.specs.Resting.{all_of};
 
@@ -70,7 +70,7 @@ impl Pump {
     fn next(&mut self, ring: &Ring) -> Option<Event>
         requires { ReaderOf ring.now self.old.reader }
         ensures of_ring { ReaderOf ring.now self.new.reader }
-        ensures front { Holds result self.old.front self.new.front }
+        ensures front { HasCome result self.old.front self.new.front }
         ensures taken { IfSome result (λ _. (fresh : List Event) × HasTakenAll self.old.reader fresh self.new.reader) }
         ensures none { IfNone result (HasFoundNone self.old.reader self.new.reader) }
     {

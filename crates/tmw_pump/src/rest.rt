@@ -19,7 +19,7 @@ pub struct Rest {
 
 impl Rest {
     ghost use Rattle.tmw_pump.specs.Headline.{GivesHeadline};
-    ghost use Rattle.tmw_pump.specs.Fronts.{Holds, TellsVerdict, WasRefusedMemory};
+    ghost use Rattle.tmw_pump.specs.Fronts.{HasCome, TellsVerdict, WasRefusedMemory};
     ghost use Rattle.tmw_pump.specs.Resting.{all_of, HasRested, IsRested};
 
     /// What is left when the ring of a pump is settled.
@@ -49,7 +49,7 @@ impl Rest {
 
     /// The event to be judged next: the one that is held, or else the next of what is left, which is held from now on.
     fn next(&mut self) -> Option<Event>
-        ensures front { Holds result self.old.front self.new.front }
+        ensures front { HasCome result self.old.front self.new.front }
         ensures all { all_of self.new ≡ all_of self.old }
         ensures none { IfNone result (self.new.settled ≡ []) }
     {

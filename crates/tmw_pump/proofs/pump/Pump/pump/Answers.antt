@@ -1,7 +1,7 @@
 use Rattle.std.proofs.Common.{refl, sym, ◌∙◌, subst, inr, arith}
 use Rattle.std.proofs.lemmas.Result.{err_from_is_err_and}
 use Rattle.tmw_pump.proofs.HeadlineProof.{gives_headline}
-use Rattle.tmw_pump.proofs.Turns.{came-same, pumped-none, pumped-held, pumped-next, pumped-refused, pumped-more}
+use Rattle.tmw_pump.proofs.Turns.{came-same, pumped-none, pumped-came, pumped-next, pumped-refused, pumped-more}
 use Rattle.tmw_pump.proofs.pump.Pump.pump.Goals as goal
 use Rattle.tmw_pump.specs.Pumping.{IsPumped}
 use Rattle.tmw_pump.specs.declared.pumped.Pumped.{Pumped}
@@ -18,7 +18,7 @@ returns-in_default-clause-ok c =
     let below = c.loop-judged-test.true in
     subst (λ (p : Pumped). IsPumped c.args.max p old next) (sym c.pumped.ensures) (record {
       last = mid.reader;
-      counted = pumped-held c.loop-judged.judged c.next.result old mid.reader mid.front next.front c.loop-judged.invariant.0 found.front;
+      counted = pumped-came c.loop-judged.judged c.next.result old mid.reader mid.front next.front c.loop-judged.invariant.0 found.front;
       ended = inr (below, c.in_default.ensures.none);
       verdict = refl;
       held = λ _. found.front.held ∙ c.in_default.is;
@@ -31,7 +31,7 @@ returns-in_default-clause-headline c =
     let mid = c.loop-judged.self in
     let next = c.next.new.self in
     let found = c.next.ensures in
-    let done = pumped-held c.loop-judged.judged c.next.result old mid.reader mid.front next.front c.loop-judged.invariant.0 found.front in
+    let done = pumped-came c.loop-judged.judged c.next.result old mid.reader mid.front next.front c.loop-judged.invariant.0 found.front in
     gives_headline old.front next.reader.taken next.front done.judged.fits next.all
 
 pub returns-in_err-judge-clause-err : goal.returns-in_err-judge-clause-err
