@@ -1,9 +1,9 @@
-use Rattle.std.proofs.Common.{refl, sym, ◌∙◌, subst, inr, arith}
+use Rattle.std.proofs.Common.{◌≡◌, refl, sym, ◌∙◌, subst, inl, inr, arith}
 use Rattle.std.proofs.lemmas.Result.{err_from_is_err_and}
 use Rattle.tmw_pump.proofs.HeadlineProof.{gives_headline}
 use Rattle.tmw_pump.proofs.Turns.{came-same, pumped-none, pumped-came, pumped-next, pumped-refused, pumped-more}
 use Rattle.tmw_pump.proofs.pump.Pump.pump.Goals as goal
-use Rattle.tmw_pump.specs.Pumping.{IsPumped}
+use Rattle.tmw_pump.specs.Pumping.{HasPumped, IsPumped}
 use Rattle.tmw_pump.specs.declared.pumped.Pumped.{Pumped}
 
 pub loop-judged-init : goal.loop-judged-init
@@ -72,6 +72,20 @@ loop-judged-preserved c =
       λ _. ok.free,
       λ zero. absurd (omega (arith, zero)),
     )
+
+pub returns-clause-ok : goal.returns-clause-ok
+returns-clause-ok c =
+    let old = c.args.self.now in
+    let new = c.loop-judged.self in
+    let all : c.loop-judged.judged ≡ c.args.max = omega arith in
+    subst (λ (p : Pumped). IsPumped c.args.max p old new) (sym c.pumped-2.ensures) (record {
+      last = new.reader;
+      counted = subst (λ n. HasPumped n old new.reader new.front) all c.loop-judged.invariant.0;
+      ended = inl (refl, refl);
+      verdict = refl;
+      held = λ some. c.loop-judged.invariant.2 (omega (arith, all, some));
+      idle = λ none. c.loop-judged.invariant.3 (all ∙ none);
+    })
 
 pub returns-clause-headline : goal.returns-clause-headline
 returns-clause-headline c =
