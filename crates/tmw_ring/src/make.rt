@@ -3,7 +3,7 @@ ghost use Rattle.std.specs.Prelude.{◌≡◌, [], ◌∷◌, length, IfOk, IfEr
 ghost use Rattle.tmw_ring.specs.NewRing.{AreNewWriters, IsNewRing};
 ghost use Rattle.tmw_ring.specs.Parts.{new_parts, new_reader};
 ghost use Rattle.tmw_ring.specs.Seats.{IsReader};
-ghost use Rattle.tmw_ring_defs.specs.Sizes.{IsRefused};
+ghost use Rattle.tmw_ring_defs.specs.Sizes.{IsNoRing};
 
 use crate::cuts::SecondPart;
 use crate::ends::{Reader, Ring, Writer};
@@ -22,7 +22,7 @@ pub fn ring(
     limit: u64,
 ) -> Result<(Ring, Vec<Writer>, Reader), RingFault>
     ensures ok { IfOk result (λ made. IsNewRing cells writers limit made.0 made.1.items made.2) }
-    ensures err { IfErr result (IsRefused cells writers limit) }
+    ensures err { IfErr result (IsNoRing cells writers limit) }
 {
     let size = RingSize::new(cells, writers, limit)?;
     let words = vec![in alloc; 0; 2 + 2 * size.cells as usize]?;

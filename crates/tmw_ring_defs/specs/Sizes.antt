@@ -23,13 +23,13 @@ pub record HasNumbers (cells writers limit : ℕ) (size : RingSize) : Type 0 whe
   pub limit_is : size.limit ≡ limit
 
 -- No ring may have these numbers, and the fault says why.
-abbrev pub IsNoSize : ℕ → ℕ → ℕ → RingFault → Type 0
-IsNoSize cells writers limit BadSize = HasRoom cells writers → ⊥
-IsNoSize cells writers limit BadLimit = HasRoom cells writers × (HasLimit writers limit → ⊥)
-IsNoSize cells writers limit Memory = ⊥
+abbrev pub IsWrongSize : ℕ → ℕ → ℕ → RingFault → Type 0
+IsWrongSize cells writers limit BadSize = HasRoom cells writers → ⊥
+IsWrongSize cells writers limit BadLimit = HasRoom cells writers × (HasLimit writers limit → ⊥)
+IsWrongSize cells writers limit Memory = ⊥
 
 -- No ring was made of these numbers: no ring may have them, or there was no memory for one that may.
-abbrev pub IsRefused : ℕ → ℕ → ℕ → RingFault → Type 0
-IsRefused cells writers limit BadSize = IsNoSize cells writers limit BadSize
-IsRefused cells writers limit BadLimit = IsNoSize cells writers limit BadLimit
-IsRefused cells writers limit Memory = HasRoom cells writers × HasLimit writers limit
+abbrev pub IsNoRing : ℕ → ℕ → ℕ → RingFault → Type 0
+IsNoRing cells writers limit BadSize = IsWrongSize cells writers limit BadSize
+IsNoRing cells writers limit BadLimit = IsWrongSize cells writers limit BadLimit
+IsNoRing cells writers limit Memory = HasRoom cells writers × HasLimit writers limit

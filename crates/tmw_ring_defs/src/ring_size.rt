@@ -32,12 +32,12 @@ pub struct RingSize {
 impl RingSize {
     ghost use Rattle.std.specs.Prelude.{◌≡◌, IfOk, IfErr};
     ghost use Rattle.tmw_ring_defs.specs.Room.{is_spent, is_full};
-    ghost use Rattle.tmw_ring_defs.specs.Sizes.{HasNumbers, IsNoSize};
+    ghost use Rattle.tmw_ring_defs.specs.Sizes.{HasNumbers, IsWrongSize};
 
     /// The size of these numbers. Those of cells and of writers are tested before the limit.
     pub fn new(cells: u64, writers: u64, limit: u64) -> Result<RingSize, RingFault>
         ensures ok { IfOk result (HasNumbers cells writers limit) }
-        ensures err { IfErr result (IsNoSize cells writers limit) }
+        ensures err { IfErr result (IsWrongSize cells writers limit) }
     {
         if writers < 1 || MOST_WRITERS < writers || cells < writers || MOST_CELLS < cells {
             return Err(RingFault::BadSize);
