@@ -8,7 +8,7 @@ use Rattle.tmw_defs.specs.declared.op.Op.{Op}
 use Rattle.tmw_defs.specs.declared.op.Op.TheVariants.{Read, Write, Add}
 use Rattle.tmw_defs.specs.Opaque.{State, reads_hold, after_writes}
 use Rattle.tmw_cuts.specs.declared.effect.Effect.{Effect}
-use Rattle.tmw_cuts.specs.Effects.{SumsUp}
+use Rattle.tmw_cuts.specs.Effects.{IsEffectOf}
 use Rattle.tmw_cuts.specs.Registers.{have, put}
 
 with_first : (a b c d : Bool) → b ≡ (c && d) → (a && b) ≡ ((a && c) && d)
@@ -134,7 +134,7 @@ grouped : (a h q : Bool) → ((a && h) && q) ≡ (a && (h && q))
 grouped true h q = refl
 grouped false h q = refl
 
-module _ (e : Effect) (ops : List Op) (r : Ix) (v : ℕ) (sums : SumsUp e ops) (s : State) (long : length s ≡ 8)
+module _ (e : Effect) (ops : List Op) (r : Ix) (v : ℕ) (sums : IsEffectOf e ops) (s : State) (long : length s ≡ 8)
     (left : length e.left ≡ 8) (leaves : length e.leaves ≡ 8) where
   abbrev then_holds : Bool → Type 0
   then_holds b = (reads_hold s (ops ++ Read r v ∷ []) ≡ b) × (after_writes s (ops ++ Read r v ∷ []) ≡ put e.left e.leaves s)
@@ -181,7 +181,7 @@ module _ (e : Effect) (ops : List Op) (r : Ix) (v : ℕ) (sums : SumsUp e ops) (
 
 -- an add is an answer and then a write
 pub add-split : (e : Effect) (ops : List Op) (r : Ix) (d v : ℕ)
-    → SumsUp e ((ops ++ Read r v ∷ []) ++ Write r ((v + d) % 2 ^ 64) ∷ []) → SumsUp e (ops ++ Add r d v ∷ [])
+    → IsEffectOf e ((ops ++ Read r v ∷ []) ++ Write r ((v + d) % 2 ^ 64) ∷ []) → IsEffectOf e (ops ++ Add r d v ∷ [])
 add-split e ops r d v sums s long =
     let w : Op = Write r ((v + d) % 2 ^ 64) in
     let reads : reads_hold s ((ops ++ Read r v ∷ []) ++ w ∷ []) ≡ reads_hold s (ops ++ Add r d v ∷ []) =

@@ -1,9 +1,10 @@
 pub mod AcrossCuts
 pub mod Bits
 mod Effects
+pub mod FirstMembers
 mod Found
 mod Marked
-mod Masks
+pub mod Masks
 mod TakenBack
 pub mod Pushes
 pub mod Rising

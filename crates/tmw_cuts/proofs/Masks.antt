@@ -5,7 +5,7 @@ use Rattle.tmw_defs.specs.History.{is_over}
 use Rattle.tmw_cuts.specs.declared.txn.Txn.{Txn}
 use Rattle.tmw_cuts.specs.Views.{View, view, bit, completed_mask}
 
-bit-le : (b : Bool) → bit b ≤ 1
+pub bit-le : (b : Bool) → bit b ≤ 1
 bit-le true = omega arith
 bit-le false = omega arith
 

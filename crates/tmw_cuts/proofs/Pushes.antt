@@ -16,13 +16,9 @@ use Rattle.tmw_defs.proofs.QuietTexts.{status_of-push}
 use Rattle.tmw_wellformed.specs.declared.note.Note.{Note}
 use Rattle.tmw_wellformed.specs.Notes.{Notes}
 use Rattle.tmw_wellformed.specs.Pending.{call_of}
-use Rattle.tmw_cuts.specs.Views.{View, bit, completed_mask, new_view, next_view, next_call, answered_ops, is_open_for, push_views}
+use Rattle.tmw_cuts.specs.Views.{View, bit, completed_mask, new_view, next_view, answered_ops, is_open_for, push_views}
 use Rattle.tmw_cuts.specs.Standing.{before_of, view_of, views_of}
-
-call_of-push : (text : List Kind) (k : Kind) → call_of (text ++ k ∷ []) ≡ next_call (call_of text) k
-call_of-push [] k = refl
-call_of-push (call ∷ []) k = refl
-call_of-push (call ∷ answer ∷ rest) k = call_of-push rest k
+use Rattle.tmw_wellformed.proofs.TextSteps.{call_of-push}
 
 operations-push : (text : List Kind) (k : Kind) → operations (text ++ k ∷ []) ≡ operations text ++ answered_ops (call_of text) k
 operations-push [] k = refl

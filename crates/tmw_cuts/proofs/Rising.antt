@@ -12,6 +12,7 @@ use Rattle.std.proofs.lemmas.Cmp.{tied_itself}
 use Rattle.std.proofs.lemmas.List.{take-append-drop}
 use Rattle.std.proofs.lemmas.List.Elements.{Contains-append_left, Contains-append_right, Contains-append_cases}
 use Rattle.std.proofs.lemmas.Map.Lookups.{CmpEqualImpliesEq}
+use Rattle.tmw_cuts.proofs.FirstMembers.{contains_here, contains_cases}
 
 all_at : {K : Type 0} (P : K → Type 0) (xs : List K) (i : ℕ) (d : K) → AllByRecursion P xs → i < length xs → P (get_or xs i d)
 all_at P [] i d all within = absurd (omega arith)
@@ -33,26 +34,19 @@ most Less = omega arith
 most Equal = omega arith
 most Greater = omega arith
 
-contains_cons : {K : Type 0} (x s : K) (xs : List K) → Contains (x ∷ xs) s → (s ≡ x) ⊎ Contains xs s
-contains_cons x s xs (zero, within, is) = inl (sym is)
-contains_cons x s xs (suc i, within, is) = inr (i, omega arith, is)
-
-contains_here : {K : Type 0} (x s : K) (xs : List K) → s ≡ x → Contains (x ∷ xs) s
-contains_here x s xs is = (0, omega arith, sym is)
-
 -- a list with one element more has that and its own
 pub Contains-insert : {K : Type 0} (xs : List K) (i : ℕ) (x s : K) → Contains (insert xs i x) s ↔ ((s ≡ x) ⊎ Contains xs s)
 Contains-insert xs i x s =
     let whole = take-append-drop i xs in (
       λ has. elim (Contains-append_cases (take i xs) (x ∷ drop i xs) s has) [
         | inl front ↦ inr (rw whole at (Contains-append_left (take i xs) (drop i xs) s front))
-        | inr back ↦ elim (contains_cons x s (drop i xs) back) [
-          | inl same ↦ inl same
+        | inr back ↦ elim (contains_cases x s (drop i xs) back) [
+          | inl same ↦ inl (sym same)
           | inr more ↦ inr (rw whole at (Contains-append_right (take i xs) (drop i xs) s more))
         ]
       ],
       λ one. elim one [
-        | inl same ↦ Contains-append_right (take i xs) (x ∷ drop i xs) s (contains_here x s (drop i xs) same)
+        | inl same ↦ Contains-append_right (take i xs) (x ∷ drop i xs) s (rw same (contains_here x (drop i xs)))
         | inr old ↦ elim (Contains-append_cases (take i xs) (drop i xs) s (rw (← whole) at old)) [
           | inl front ↦ Contains-append_left (take i xs) (x ∷ drop i xs) s front
           | inr (k, within, is) ↦ Contains-append_right (take i xs) (x ∷ drop i xs) s (suc k, omega arith, is)

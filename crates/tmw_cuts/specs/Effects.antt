@@ -9,12 +9,12 @@ use Rattle.tmw_cuts.specs.Registers.{have, put}
 
 -- The operations are answered what the registers hold exactly where they agree with one another and the registers that they
 -- need have the values needed, and they leave the values left in the registers left.
-abbrev pub SumsUp : Effect → List Op → Type 0
-SumsUp e ops = (s : State) → length s ≡ 8
+abbrev pub IsEffectOf : Effect → List Op → Type 0
+IsEffectOf e ops = (s : State) → length s ≡ 8
     → (reads_hold s ops ≡ (e.agrees && have e.needed e.needs s)) × (after_writes s ops ≡ put e.left e.leaves s)
 
-pub SumsUp-prop : (e : Effect) (ops : List Op) → IsProp (SumsUp e ops)
-SumsUp-prop e ops =
+pub IsEffectOf-prop : (e : Effect) (ops : List Op) → IsProp (IsEffectOf e ops)
+IsEffectOf-prop e ops =
     Π_prop λ s. Π_prop λ long. ×_prop (Coded-set coded_bool _ _) (Coded-set (coded_list coded_ℕ) _ _)
 
 -- The register is needed, and has the needed value in the one state and not in the other.

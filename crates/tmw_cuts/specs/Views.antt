@@ -8,6 +8,7 @@ use Rattle.tmw_defs.specs.History.{is_over, operation, status_after}
 use Rattle.tmw_defs.specs.Quiet.{is_pending}
 use Rattle.tmw_cuts.specs.declared.effect.Effect.{Effect}
 use Rattle.tmw_cuts.specs.declared.txn.Txn.{Txn}
+use Rattle.tmw_wellformed.specs.Pending.{next_call}
 
 -- Its thread and the call that has no answer, its answered operations in order and its status. Bit j of `before` says that the
 -- window's transaction j precedes it in real time.
@@ -42,11 +43,7 @@ is_open_for thread v = (v.thread == thread) && not (is_over v.status)
 abbrev pub new_view : ℕ → Kind → ℕ → View
 new_view thread kind before = record { thread = thread; call = Some kind; ops = []; status = status_after (Some kind); before = before }
 
--- The call that has no answer after an event more, and the operation that the event makes with the call before it.
-abbrev pub next_call : Option Kind → Kind → Option Kind
-next_call None kind = Some kind
-next_call (Some call) kind = None
-
+-- The operation that an event more makes with the call before it.
 abbrev pub answered_ops : Option Kind → Kind → List Op
 answered_ops None kind = []
 answered_ops (Some call) kind = operation call kind

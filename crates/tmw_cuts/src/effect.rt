@@ -24,11 +24,11 @@ pub struct Effect {
 }
 
 impl Effect {
-    ghost use Rattle.tmw_cuts.specs.Effects.{SumsUp, tells, leaves_none};
+    ghost use Rattle.tmw_cuts.specs.Effects.{IsEffectOf, tells, leaves_none};
 
     /// The effect of no operation.
     pub fn new() -> Effect
-        ensures { SumsUp result [] }
+        ensures { IsEffectOf result [] }
     {
         Effect {
             needed: [false; 8],
@@ -41,7 +41,7 @@ impl Effect {
 
     /// The effect of these operations.
     pub fn of(ops: &[Op]) -> Effect
-        ensures { SumsUp result ops.now }
+        ensures { IsEffectOf result ops.now }
     {
         let mut effect = Effect::new();
         for op in ops {
@@ -52,7 +52,7 @@ impl Effect {
 
     /// Takes an answer of the register in: the operations before, or else the state, have to give that value.
     fn read(&mut self, register: Ix, value: u64)
-        ensures { (ops : List Op) → SumsUp self.old ops → SumsUp self.new (ops ++ Read register value ∷ []) }
+        ensures { (ops : List Op) → IsEffectOf self.old ops → IsEffectOf self.new (ops ++ Read register value ∷ []) }
     {
         let place = register.get() as usize;
         if self.left[place] {
@@ -67,7 +67,7 @@ impl Effect {
 
     /// Takes in that the register holds the value from here on.
     fn write(&mut self, register: Ix, value: u64)
-        ensures { (ops : List Op) → SumsUp self.old ops → SumsUp self.new (ops ++ Write register value ∷ []) }
+        ensures { (ops : List Op) → IsEffectOf self.old ops → IsEffectOf self.new (ops ++ Write register value ∷ []) }
     {
         let place = register.get() as usize;
         self.left[place] = true;
@@ -76,7 +76,7 @@ impl Effect {
 
     /// Takes an operation more.
     pub fn add(&mut self, op: Op)
-        ensures { (ops : List Op) → SumsUp self.old ops → SumsUp self.new (ops ++ op ∷ []) }
+        ensures { (ops : List Op) → IsEffectOf self.old ops → IsEffectOf self.new (ops ++ op ∷ []) }
     {
         match op {
             Op::Read(register, value) => self.read(register, value),
@@ -115,7 +115,7 @@ impl Effect {
 
     /// What the registers hold after the operations, if each of them was answered what the registers held then.
     pub fn after(&self, state: &State) -> Option<State>
-        ensures { (ops : List Op) → SumsUp self.now ops → Replays state.now ops result }
+        ensures { (ops : List Op) → IsEffectOf self.now ops → Replays state.now ops result }
     {
         if self.agrees && self.is_met(state) {
             Some(self.put(state))

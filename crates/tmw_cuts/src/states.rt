@@ -45,14 +45,6 @@ impl States {
         Ok(States { items: one })
     }
 
-    /// The set of these states, which rise.
-    pub fn from_rising(items: Vec<State>) -> States
-        requires { IsStrictlySortedBy (slice_cmp nat_cmp) items.items }
-        ensures { members result ≡ items.items }
-    {
-        States { items }
-    }
-
     /// How many states.
     pub fn len(&self) -> usize
         ensures { result ≡ length (members self.now) }

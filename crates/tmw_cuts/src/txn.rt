@@ -1,6 +1,6 @@
 ghost use Rattle.std.specs.Prelude.{◌≡◌, IfOk, OnOk, OnErr};
 ghost use Rattle.tmw_defs.specs.History.{is_over};
-ghost use Rattle.tmw_cuts.specs.Effects.{SumsUp, SumsUp-prop, tells, leaves_none};
+ghost use Rattle.tmw_cuts.specs.Effects.{IsEffectOf, IsEffectOf-prop, tells, leaves_none};
 ghost use Rattle.tmw_cuts.specs.Replaying.{Replays};
 
 use crate::effect::Effect;
@@ -22,7 +22,7 @@ pub struct Txn {
     call: Option<Kind>,
     /// What its operations need and leave.
     effect: Effect,
-    pub ghost sums: { SumsUp effect ops.items } by { SumsUp-prop effect ops.items },
+    pub ghost sums: { IsEffectOf effect ops.items } by { IsEffectOf-prop effect ops.items },
 }
 
 impl Txn {

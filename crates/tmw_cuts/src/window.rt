@@ -31,7 +31,7 @@ fn open_transaction(txns: &[Txn], thread: Ix) -> Option<usize>
 }
 
 /// Whether each of them has committed or aborted.
-fn none_live(txns: &[Txn]) -> bool
+fn are_over(txns: &[Txn]) -> bool
     ensures { result ≡ list_all (λ txn. is_over txn.status) txns.now }
 {
     txns.iter().all(|txn| txn.is_over())
@@ -114,7 +114,7 @@ impl Window {
     pub fn is_cut(&self) -> bool
         ensures { (events : List Event) → StandsFor self.now events → result ≡ is_cut events }
     {
-        none_live(&self.txns)
+        are_over(&self.txns)
     }
 
     /// The transactions, in the order of their first events.

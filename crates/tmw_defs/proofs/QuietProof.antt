@@ -1,8 +1,8 @@
 -- The law of quiet events: an order of a history's transactions is still one, with the same states, after a quiet event.
-use Rattle.std.proofs.Common.{◌≡◌, ◌==◌, ◌&&◌, ◌||◌, ◌+◌, ◌%◌, ◌^◌, ◌++◌, ◌<◌, ◌≤◌, ◌⊎◌, ℕ, Bool, true, false, not, nat_lt, List, [], ◌∷◌, length, Some, IsTrue, refl, sym, ap, ◌∙◌, inl, inr, arith}
+use Rattle.std.proofs.Common.{◌≡◌, ◌==◌, ◌&&◌, ◌||◌, ◌+◌, ◌%◌, ◌^◌, ◌++◌, ◌≤◌, ◌⊎◌, ℕ, Bool, true, false, not, nat_lt, List, [], ◌∷◌, length, Some, IsTrue, refl, ap, ◌∙◌, inl, inr, arith}
 use Rattle.std.specs.Prelude.{slice_index, slice_set}
-use Rattle.std.specs.List.{list_all, list_any, AllByRecursion}
-use Rattle.std.proofs.lemmas.Bool.{and_parts, and_from, cases_Bool, ltb-true}
+use Rattle.std.specs.List.{list_all, AllByRecursion}
+use Rattle.std.proofs.lemmas.Bool.{and_parts, and_from, cases_Bool, ltb-true, not-true}
 use Rattle.tmw_events.specs.declared.event.Event.{Event}
 use Rattle.tmw_events.specs.declared.ix.Ix.{Ix}
 use Rattle.tmw_events.specs.declared.event.Kind.{Kind}
@@ -11,8 +11,8 @@ use Rattle.tmw_defs.specs.declared.op.Op.{Op}
 use Rattle.tmw_defs.specs.declared.op.Op.TheVariants.{Read, Write, Add}
 use Rattle.tmw_defs.specs.declared.status.Status.{Status}
 use Rattle.tmw_defs.specs.declared.status.Status.TheVariants.{Live, Pending, Committed, Aborted}
-use Rattle.tmw_defs.specs.History.{Txn, is_call, is_over, is_text, is_ended, status_of, status_after, operations, add_event, transactions, is_well_formed}
-use Rattle.tmw_defs.specs.Opaque.{State, Placed, precedes, may_hold, may_be, reads_hold, after, is_legal, IsFinalOpaque, Explains}
+use Rattle.tmw_defs.specs.History.{Txn, is_over, is_text, is_ended, status_of, status_after, operations, add_event, transactions, is_well_formed}
+use Rattle.tmw_defs.specs.Opaque.{State, Placed, precedes, may_hold, may_be, reads_hold}
 use Rattle.tmw_defs.specs.Outcomes.{end_state, Leads}
 use Rattle.tmw_defs.specs.Quiet.{is_pending, awaits_commit, is_quiet, QuietLaw}
 use Rattle.tmw_defs.proofs.Along.{Pairs, Eases, Keeps, leads-along}
@@ -43,11 +43,7 @@ quiet-kind : (ts : List Txn) (thread : ℕ) (k : Kind) → IsTrue (is_quiet ts t
     → IsTrue (tells_no_value k) × (k ≡ C → ⊥) × (k ≡ A → awaits_commit ts thread ≡ false)
 quiet-kind ts thread (V v) quiet = absurd (cc)
 quiet-kind ts thread C quiet = absurd (cc)
-quiet-kind ts thread A quiet = (refl, λ h. absurd (cc), λ h. not_true (awaits_commit ts thread) quiet)
-  where
-    not_true : (b : Bool) → not b ≡ true → b ≡ false
-    not_true true h = sym h
-    not_true false h = refl
+quiet-kind ts thread A quiet = (refl, λ h. absurd (cc), λ h. not-true (awaits_commit ts thread) quiet)
 quiet-kind ts thread (R r) quiet = (refl, λ h. absurd (cc), λ h. absurd (cc))
 quiet-kind ts thread (W r v) quiet = (refl, λ h. absurd (cc), λ h. absurd (cc))
 quiet-kind ts thread K quiet = (refl, λ h. absurd (cc), λ h. absurd (cc))
@@ -157,7 +153,7 @@ grown registers n e (t ∷ ts) g value commit =
       | inl here ↦
           let list = add_event_here n e t ts here in
           let formed = (and_parts (is_text registers (t.text ++ e.kind ∷ [])) _ (rw list at g.formed)).0 in
-          let unended : is_ended t.text ≡ false = not_true (is_ended t.text) ((and_parts (t.thread == e.thread.number) _ here).1) in
+          let unended : is_ended t.text ≡ false = not-true (is_ended t.text) ((and_parts (t.thread == e.thread.number) _ here).1) in
           inl (rw list (
             record {
               first = refl;
@@ -179,10 +175,6 @@ grown registers n e (t ∷ ts) g value commit =
             | inr last ↦ inr (list ∙ ap (λ xs. t ∷ xs) last)
           ]
     ]
-  where
-    not_true : (b : Bool) → not b ≡ true → b ≡ false
-    not_true true h = sym h
-    not_true false h = refl
 
 -- a transaction that has begun goes to the end of an order, and is left out of the completion
 none_before : (n : ℕ) (e : Event) (ts : List Txn) → AllByRecursion (Lies 0 n) ts

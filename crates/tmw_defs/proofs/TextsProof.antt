@@ -19,7 +19,7 @@ slice_get_kept [] ys i x at = cc
 slice_get_kept (y ∷ xs) ys zero x at = at
 slice_get_kept (y ∷ xs) ys (suc i) x at = slice_get_kept xs ys i x at
 
-slice_get_end : {A : Type 0} (xs : List A) (x : A) → slice_get (xs ++ x ∷ []) (length xs) ≡ Some x
+pub slice_get_end : {A : Type 0} (xs : List A) (x : A) → slice_get (xs ++ x ∷ []) (length xs) ≡ Some x
 slice_get_end [] x = refl
 slice_get_end (y ∷ xs) x = slice_get_end xs x
 
@@ -29,18 +29,11 @@ slice_get_last xs x =
     rw last (slice_get_end xs x)
 
 -- an event ends its transaction exactly where it is the last of an ended one
-is_over-ends : (k : Kind) → is_over (status_after (Some k)) ≡ ends k
+pub is_over-ends : (k : Kind) → is_over (status_after (Some k)) ≡ ends k
 is_over-ends (R r) = refl
-is_over-ends (V v) = refl
-is_over-ends (W r v) = refl
-is_over-ends K = refl
-is_over-ends T = refl
-is_over-ends C = refl
-is_over-ends X = refl
-is_over-ends A = refl
-is_over-ends (N r d) = refl
+is_over-ends _ = refl
 
-is_ended-cons : (k j : Kind) (ks : List Kind) → is_ended (k ∷ j ∷ ks) ≡ is_ended (j ∷ ks)
+pub is_ended-cons : (k j : Kind) (ks : List Kind) → is_ended (k ∷ j ∷ ks) ≡ is_ended (j ∷ ks)
 is_ended-cons k j ks =
     let later : length (k ∷ j ∷ ks) - 1 ≡ suc (length (j ∷ ks) - 1) = omega arith in
     rw later refl

@@ -56,26 +56,6 @@ IsFirst-new Wrong rules h e judged wrong = record {
   before = λ k earlier. let within : k ≤ length h = omega (arith, earlier) in rw (take-push k h e within) (judged k within);
 }
 
--- what was wrong first stays so
-IsFirst-push : (Wrong : Rules → List Event → Type 0) (rules : Rules) (h : List Event) (e : Event) (m : ℕ)
-    → IsFirst Wrong rules h m → IsFirst Wrong rules (h ++ e ∷ []) m
-IsFirst-push Wrong rules h e m first = record {
-  within = let same = length-push h e in let within = first.within in omega (arith, same, within);
-  here = rw (take-push m h e first.within) first.here;
-  before = λ k earlier.
-      let within : k ≤ length h = (let most = first.within in omega (arith, earlier, most)) in
-      rw (take-push k h e within) (first.before k earlier);
-}
-
--- a verdict other than opaque so far stays
-pub verdict-stays : (rules : Rules) (h : List Event) (e : Event) (v : Verdict) → (v ≡ OpaqueSoFar → ⊥) → IsVerdict rules h v
-    → IsVerdict rules (h ++ e ∷ []) v
-verdict-stays rules h e OpaqueSoFar other judged = absurd (other refl)
-verdict-stays rules h e (Malformed m) other judged = IsFirst-push IsMalformed rules h e m judged
-verdict-stays rules h e (Undecided m Transactions) other judged = IsFirst-push IsTooWide rules h e m judged
-verdict-stays rules h e (Undecided m States) other judged = IsFirst-push IsTooMany rules h e m judged
-verdict-stays rules h e (Violated m) other judged = IsFirst-push IsViolated rules h e m judged
-
 -- the end states from a smaller set are end states from the larger one
 Ends-within : (S N : State → Type 0) (ts : List Txn) (end : State) → ((s : State) → S s → N s) → Ends S ts end → Ends N ts end
 Ends-within S N ts end within (s, is, leads) = (s, within s is, leads)
@@ -119,11 +99,6 @@ narrow-push rules S c h e sums fits wide =
       | inl before ↦ (IsFine-whole rules h sums.judged).narrow before
       | inr after ↦ absurd (omega (arith, fits, after))
     ]
-
--- the first event after which the history is not well-formed
-pub verdict-malformed : (rules : Rules) (S : State → Type 0) (c : ℕ) (h : List Event) (e : Event) → SumsUp rules S c h
-    → IsFalse (is_well_formed rules.registers (h ++ e ∷ [])) → IsVerdict rules (h ++ e ∷ []) (Malformed (length h + 1))
-verdict-malformed rules S c h e sums ill = IsFirst-new IsMalformed rules h e sums.judged (record { ill_formed = ill })
 
 -- the first event after which the open window has too many transactions
 pub verdict-wide : (rules : Rules) (S : State → Type 0) (c : ℕ) (h : List Event) (e : Event) → SumsUp rules S c h
@@ -272,15 +247,6 @@ sums_up-new rules some = record {
   last = record { is = (omega arith, refl); last = λ at after past. let within = past.0 in absurd (omega (arith, after, within)) };
   states = λ s. (λ is. (s, is, leads-none s), λ outcome. outcomes_none rules.start s outcome);
 }
-
--- the open window of a history that is opaque so far has an end state from the outcomes at the last cut
-pub sums_up-ends : (rules : Rules) (S : State → Type 0) (c : ℕ) (h : List Event) → SumsUp rules S c h
-    → (end : State) × Ends S (transactions (drop c h)) end
-sums_up-ends rules S c h sums =
-    let final = (IsFine-whole rules h sums.judged).final_opaque in
-    let law = cut_law rules.registers rules.start (take c h) (drop c h) (rw (take-append-drop c h) final.formed) sums.last.is.1 in
-    let (end, ends) = law.opaque.0 (rw (take-append-drop c h) final) in
-    (end, Ends-within (outcomes rules.start (take c h)) S (transactions (drop c h)) end (λ s at. (sums.states s).1 at) ends)
 
 -- what is wrong with a history excludes that nothing is, and that anything else is
 abbrev Excludes : (A B : Rules → List Event → Type 0) → Type 0

@@ -8,7 +8,7 @@ use Rattle.std.proofs.lemmas.List.Quantifiers.{position-Some}
 use Rattle.tmw_events.specs.declared.event.Event.{Event}
 use Rattle.tmw_defs.specs.History.{add_event}
 use Rattle.tmw_plain_check.specs.declared.transaction.Transaction.{Transaction}
-use Rattle.tmw_plain_check.specs.Shown.{txn_of, txns_of, joins}
+use Rattle.tmw_plain_check.specs.TransactionViews.{txn_of, txns_of, joins}
 
 add_event_here : (place : ℕ) (e : Event) (t : Transaction) (ts : List Transaction) → joins e.thread.number t ≡ true
     → add_event place e (txns_of (t ∷ ts)) ≡ record (txn_of t) { last = place; text = t.text.items ++ e.kind ∷ [] } ∷ txns_of ts

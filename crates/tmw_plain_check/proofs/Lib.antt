@@ -1,4 +1,4 @@
 mod Adding
-mod Stepping
-mod Steps
+mod OrderSteps
+mod TrackerSteps
 mod Weighing

@@ -11,8 +11,8 @@ use Rattle.tmw_defs.proofs.DecisionProof.{is_explained-sound, is_explained-compl
 use Rattle.tmw_plain_check.specs.declared.transaction.Transaction.{Transaction}
 use Rattle.tmw_plain_check.specs.declared.whole.WholeFault.{WholeFault}
 use Rattle.tmw_plain_check.specs.declared.whole.WholeFault.TheVariants.{IllFormed, Ninth, Memory}
-use Rattle.tmw_plain_check.specs.Shown.{txns_of}
-use Rattle.tmw_plain_check.specs.Verdict.{IsFine, HasNinth, IsViolated, IsFirst, Judges, Weighs}
+use Rattle.tmw_plain_check.specs.TransactionViews.{txns_of}
+use Rattle.tmw_plain_check.specs.Verdict.{IsFaultless, HasNinth, IsNotOpaque, IsFirstAtFault, Judges, Weighs}
 
 -- what the search answers of a history of at most eight transactions
 weighs_search : (start : State) (history : List Event) (explained : Bool)
@@ -28,12 +28,12 @@ weighs_shown start history list explained shown few is =
     weighs_search start history explained (rw (← shown, length-map) few) (is ∙ ap (is_explained start) shown)
 
 -- each prefix shorter than this is fine
-abbrev pub FineBelow : ℕ → State → List Event → ℕ → Type 0
-FineBelow registers start history m = (k : ℕ) → k < m → IsFine registers start (take k history)
+abbrev pub FaultlessBelow : ℕ → State → List Event → ℕ → Type 0
+FaultlessBelow registers start history m = (k : ℕ) → k < m → IsFaultless registers start (take k history)
 
 -- the history of no event is fine
-pub fine_below_one : (registers : ℕ) (start : State) (history : List Event) → FineBelow registers start history 1
-fine_below_one registers start history k first =
+pub faultless_below_one : (registers : ℕ) (start : State) (history : List Event) → FaultlessBelow registers start history 1
+faultless_below_one registers start history k first =
     let none : k ≡ 0 = omega arith in
     rw none (record {
       few = omega arith;
@@ -41,10 +41,10 @@ fine_below_one registers start history k first =
     })
 
 -- a prefix more that is well-formed and has an order
-pub fine_below_more : (registers : ℕ) (start : State) (history : List Event) (m : ℕ) → FineBelow registers start history m
+pub faultless_below_more : (registers : ℕ) (start : State) (history : List Event) (m : ℕ) → FaultlessBelow registers start history m
     → IsTrue (is_well_formed registers (take m history)) → Weighs start (take m history) (Ok true)
-    → FineBelow registers start history (m + 1)
-fine_below_more registers start history m before formed (few, ordered) k within =
+    → FaultlessBelow registers start history (m + 1)
+faultless_below_more registers start history m before formed (few, ordered) k within =
     elim (cases_lt k m) [
       | inl shorter ↦ before k shorter
       | inr past ↦
@@ -54,7 +54,7 @@ fine_below_more registers start history m before formed (few, ordered) k within 
 
 -- a fault of the first prefix that has one is the answer
 pub judges_ill_formed : (registers : ℕ) (start : State) (history : List Event) (m : ℕ) → m ≤ length history
-    → FineBelow registers start history m → IsFalse (is_well_formed registers (take m history))
+    → FaultlessBelow registers start history m → IsFalse (is_well_formed registers (take m history))
     → Judges registers start history (Err (IllFormed m))
 judges_ill_formed registers start history m within before ill_formed = record {
   within = within;
@@ -63,19 +63,19 @@ judges_ill_formed registers start history m within before ill_formed = record {
 }
 
 pub judges_weighed : (registers : ℕ) (start : State) (history : List Event) (m : ℕ) (fault : WholeFault) → m ≤ length history
-    → FineBelow registers start history m → IsTrue (is_well_formed registers (take m history))
+    → FaultlessBelow registers start history m → IsTrue (is_well_formed registers (take m history))
     → Weighs start (take m history) (Err fault)
     → Judges registers start history (Err fault)
 judges_weighed registers start history m (IllFormed k) within before formed never = absurd never
 judges_weighed registers start history m (Ninth k) within before formed (size, ninth) =
     let same : m ≡ k = omega (arith, length-take m history) in
-    subst (IsFirst HasNinth registers start history) same
+    subst (IsFirstAtFault HasNinth registers start history) same
     (record { within = within; here = record { formed = formed; ninth = ninth }; before = before })
 judges_weighed registers start history m Memory within before formed weighs = tt
 
 pub judges_violated : (registers : ℕ) (start : State) (history : List Event) (m : ℕ) → m ≤ length history
-    → FineBelow registers start history m → IsTrue (is_well_formed registers (take m history)) → Weighs start (take m history) (Ok false)
-    → IsFirst IsViolated registers start history m
+    → FaultlessBelow registers start history m → IsTrue (is_well_formed registers (take m history)) → Weighs start (take m history) (Ok false)
+    → IsFirstAtFault IsNotOpaque registers start history m
 judges_violated registers start history m within before formed (few, unordered) = record {
   within = within;
   here = record { formed = formed; few = few; not_opaque = λ o. unordered o.ordered };

@@ -9,7 +9,7 @@ use Rattle.tmw_plain_check.specs.declared.whole.WholeFault.{WholeFault}
 use Rattle.tmw_plain_check.specs.declared.whole.WholeFault.TheVariants.{IllFormed, Ninth, Memory}
 
 -- Nothing is at fault: the history is final-state opaque, and has at most eight transactions.
-pub record IsFine (registers : ℕ) (start : State) (history : List Event) : Type 0 where
+pub record IsFaultless (registers : ℕ) (start : State) (history : List Event) : Type 0 where
   pub few : length (transactions history) ≤ 8
   pub final_opaque : IsFinalOpaque registers start history
 
@@ -21,23 +21,23 @@ pub record HasNinth (registers : ℕ) (start : State) (history : List Event) : T
   pub formed : IsTrue (is_well_formed registers history)
   pub ninth : 8 < length (transactions history)
 
-pub record IsViolated (registers : ℕ) (start : State) (history : List Event) : Type 0 where
+pub record IsNotOpaque (registers : ℕ) (start : State) (history : List Event) : Type 0 where
   pub formed : IsTrue (is_well_formed registers history)
   pub few : length (transactions history) ≤ 8
   pub not_opaque : IsFinalOpaque registers start history → ⊥
 
 -- The prefix of length m has this fault, and no shorter prefix has any.
-pub record IsFirst (Fault : ℕ → State → List Event → Type 0) (registers : ℕ) (start : State) (history : List Event) (m : ℕ) : Type 0 where
+pub record IsFirstAtFault (Fault : ℕ → State → List Event → Type 0) (registers : ℕ) (start : State) (history : List Event) (m : ℕ) : Type 0 where
   pub within : m ≤ length history
   pub here : Fault registers start (take m history)
-  pub before : (k : ℕ) → k < m → IsFine registers start (take k history)
+  pub before : (k : ℕ) → k < m → IsFaultless registers start (take k history)
 
 -- What a result tells of a history. Where memory was refused it tells nothing.
 abbrev pub Judges : ℕ → State → List Event → Result Whole WholeFault → Type 0
-Judges registers start history (Ok Opaque) = (k : ℕ) → k ≤ length history → IsFine registers start (take k history)
-Judges registers start history (Ok (Violated m)) = IsFirst IsViolated registers start history m
-Judges registers start history (Err (IllFormed m)) = IsFirst IsIllFormed registers start history m
-Judges registers start history (Err (Ninth m)) = IsFirst HasNinth registers start history m
+Judges registers start history (Ok Opaque) = (k : ℕ) → k ≤ length history → IsFaultless registers start (take k history)
+Judges registers start history (Ok (Violated m)) = IsFirstAtFault IsNotOpaque registers start history m
+Judges registers start history (Err (IllFormed m)) = IsFirstAtFault IsIllFormed registers start history m
+Judges registers start history (Err (Ninth m)) = IsFirstAtFault HasNinth registers start history m
 Judges registers start history (Err Memory) = Unit {0}
 
 -- What the result tells of this history alone, with no word of its prefixes, and whether or not it is well-formed.

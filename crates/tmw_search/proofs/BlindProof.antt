@@ -1,23 +1,22 @@
 -- Blind transactions taken from the last one backward: what the last one writes, its registers end with, and one that writes
 -- nothing more than what is fixed may be taken as the last.
-use Rattle.std.proofs.Common.{◌≡◌, ◌⊎◌, ◌&&◌, ◌+◌, ◌-◌, ◌^◌, ◌<◌, ◌≤◌, ℕ, zero, suc, Bool, true, false, List, [], ◌∷◌, length, Option, Some, None, IsTrue, get_or, is_some, refl, sym, ap, subst, ◌∙◌, inl, inr, arith}
+use Rattle.std.proofs.Common.{◌≡◌, ◌+◌, ◌-◌, ◌^◌, ◌<◌, ◌≤◌, ℕ, zero, suc, true, false, List, [], ◌∷◌, length, Option, Some, None, IsTrue, get_or, is_some, refl, sym, ap, subst, ◌∙◌, inl, inr, arith}
 use Rattle.std.specs.Int.{bit_at}
 use Rattle.std.specs.List.{list_all}
-use Rattle.std.specs.Prelude.{slice_get, slice_set, if◌then◌else◌}
-use Rattle.std.proofs.lemmas.Bool.{and_parts, and_from, cases_Bool, cases_lt}
+use Rattle.std.specs.Prelude.{slice_get, slice_set}
+use Rattle.std.proofs.lemmas.Bool.{and_parts, cases_Bool, cases_lt}
 use Rattle.std.proofs.lemmas.List.{set_comm, set-set, length-set}
 use Rattle.std.proofs.lemmas.Nat.Bits.{bit_at-zero, bit_at_above}
 use Rattle.tmw_defs.specs.declared.op.Op.{Op}
 use Rattle.tmw_defs.specs.declared.op.Op.TheVariants.{Read, Write, Add}
-use Rattle.tmw_defs.specs.declared.status.Status.{Status}
-use Rattle.tmw_defs.specs.declared.status.Status.TheVariants.{Live, Pending, Committed, Aborted}
 use Rattle.tmw_search.specs.BlindTransactions.{is_write, is_blind, blind_after, put_from, fix_from, fixed_by, Reaches}
-use Rattle.tmw_search.specs.ForcedEnd.{is_committed}
-use Rattle.tmw_defs.specs.History.{Txn, is_over, is_ended, status_of, operations}
+use Rattle.tmw_search.specs.ForcedTransactions.{is_committed}
+use Rattle.tmw_defs.specs.History.{Txn, is_ended, status_of, operations}
 use Rattle.tmw_search.specs.Layers.{LeavesNone, InLayer, IsStep}
-use Rattle.tmw_defs.specs.Opaque.{State, Placed, precedes, may_hold, may_be, reads_hold, after, after_writes}
-use Rattle.tmw_search.proofs.LayersProof.{same_place, bit_cases, IsStepped, layer-step, layer_step, layer_zero}
+use Rattle.tmw_defs.specs.Opaque.{State, Placed, precedes, may_be, reads_hold, after, after_writes}
+use Rattle.tmw_search.proofs.LayersProof.{same_place, IsStepped, layer-step, layer_step, layer_zero, list_all_at}
 use Rattle.tmw_search.proofs.Masks.{bit_at-more_same, bit_at-more_other, bit_at-less_same}
+use Rattle.tmw_search.proofs.Completions.{held_is, may-committed}
 
 -- a write to a register below those with values
 put-set_below : (i j v : ℕ) (fs : List (Option ℕ)) (s : State) → j < i → put_from i fs (slice_set s j v) ≡ slice_set (put_from i fs s) j v
@@ -152,29 +151,13 @@ put-after fs a b t blind same =
 
 -- blind transactions read nothing, and the completion of one that has ended is fixed
 pub blind_at : (ts : List Txn) (i : ℕ) (t : Txn) → IsTrue (list_all is_blind ts) → slice_get ts i ≡ Some t → IsTrue (is_blind t)
-blind_at [] i t blind at = absurd (cc)
-blind_at (u ∷ ts) zero t blind at = let same : u ≡ t = cc in rw (← same) (and_parts (is_blind u) _ blind).0
-blind_at (u ∷ ts) (suc i) t blind at = blind_at ts i t (and_parts (is_blind u) _ blind).1 at
+blind_at ts i t blind at = list_all_at is_blind ts i t at blind
 
 reads-writes : (s : State) (ops : List Op) → IsTrue (list_all is_write ops) → IsTrue (reads_hold s ops)
 reads-writes s [] writes = refl
 reads-writes s (Read r v ∷ ops) writes = absurd (cc)
 reads-writes s (Write r v ∷ ops) writes = reads-writes (slice_set s r.number v) ops writes
 reads-writes s (Add r d v ∷ ops) writes = absurd (cc)
-
-held_is : (status : Status) (held : Bool) → IsTrue (is_over status) → IsTrue (may_hold status held) → held ≡ is_committed status
-held_is Committed true over may = refl
-held_is Committed false over may = absurd (cc)
-held_is Pending held over may = absurd (cc)
-held_is Live held over may = absurd (cc)
-held_is Aborted true over may = absurd (cc)
-held_is Aborted false over may = refl
-
-may-committed : (status : Status) → IsTrue (is_over status) → IsTrue (may_hold status (is_committed status))
-may-committed Committed over = refl
-may-committed Pending over = absurd (cc)
-may-committed Live over = absurd (cc)
-may-committed Aborted over = refl
 
 after-blind : (s : State) (p : Placed) → IsTrue (is_blind p.txn) → IsTrue (may_be p) → after s p ≡ blind_after s p.txn
 after-blind s p blind may =

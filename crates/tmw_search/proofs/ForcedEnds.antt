@@ -16,11 +16,11 @@ use Rattle.tmw_cuts.specs.Views.{View}
 use Rattle.tmw_search.specs.declared.end_states.EndStates.{EndStates}
 use Rattle.tmw_search.specs.declared.end_states.EndStates.TheVariants.{Few, Many}
 use Rattle.tmw_search.specs.Ended.{AreEnds, AreMembers}
-use Rattle.tmw_search.specs.Forced.{AreForced, AreForcedEnds}
-use Rattle.tmw_search.specs.Shows.{Shows}
+use Rattle.tmw_search.specs.ForcedEnds.{AreForced, AreForcedEnds}
+use Rattle.tmw_search.specs.ShownTransactions.{ShowsTransactions}
 use Rattle.tmw_search.specs.Walks.{LeadsAll}
 use Rattle.tmw_search.proofs.Forcing.{is-forced}
-use Rattle.tmw_search.proofs.NextSteps.{contains_here, contains_later, contains_cases, contains_none}
+use Rattle.tmw_cuts.proofs.FirstMembers.{contains_here, contains_later, contains_cases, contains_none}
 use Rattle.tmw_search.proofs.WindowViews.{shows-views_of}
 
 -- an end of the list was found from the state
@@ -39,13 +39,6 @@ pub record Finds (xs : List View) (ends left start : List State) : Type 0 where
   pub only : (e : State) → Contains ends e → HasStart xs start e
   pub within : (s : State) → Contains left s → Contains start s
   pub each : (s : State) → Contains start s → HasEnd xs ends s ⊎ Contains left s
-
-pub finds-none : (xs : List View) (ends start : List State) → ends ≡ [] → Finds xs ends start start
-finds-none xs ends start none = record {
-  only = λ e has. absurd (contains_none e (rw none at has));
-  within = λ s has. has;
-  each = λ s has. inr has;
-}
 
 finds-more : (xs : List View) (ends more : List State) (s e : State) (left start : List State) → Finds xs ends (s ∷ left) start
     → LeadsAll xs s e → AddsMember ends more e → Finds xs more left start
@@ -99,6 +92,6 @@ pub forced-ends : (states : States) (window : Window) (xs : List View) (start : 
 forced-ends states window xs start cap ends shown same cut forced are = λ events stands.
     let ts = transactions events in
     let is = shown ∙ stands.shows in
-    let shows : Shows xs ts = subst (λ (v : List View). Shows v ts) (sym is) (shows-views_of events) in
+    let shows : ShowsTransactions xs ts = subst (λ (v : List View). ShowsTransactions v ts) (sym is) (shows-views_of events) in
     let only_one = is-forced ts ts (subst (λ (v : List View). AreForced v) is forced) in
     subst (λ (s : List State). AreMembers cap (Ends (Contains s) ts) ends) same (are ts shows only_one (sym (cut events stands)))

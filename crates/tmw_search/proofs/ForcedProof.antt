@@ -1,20 +1,19 @@
 -- Where the end state is forced, all legal serial orders lead to it: what each writer of a register reads and leaves there
 -- sums up to the same over each order.
-use Rattle.std.proofs.Common.{◌≡◌, ◌==◌, ◌+◌, ◌%◌, ◌^◌, ◌<◌, ◌≤◌, ℕ, zero, suc, Bool, true, false, not, List, [], ◌∷◌, length, Some, IsTrue, cond, refl, sym, ap, ◌∙◌, inl, inr, arith}
+use Rattle.std.proofs.Common.{◌≡◌, ◌==◌, ◌+◌, ◌%◌, ◌^◌, ◌<◌, ◌≤◌, ℕ, zero, suc, true, false, not, List, [], ◌∷◌, length, Some, IsTrue, cond, refl, sym, ap, ◌∙◌, inl, inr, arith}
 use Rattle.std.specs.List.{list_all, sum_by, count_by}
 use Rattle.std.specs.Prelude.{remove, slice_get, slice_index, slice_set, if◌then◌else◌}
-use Rattle.std.proofs.lemmas.Bool.{and_parts, cases_Bool, eqb-true, eqb-false}
+use Rattle.std.proofs.lemmas.Bool.{and_parts, cases_Bool, eqb-true, eqb-false, not-true}
 use Rattle.std.proofs.lemmas.List.{get_or-set_same, get_or-set_other, length-set, ext_get_or}
 use Rattle.std.proofs.lemmas.List.Sums.{sum_by-cons}
 use Rattle.tmw_defs.specs.declared.op.Op.{Op}
 use Rattle.tmw_defs.specs.declared.op.Op.TheVariants.{Read, Write, Add}
-use Rattle.tmw_defs.specs.declared.status.Status.{Status}
-use Rattle.tmw_defs.specs.declared.status.Status.TheVariants.{Live, Pending, Committed, Aborted}
-use Rattle.tmw_search.specs.ForcedEnd.{is_committed, writes, writes_blindly, is_writer, is_blind_writer, IsForced}
-use Rattle.tmw_defs.specs.History.{Txn, is_over, is_ended, status_of, operations}
-use Rattle.tmw_defs.specs.Opaque.{State, Placed, PlacesEach, may_hold, may_be, reads_hold, after, after_writes, is_legal}
+use Rattle.tmw_search.specs.ForcedTransactions.{is_committed, writes, writes_blindly, is_writer, is_blind_writer, IsForced}
+use Rattle.tmw_defs.specs.History.{Txn, is_ended, status_of, operations}
+use Rattle.tmw_defs.specs.Opaque.{State, Placed, PlacesEach, may_be, reads_hold, after, after_writes, is_legal}
 use Rattle.tmw_defs.specs.Outcomes.{end_state, Leads}
 use Rattle.tmw_defs.proofs.Removals.{list_all-places}
+use Rattle.tmw_search.proofs.Completions.{held_is}
 
 -- a sum over an order is the sum over the transactions that it places
 sum_by-remove : {A : Type 0} (f : A → ℕ) (xs : List A) (i : ℕ) (x : A) → slice_get xs i ≡ Some x
@@ -106,19 +105,6 @@ balance s (Add q d v ∷ ops) r within reads blind =
           rw other (omega (arith, kept, more))
     ]
 
--- the completion of one that has ended is fixed
-held_is : (status : Status) (held : Bool) → IsTrue (is_over status) → IsTrue (may_hold status held) → held ≡ is_committed status
-held_is Committed true over may = refl
-held_is Committed false over may = absurd (cc)
-held_is Pending held over may = absurd (cc)
-held_is Live held over may = absurd (cc)
-held_is Aborted true over may = absurd (cc)
-held_is Aborted false over may = refl
-
-not_true : (b : Bool) → not b ≡ true → b ≡ false
-not_true true is = absurd (cc)
-not_true false is = refl
-
 abbrev takes : ℕ → Txn → ℕ
 takes r t = if is_committed (status_of t.text) then taken r (operations t.text) else 0
 
@@ -172,7 +158,7 @@ order-balance s (p ∷ order) r within o none =
     let (may, mays) = and_parts (may_be p) _ o.may in
     let (over, overs) = and_parts (is_ended p.txn.text) _ o.ended in
     let (here, rest) = and_parts (not (is_blind_writer r p.txn)) _ none in
-    let first = placed-balance s p r within over may reads (not_true _ here) in
+    let first = placed-balance s p r within over may reads (not-true _ here) in
     let more = order-balance (after s p) order r (rw length-after within) (record { legal = legal; may = mays; ended = overs }) rest in
     omega (arith, first, more, sum_by-cons (λ q. takes r q.txn) p order, sum_by-cons (λ q. gives r q.txn) p order)
 

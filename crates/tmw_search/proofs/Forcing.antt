@@ -9,12 +9,12 @@ use Rattle.std.proofs.lemmas.Nat.Bits.{bit_at-zero, bit_at-lt, bit_at_and, bit_a
 use Rattle.tmw_events.specs.declared.ix.Ix.{Ix}
 use Rattle.tmw_defs.specs.declared.op.Op.{Op}
 use Rattle.tmw_defs.specs.declared.op.Op.TheVariants.{Read, Write, Add}
-use Rattle.tmw_search.specs.ForcedEnd.{is_committed, writes, writes_blindly, is_writer, IsForced}
+use Rattle.tmw_search.specs.ForcedTransactions.{is_committed, writes, writes_blindly, is_writer, IsForced}
 use Rattle.tmw_defs.specs.History.{Txn}
 use Rattle.tmw_search.proofs.LayersProof.{bit_cases}
 use Rattle.tmw_cuts.specs.Standing.{view_of}
 use Rattle.tmw_cuts.specs.Views.{View}
-use Rattle.tmw_search.specs.Forced.{with_bit, written_by, blind_by, shared_by, is_without_blind, AreForced}
+use Rattle.tmw_search.specs.ForcedEnds.{with_bit, written_by, blind_by, shared_by, is_without_blind, AreForced}
 
 -- a bit that was set stays, and that of the register is set
 set-here : (mask r : ℕ) (q : Ix) → (q.number == r) ≡ true → bit_at (with_bit mask q.number) r ≡ 1

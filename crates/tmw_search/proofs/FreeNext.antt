@@ -1,34 +1,26 @@
 -- The test of masks: a transaction may come next where it isn't placed and none that isn't placed precedes it.
-use Rattle.std.proofs.Common.{◌≡◌, ◌≢◌, ◌==◌, ◌&&◌, ◌⊎◌, ◌+◌, ◌-◌, ◌*◌, ◌%◌, ◌^◌, ◌<◌, ◌≤◌, ℕ, zero, suc, Bool, true, false, List, [], ◌∷◌, length, Some, IsTrue, bit_and, bit_or, min, refl, sym, ap, ◌∙◌, inl, inr, w8, arith}
+use Rattle.std.proofs.Common.{◌≡◌, ◌==◌, ◌^◌, ◌<◌, ◌≤◌, ℕ, zero, suc, Bool, true, false, List, [], ◌∷◌, length, Some, IsTrue, bit_and, refl, sym, ap, ◌∙◌, inl, inr, w8, arith}
 use Rattle.std.specs.Int.{bit_at, bit_not}
 use Rattle.std.specs.Prelude.{slice_get}
 use Rattle.std.proofs.lemmas.Bool.{and_parts, and_from, cases_Bool, cases_lt, eqb-true, eq-eqb}
-use Rattle.std.proofs.lemmas.Nat.Bits.{bit_at-zero, bit_at-lt, bit_at_and, bit_at_not, bit_at_above, bit_at_set_same, bit_at_set_other, same_from_bits}
+use Rattle.std.proofs.lemmas.Nat.Bits.{bit_at-zero, bit_at-lt, bit_at_and, bit_at_not, bit_at_above, same_from_bits}
 use Rattle.tmw_defs.specs.History.{Txn}
 use Rattle.tmw_defs.specs.Opaque.{precedes}
-use Rattle.tmw_search.proofs.LayersProof.{same_place, bit_cases}
-use Rattle.tmw_search.proofs.Masks.{bit_at-more_same, bit_at-more_other}
+use Rattle.tmw_search.proofs.LayersProof.{bit_cases}
 use Rattle.tmw_cuts.specs.Views.{View}
 use Rattle.tmw_search.specs.Nexts.{is_next}
 use Rattle.tmw_cuts.specs.Views.{bit}
-use Rattle.tmw_search.specs.Shows.{ShowsOne}
-
-pub mask-set : (mask place : ℕ) → place < 8 → bit_at mask place ≡ 0 → bit_or mask (1 * 2 ^ place % 2 ^ 8) ≡ mask + 2 ^ place
-mask-set mask place within new = same_from_bits (bit_or mask (1 * 2 ^ place % 2 ^ 8)) (mask + 2 ^ place) (λ i.
-    elim (same_place i place) [
-      | inl same ↦ rw same (bit_at_set_same w8 mask place within ∙ sym (bit_at-more_same mask place new))
-      | inr other ↦ bit_at_set_other w8 mask place within i other ∙ sym (bit_at-more_other mask place i new other)
-    ])
+use Rattle.tmw_search.specs.ShownTransactions.{ShowsTransaction}
 
 -- a bit of a mask of eight bits is one of the eight
-low_bit : (n i : ℕ) → n < 2 ^ 8 → bit_at n i ≡ 1 → i < 8
-low_bit n i fits one =
+place-lt : (n i : ℕ) → n < 2 ^ 8 → bit_at n i ≡ 1 → i < 8
+place-lt n i fits one =
     elim (cases_lt i 8) [ inl low ↦ low | inr high ↦ absurd (omega (arith, one, bit_at_above n 8 i fits high)) ]
 
 none_left : (before mask : ℕ) → before < 2 ^ 8 → mask < 2 ^ 8 → bit_and before (bit_not w8 mask) ≡ 0
     → (i : ℕ) → bit_at before i ≡ 1 → bit_at mask i ≡ 1
 none_left before mask fits small none i one =
-    let low = low_bit before i fits one in
+    let low = place-lt before i fits one in
     let both = bit_at_and before (bit_not w8 mask) i in
     let other = bit_at_not w8 mask i small low in
     let zero_bit = ap (λ n. bit_at n i) none ∙ bit_at-zero i in
@@ -41,7 +33,7 @@ left_none before mask fits small each = same_from_bits (bit_and before (bit_not 
     elim (bit_cases before i) [
       | inl none ↦ omega (arith, both, none, bit_at-zero i)
       | inr one ↦
-          let low = low_bit before i fits one in
+          let low = place-lt before i fits one in
           omega (arith, both, one, each i one, bit_at_not w8 mask i small low, bit_at-zero i)
     ])
 
@@ -50,7 +42,7 @@ bit_true true h = refl
 bit_true false h = absurd (omega (arith, h))
 
 -- the test tells that it isn't placed, and that none that is left precedes it
-pub next_free : (ts : List Txn) (x : View) (t : Txn) (place mask : ℕ) → length ts ≤ 8 → ShowsOne ts x t → mask < 2 ^ 8
+pub next_free : (ts : List Txn) (x : View) (t : Txn) (place mask : ℕ) → length ts ≤ 8 → ShowsTransaction ts x t → mask < 2 ^ 8
     → x.before < 2 ^ 8 → IsTrue (is_next x place mask)
     → (bit_at mask place ≡ 0) × ((i : ℕ) (u : Txn) → slice_get ts i ≡ Some u → bit_at mask i ≡ 0 → precedes u t ≡ false)
 next_free ts x t place mask few s small fits next =
@@ -66,7 +58,7 @@ next_free ts x t place mask few s small fits next =
           ],
     )
 
-pub free-next : (ts : List Txn) (x : View) (t : Txn) (place mask : ℕ) → length ts ≤ 8 → ShowsOne ts x t → mask < 2 ^ 8
+pub free-next : (ts : List Txn) (x : View) (t : Txn) (place mask : ℕ) → length ts ≤ 8 → ShowsTransaction ts x t → mask < 2 ^ 8
     → x.before < 2 ^ 8 → bit_at mask place ≡ 0
     → ((i : ℕ) (u : Txn) → slice_get ts i ≡ Some u → bit_at mask i ≡ 0 → precedes u t ≡ false) → IsTrue (is_next x place mask)
 free-next ts x t place mask few s small fits new free =

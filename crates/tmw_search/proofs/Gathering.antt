@@ -12,7 +12,7 @@ use Rattle.tmw_cuts.specs.Members.{members, AddsMember}
 use Rattle.tmw_cuts.specs.Standing.{StandsFor, views}
 use Rattle.tmw_search.specs.declared.end_states.EndStates.TheVariants.{Few, Many}
 use Rattle.tmw_search.specs.Ended.{EndsOf, AreLayer, AreEnds}
-use Rattle.tmw_search.proofs.NextSteps.{contains_here, contains_later, contains_cases, contains_none}
+use Rattle.tmw_cuts.proofs.FirstMembers.{contains_here, contains_later, contains_cases, contains_none}
 use Rattle.tmw_search.proofs.WindowLayers.{last_layer, last-layer}
 
 -- a pair of the list has this state

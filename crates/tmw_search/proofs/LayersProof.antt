@@ -1,18 +1,18 @@
 -- Layers: each is what one step makes of the one before; the first is the start, and the last has the end states.
-use Rattle.std.proofs.Common.{◌≡◌, ◌≢◌, ◌+◌, ◌-◌, ◌^◌, ◌<◌, ◌≤◌, ◌++◌, ◌↔◌, ℕ, zero, suc, Bool, true, false, not, List, [], ◌∷◌, length, Some, IsTrue, refl, sym, ap, ◌∙◌, inl, inr, ◌⊎◌, ◌/◌, pow-suc, arith}
+use Rattle.std.proofs.Common.{◌≡◌, ◌+◌, ◌-◌, ◌^◌, ℕ, zero, suc, Bool, true, false, not, List, [], ◌∷◌, length, Some, IsTrue, refl, sym, ap, ◌∙◌, inl, inr, ◌⊎◌, ◌/◌, arith}
 use Rattle.std.specs.Int.{bit_at}
 use Rattle.std.specs.Prelude.{remove, slice_get}
 use Rattle.std.specs.List.{list_all}
-use Rattle.std.proofs.lemmas.Bool.{and_parts, and_from, cases_lt}
+use Rattle.std.proofs.lemmas.Bool.{and_parts, and_from, cases_lt, not-true, not_from_false}
 use Rattle.std.proofs.lemmas.List.Edits.{length-remove}
 use Rattle.std.proofs.lemmas.Nat.Bits.{bit_at-zero, bit_at-lt, bit_at-suc, bit_at_lowest, bit_at_ones}
 use Rattle.std.proofs.lemmas.Option.{slice_get_within}
-use Rattle.tmw_defs.specs.History.{Txn, operations}
+use Rattle.tmw_defs.specs.History.{Txn}
 use Rattle.tmw_search.specs.Layers.{chosen, LeavesNone, InLayer, IsStep}
-use Rattle.tmw_defs.specs.Opaque.{State, Placed, precedes, may_be, reads_hold, after}
+use Rattle.tmw_defs.specs.Opaque.{State, Placed, precedes, after}
 use Rattle.tmw_defs.specs.Outcomes.{Leads, Ends}
 use Rattle.tmw_search.proofs.LastOfOrder.{EndsWith, leads-last, leads_last}
-use Rattle.tmw_search.proofs.Masks.{IsChosenToo, HasBit, chosen-set, chosen_unset, chosen_has, chosen-here, chosen-past, low_bit, bit_at-more_same, bit_at-more_other, bit_at-less_same, more_fits, chosen-zero, chosen_none, chosen_all, chosen-full}
+use Rattle.tmw_search.proofs.Masks.{HasBit, chosen-set, chosen_unset, chosen_has, chosen-here, chosen-past, low_bit, bit_at-more_same, bit_at-more_other, bit_at-less_same, more_fits, chosen-zero, chosen_none, chosen_all, chosen-full, pow_some}
 
 -- what holds of each whose bit is set holds of each that is chosen
 list_all-chosen : (p : Txn → Bool) (ts : List Txn) (mask : ℕ)
@@ -26,18 +26,10 @@ list_all-chosen p (t ∷ ts) mask each =
     ]
 
 -- and the other way round
-list_all_at : (p : Txn → Bool) (xs : List Txn) (i : ℕ) (x : Txn) → slice_get xs i ≡ Some x → IsTrue (list_all p xs) → p x ≡ true
+pub list_all_at : (p : Txn → Bool) (xs : List Txn) (i : ℕ) (x : Txn) → slice_get xs i ≡ Some x → IsTrue (list_all p xs) → p x ≡ true
 list_all_at p [] i x at all = absurd (cc)
 list_all_at p (y ∷ xs) zero x at all = let same : y ≡ x = cc in rw (← same) (and_parts (p y) _ all).0
 list_all_at p (y ∷ xs) (suc i) x at all = list_all_at p xs i x at (and_parts (p y) _ all).1
-
-not_false : (b : Bool) → b ≡ false → not b ≡ true
-not_false true h = absurd (cc)
-not_false false h = refl
-
-not_true : (b : Bool) → not b ≡ true → b ≡ false
-not_true true h = absurd (cc)
-not_true false h = refl
 
 pub bit_cases : (mask i : ℕ) → (bit_at mask i ≡ 0) ⊎ (bit_at mask i ≡ 1)
 bit_cases mask i =
@@ -64,7 +56,7 @@ layer-step S ts k mask above r u l x =
     let size : length (chosen (mask + 2 ^ x.place) ts) ≡ k + 1 = omega (arith, less, ap length set.others, l.size) in
     let free : IsTrue (list_all (λ v. not (precedes t v)) (chosen mask ts)) =
     list_all-chosen (λ v. not (precedes t v)) ts mask
-    (λ j v at bit. not_false (precedes t v) (l.closed x.place j t v x.at at x.new bit)) in
+    (λ j v at bit. not_from_false (precedes t v) (l.closed x.place j t v x.at at x.new bit)) in
     let (s, is, leads) = l.ends in
     let all : Leads s (chosen (mask + 2 ^ x.place) ts) (after r x.placed) =
     leads-last s r (chosen (mask + 2 ^ x.place) ts) set.place x.placed set.at (rw set.others leads) (rw set.others free) x.may x.reads in
@@ -124,7 +116,7 @@ layer_step S ts k above u l =
                   | inl same ↦
                       let is_t : v ≡ t = (let b = rw same at at_i in let c = h.at in cc) in
                       let has = chosen_has ts mask j w at_j chosen_j in
-                      rw is_t (not_true (precedes t w) (list_all_at (λ x. not (precedes t x)) (chosen mask ts) has.0 w has.1 none))
+                      rw is_t (not-true (precedes t w) (list_all_at (λ x. not (precedes t x)) (chosen mask ts) has.0 w has.1 none))
                   | inr apart ↦ l.closed i j v w at_i at_j (other i apart ∙ out) (other j j_apart ∙ chosen_j)
                 ];
             ends = (s, is, rw h.others at e.leads);
@@ -145,15 +137,11 @@ layer_step S ts k above u l =
 -- the first layer is the set that is begun from
 pub layer-zero : (S : State → Type 0) (ts : List Txn) (s : State) → S s → InLayer S ts 0 0 s
 layer-zero S ts s is = record {
-  fits = some (length ts);
+  fits = pow_some (length ts);
   size = ap length (chosen-zero ts);
   closed = λ i j t u at_i at_j out bit. absurd (omega (arith, bit, bit_at-zero j));
   ends = (s, is, rw (chosen-zero ts) ([], record { each = refl; kept = refl; completed = refl; legal = refl }, refl));
 }
-  where
-    some : (n : ℕ) → 0 < 2 ^ n
-    some zero = omega arith
-    some (suc n) = omega (arith, pow-suc 2 n, some n)
 
 pub layer_zero : (S : State → Type 0) (ts : List Txn) (mask : ℕ) (r : State) → InLayer S ts 0 mask r → (mask ≡ 0) × S r
 layer_zero S ts mask r l =
@@ -168,16 +156,12 @@ layer_zero S ts mask r l =
 -- the last has all transactions and their end states
 pub layer-last : (S : State → Type 0) (ts : List Txn) (r : State) → Ends S ts r → InLayer S ts (length ts) (2 ^ length ts - 1) r
 layer-last S ts r ends = record {
-  fits = omega (arith, some (length ts));
+  fits = omega (arith, pow_some (length ts));
   size = ap length (chosen-full ts);
   closed = λ i j t u at_i at_j out bit.
       absurd (omega (arith, out, bit_at_ones (length ts) i (slice_get_within ts i t at_i)));
   ends = rw (chosen-full ts) ends;
 }
-  where
-    some : (n : ℕ) → 0 < 2 ^ n
-    some zero = omega arith
-    some (suc n) = omega (arith, pow-suc 2 n, some n)
 
 pub layer_last : (S : State → Type 0) (ts : List Txn) (mask : ℕ) (r : State) → InLayer S ts (length ts) mask r → Ends S ts r
 layer_last S ts mask r l = rw (chosen_all ts mask l.size) at l.ends

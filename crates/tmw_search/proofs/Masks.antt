@@ -1,10 +1,9 @@
 -- What a mask chooses of a list, with one bit more and with one bit less.
-use Rattle.std.proofs.Common.{◌≡◌, ◌≢◌, ◌⊎◌, ◌==◌, ◌+◌, ◌-◌, ◌*◌, ◌/◌, ◌%◌, ◌^◌, ◌<◌, ◌≤◌, ℕ, zero, suc, Bool, true, false, List, [], ◌∷◌, length, Some, IsTrue, refl, sym, ap, ◌∙◌, inl, inr, if◌then◌else◌, pow-suc, arith}
+use Rattle.std.proofs.Common.{◌≡◌, ◌⊎◌, ◌==◌, ◌+◌, ◌-◌, ◌/◌, ◌%◌, ◌^◌, ◌<◌, ◌≤◌, ℕ, zero, suc, true, List, [], ◌∷◌, length, Some, refl, sym, ap, ◌∙◌, inl, inr, pow-suc, arith}
 use Rattle.std.specs.Int.{bit_at}
 use Rattle.std.specs.Prelude.{remove, slice_get}
-use Rattle.std.specs.List.{list_all}
-use Rattle.std.proofs.lemmas.Bool.{and_parts, and_from, cases_lt, eq-eqb}
-use Rattle.std.proofs.lemmas.Nat.Bits.{bit_at-zero, bit_at-lt, bit_at_lowest, bit_at-suc}
+use Rattle.std.proofs.lemmas.Bool.{cases_lt, eq-eqb}
+use Rattle.std.proofs.lemmas.Nat.Bits.{bit_at_lowest, bit_at-suc}
 use Rattle.tmw_defs.specs.History.{Txn}
 use Rattle.tmw_search.specs.Layers.{chosen}
 
@@ -64,33 +63,21 @@ pub record HasBit (ts : List Txn) (mask i : ℕ) (t : Txn) : Type 0 where
   pub at : slice_get ts place ≡ Some t
   pub others : remove (chosen mask ts) i ≡ chosen (mask - 2 ^ place) ts
 
-unset_rest : (x : Txn) (ts : List Txn) (mask i : ℕ) (t : Txn) → mask % 2 ≡ 1 → HasBit ts (mask / 2) i t
-    → HasBit (x ∷ ts) mask (suc i) t
-unset_rest x ts mask i t one h =
+-- behind the first of a list, whose bit is this one, chosen or not
+unset_behind : (x : Txn) (ts : List Txn) (mask i j bit : ℕ) (t : Txn) (front : List Txn → List Txn) → mask % 2 ≡ bit
+    → ((m : ℕ) → m % 2 ≡ bit → chosen m (x ∷ ts) ≡ front (chosen (m / 2) ts))
+    → ((xs : List Txn) → remove (front xs) j ≡ front (remove xs i)) → HasBit ts (mask / 2) i t → HasBit (x ∷ ts) mask j t
+unset_behind x ts mask i j bit t front is chooses removes h =
     let double = pow-suc 2 h.place in
     let half : (mask - 2 ^ suc h.place) / 2 ≡ mask / 2 - 2 ^ h.place = omega (arith, double) in
-    let low : (mask - 2 ^ suc h.place) % 2 ≡ 1 = omega (arith, double, one, h.small) in
+    let low : (mask - 2 ^ suc h.place) % 2 ≡ bit = omega (arith, double, is, h.small) in
     record {
       place = suc h.place;
       small = omega (arith, double, h.small);
       bit = bit_at-suc mask h.place ∙ h.bit;
       at = h.at;
-      others = rw (chosen-here mask x ts one) (ap (λ xs. x ∷ xs) h.others
-          ∙ sym (chosen-here (mask - 2 ^ suc h.place) x ts low ∙ ap (λ m. x ∷ chosen m ts) half));
-    }
-
-unset_past : (x : Txn) (ts : List Txn) (mask i : ℕ) (t : Txn) → mask % 2 ≡ 0 → HasBit ts (mask / 2) i t → HasBit (x ∷ ts) mask i t
-unset_past x ts mask i t even h =
-    let double = pow-suc 2 h.place in
-    let half : (mask - 2 ^ suc h.place) / 2 ≡ mask / 2 - 2 ^ h.place = omega (arith, double) in
-    let low : (mask - 2 ^ suc h.place) % 2 ≡ 0 = omega (arith, double, even, h.small) in
-    record {
-      place = suc h.place;
-      small = omega (arith, double, h.small);
-      bit = bit_at-suc mask h.place ∙ h.bit;
-      at = h.at;
-      others = rw (chosen-past mask x ts even) (h.others
-          ∙ sym (chosen-past (mask - 2 ^ suc h.place) x ts low ∙ ap (λ m. chosen m ts) half));
+      others = rw (chooses mask is) (removes (chosen (mask / 2) ts) ∙ ap front h.others
+          ∙ sym (chooses (mask - 2 ^ suc h.place) low ∙ ap (λ m. front (chosen m ts)) half));
     }
 
 unset_here : (x : Txn) (ts : List Txn) (mask i : ℕ) (t : Txn) → mask % 2 ≡ 1 → slice_get (x ∷ chosen (mask / 2) ts) i ≡ Some t
@@ -105,14 +92,17 @@ unset_here x ts mask zero t one at rest =
       at = at;
       others = rw (chosen-here mask x ts one) (sym (chosen-past (mask - 2 ^ 0) x ts low ∙ ap (λ m. chosen m ts) half));
     }
-unset_here x ts mask (suc i) t one at rest = unset_rest x ts mask i t one (rest i at)
+unset_here x ts mask (suc i) t one at rest =
+    unset_behind x ts mask i (suc i) 1 t (λ xs. x ∷ xs) one (λ m. chosen-here m x ts) (λ xs. refl) (rest i at)
 
 pub chosen_unset : (ts : List Txn) (mask i : ℕ) (t : Txn) → slice_get (chosen mask ts) i ≡ Some t → HasBit ts mask i t
 chosen_unset [] mask i t at = absurd (cc)
 chosen_unset (x ∷ ts) mask i t at =
     elim (low_bit mask) [
       | inl one ↦ unset_here x ts mask i t one (rw (chosen-here mask x ts one) at at) (λ k h. chosen_unset ts (mask / 2) k t h)
-      | inr even ↦ unset_past x ts mask i t even (chosen_unset ts (mask / 2) i t (rw (chosen-past mask x ts even) at at))
+      | inr even ↦
+          unset_behind x ts mask i i 0 t (λ xs. xs) even (λ m. chosen-past m x ts) (λ xs. refl)
+          (chosen_unset ts (mask / 2) i t (rw (chosen-past mask x ts even) at at))
     ]
 
 -- one whose bit is set is among those chosen
@@ -202,6 +192,11 @@ chosen_all (t ∷ ts) mask all =
       | inr even ↦ absurd (omega (arith, all, ap length (chosen-past mask t ts even), length-chosen-le ts (mask / 2)))
     ]
 
+-- a power of two is above zero
+pub pow_some : (n : ℕ) → 0 < 2 ^ n
+pow_some zero = omega arith
+pow_some (suc n) = omega (arith, pow-suc 2 n, pow_some n)
+
 pub chosen-full : (ts : List Txn) → chosen (2 ^ length ts - 1) ts ≡ ts
 chosen-full [] = refl
 chosen-full (t ∷ ts) =
@@ -210,7 +205,3 @@ chosen-full (t ∷ ts) =
     let odd : (2 ^ suc (length ts) - 1) % 2 ≡ 1 = omega (arith, double, some) in
     let half : (2 ^ suc (length ts) - 1) / 2 ≡ 2 ^ length ts - 1 = omega (arith, double, some) in
     chosen-here (2 ^ suc (length ts) - 1) t ts odd ∙ ap (λ m. t ∷ chosen m ts) half ∙ ap (λ xs. t ∷ xs) (chosen-full ts)
-  where
-    pow_some : (n : ℕ) → 0 < 2 ^ n
-    pow_some zero = omega arith
-    pow_some (suc n) = omega (arith, pow-suc 2 n, pow_some n)

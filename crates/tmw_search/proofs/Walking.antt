@@ -19,9 +19,9 @@ use Rattle.tmw_cuts.specs.Standing.{views}
 use Rattle.tmw_cuts.specs.Views.{View, view}
 use Rattle.tmw_search.specs.Ended.{TellsEnd}
 use Rattle.tmw_search.specs.Nexts.{is_next}
-use Rattle.tmw_search.specs.Shows.{Shows}
+use Rattle.tmw_search.specs.ShownTransactions.{ShowsTransactions}
 use Rattle.tmw_search.specs.Walks.{GoesOnTo, LeadsAll, HaveEnd}
-use Rattle.tmw_search.proofs.NextSteps.{IsMade, step-made_at, slice_get_some}
+use Rattle.tmw_search.proofs.LayerSteps.{IsMade, step-made_at, slice_get_some}
 use Rattle.tmw_search.proofs.WindowViews.{shows-views_of}
 
 leads_only : (start end : State) (ts : List history.Txn) → Ends (Only start) ts end → Leads start ts end
@@ -80,7 +80,7 @@ pub tells-found : (states : States) (window : Window) (xs : List View) (start : 
     → HaveEnd xs start → TellsEnd states window true
 tells-found states window xs start shown same have = λ events stands. (
   λ _.
-      let shows : Shows xs (transactions events) = subst (λ (v : List View). Shows v (transactions events))
+      let shows : ShowsTransactions xs (transactions events) = subst (λ (v : List View). ShowsTransactions v (transactions events))
       (sym (shown ∙ stands.shows)) (shows-views_of events) in
       subst (λ (s : List State). (end : State) × Ends (Contains s) (transactions events) end) same (have (transactions events) shows),
   λ ends. refl,

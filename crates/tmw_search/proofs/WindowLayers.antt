@@ -15,8 +15,8 @@ use Rattle.tmw_cuts.specs.Standing.{StandsFor, views}
 use Rattle.tmw_cuts.proofs.Pushes.{length-views_of}
 use Rattle.tmw_search.specs.Ended.{EndsOf, AreLayer, TellsEnd}
 use Rattle.tmw_search.specs.Pairs.{IsLayer}
-use Rattle.tmw_search.specs.Shows.{Shows}
-use Rattle.tmw_search.proofs.NextSteps.{contains_here, contains_none}
+use Rattle.tmw_search.specs.ShownTransactions.{ShowsTransactions}
+use Rattle.tmw_cuts.proofs.FirstMembers.{contains_here, contains_none}
 use Rattle.tmw_search.proofs.WindowViews.{shows-views_of, none_before_itself}
 
 pub if_ok : {X E : Type 0} (r : Result X E) (P Q : X → Type 0) → IfOk r P → ((x : X) → P x → Q x) → IfOk r Q
@@ -26,7 +26,7 @@ if_ok (Err e) P Q holds step = holds
 pub window-layer : (states : States) (window : Window) (start : List State) (xs : List View) (k : ℕ) (pairs : List (ℕ × State))
     → start ≡ members states → xs ≡ views window → IsLayer start xs k pairs → AreLayer states window k pairs
 window-layer states window start xs k pairs same shown is = λ events stands p.
-    let shows : Shows xs (transactions events) = subst (λ (v : List View). Shows v (transactions events))
+    let shows : ShowsTransactions xs (transactions events) = subst (λ (v : List View). ShowsTransactions v (transactions events))
     (sym (shown ∙ stands.shows)) (shows-views_of events) in
     subst (λ (s : List State). Contains pairs p ↔ InLayer (Contains s) (transactions events) k p.0 p.1) same
     (is (transactions events) shows (none_before_itself events) p)

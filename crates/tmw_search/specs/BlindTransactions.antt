@@ -4,7 +4,7 @@ use Rattle.std.specs.Prelude.{◌≡◌, ◌&&◌, ◌+◌, ◌-◌, ◌^◌, �
 use Rattle.std.specs.List.{list_all}
 use Rattle.tmw_defs.specs.declared.op.Op.{Op}
 use Rattle.tmw_defs.specs.declared.op.Op.TheVariants.{Read, Write, Add}
-use Rattle.tmw_search.specs.ForcedEnd.{is_committed}
+use Rattle.tmw_search.specs.ForcedTransactions.{is_committed}
 use Rattle.tmw_defs.specs.History.{Txn, is_ended, status_of, operations}
 use Rattle.tmw_search.specs.Layers.{InLayer}
 use Rattle.tmw_defs.specs.Opaque.{State, after_writes}

@@ -1,10 +1,10 @@
-pub mod Blind
+pub mod BlindEnds
 pub mod BlindTransactions
 pub mod Ended
-pub mod Forced
-pub mod ForcedEnd
+pub mod ForcedEnds
+pub mod ForcedTransactions
 pub mod Layers
 pub mod Nexts
 pub mod Pairs
-pub mod Shows
+pub mod ShownTransactions
 pub mod Walks

@@ -4,7 +4,7 @@ ghost use Rattle.std.specs.Int.{bit_at};
 ghost use Rattle.tmw_cuts.specs.Members.{members};
 ghost use Rattle.tmw_cuts.specs.Views.{view};
 ghost use Rattle.tmw_search.specs.BlindTransactions.{is_write, put_from, fix_from};
-ghost use Rattle.tmw_search.specs.Blind.{shows_blind, fixed_with, fixes_none, is_fixed, before_from, covers_from, Settles, AddsPut, AddsEnds, AddsLast, MayBeLast, Absorbs, AreBlindEnds};
+ghost use Rattle.tmw_search.specs.BlindEnds.{shows_blind, fixed_with, fixes_none, is_fixed, before_from, covers_from, Settles, AddsPut, AddsEnds, AddsLast, MayBeLast, Absorbs, AreBlindEnds};
 
 use crate::end_states::EndStates;
 use std::alloc::{AllocError, Global};

@@ -1,7 +1,7 @@
 ghost use Rattle.std.specs.Prelude.{◌≡◌, ◌≤◌, IfOk, IfSome, IsTrue, length, map};
 ghost use Rattle.std.specs.List.{list_all};
 ghost use Rattle.tmw_cuts.specs.Views.{view};
-ghost use Rattle.tmw_search.specs.Forced.{written_by, blind_by, shared_by, is_without_blind, AreForced, AreForcedEnds};
+ghost use Rattle.tmw_search.specs.ForcedEnds.{written_by, blind_by, shared_by, is_without_blind, AreForced, AreForcedEnds};
 
 use crate::end_states::EndStates;
 use crate::walk::find_end;

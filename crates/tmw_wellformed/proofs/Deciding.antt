@@ -10,10 +10,10 @@ use Rattle.tmw_wellformed.specs.declared.malformed.Malformed.{Malformed}
 use Rattle.tmw_wellformed.specs.declared.malformed.Malformed.TheVariants.{Register, Busy, Idle, Mismatch}
 use Rattle.tmw_wellformed.specs.declared.phase.Phase.{Phase}
 use Rattle.tmw_wellformed.specs.declared.phase.Phase.TheVariants.{Between}
-use Rattle.tmw_wellformed.specs.Pending.{call_of}
+use Rattle.tmw_wellformed.specs.Pending.{call_of, next_call}
 use Rattle.tmw_wellformed.specs.Faults.{asks, lacks_register, has_fault, earlier}
 use Rattle.tmw_wellformed.specs.Phase.{phase_in, phase_within, phase_of, is_live, waits, takes, next_phase}
-use Rattle.tmw_wellformed.proofs.TextSteps.{next_call, goes_on, is_text-push, pending_asks}
+use Rattle.tmw_wellformed.proofs.TextSteps.{goes_on, is_text-push, pending_asks}
 use Rattle.tmw_wellformed.proofs.HistorySteps.{text_of}
 
 -- a call is no answer, and does not end its transaction
@@ -72,7 +72,7 @@ goes_on_lacking registers None k lacks = is_call_lacking registers k lacks
 goes_on_lacking registers (Some c) k lacks = answers_asked c k (asks_lacking registers k lacks)
 
 -- a phase shows the pending call, as far as it decides which events go on
-pub record Shows (phase : Phase) (pending : Option Kind) : Type 0 where
+pub record PhaseShows (phase : Phase) (pending : Option Kind) : Type 0 where
   pub waiting : waits phase ≡ is_some pending
   pub taking : (c k : Kind) → pending ≡ Some c → takes phase k ≡ answers c k
 
@@ -91,7 +91,7 @@ takes-phase_in A k h = cc
 takes-phase_in (R r) (V v) h = refl
 takes-phase_in _ _ h = refl
 
-shows-within : (pending : Option Kind) → ((c : Kind) → pending ≡ Some c → asks c ≡ true) → Shows (phase_within pending) pending
+shows-within : (pending : Option Kind) → ((c : Kind) → pending ≡ Some c → asks c ≡ true) → PhaseShows (phase_within pending) pending
 shows-within None calls = record { waiting = refl; taking = λ c k is. cc }
 shows-within (Some call) calls = record {
   waiting = waits-phase_in call (calls call refl);
@@ -106,7 +106,7 @@ pub record IsOpen (registers : ℕ) (t : Txn) : Type 0 where
 abbrev pub pending_of : Option Txn → Option Kind
 pending_of live = option_and_then (λ t. call_of t.text) live
 
-pub shows : (registers : ℕ) (live : Option Txn) → ((t : Txn) → live ≡ Some t → IsOpen registers t) → Shows (phase_of live) (pending_of live)
+pub shows : (registers : ℕ) (live : Option Txn) → ((t : Txn) → live ≡ Some t → IsOpen registers t) → PhaseShows (phase_of live) (pending_of live)
 shows registers None fits = record { waiting = refl; taking = λ c k is. cc }
 shows registers (Some t) fits =
     shows-within (call_of t.text) (λ c is. pending_asks registers t.text c (fits t refl).formed is)
@@ -124,7 +124,7 @@ pub record Accepts (registers : ℕ) (pending : Option Kind) (k : Kind) (next : 
   pub goes : goes_on registers pending k ≡ true
   pub leads : next ≡ phase_after pending k
 
-pub next_phase-accepts : (registers : ℕ) (phase next : Phase) (pending : Option Kind) (k : Kind) → Shows phase pending
+pub next_phase-accepts : (registers : ℕ) (phase next : Phase) (pending : Option Kind) (k : Kind) → PhaseShows phase pending
     → lacks_register registers k ≡ false → next_phase phase k ≡ Ok next → Accepts registers pending k next
 next_phase-accepts registers phase next None k shown has is =
     elim (cases_Bool (asks k)) [
@@ -153,7 +153,7 @@ pub record Rejects (registers : ℕ) (pending : Option Kind) (k : Kind) (fault :
   pub here : IsTrue (has_fault registers pending k fault)
   pub first : IsFalse (list_any (has_fault registers pending k) (earlier fault))
 
-pub next_phase-rejects : (registers : ℕ) (phase : Phase) (fault : Malformed) (pending : Option Kind) (k : Kind) → Shows phase pending
+pub next_phase-rejects : (registers : ℕ) (phase : Phase) (fault : Malformed) (pending : Option Kind) (k : Kind) → PhaseShows phase pending
     → lacks_register registers k ≡ false → next_phase phase k ≡ Err fault → Rejects registers pending k fault
 next_phase-rejects registers phase fault None k shown has is =
     elim (cases_Bool (asks k)) [

@@ -90,20 +90,20 @@ count_by-cons : (t : Txn) (ts : List Txn) → count_by still (t ∷ ts) ≡ flag
 count_by-cons t ts = sum_by-cons (λ u. flag (still u)) t ts
 
 -- no transaction is live exactly where each has ended
-pub none_live-from_zero : (ts : List Txn) → count_by still ts ≡ 0 → IsTrue (list_all (λ t. is_ended t.text) ts)
-none_live-from_zero [] zero_live = refl
-none_live-from_zero (t ∷ ts) zero_live =
+pub all_ended : (ts : List Txn) → count_by still ts ≡ 0 → IsTrue (list_all (λ t. is_ended t.text) ts)
+all_ended [] zero_live = refl
+all_ended (t ∷ ts) zero_live =
     let counted = count_by-cons t ts in
     elim (cases_Bool (is_ended t.text)) [
-      | inl over ↦ and_from _ _ over (none_live-from_zero ts (omega arith))
+      | inl over ↦ and_from _ _ over (all_ended ts (omega arith))
       | inr live ↦ absurd (omega (arith, ap (λ b. flag (not b)) live))
     ]
 
-pub zero-from_none_live : (ts : List Txn) → IsTrue (list_all (λ t. is_ended t.text) ts) → count_by still ts ≡ 0
-zero-from_none_live [] ended = refl
-zero-from_none_live (t ∷ ts) ended =
+pub count_by-all_ended : (ts : List Txn) → IsTrue (list_all (λ t. is_ended t.text) ts) → count_by still ts ≡ 0
+count_by-all_ended [] ended = refl
+count_by-all_ended (t ∷ ts) ended =
     let (over, rest) = and_parts (is_ended t.text) _ ended in
-    omega (arith, count_by-cons t ts, ap (λ b. flag (not b)) over, zero-from_none_live ts rest)
+    omega (arith, count_by-cons t ts, ap (λ b. flag (not b)) over, count_by-all_ended ts rest)
 
 -- how many are live
 pub live_count-add : (place : ℕ) (e : Event) (ts : List Txn)

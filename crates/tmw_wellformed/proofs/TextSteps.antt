@@ -1,37 +1,19 @@
 -- What one event more makes of a transaction's text: whether it is a text still, its pending call, and whether it has ended.
-use Rattle.std.proofs.Common.{◌≡◌, ◌&&◌, ◌-◌, ◌++◌, ℕ, Bool, true, false, not, List, suc, [], ◌∷◌, length, Option, Some, None, refl, sym, ◌∙◌, arith, length-append}
-use Rattle.std.specs.Prelude.{slice_get}
+use Rattle.std.proofs.Common.{◌≡◌, ◌&&◌, ◌-◌, ◌++◌, ℕ, Bool, true, false, not, List, [], ◌∷◌, length, Option, Some, None, refl, sym, ◌∙◌, arith, length-append}
 use Rattle.std.proofs.lemmas.Bool.{and_parts}
 use Rattle.tmw_events.specs.declared.event.Kind.{Kind}
-use Rattle.tmw_events.specs.declared.event.Kind.TheVariants.{R, V, K, C, A}
-use Rattle.tmw_defs.specs.History.{is_call, answers, ends, is_text, status_after, is_over, is_ended}
-use Rattle.tmw_wellformed.specs.Pending.{call_of}
+use Rattle.tmw_events.specs.declared.event.Kind.TheVariants.{V, K, C, A}
+use Rattle.tmw_defs.specs.History.{is_call, answers, ends, is_text, is_ended}
+use Rattle.tmw_defs.proofs.TextsProof.{slice_get_end, is_over-ends, is_ended-cons}
+use Rattle.tmw_wellformed.specs.Pending.{call_of, next_call}
 use Rattle.tmw_wellformed.specs.Faults.{asks}
-
-slice_get_end : {A : Type 0} (xs : List A) (x : A) → slice_get (xs ++ x ∷ []) (length xs) ≡ Some x
-slice_get_end [] x = refl
-slice_get_end (y ∷ xs) x = slice_get_end xs x
-
--- an event ends its transaction exactly where it is the last of an ended one
-is_over-ends : (k : Kind) → is_over (status_after (Some k)) ≡ ends k
-is_over-ends (R r) = refl
-is_over-ends _ = refl
 
 pub is_ended-push : (text : List Kind) (k : Kind) → is_ended (text ++ k ∷ []) ≡ ends k
 is_ended-push text k =
     let last : length (text ++ k ∷ []) - 1 ≡ length text = omega (arith, length-append text (k ∷ [])) in
     rw (last, slice_get_end text k) (is_over-ends k)
 
-is_ended-cons : (k j : Kind) (ks : List Kind) → is_ended (k ∷ j ∷ ks) ≡ is_ended (j ∷ ks)
-is_ended-cons k j ks =
-    let later : length (k ∷ j ∷ ks) - 1 ≡ suc (length (j ∷ ks) - 1) = omega arith in
-    rw later refl
-
 -- the pending call with one event more
-abbrev pub next_call : Option Kind → Kind → Option Kind
-next_call None k = Some k
-next_call (Some call) k = None
-
 pub call_of-push : (text : List Kind) (k : Kind) → call_of (text ++ k ∷ []) ≡ next_call (call_of text) k
 call_of-push [] k = refl
 call_of-push (c ∷ []) k = refl

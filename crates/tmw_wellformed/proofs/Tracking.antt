@@ -16,14 +16,15 @@ use Rattle.tmw_wellformed.specs.declared.phase.Phase.{Phase}
 use Rattle.tmw_wellformed.specs.declared.phase.Phase.TheVariants.{Between}
 use Rattle.tmw_wellformed.specs.declared.phases.Phases.{Phases}
 use Rattle.tmw_wellformed.specs.declared.tracker.Tracker.{Tracker}
-use Rattle.tmw_wellformed.specs.Pending.{live_of, pending_call, live_count, none_live}
+use Rattle.tmw_wellformed.specs.Pending.{live_of, pending_call, live_count}
 use Rattle.tmw_wellformed.specs.Faults.{lacks_register, Refuses}
 use Rattle.tmw_wellformed.specs.Notes.{Notes, end_of}
 use Rattle.tmw_wellformed.specs.Phase.{phase_of, is_live, next_phase}
 use Rattle.tmw_wellformed.specs.Tracks.{Tracks}
 use Rattle.tmw_wellformed.proofs.TextSteps.{goes_on, call_of-push}
-use Rattle.tmw_wellformed.proofs.HistorySteps.{flag, still, found, live_of-add_other, live_of-add_own, live_after, live_count-add, length-add, none_live-from_zero, zero-from_none_live, list_all-add}
-use Rattle.tmw_wellformed.proofs.Deciding.{IsOpen, Shows, shows, is_text-goes_on, pending_of, phase_after, Accepts, Rejects, next_phase-accepts, next_phase-rejects, rejects_lacking, is_live-phase_of, is_live-phase_after}
+use Rattle.tmw_wellformed.proofs.HistorySteps.{flag, still, found, live_of-add_other, live_of-add_own, live_after, live_count-add, length-add, all_ended, count_by-all_ended, list_all-add}
+use Rattle.tmw_wellformed.proofs.Deciding.{IsOpen, PhaseShows, shows, is_text-goes_on, pending_of, phase_after, Accepts, Rejects, next_phase-accepts, next_phase-rejects, rejects_lacking, is_live-phase_of, is_live-phase_after}
+use Rattle.tmw_defs.specs.Cuts.{is_cut}
 
 -- a thread's live transaction has a text so far
 live_is_open : (registers thread : ℕ) (history : List Event) → IsTrue (is_well_formed registers history)
@@ -80,7 +81,7 @@ phase_read registers history tracker thread tracks below =
     get_or_from_slice_get tracker.phases.by_thread thread (phase_of (live_of thread (transactions history))) Between (tracks.phases thread below)
 
 shown : (registers : ℕ) (history : List Event) (tracker : Tracker) (e : Event) → Tracks registers history tracker
-    → Shows (slice_index_or tracker.phases.by_thread e.thread.number Between) (pending_call e.thread.number history)
+    → PhaseShows (slice_index_or tracker.phases.by_thread e.thread.number Between) (pending_call e.thread.number history)
 shown registers history tracker e tracks =
     let thread = e.thread.number in
     rw (phase_read registers history tracker thread tracks e.thread.below)
@@ -193,9 +194,9 @@ refuses_next registers history e old fault tracks has is =
     (next_phase-rejects registers (slice_index_or old.phases.by_thread e.thread.number Between) fault pending e.kind
     (shown registers history old e tracks) has_it is)
 
-pub none_live-zero : (registers : ℕ) (history : List Event) (tracker : Tracker) → Tracks registers history tracker
-    → (tracker.phases.live ≡ 0) ↔ IsTrue (none_live history)
-none_live-zero registers history tracker tracks = (
-  λ none. none_live-from_zero (transactions history) (sym tracks.live ∙ none),
-  λ ended. tracks.live ∙ zero-from_none_live (transactions history) ended,
+pub is_cut-zero_live : (registers : ℕ) (history : List Event) (tracker : Tracker) → Tracks registers history tracker
+    → (tracker.phases.live ≡ 0) ↔ IsTrue (is_cut history)
+is_cut-zero_live registers history tracker tracks = (
+  λ none. all_ended (transactions history) (sym tracks.live ∙ none),
+  λ ended. tracks.live ∙ count_by-all_ended (transactions history) ended,
 )

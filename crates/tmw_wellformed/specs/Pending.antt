@@ -1,6 +1,6 @@
 -- A thread's live transaction and its pending call, in a history.
-use Rattle.std.specs.Prelude.{◌==◌, ◌&&◌, ℕ, Bool, not, List, [], ◌∷◌, count_by, Option, Some, None, option_and_then}
-use Rattle.std.specs.List.{find, list_all}
+use Rattle.std.specs.Prelude.{◌==◌, ◌&&◌, ℕ, not, List, [], ◌∷◌, count_by, Option, Some, None, option_and_then}
+use Rattle.std.specs.List.{find}
 use Rattle.tmw_events.specs.declared.event.Event.{Event}
 use Rattle.tmw_events.specs.declared.event.Kind.{Kind}
 use Rattle.tmw_defs.specs.History.{Txn, is_ended, transactions}
@@ -11,6 +11,11 @@ call_of [] = None
 call_of (call ∷ []) = Some call
 call_of (call ∷ answer ∷ more) = call_of more
 
+-- The call that has no answer after an event more.
+abbrev pub next_call : Option Kind → Kind → Option Kind
+next_call None kind = Some kind
+next_call (Some call) kind = None
+
 -- The thread's live transaction, the one that has not ended: all its transactions but the last have.
 abbrev pub live_of : ℕ → List Txn → Option Txn
 live_of thread ts = find (λ t. (t.thread == thread) && not (is_ended t.text)) ts
@@ -19,9 +24,6 @@ live_of thread ts = find (λ t. (t.thread == thread) && not (is_ended t.text)) t
 abbrev pub pending_call : ℕ → List Event → Option Kind
 pending_call thread history = option_and_then (λ t. call_of t.text) (live_of thread (transactions history))
 
--- How many transactions are live, and whether each has ended.
+-- How many transactions are live.
 abbrev pub live_count : List Event → ℕ
 live_count history = count_by (λ t. not (is_ended t.text)) (transactions history)
-
-abbrev pub none_live : List Event → Bool
-none_live history = list_all (λ t. is_ended t.text) (transactions history)

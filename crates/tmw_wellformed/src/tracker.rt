@@ -1,6 +1,7 @@
 ghost use Rattle.std.specs.Prelude.{◌≡◌, ℕ, List, [], ◌∷◌, ◌++◌, ◌↔◌, IfOk, IfErr, OnErr, IsTrue};
 ghost use Rattle.tmw_events.specs.declared.event.Event.{Event};
-ghost use Rattle.tmw_wellformed.specs.Pending.{live_count, none_live};
+ghost use Rattle.tmw_defs.specs.Cuts.{is_cut};
+ghost use Rattle.tmw_wellformed.specs.Pending.{live_count};
 ghost use Rattle.tmw_wellformed.specs.Notes.{Notes};
 ghost use Rattle.tmw_wellformed.specs.Faults.{lacks_register, Refuses};
 ghost use Rattle.tmw_wellformed.specs.Tracks.{Tracks};
@@ -58,7 +59,7 @@ impl Tracker {
         ensures count { (registers : ℕ) (history : List Event) → Tracks registers history self.now
             → result ≡ live_count history }
         ensures none { (registers : ℕ) (history : List Event) → Tracks registers history self.now
-            → (result ≡ 0) ↔ IsTrue (none_live history) }
+            → (result ≡ 0) ↔ IsTrue (is_cut history) }
     {
         self.phases.live
     }

@@ -1,9 +1,5 @@
-ghost use Rattle.std.specs.Prelude.{◌≡◌, IfOk, IfSome};
-ghost use Rattle.tmw_cuts.specs.Standing.{StandsFor};
-
 use super::*;
 use std::test::Fail;
-use tmw_wellformed::Tracker;
 
 const FIRST: Ix = Ix { number: 0 };
 
@@ -11,59 +7,26 @@ const SECOND: Ix = Ix { number: 1 };
 
 const ONE: Registers = Registers { number: 1 };
 
-/// The window of these events, where they are a well-formed history of at most eight transactions.
-fn window_of(alloc: Global, events: &[Event]) -> Result<Option<Window>, AllocError>
-    ensures { IfOk result (λ found. IfSome found (λ window. StandsFor window events.now)) }
-{
-    let mut tracker = Tracker::new(ONE);
-    let mut window = Window::open(alloc, ONE);
-    for event in events {
-        let Ok(note) = tracker.step(*event) else {
-            return Ok(None);
-        };
-        if note.begins && window.count() == 8 {
-            return Ok(None);
-        }
-        window.push(*event, note)?;
+/// Adds this event: of a new transaction where the thread has none open.
+fn push(window: &mut Window, thread: Ix, kind: Kind) -> Result<(), AllocError> {
+    let begins = open_transaction(&window.txns, thread).is_none();
+    if window.count() < 8 {
+        window.push(Event { thread, kind }, Note { begins, ends: None })?;
     }
-    Ok(Some(window))
+    Ok(())
 }
 
-// The first writes 1 and the second 2, both at once.
-const WRITERS: [Event; 8] = [
-    Event {
-        thread: FIRST,
-        kind: Kind::W(FIRST, 1),
-    },
-    Event {
-        thread: SECOND,
-        kind: Kind::W(FIRST, 2),
-    },
-    Event {
-        thread: FIRST,
-        kind: Kind::K,
-    },
-    Event {
-        thread: SECOND,
-        kind: Kind::K,
-    },
-    Event {
-        thread: FIRST,
-        kind: Kind::T,
-    },
-    Event {
-        thread: SECOND,
-        kind: Kind::T,
-    },
-    Event {
-        thread: FIRST,
-        kind: Kind::C,
-    },
-    Event {
-        thread: SECOND,
-        kind: Kind::C,
-    },
-];
+/// The window in which the first writes 1 and the second 2, both at once.
+fn window_of_writers(alloc: Global) -> Result<Window, AllocError> {
+    let mut window = Window::open(alloc, ONE);
+    push(&mut window, FIRST, Kind::W(FIRST, 1))?;
+    push(&mut window, SECOND, Kind::W(FIRST, 2))?;
+    for kind in [Kind::K, Kind::T, Kind::C] {
+        push(&mut window, FIRST, kind)?;
+        push(&mut window, SECOND, kind)?;
+    }
+    Ok(window)
+}
 
 /// The status of each transaction, and its mask.
 fn shown(alloc: Global, window: &Window) -> Result<Vec<(Status, u8)>, AllocError> {
@@ -85,7 +48,7 @@ fn ops_of(alloc: Global, window: &Window) -> Result<Vec<Op>, AllocError> {
 
 #[test]
 fn overlapping_writers_are_a_cut(rt: HostRuntime) -> Result<(), Fail> {
-    let window = window_of(rt.alloc(), &WRITERS)?.expect(&rt, "well-formed");
+    let window = window_of_writers(rt.alloc())?;
     assert_eq!(rt; window.count(), 2);
     assert!(rt; window.is_cut());
     assert_eq!(rt;
@@ -101,14 +64,10 @@ fn overlapping_writers_are_a_cut(rt: HostRuntime) -> Result<(), Fail> {
 
 #[test]
 fn one_more_begins_after_both(rt: HostRuntime) -> Result<(), Fail> {
-    let mut events = WRITERS.to_vec(rt.alloc())?;
+    let mut window = window_of_writers(rt.alloc())?;
     for kind in [Kind::R(FIRST), Kind::V(2), Kind::T] {
-        events.push(Event {
-            thread: FIRST,
-            kind,
-        })?;
+        push(&mut window, FIRST, kind)?;
     }
-    let window = window_of(rt.alloc(), &events)?.expect(&rt, "well-formed");
     let copy = window.copy()?;
     assert_eq!(rt; copy.count(), 3);
     assert!(rt; !copy.is_cut());

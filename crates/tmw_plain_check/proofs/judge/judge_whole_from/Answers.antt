@@ -1,14 +1,14 @@
 -- A fault of the first prefix that has one is the answer.
 use Rattle.std.proofs.Common.{◌+◌, ◌∙◌, sym, arith}
 use Rattle.std.proofs.lemmas.Result.{err_from_is_err_and}
-use Rattle.tmw_plain_check.proofs.Stepping.{tracks-next, ill_formed-next}
-use Rattle.tmw_plain_check.proofs.Weighing.{fine_below_one, fine_below_more, judges_ill_formed, judges_weighed, judges_violated}
+use Rattle.tmw_plain_check.proofs.TrackerSteps.{tracks-next, ill_formed-next}
+use Rattle.tmw_plain_check.proofs.Weighing.{faultless_below_one, faultless_below_more, judges_ill_formed, judges_weighed, judges_violated}
 use Rattle.tmw_plain_check.proofs.judge.judge_whole_from.Goals as goal
 
 pub loop-place-init : goal.loop-place-init
 loop-place-init c = record {
   tracks = c.new-tracker.ensures;
-  fine = fine_below_one c.args.registers.number c.args.start.now c.args.events.now;
+  fine = faultless_below_one c.args.registers.number c.args.start.now c.args.events.now;
 }
 
 pub loop-place-preserved : goal.loop-place-preserved
@@ -20,7 +20,7 @@ loop-place-preserved c =
     record {
       tracks = tracks;
       fine =
-          fine_below_more c.args.registers.number c.args.start.now c.args.events.now (c.loop-place.place + 1) c.loop-place.invariant.fine
+          faultless_below_more c.args.registers.number c.args.start.now c.args.events.now (c.loop-place.place + 1) c.loop-place.invariant.fine
           tracks.formed (rw c.if-not-branch.false at c.in_ok-has_legal_order.ensures);
     }
 

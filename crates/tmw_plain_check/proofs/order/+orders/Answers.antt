@@ -3,8 +3,8 @@ use Rattle.std.proofs.Common.{◌≡◌, sym, ◌∙◌, length, arith, refl}
 use Rattle.std.specs.Prelude.{slice_get, Some}
 use Rattle.std.proofs.lemmas.List.{length-map}
 use Rattle.std.proofs.lemmas.Option.{slice_get_read}
-use Rattle.tmw_plain_check.specs.Shown.{txn_of, shown}
-use Rattle.tmw_plain_check.proofs.Steps.{shown_at, explained_found, explained_none, may_come-whole}
+use Rattle.tmw_plain_check.specs.TransactionViews.{txn_of, shown}
+use Rattle.tmw_plain_check.proofs.OrderSteps.{shown_at, explained_found, explained_none, may_come-whole}
 use Rattle.tmw_plain_check.proofs.order.+orders.Goals as goal
 
 pub has_order-returns-then-branch : goal.has_order-returns-then-branch

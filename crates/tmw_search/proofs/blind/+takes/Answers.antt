@@ -1,7 +1,11 @@
 use Rattle.std.proofs.Common.{◌-◌, ◌<◌, map, sym, ap, ◌∙◌, length, arith}
 use Rattle.std.proofs.lemmas.List.{length-map}
 use Rattle.tmw_cuts.specs.Views.{view}
-use Rattle.tmw_search.proofs.TakingLast.{adds-leaf, shown_at, shift_is, taken-one, absorbed-ends, may-last, not_last, below-next, below-skip, below-stopped, below-all}
+use Rattle.tmw_search.proofs.AddedEnds.{adds-leaf, taken-one, absorbed-ends}
+use Rattle.tmw_search.proofs.WindowViews.{shown_at}
+use Rattle.tmw_search.proofs.MaskBits.{shift_is}
+use Rattle.tmw_search.proofs.LastOfMask.{may-last, not_last}
+use Rattle.tmw_search.proofs.AddedBelow.{below-next, below-skip, below-stopped, below-all}
 use Rattle.tmw_search.proofs.WindowLayers.{if_ok}
 use Rattle.tmw_search.proofs.blind.+takes.Goals.{take_each-then-is_last+in_ok-take_one+else-not-branch, take_each-else-is_last}
 use Rattle.tmw_search.proofs.blind.+takes.Goals as goal

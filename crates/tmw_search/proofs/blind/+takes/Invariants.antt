@@ -2,7 +2,7 @@
 use Rattle.std.proofs.Common.{◌+◌, ◌*◌, map}
 use Rattle.tmw_cuts.specs.Members.{members}
 use Rattle.tmw_cuts.specs.Views.{view}
-use Rattle.tmw_search.proofs.TakingLast.{AddsBelow}
+use Rattle.tmw_search.proofs.AddedBelow.{AddsBelow}
 use Rattle.tmw_search.proofs.blind.+takes.Given as goal
 
 abbrev pub decreases-take_all : goal.decreases-take_all

@@ -1,5 +1,5 @@
 use Rattle.std.proofs.Common.{arith}
-use Rattle.tmw_search.proofs.TakingLast.{one_more}
+use Rattle.tmw_search.proofs.MaskBits.{one_more}
 use Rattle.tmw_search.proofs.blind.all_of.Goals as goal
 
 pub loop-place-preserved : goal.loop-place-preserved

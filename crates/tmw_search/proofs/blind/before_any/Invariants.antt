@@ -1,6 +1,6 @@
 use Rattle.std.proofs.Common.{◌≡◌, drop, map}
 use Rattle.tmw_cuts.specs.Views.{view}
-use Rattle.tmw_search.specs.Blind.{before_from}
+use Rattle.tmw_search.specs.BlindEnds.{before_from}
 use Rattle.tmw_search.proofs.blind.before_any.Given as goal
 
 abbrev pub invariant-loop-place : goal.invariant-loop-place

@@ -1,5 +1,5 @@
 use Rattle.std.proofs.Common.{◌≡◌, drop}
-use Rattle.tmw_search.specs.Blind.{covers_from}
+use Rattle.tmw_search.specs.BlindEnds.{covers_from}
 use Rattle.tmw_search.proofs.blind.covers.Given as goal
 
 abbrev pub invariant-loop-register : goal.invariant-loop-register

@@ -1,7 +1,8 @@
 use Rattle.std.proofs.Common.{map, sym, ◌∙◌, arith}
 use Rattle.std.proofs.lemmas.List.{length-map}
 use Rattle.tmw_cuts.specs.Views.{view}
-use Rattle.tmw_search.proofs.TakingLast.{may-last, shown_at}
+use Rattle.tmw_search.proofs.LastOfMask.{may-last}
+use Rattle.tmw_search.proofs.WindowViews.{shown_at}
 use Rattle.tmw_search.proofs.blind.find_absorbed.Goals as goal
 
 pub returns-then-fixes_none : goal.returns-then-fixes_none

@@ -1,7 +1,7 @@
 use Rattle.std.proofs.Common.{map, sym, length}
 use Rattle.std.proofs.lemmas.List.{length-map}
 use Rattle.tmw_cuts.specs.Views.{view}
-use Rattle.tmw_search.proofs.TakingLast.{blind-many, blind-few}
+use Rattle.tmw_search.proofs.BlindEnds.{blind-many, blind-few}
 use Rattle.tmw_search.proofs.blind.find_blind_ends.Goals as goal
 
 pub returns-then-len-cap : goal.returns-then-len-cap

@@ -1,5 +1,5 @@
 use Rattle.std.proofs.Common.{sym}
-use Rattle.tmw_search.proofs.TakingLast.{puts-next, puts-one}
+use Rattle.tmw_search.proofs.AddedPuts.{puts-next, puts-one}
 use Rattle.tmw_search.proofs.blind.insert_all.Goals as goal
 
 pub returns-then-covers : goal.returns-then-covers

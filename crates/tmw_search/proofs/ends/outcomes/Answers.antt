@@ -2,10 +2,10 @@ use Rattle.std.proofs.Common.{◌+◌, drop, map, sym, ◌∙◌, arith}
 use Rattle.std.proofs.lemmas.List.{drop_all}
 use Rattle.std.proofs.lemmas.List.Folds.{list_all-map}
 use Rattle.tmw_cuts.specs.Views.{view}
-use Rattle.tmw_search.specs.Blind.{shows_blind}
+use Rattle.tmw_search.specs.BlindEnds.{shows_blind}
 use Rattle.tmw_search.proofs.ForcedEnds.{forced-ends}
 use Rattle.tmw_search.proofs.Gathering.{gathers-none, gathers-next, gathered-more, gathered-few}
-use Rattle.tmw_search.proofs.TakingLast.{blind-ends}
+use Rattle.tmw_search.proofs.BlindEnds.{blind-ends}
 use Rattle.tmw_search.proofs.ends.outcomes.Goals as goal
 
 pub returns-in-Some : goal.returns-in-Some

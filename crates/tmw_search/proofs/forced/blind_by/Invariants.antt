@@ -1,5 +1,5 @@
 use Rattle.std.proofs.Common.{◌≡◌, drop}
-use Rattle.tmw_search.specs.Forced.{blind_by}
+use Rattle.tmw_search.specs.ForcedEnds.{blind_by}
 use Rattle.tmw_search.proofs.forced.blind_by.Given as goal
 
 abbrev pub invariant-loop-op : goal.invariant-loop-op

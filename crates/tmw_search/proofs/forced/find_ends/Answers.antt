@@ -24,3 +24,7 @@ returns c =
     found-few (map view c.args.items.now) c.args.cap c.loop-state.ends (drop c.loop-state.state-index c.args.states.now)
     c.args.states.now c.loop-state.invariant.0
     (drop_all c.loop-state.state-index c.args.states.now (omega (arith, c.loop-state-test.false))) c.loop-state.invariant.1
+
+-- no end was found from a state: nothing is answered
+pub returns-in_default : goal.returns-in_default
+returns-in_default c = tt

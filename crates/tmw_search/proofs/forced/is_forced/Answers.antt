@@ -1,7 +1,7 @@
 use Rattle.std.proofs.Common.{map, sym, ◌∙◌}
 use Rattle.std.proofs.lemmas.List.Folds.{list_all-map}
 use Rattle.tmw_cuts.specs.Views.{view}
-use Rattle.tmw_search.specs.Forced.{is_without_blind}
+use Rattle.tmw_search.specs.ForcedEnds.{is_without_blind}
 use Rattle.tmw_search.proofs.Forcing.{none-shared, none-shared-blindly}
 use Rattle.tmw_search.proofs.forced.is_forced.Goals as goal
 

@@ -1,6 +1,6 @@
 use Rattle.std.proofs.Common.{◌≡◌, drop, map}
 use Rattle.tmw_cuts.specs.Views.{view}
-use Rattle.tmw_search.specs.Forced.{shared_by}
+use Rattle.tmw_search.specs.ForcedEnds.{shared_by}
 use Rattle.tmw_search.proofs.forced.shared_by.Given as goal
 
 abbrev pub invariant-loop-item : goal.invariant-loop-item

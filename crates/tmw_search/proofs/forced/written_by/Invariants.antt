@@ -1,5 +1,5 @@
 use Rattle.std.proofs.Common.{◌≡◌, drop}
-use Rattle.tmw_search.specs.Forced.{written_by}
+use Rattle.tmw_search.specs.ForcedEnds.{written_by}
 use Rattle.tmw_search.proofs.forced.written_by.Given as goal
 
 abbrev pub invariant-loop-op : goal.invariant-loop-op

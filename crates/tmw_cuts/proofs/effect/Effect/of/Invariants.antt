@@ -1,7 +1,7 @@
 -- The effect is that of the operations behind.
 use Rattle.std.proofs.Common.{take}
-use Rattle.tmw_cuts.specs.Effects.{SumsUp}
+use Rattle.tmw_cuts.specs.Effects.{IsEffectOf}
 use Rattle.tmw_cuts.proofs.effect.Effect.of.Given as goal
 
 abbrev pub invariant-loop-op : goal.invariant-loop-op
-invariant-loop-op l = SumsUp l.effect (take l.op-index l.ops)
+invariant-loop-op l = IsEffectOf l.effect (take l.op-index l.ops)

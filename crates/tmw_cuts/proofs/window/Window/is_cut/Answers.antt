@@ -1,4 +1,4 @@
--- None is live where each that is shown has completed.
+-- Each transaction is over where each that is shown is.
 use Rattle.std.proofs.Common.{sym, ap, ◌∙◌}
 use Rattle.std.specs.List.{list_all}
 use Rattle.std.proofs.lemmas.List.Folds.{list_all-map}
@@ -9,6 +9,6 @@ use Rattle.tmw_cuts.proofs.window.Window.is_cut.Goals as goal
 
 pub returns : goal.returns
 returns c events stands =
-    rw c.deref.ensures.value at c.none_live.ensures
+    rw c.deref.ensures.value at c.are_over.ensures
     ∙ sym (list_all-map (λ v. is_over v.status) view c.args.self.now.txns.items)
     ∙ ap (list_all (λ v. is_over v.status)) stands.shows ∙ is_cut-views events

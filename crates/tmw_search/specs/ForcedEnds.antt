@@ -4,14 +4,14 @@ use Rattle.std.specs.Int.{bit_at}
 use Rattle.std.specs.List.{Contains, list_all, count_by}
 use Rattle.tmw_defs.specs.declared.op.Op.{Op}
 use Rattle.tmw_defs.specs.declared.op.Op.TheVariants.{Read, Write, Add}
-use Rattle.tmw_search.specs.ForcedEnd.{is_committed, writes, writes_blindly, IsForced}
+use Rattle.tmw_search.specs.ForcedTransactions.{is_committed, writes, writes_blindly, IsForced}
 use Rattle.tmw_defs.specs.History.{Txn, is_ended}
 use Rattle.tmw_defs.specs.Opaque.{State}
 use Rattle.tmw_defs.specs.Outcomes.{Ends}
 use Rattle.tmw_cuts.specs.Views.{View}
 use Rattle.tmw_search.specs.declared.end_states.EndStates.{EndStates}
 use Rattle.tmw_search.specs.Ended.{AreMembers}
-use Rattle.tmw_search.specs.Shows.{Shows}
+use Rattle.tmw_search.specs.ShownTransactions.{ShowsTransactions}
 
 abbrev pub with_bit : ℕ → ℕ → ℕ
 with_bit mask r = bit_or mask (1 * 2 ^ r % 2 ^ 8)
@@ -50,5 +50,5 @@ AreForced xs = (r : ℕ) → (count_by (λ x. is_committed x.status && writes r 
 
 -- Whatever transactions the list shows, where they have ended and the end state is forced, these are their end states.
 abbrev pub AreForcedEnds : List View → List State → ℕ → EndStates → Type 0
-AreForcedEnds xs states cap ends = (ts : List Txn) → Shows xs ts → IsForced ts → IsTrue (list_all (λ t. is_ended t.text) ts)
+AreForcedEnds xs states cap ends = (ts : List Txn) → ShowsTransactions xs ts → IsForced ts → IsTrue (list_all (λ t. is_ended t.text) ts)
     → AreMembers cap (Ends (Contains states) ts) ends

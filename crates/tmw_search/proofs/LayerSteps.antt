@@ -1,5 +1,5 @@
 -- What is made of a pair is just what one step makes of it.
-use Rattle.std.proofs.Common.{◌≡◌, ◌&&◌, ◌⊎◌, ◌+◌, ◌*◌, ◌%◌, ◌^◌, ◌<◌, ◌≤◌, ℕ, zero, suc, Bool, true, false, List, [], ◌∷◌, length, Some, IsTrue, bit_or, refl, sym, ap, subst, ◌∙◌, inl, inr, arith}
+use Rattle.std.proofs.Common.{◌≡◌, ◌&&◌, ◌+◌, ◌*◌, ◌%◌, ◌^◌, ◌<◌, ◌≤◌, ℕ, zero, suc, Bool, true, false, List, [], ◌∷◌, length, Some, IsTrue, bit_or, refl, sym, ap, subst, ◌∙◌, inl, inr, arith}
 use Rattle.std.specs.Int.{bit_at}
 use Rattle.std.specs.List.{Contains}
 use Rattle.std.specs.Prelude.{slice_get, if◌then◌else◌}
@@ -14,23 +14,11 @@ use Rattle.tmw_search.specs.Layers.{IsStep}
 use Rattle.tmw_defs.specs.Opaque.{State, precedes, may_hold, reads_hold, after, after_writes}
 use Rattle.tmw_cuts.specs.Views.{View}
 use Rattle.tmw_search.specs.Nexts.{is_next, ways, next_at, nexts_from}
-use Rattle.tmw_search.specs.Shows.{ShowsOne, Shows}
+use Rattle.tmw_search.specs.ShownTransactions.{ShowsTransaction, ShowsTransactions}
 use Rattle.tmw_search.proofs.LayersProof.{same_place}
-use Rattle.tmw_search.proofs.FreeNext.{mask-set, next_free, free-next}
-
--- members of a list by its first element
-pub contains_here : {X : Type 0} (x : X) (xs : List X) → Contains (x ∷ xs) x
-contains_here x xs = (0, omega arith, refl)
-
-pub contains_later : {X : Type 0} (x y : X) (xs : List X) → Contains xs y → Contains (x ∷ xs) y
-contains_later x y xs has = Contains-append_right (x ∷ []) xs y has
-
-pub contains_cases : {X : Type 0} (x y : X) (xs : List X) → Contains (x ∷ xs) y → (x ≡ y) ⊎ Contains xs y
-contains_cases x y xs (zero, within, is) = inl is
-contains_cases x y xs (suc k, within, is) = inr (k, omega arith, is)
-
-pub contains_none : {X : Type 0} (y : X) → Contains [] y → ⊥
-contains_none y (k, within, is) = absurd (omega arith)
+use Rattle.tmw_search.proofs.MaskBits.{mask-set}
+use Rattle.tmw_search.proofs.FreeNext.{next_free, free-next}
+use Rattle.tmw_cuts.proofs.FirstMembers.{contains_here, contains_later, contains_cases, contains_none}
 
 -- a way to place a transaction: held where the completion may hold it, or left out
 pub record IsWay (status : Status) (above : ℕ) (held left_out : State) (p : ℕ × State) : Type 0 where
@@ -147,7 +135,7 @@ after-way : (r : State) (x : View) (t : Txn) (by : Bool) → x.ops ≡ operation
 after-way r x t true ops = ap (after_writes r) ops
 after-way r x t false ops = refl
 
-pub step-made_at : (ts : List Txn) (x : View) (t : Txn) (place mask above : ℕ) (r u : State) → ShowsOne ts x t → slice_get ts place ≡ Some t
+pub step-made_at : (ts : List Txn) (x : View) (t : Txn) (place mask above : ℕ) (r u : State) → ShowsTransaction ts x t → slice_get ts place ≡ Some t
     → length ts ≤ 8 → mask < 2 ^ length ts → IsMade x place (mask, r) (above, u) → IsStep ts mask r above u
 step-made_at ts x t place mask above r u one at few fits made =
     let free = next_free ts x t place mask few one (eight_bits mask (length ts) few fits) (eight_bits x.before (length ts) few one.fits)
@@ -165,7 +153,7 @@ step-made_at ts x t place mask above r u one at few fits made =
     }
 
 -- what is made of a pair is a step from it
-pub step_of : (xs : List View) (ts : List Txn) (mask above : ℕ) (r u : State) → Shows xs ts → length ts ≤ 8 → mask < 2 ^ length ts
+pub step_of : (xs : List View) (ts : List Txn) (mask above : ℕ) (r u : State) → ShowsTransactions xs ts → length ts ≤ 8 → mask < 2 ^ length ts
     → Contains (nexts_from 0 xs (mask, r)) (above, u) → IsStep ts mask r above u
 step_of xs ts mask above r u shows few fits has =
     let c = comes_from 0 xs (mask, r) (above, u) has in
@@ -175,7 +163,7 @@ step_of xs ts mask above r u shows few fits has =
     step-made_at ts c.shown there.0 c.place mask above r u (shows.each c.place c.shown there.0 c.at there.1) there.1 few fits
     (made_of c.shown c.place (mask, r) (above, u) (rw same at c.made))
 
-step-in : (ts : List Txn) (x : View) (mask above : ℕ) (r u : State) (s : IsStep ts mask r above u) → ShowsOne ts x s.placed.txn
+step-in : (ts : List Txn) (x : View) (mask above : ℕ) (r u : State) (s : IsStep ts mask r above u) → ShowsTransaction ts x s.placed.txn
     → length ts ≤ 8 → mask < 2 ^ length ts → ((i : ℕ) (t : Txn) → slice_get ts i ≡ Some t → precedes t t ≡ false)
     → Contains (next_at x s.place (mask, r)) (above, u)
 step-in ts x mask above r u s one few fits none_self =
@@ -198,7 +186,7 @@ step-in ts x mask above r u s one few fits none_self =
     subst (λ (z : State). Contains (next_at x s.place (mask, r)) (above, z)) state_is one_is
 
 -- and each step from it is made
-pub step-made : (xs : List View) (ts : List Txn) (mask above : ℕ) (r u : State) → Shows xs ts → length ts ≤ 8 → mask < 2 ^ length ts
+pub step-made : (xs : List View) (ts : List Txn) (mask above : ℕ) (r u : State) → ShowsTransactions xs ts → length ts ≤ 8 → mask < 2 ^ length ts
     → ((i : ℕ) (t : Txn) → slice_get ts i ≡ Some t → precedes t t ≡ false) → IsStep ts mask r above u
     → Contains (nexts_from 0 xs (mask, r)) (above, u)
 step-made xs ts mask above r u shows few fits none_self s =

@@ -5,7 +5,7 @@ use Rattle.std.specs.List.{Contains, list_all}
 use Rattle.tmw_defs.specs.declared.op.Op.{Op}
 use Rattle.tmw_defs.specs.declared.op.Op.TheVariants.{Read, Write, Add}
 use Rattle.tmw_search.specs.BlindTransactions.{is_write, is_blind, put_from, fix_from, fixed_by, EndsBefore}
-use Rattle.tmw_search.specs.ForcedEnd.{is_committed}
+use Rattle.tmw_search.specs.ForcedTransactions.{is_committed}
 use Rattle.tmw_defs.specs.History.{Txn, is_over}
 use Rattle.tmw_search.specs.Layers.{LeavesNone}
 use Rattle.tmw_defs.specs.Opaque.{State}
@@ -13,7 +13,7 @@ use Rattle.tmw_defs.specs.Outcomes.{Ends}
 use Rattle.tmw_cuts.specs.Views.{View}
 use Rattle.tmw_search.specs.declared.end_states.EndStates.{EndStates}
 use Rattle.tmw_search.specs.Ended.{AreMembers}
-use Rattle.tmw_search.specs.Shows.{Shows, NoneBeforeItself}
+use Rattle.tmw_search.specs.ShownTransactions.{ShowsTransactions, NoneBeforeItself}
 
 abbrev pub shows_blind : View → Bool
 shows_blind x = is_over x.status && list_all is_write x.ops
@@ -53,7 +53,7 @@ pub record Adds (done : Bool) (old new : List State) (P : State → Type 0) : Ty
 
 -- The list shows these transactions, which are blind, and the mask leaves none that precedes one of its own.
 pub record IsPast (xs : List View) (ts : List Txn) (above : ℕ) : Type 0 where
-  pub shows : Shows xs ts
+  pub shows : ShowsTransactions xs ts
   pub self : NoneBeforeItself ts
   pub blind : IsTrue (list_all is_blind ts)
   pub fits : above < 2 ^ length ts
@@ -81,7 +81,7 @@ pub record MayBeLast (xs : List View) (above place : ℕ) : Type 0 where
 
 -- Whatever blind transactions the list shows, these are their end states.
 abbrev pub AreBlindEnds : List View → List State → ℕ → EndStates → Type 0
-AreBlindEnds xs states cap ends = (ts : List Txn) → Shows xs ts → NoneBeforeItself ts → IsTrue (list_all is_blind ts)
+AreBlindEnds xs states cap ends = (ts : List Txn) → ShowsTransactions xs ts → NoneBeforeItself ts → IsTrue (list_all is_blind ts)
     → AreMembers cap (Ends (Contains states) ts) ends
 
 -- It may be the last, and writes no register that isn't fixed.
