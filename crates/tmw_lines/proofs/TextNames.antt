@@ -2,7 +2,7 @@
 use Rattle.std.proofs.Common.{◌≡◌, ℕ, List, [], ◌∷◌, ◌++◌, length, drop, refl, sym, ap, ◌∙◌, length-append, append_assoc, arith}
 use Rattle.std.specs.List.{AllByRecursion}
 use Rattle.std.proofs.lemmas.List.Elements.{recursion_from_All}
-use Rattle.tmw_lines.specs.Grammar.{Grammar, items_text, lines_text, AreLines}
+use Rattle.tmw_lines.specs.Grammar.{Grammar, IsNaming, items_text, lines_text, AreLines}
 use Rattle.tmw_lines.specs.Parts.{IsFree}
 use Rattle.tmw_lines.specs.Text.{line}
 use Rattle.tmw_lines.proofs.Splits.{split_free}
@@ -13,15 +13,6 @@ line-injective xs us ys vs a b is =
     let e = sym (append_assoc xs (10 ∷ []) ys) ∙ is ∙ append_assoc us (10 ∷ []) vs in
     let parts = split_free 10 xs us (10 ∷ ys) (10 ∷ vs) a b refl refl e in
     (parts.0, ap (λ zs. drop 1 zs) parts.1)
-
--- no text of a header or an item has a line feed, and each names what it is the text of
-pub record IsNaming {F H E : Type 0} (grammar : Grammar F H E) : Type 0 where
-  pub free_header : (header : H) → grammar.FitsHeader header → IsFree 10 (grammar.header_text header)
-  pub free_item : (format : F) (item : E) → grammar.FitsItem format item → IsFree 10 (grammar.item_text item)
-  pub one_header : (a b : H) → grammar.FitsHeader a → grammar.FitsHeader b → grammar.header_text a ≡ grammar.header_text b
-      → a ≡ b
-  pub one_item : (format : F) (d e : E) → grammar.FitsItem format d → grammar.FitsItem format e
-      → grammar.item_text d ≡ grammar.item_text e → d ≡ e
 
 module _ {F H E : Type 0} (grammar : Grammar F H E) where
   -- an item's line is some bytes

@@ -1,6 +1,7 @@
 -- The lines of a text: a header's line first, and then a line for each item.
 use Rattle.std.specs.Prelude.{◌≡◌, ℕ, List, ◌++◌, All}
 use Rattle.std.specs.List.{flat_map}
+use Rattle.tmw_lines.specs.Parts.{IsFree}
 use Rattle.tmw_lines.specs.Text.{line}
 
 -- the texts of headers and items, without their line feeds, and which of them a text may have: the header tells the
@@ -11,6 +12,15 @@ pub record Grammar (Format Header Item : Type 0) : Type 1 where
   pub FitsHeader : Header → Type 0
   pub FitsItem : Format → Item → Type 0
   pub format_of : Header → Format
+
+-- no text of a header or an item has a line feed, and each names what it is the text of
+pub record IsNaming {F H E : Type 0} (grammar : Grammar F H E) : Type 0 where
+  pub free_header : (header : H) → grammar.FitsHeader header → IsFree 10 (grammar.header_text header)
+  pub free_item : (format : F) (item : E) → grammar.FitsItem format item → IsFree 10 (grammar.item_text item)
+  pub one_header : (a b : H) → grammar.FitsHeader a → grammar.FitsHeader b → grammar.header_text a ≡ grammar.header_text b
+      → a ≡ b
+  pub one_item : (format : F) (d e : E) → grammar.FitsItem format d → grammar.FitsItem format e
+      → grammar.item_text d ≡ grammar.item_text e → d ≡ e
 
 -- a line for each item
 abbrev pub items_text : {F H E : Type 0} → Grammar F H E → List E → List ℕ

@@ -1,5 +1,5 @@
 ghost use Rattle.std.specs.Prelude.{◌≡◌, ℕ, ◌≤◌, List, length, IfSome, IfNone};
-ghost use Rattle.tmw_lines.specs.Grammar.{Grammar, IsNoHeader, IsNoItem};
+ghost use Rattle.tmw_lines.specs.Grammar.{Grammar, IsNaming, IsNoHeader, IsNoItem};
 
 /// What the lines of a text tell: the first a header, and each other an item. A value is the format of the lines behind a
 /// header, and says which items these may be.
@@ -31,6 +31,8 @@ pub trait LineFormat: Copy {
         ensures fits { IfSome result (grammar.FitsItem self) }
         ensures none { IfNone result (IsNoItem grammar self bytes.now) };
 
+    /// No text of a header or an item has a line feed, and each names what it is the text of.
+    ghost naming: { IsNaming grammar };
     /// A header's line is shorter than what can be held.
     ghost long_header: { (text : List ℕ) → 4096 ≤ length text → IsNoHeader grammar text };
     /// An item's line is shorter than what can be held.

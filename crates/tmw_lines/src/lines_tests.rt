@@ -1,6 +1,7 @@
 //! Lines of a format of one letter a line: that generic reading serves it, in any pieces, and answers each fault.
-ghost use Rattle.std.specs.Prelude.{◌≡◌, ◌≤◌, [], ◌∷◌};
-ghost use Rattle.std.proofs.Common.{rules};
+ghost use Rattle.std.specs.Prelude.{◌≡◌, ◌≤◌, ◌==◌, false, refl, [], ◌∷◌};
+ghost use Rattle.std.proofs.Common.{rules, arith};
+ghost use Rattle.std.proofs.lemmas.Bool.Decides.{nat_tests};
 ghost use Rattle.tmw_lines.specs.Grammar.{Grammar};
 
 use crate::{LineFormat, Lines, TextFault, read_lines};
@@ -21,8 +22,8 @@ impl LineFormat for UpTo {
     ghost grammar = { record {
       header_text = λ letter. letter ∷ [];
       item_text = λ letter. letter ∷ [];
-      FitsHeader = λ letter. letter ≤ 122;
-      FitsItem = λ most letter. letter ≤ most.0;
+      FitsHeader = λ letter. (97 ≤ letter) × (letter ≤ 122);
+      FitsItem = λ most letter. (97 ≤ letter) × (letter ≤ most.0);
       format_of = λ letter. record { 0 = letter };
     } };
 
@@ -32,17 +33,24 @@ impl LineFormat for UpTo {
 
     fn header_of(bytes: &[u8]) -> Option<u8> {
         match bytes {
-            [letter] if *letter <= b'z' => Some(*letter),
+            [letter] if b'a' <= *letter && *letter <= b'z' => Some(*letter),
             _ => None,
         }
     }
 
     fn item_of(self, bytes: &[u8]) -> Option<u8> {
         match bytes {
-            [letter] if *letter <= self.0 => Some(*letter),
+            [letter] if b'a' <= *letter && *letter <= self.0 => Some(*letter),
             _ => None,
         }
     }
+
+    ghost naming = { record {
+      free_header = λ letter fits. let other : (letter == 10) ≡ false = Prim.grind (arith, nat_tests) in Prim.rw other refl;
+      free_item = λ most letter fits. let other : (letter == 10) ≡ false = Prim.grind (arith, nat_tests) in Prim.rw other refl;
+      one_header = λ a b fits other is. Prim.cc;
+      one_item = λ most a b fits other is. Prim.cc;
+    } };
 
     ghost long_header = { Prim.search rules };
 

@@ -3,4 +3,3 @@ mod ListTexts
 mod ReplyLines
 mod SizeNumbers
 mod StepNames
-mod StepTexts

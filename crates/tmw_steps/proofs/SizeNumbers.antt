@@ -4,7 +4,8 @@ use Rattle.std.specs.Fmt.{decimal}
 use Rattle.std.proofs.lemmas.List.{drop_all}
 use Rattle.tmw_trace.specs.Text.{values_text}
 use Rattle.tmw_trace.specs.Values.{IsFirstValue, IsNoFirstValue}
-use Rattle.tmw_trace.proofs.ValueParts.{next-values, value-split, value-rest}
+use Rattle.tmw_trace.specs.ValueTexts.{next-values}
+use Rattle.tmw_trace.proofs.ValueParts.{value-split, value-rest}
 use Rattle.tmw_steps.specs.declared.size_line.SizeLine.{SizeLine}
 use Rattle.tmw_steps.specs.StepText.{size_numbers, FitsSize}
 

@@ -3,3 +3,5 @@ pub mod Naming
 pub mod ReplyText
 pub mod Running
 pub mod StepText
+pub mod StepTexts
+pub mod StepsNaming

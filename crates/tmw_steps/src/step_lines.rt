@@ -1,3 +1,4 @@
+ghost use Rattle.tmw_steps.specs.StepsNaming.{steps_naming};
 ghost use Rattle.tmw_steps.specs.Lengths.{long_no_size, long_no_step};
 ghost use Rattle.tmw_steps.specs.StepText.{steps_grammar};
 
@@ -28,6 +29,8 @@ impl LineFormat for StepsFormat {
     fn item_of(self, bytes: &[u8]) -> Option<Step> {
         step_of(bytes)
     }
+
+    ghost naming = { steps_naming };
 
     ghost long_header = { long_no_size };
 

@@ -12,6 +12,7 @@ use Rattle.std.specs.List.{All}
 use Rattle.tmw_lines.specs.Parts.{is_next}
 use Rattle.tmw_trace.specs.Start.{are_zeros}
 use Rattle.tmw_trace.specs.Text.{values_text}
+use Rattle.tmw_trace.specs.ValueTexts.{next-values}
 use Rattle.tmw_trace.specs.Values.{IsFirstValue, IsNoFirstValue}
 use Rattle.tmw_lines.proofs.Splits.{free-decimal, position_or_len-free, split_free}
 
@@ -72,10 +73,6 @@ pub record AreRead (count index : ℕ) (values rest bytes : List ℕ) : Type 0 w
 
 drop_step : (xs : List ℕ) (i : ℕ) → i < length xs → drop i xs ≡ get_or xs i 0 ∷ drop (i + 1) xs
 drop_step xs i within = drop-cons xs i 0 within ∙ ap (λ n. get_or xs i 0 ∷ drop n xs) (sym (add-one i))
-
-pub next-values : (values : List ℕ) → is_next 32 (values_text values) ≡ true
-next-values [] = refl
-next-values (value ∷ values) = refl
 
 pub AreRead-more : (count index value n : ℕ) (values rest bytes : List ℕ) → AreRead count index values rest bytes
     → index < count → count ≤ 8 → IsFirstValue value n rest

@@ -1,5 +1,6 @@
 ghost use Rattle.tmw_trace.specs.Text.{trace_grammar};
 ghost use Rattle.tmw_trace.specs.Lengths.{long_no_header, long_no_event};
+ghost use Rattle.tmw_trace.specs.TextNames.{trace_naming};
 
 use crate::event_line::event_of;
 use crate::header::Header;
@@ -31,6 +32,8 @@ impl LineFormat for Version {
     fn item_of(self, bytes: &[u8]) -> Option<Event> {
         event_of(self, bytes)
     }
+
+    ghost naming = { trace_naming };
 
     ghost long_header = { long_no_header };
 

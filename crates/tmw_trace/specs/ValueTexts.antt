@@ -1,12 +1,16 @@
 -- A text names its values: two lists of values with one text are one list, and no such text has a line feed.
-use Rattle.std.proofs.Common.{◌≡◌, ℕ, ◌<◌, ◌^◌, List, [], ◌∷◌, length, drop, refl, ap, ◌∙◌, arith}
+use Rattle.std.proofs.Common.{◌≡◌, ℕ, ◌<◌, ◌^◌, true, List, [], ◌∷◌, length, drop, refl, ap, ◌∙◌, arith}
 use Rattle.std.specs.Fmt.{decimal}
 use Rattle.std.specs.List.{AllByRecursion}
 use Rattle.std.proofs.lemmas.Fmt.{decimal_injective}
-use Rattle.tmw_lines.specs.Parts.{IsFree}
+use Rattle.tmw_lines.specs.Parts.{IsFree, is_next}
 use Rattle.tmw_trace.specs.Text.{values_text}
 use Rattle.tmw_lines.proofs.Splits.{free-append, free-decimal, split_free}
-use Rattle.tmw_trace.proofs.ValueParts.{next-values}
+
+-- behind a value comes a space or nothing
+pub next-values : (values : List ℕ) → is_next 32 (values_text values) ≡ true
+next-values [] = refl
+next-values (value ∷ values) = refl
 
 pub free-values_text : (values : List ℕ) → AllByRecursion (λ value. value < 2 ^ 64) values → IsFree 10 (values_text values)
 free-values_text [] f = refl

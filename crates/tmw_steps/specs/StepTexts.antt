@@ -3,7 +3,7 @@ use Rattle.std.proofs.Common.{◌≡◌, true, drop, get_or, refl, ap, ◌∙◌
 use Rattle.std.proofs.lemmas.Bool.{and_from}
 use Rattle.tmw_lines.specs.Parts.{IsFree}
 use Rattle.tmw_events.proofs.Same.{same_ix}
-use Rattle.tmw_trace.proofs.KindTexts.{no_feed, kind_text-injective, free-kind_text}
+use Rattle.tmw_trace.specs.KindTexts.{no_feed, kind_text-injective, free-kind_text}
 use Rattle.tmw_ring_defs.specs.declared.ring_step.Step.{Step}
 use Rattle.tmw_ring_defs.specs.declared.ring_step.Step.TheVariants.{Front, Tail, Claim, Fill, Publish, Peek, Read, Free, Stop}
 use Rattle.tmw_steps.specs.StepText.{step_text, FitsStep}

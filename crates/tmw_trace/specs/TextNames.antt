@@ -1,4 +1,4 @@
--- A text names its trace: two traces with one text are one trace.
+-- The text of a header names it, and so does that of an event; no such text has a line feed.
 use Rattle.std.proofs.Common.{◌≡◌, ℕ, ◌<◌, ◌≤◌, ◌^◌, ◌==◌, true, not, List, [], ◌∷◌, ◌++◌, length, take, drop, get_or, refl, sym, ap, subst, ◌∙◌, length-drop, take-append-drop, arith}
 use Rattle.std.specs.List.{AllByRecursion}
 use Rattle.std.proofs.Math.Bool.{Bool-set}
@@ -8,15 +8,15 @@ use Rattle.std.proofs.lemmas.List.Elements.{All-take, recursion_from_All}
 use Rattle.tmw_lines.specs.Parts.{IsFree}
 use Rattle.tmw_trace.specs.Start.{are_zeros, is_start}
 use Rattle.tmw_events.specs.Text.{event_text, FitsKind}
-use Rattle.tmw_trace.specs.Text.{version_digit, initial_text, header_text, trace_grammar, trace_text, FitsHeader, AreEvents}
+use Rattle.tmw_trace.specs.Text.{version_digit, initial_text, header_text, trace_grammar, FitsHeader}
 use Rattle.tmw_events.specs.declared.event.Event.{Event}
 use Rattle.tmw_trace.specs.declared.header.Header.{Header}
 use Rattle.tmw_events.specs.declared.registers.Registers.{Registers}
 use Rattle.tmw_trace.specs.declared.version.Version.{Version}
 use Rattle.tmw_trace.specs.declared.version.Version.TheVariants.{One, Two}
-use Rattle.tmw_lines.proofs.TextNames.{IsNaming, lines_text-injective}
-use Rattle.tmw_trace.proofs.KindTexts.{no_feed, kind_text-injective, free-kind_text}
-use Rattle.tmw_trace.proofs.ValueTexts.{free-values_text, values_text-injective}
+use Rattle.tmw_lines.specs.Grammar.{IsNaming}
+use Rattle.tmw_trace.specs.KindTexts.{no_feed, kind_text-injective, free-kind_text}
+use Rattle.tmw_trace.specs.ValueTexts.{free-values_text, values_text-injective}
 use Rattle.tmw_events.proofs.Same.{same_ix}
 
 -- a number from 1 to 8 is one count of registers
@@ -113,15 +113,10 @@ header_text-injective a b f g is =
     a.starts b.starts same (told-values a f) (told-values b g) (ap (λ xs. drop 17 xs) is))
 
 -- headers and events have one text each, without a line feed
-trace_naming : IsNaming trace_grammar
+pub trace_naming : IsNaming trace_grammar
 trace_naming = record {
   free_header = free-header_text;
   free_item = λ version event fits. free-event_text event fits.0;
   one_header = header_text-injective;
   one_item = λ version d e fits other. event_text-injective d e fits.0 other.0;
 }
-
--- two traces with one text are one trace
-pub trace_text-injective : (a b : Header) (es fs : List Event) → AreEvents a es → AreEvents b fs
-    → trace_text a es ≡ trace_text b fs → (a ≡ b) × (es ≡ fs)
-trace_text-injective a b es fs x y is = lines_text-injective trace_grammar trace_naming a b es fs x y is
