@@ -100,6 +100,11 @@ narrow-push rules S c h e sums fits wide =
       | inr after ↦ absurd (omega (arith, fits, after))
     ]
 
+-- the first event after which the history is not well-formed
+pub verdict-malformed : (rules : Rules) (S : State → Type 0) (c : ℕ) (h : List Event) (e : Event) → SumsUp rules S c h
+    → IsFalse (is_well_formed rules.registers (h ++ e ∷ [])) → IsVerdict rules (h ++ e ∷ []) (Malformed (length h + 1))
+verdict-malformed rules S c h e sums ill = IsFirst-new IsMalformed rules h e sums.judged (record { ill_formed = ill })
+
 -- the first event after which the open window has too many transactions
 pub verdict-wide : (rules : Rules) (S : State → Type 0) (c : ℕ) (h : List Event) (e : Event) → SumsUp rules S c h
     → IsTrue (is_well_formed rules.registers (h ++ e ∷ [])) → rules.window < length (transactions (drop c h ++ e ∷ []))
