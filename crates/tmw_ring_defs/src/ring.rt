@@ -1,12 +1,16 @@
 ghost use Rattle.tmw_ring_defs.specs.OneLog.{OneLogLaw};
 ghost use Rattle.tmw_ring_defs.specs.RingSound.{StepLaw};
 
+/// Inductive invariant of the ring's protocol.
+///
 /// A step of a ring's machine from a sound state leaves a sound state, and leaves alone the cell of every place that is
 /// published and not yet taken.
 pub fn law_4()
     ensures { StepLaw }
 {}
 
+/// Linearizability of the ring to a sequential log.
+///
 /// Whatever steps a new ring's machine makes, in whatever order, its places and the events that are taken are the answers of
 /// one sequential log, to which each claim appends its writer's event.
 pub fn law_one_log()
