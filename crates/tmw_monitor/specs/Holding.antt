@@ -1,4 +1,5 @@
--- What a monitor holds of a history, which does not grow with what lies before the last cut.
+-- What a monitor holds of a history, which does not grow with what lies before the last cut. How much room the list of an open
+-- transaction's operations has is not said: std's list chooses it.
 use Rattle.std.specs.Prelude.{◌≡◌, ◌↔◌, ◌*◌, ◌≤◌, ℕ, List, [], length, take, drop}
 use Rattle.std.specs.List.{Contains}
 use Rattle.tmw_events.specs.declared.event.Event.{Event}
