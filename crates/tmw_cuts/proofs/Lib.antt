@@ -3,6 +3,7 @@ pub mod Bits
 mod Effects
 pub mod FirstMembers
 mod Found
+pub mod Held
 mod Marked
 pub mod Masks
 mod TakenBack

@@ -1,6 +1,8 @@
 -- Which events a window stands for: it shows their transactions, in the order of their first events.
-use Rattle.std.specs.Prelude.{◌≡◌, ◌+◌, ◌*◌, ℕ, List, [], ◌∷◌, length, map}
+use Rattle.std.specs.Prelude.{◌≡◌, ◌+◌, ◌*◌, ℕ, List, [], ◌∷◌, ◌++◌, length, map, vec_capacity}
+use Rattle.std.specs.List.{flat_map, sum_by}
 use Rattle.tmw_events.specs.declared.event.Event.{Event}
+use Rattle.tmw_defs.specs.declared.op.Op.{Op}
 use Rattle.tmw_defs.specs.History.{Txn, operations, status_of, transactions}
 use Rattle.tmw_defs.specs.Opaque.{precedes}
 use Rattle.tmw_wellformed.specs.Pending.{call_of}
@@ -32,6 +34,14 @@ views window = map view window.txns.items
 -- How many transactions it shows.
 abbrev pub count_of : Window → ℕ
 count_of window = length (views window)
+
+-- The operations that the window holds: those of its transactions, and what is left in the lists of transactions that are gone.
+abbrev pub operations_in : Window → List Op
+operations_in window = flat_map (λ v. v.ops) (views window) ++ flat_map (λ room. room.list.items) window.spare.rooms.items
+
+-- For how many operations the lists of transactions that are gone have room.
+abbrev pub spare_room : Window → ℕ
+spare_room window = sum_by (λ room. vec_capacity room.list) window.spare.rooms.items
 
 pub record StandsFor (window : Window) (events : List Event) : Type 0 where
   pub shows : views window ≡ views_of events

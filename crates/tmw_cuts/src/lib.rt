@@ -5,6 +5,7 @@ mod effect;
 mod kinds;
 mod mark;
 mod mask;
+mod spare;
 mod states;
 mod txn;
 mod window;

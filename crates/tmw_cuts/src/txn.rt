@@ -5,6 +5,7 @@ ghost use Rattle.tmw_cuts.specs.Replaying.{Replays};
 
 use crate::effect::Effect;
 use crate::kinds::{operation, status_after};
+use crate::spare::Room;
 use crate::states::State;
 use std::alloc::AllocError;
 use tmw_defs::{Op, Status};
@@ -28,14 +29,12 @@ pub struct Txn {
 impl Txn {
     ghost use Rattle.tmw_cuts.specs.Views.{view, effect_of, new_view, next_view, earlier_view, is_open_for, awaits_commit_of};
 
-    /// A transaction that begins with this event, where those in the mask have completed. Its operations come to lie in `room`,
-    /// whose own are dropped.
-    pub(crate) fn new(event: Event, before: u8, mut room: Vec<Op>) -> Txn
+    /// A transaction that begins with this event, where those in the mask have completed. Its operations come to lie in `room`.
+    pub(crate) fn new(event: Event, before: u8, room: Room) -> Txn
         ensures { view result ≡ new_view event.thread.number event.kind before }
     {
-        room.clear();
         Txn {
-            ops: room,
+            ops: room.into_list(),
             status: status_after(event.kind),
             before,
             thread: event.thread,

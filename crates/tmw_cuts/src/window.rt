@@ -5,21 +5,20 @@ ghost use Rattle.tmw_cuts.specs.Views.{view, is_open_for, awaits_commit_of, Push
 
 use crate::mark::Mark;
 use crate::mask::completed_mask;
+use crate::spare::Spare;
 use crate::txn::Txn;
 use std::alloc::{AllocError, Global};
-use tmw_defs::{Op, Status};
+use tmw_defs::Status;
 use tmw_events::{Event, Ix, Kind, Registers};
 use tmw_wellformed::Note;
 
-/// The transactions of the events since the last cut. It holds no event.
+/// The transactions of the events since the last cut. It holds no event, and no operation of any other transaction.
 #[derive(Debug, Drop)]
 pub struct Window {
     /// The registers of the run.
     pub registers: Registers,
     txns: Vec<Txn>,
-
-    /// Memory of earlier transactions, which later ones use again.
-    spare: Vec<Vec<Op>>,
+    spare: Spare,
     pub ghost few: { length txns.items ≤ 8 },
 }
 
@@ -45,19 +44,15 @@ fn any_awaits_commit(txns: &[Txn], thread: Ix) -> bool
 }
 
 /// Takes the first event of a transaction.
-fn begin(txns: &mut Vec<Txn>, spare: &mut Vec<Vec<Op>>, event: Event) -> Result<(), AllocError>
+fn begin(txns: &mut Vec<Txn>, spare: &mut Spare, event: Event) -> Result<(), AllocError>
     requires room { length txns.old.items ≤ 8 }
     ensures ok { OnOk result (IsFalse (list_any (is_open_for event.thread.number) (map view txns.old.items))
         → PushesEvent event (map view txns.old.items) (map view txns.new.items)) }
     ensures err { OnErr result (map view txns.new.items ≡ map view txns.old.items) }
     ensures size { length txns.new.items ≤ length txns.old.items + 1 }
 {
-    // Room for as many as there can be, so that keeping one takes no memory.
-    if spare.capacity() < 8 {
-        spare.reserve(8)?;
-    }
-    let alloc = *txns.allocator();
-    let room = spare.pop().unwrap_or_else(|| Vec::new(alloc));
+    spare.reserve()?;
+    let room = spare.take();
     let before = completed_mask(txns);
     txns.push(Txn::new(event, before, room))?;
     Ok(())
@@ -74,11 +69,6 @@ fn go_on(txns: &mut Vec<Txn>, event: Event) -> Result<(), AllocError>
         txns[index].add(event.kind)?;
     }
     Ok(())
-}
-
-/// Keeps a transaction's memory for a later one.
-fn keep(spare: &mut Vec<Vec<Op>>, txn: Txn) {
-    let _kept = spare.push(txn.ops);
 }
 
 impl Window {
@@ -98,7 +88,7 @@ impl Window {
         Window {
             registers,
             txns: Vec::new(alloc),
-            spare: Vec::new(alloc),
+            spare: Spare::new(alloc),
         }
     }
 
@@ -184,7 +174,7 @@ impl Window {
             }
             None => {
                 if let Some(txn) = self.txns.pop() {
-                    keep(&mut self.spare, txn);
+                    self.spare.keep(txn.ops);
                 }
             }
         }
@@ -202,13 +192,13 @@ impl Window {
         }
     }
 
-    /// Forgets all events, and keeps the memory for later ones.
+    /// Forgets all events. The lists of their operations are emptied, and kept for later ones where they are small.
     pub fn clear(&mut self)
         ensures stands { StandsFor self.new [] }
         ensures registers { self.new.registers ≡ self.old.registers }
     {
         while let Some(txn) = self.txns.pop() {
-            keep(&mut self.spare, txn);
+            self.spare.keep(txn.ops);
         }
     }
 
@@ -226,7 +216,7 @@ impl Window {
         Ok(Window {
             registers: self.registers,
             txns,
-            spare: Vec::new(alloc),
+            spare: Spare::new(alloc),
         })
     }
 }

@@ -1,5 +1,6 @@
 mod Counting
 mod Feeding
 mod Fresh
+mod OnlyOpen
 mod Opening
 mod Told

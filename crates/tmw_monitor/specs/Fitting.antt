@@ -1,5 +1,5 @@
 -- Which history a monitor stands for: the relation by which its calls are described.
-use Rattle.std.specs.Prelude.{◌≡◌, ℕ, List, length, drop}
+use Rattle.std.specs.Prelude.{◌≡◌, ℕ, List, [], length, drop}
 use Rattle.std.specs.List.{Contains}
 use Rattle.tmw_events.specs.declared.event.Event.{Event}
 use Rattle.tmw_events.specs.declared.registers.Registers.{Registers}
@@ -26,11 +26,17 @@ pub record Keeps (rules : Rules) (history : List Event) (kept : Open) : Type 0 w
   pub stands : StandsFor kept.window (drop cut history)
   pub tracks : Tracks rules.registers history kept.tracker
 
+-- Nothing is kept: no state and no transaction.
+pub record KeepsNothing (kept : Open) : Type 0 where
+  pub states : members kept.states ≡ []
+  pub stands : StandsFor kept.window []
+
 -- The history fits the monitor: its length and its verdict are the monitor's, and where it is opaque so far, the monitor has
--- kept of it what it needs to judge what follows.
+-- kept of it what it needs to judge what follows, and else nothing.
 pub record Fits (rules : Rules) (history : List Event) (monitor : Monitor) : Type 0 where
   pub window : monitor.bounds.window ≡ rules.window
   pub states : monitor.bounds.states ≡ rules.states
   pub counted : monitor.count ≡ length history
   pub judged : IsVerdict rules history monitor.verdict
   pub keeps : monitor.verdict ≡ OpaqueSoFar → Keeps rules history monitor.kept
+  pub forgets : (monitor.verdict ≡ OpaqueSoFar → ⊥) → KeepsNothing monitor.kept

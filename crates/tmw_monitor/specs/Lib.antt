@@ -1,3 +1,4 @@
 pub mod BadBounds
 pub mod Fitting
+pub mod Holding
 pub mod Weighing

@@ -14,7 +14,7 @@ use tmw_events::{Event, Registers};
 use tmw_wellformed::Tracker;
 
 /// Judges a history as its events come, by the definition of opacity (Guerraoui and Kapalka 2008, section 5) at each of its
-/// prefixes. It keeps no event: only the outcomes at the last cut and the transactions since.
+/// prefixes. It keeps no event: only the outcomes at the last cut and the transactions since, and neither after a final verdict.
 #[derive(Debug, Drop)]
 pub struct Monitor {
     alloc: Global,
@@ -26,6 +26,7 @@ pub struct Monitor {
 
 impl Monitor {
     ghost use Rattle.tmw_monitor.specs.Fitting.{Fits, rules_of};
+    ghost use Rattle.tmw_monitor.specs.Holding.{KeepsOnlyOpen};
 
     /// A monitor for a run whose registers all begin at 0, before its first event.
     pub fn new(alloc: Global, registers: Registers, bounds: Bounds) -> Result<Monitor, AllocError>
@@ -65,10 +66,17 @@ impl Monitor {
         ensures verdict { IfOk result (λ verdict. verdict ≡ self.new.verdict) }
         ensures err { OnErr result ((rules : Rules) (history : List Event) → Fits rules history self.old → Fits rules history self.new) }
         ensures stays { (self.old.verdict ≡ OpaqueSoFar → ⊥) → result ≡ Ok self.old.verdict }
+
+        // What is kept, whether the event was taken or not.
+        ensures keeps { IfOk result (λ verdict. (rules : Rules) (history : List Event) → Fits rules history self.old
+            → KeepsOnlyOpen rules (history ++ event ∷ []) self.new) }
+        ensures keeps_err { OnErr result ((rules : Rules) (history : List Event) → Fits rules history self.old
+            → KeepsOnlyOpen rules history self.new) }
     {
         let at = self.count + 1;
         if self.verdict == Verdict::OpaqueSoFar {
             let verdict = next_verdict(self.alloc, &mut self.kept, self.bounds, at, event)?;
+            self.kept.forget_where_final(self.alloc, verdict);
             self.verdict = verdict;
             self.count = at;
             return Ok(verdict);

@@ -1,5 +1,6 @@
 use super::*;
 use std::test::Fail;
+use tmw_defs::Op;
 
 const FIRST: Ix = Ix { number: 0 };
 

@@ -1,11 +1,11 @@
 -- A commit request waits for the thread's answer where it does by the events' transactions.
-use Rattle.std.proofs.Common.{◌≡◌, ◌==◌, ◌&&◌, not, map, refl, sym, ap, ◌∙◌}
+use Rattle.std.proofs.Common.{◌≡◌, refl, sym, ap, ◌∙◌}
 use Rattle.std.specs.List.{list_any}
 use Rattle.tmw_cuts.proofs.Marked.{list_any-map}
 use Rattle.tmw_defs.specs.History.{transactions}
-use Rattle.tmw_defs.specs.Quiet.{awaits_commit, is_quiet}
+use Rattle.tmw_defs.specs.Quiet.{awaits_commit}
 use Rattle.tmw_cuts.specs.Views.{view, awaits_commit_of}
-use Rattle.tmw_cuts.specs.Standing.{view_of, views_of}
+use Rattle.tmw_cuts.specs.Standing.{view_of}
 use Rattle.tmw_cuts.proofs.window.Window.is_quiet.Goals as goal
 
 pub returns-in-A : goal.returns-in-A

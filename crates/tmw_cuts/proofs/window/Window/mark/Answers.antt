@@ -1,7 +1,6 @@
 -- The mark tells of the transaction that is open for the thread, or that none is.
-use Rattle.std.proofs.Common.{◌≡◌, map, refl, sym, ap, ◌∙◌}
-use Rattle.tmw_cuts.specs.Marking.{Marks}
-use Rattle.tmw_cuts.specs.Views.{view, is_open_for}
+use Rattle.std.proofs.Common.{refl, sym, ◌∙◌}
+use Rattle.tmw_cuts.specs.Views.{is_open_for}
 use Rattle.tmw_cuts.proofs.Marked.{marks-some, position-map}
 use Rattle.tmw_cuts.proofs.window.Window.mark.Goals as goal
 

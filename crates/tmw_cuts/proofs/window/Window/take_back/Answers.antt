@@ -1,5 +1,5 @@
 -- The transaction that took the event shows what it showed before, or the one that it began is gone.
-use Rattle.std.proofs.Common.{◌≡◌, ◌<◌, ◌+◌, [], ◌∷◌, ◌++◌, ℕ, true, false, length, Some, None, ◌∙◌, arith}
+use Rattle.std.proofs.Common.{◌≡◌, ◌<◌, true, false, length, ◌∙◌, arith}
 use Rattle.tmw_cuts.specs.Views.{completed_mask}
 use Rattle.tmw_cuts.specs.Standing.{views_of}
 use Rattle.tmw_cuts.proofs.Pushes.{views_of-push}

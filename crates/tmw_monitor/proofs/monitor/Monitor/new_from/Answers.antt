@@ -14,4 +14,5 @@ returns c =
       counted = refl;
       judged = sums.judged;
       keeps = λ is. record { cut = 0; sums_up = sums; stands = c.open.ensures.stands; tracks = c.new.ensures };
+      forgets = λ final. absurd (final refl);
     }
