@@ -1,4 +1,4 @@
-pub mod Answered
+pub mod LogAnswers
 pub mod MachineProof
 pub mod OneLogProof
 pub mod RingClaims
@@ -13,3 +13,4 @@ pub mod RingStart
 pub mod RingStores
 pub mod RingTakes
 pub mod RingWrites
+pub mod RunsProof
