@@ -1,5 +1,5 @@
 -- What a writer's steps, one after another, come to: an event is recorded at a place, or refused.
-use Rattle.std.proofs.Common.{◌≡◌, ◌+◌, ◌-◌, ◌≤◌, ◌<◌, ℕ, Bool, true, false, List, [], ◌∷◌, IsTrue, IsFalse, refl, sym, ap, ◌∙◌, subst, arith}
+use Rattle.std.proofs.Common.{◌≡◌, ◌+◌, ◌-◌, ◌≤◌, ◌<◌, ℕ, Bool, true, false, List, [], ◌∷◌, refl, ap, ◌∙◌, subst, arith}
 use Rattle.std.proofs.lemmas.Bool.{ltb-false}
 use Rattle.atomic_table.specs.Seated.{TableId}
 use Rattle.atomic_table.specs.Table.{Me}
@@ -10,7 +10,7 @@ use Rattle.tmw_ring_defs.specs.Runs.{HasMade, writer_actor}
 use Rattle.tmw_ring_defs.specs.declared.ring_step.Answered.{Answered}
 use Rattle.tmw_ring_defs.specs.declared.ring_step.Step.TheVariants.{Tail}
 use Rattle.tmw_ring.specs.Parts.{Parts}
-use Rattle.tmw_ring.specs.Recording.{recording, HasLooked, HasRecorded, IsRefusal}
+use Rattle.tmw_ring.specs.Recording.{HasLooked, HasRecorded, IsRefusal}
 use Rattle.tmw_ring.specs.Seats.{writer_in, writer_is}
 use Rattle.tmw_ring.specs.WriterSteps.{front_seen, tail_seen, claimed, value_filled, done, front_look, tail_look, claiming, filling, publishing, HasSeenFront, HasSeenTail, HasClaimed, HasFilled, HasPublished}
 use Rattle.tmw_ring.specs.declared.part.WriterPart.{WriterPart}

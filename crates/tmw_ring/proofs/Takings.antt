@@ -1,5 +1,5 @@
 -- What the reader's steps, one after another, come to: an event is taken, or the next place was not published.
-use Rattle.std.proofs.Common.{◌≡◌, ◌≢◌, ◌+◌, ◌≤◌, ◌^◌, ℕ, List, [], ◌∷◌, ◌++◌, length, eq-eqb, ne_eqb, refl, sym, ap, ◌∙◌, subst}
+use Rattle.std.proofs.Common.{◌≡◌, ◌≢◌, ◌+◌, ℕ, List, [], ◌∷◌, ◌++◌, length, eq-eqb, ne_eqb, refl, sym, ap, ◌∙◌, subst}
 use Rattle.atomic_table.specs.Seated.{TableId}
 use Rattle.atomic_table.specs.Table.{Me}
 use Rattle.tmw_events.proofs.Unpacks.{unpacked-words}
@@ -14,7 +14,7 @@ use Rattle.tmw_ring_defs.specs.declared.ring_step.Reply.TheVariants.{Ready as Is
 use Rattle.tmw_ring_defs.specs.declared.ring_step.Step.TheVariants.{Peek}
 use Rattle.tmw_ring.specs.Parts.{Parts}
 use Rattle.tmw_ring.specs.Seats.{reader_in, reader_is, IsWaitingReader}
-use Rattle.tmw_ring.specs.Takes.{phase_after, after_look, phase_with, after_read, next_event, after_free, peeking, reading, freeing, taking, finding_none, ReaderMade, IsReadyReader, IsToldReader, StampSeen, ValueRead, PlaceFreed, HasTaken, HasFoundNone}
+use Rattle.tmw_ring.specs.Takes.{phase_after, after_look, phase_with, after_read, next_event, after_free, peeking, reading, freeing, ReaderMade, IsReadyReader, IsToldReader, StampSeen, ValueRead, PlaceFreed, HasTaken, HasFoundNone}
 use Rattle.tmw_ring.specs.declared.part.ReaderPart.{ReaderPart}
 
 -- how far the reader is where it found the next place's stamp

@@ -14,7 +14,6 @@ use Rattle.tmw_ring_defs.specs.declared.ring_phase.WriterPhase.TheVariants.{Idle
 use Rattle.tmw_ring_defs.specs.declared.ring_size.RingSize.{RingSize}
 use Rattle.tmw_ring_defs.specs.declared.ring_step.Answered.{Answered}
 use Rattle.tmw_ring_defs.specs.declared.ring_step.Reply.TheVariants.{Saw}
-use Rattle.tmw_ring_defs.specs.declared.ring_step.Step.TheVariants.{Front, Tail}
 use Rattle.tmw_ring_defs.proofs.RunsProof.{by_writer-in}
 use Rattle.tmw_ring_defs.proofs.RingLooks.{front_keeps, tail_keeps}
 use Rattle.tmw_ring.specs.Parts.{Parts}
