@@ -3,6 +3,7 @@ use Rattle.std.proofs.Common.{◌≡◌, ◌++◌, ℕ, zero, suc, List, [], ◌
 use Rattle.std.proofs.lemmas.List.{take-append-drop}
 use mathlib.Core.Option.{none, some, some-injective, some-ne-none}
 use lib.ListN.{get_elem?}
+use Rattle.atomic_table.proofs.Lists.{at_map}
 use Rattle.atomic_table.specs.Table.{Me, Allows, keeps, step}
 use Rattle.tmw_events.specs.declared.event.Event.{Event}
 use Rattle.tmw_ring_defs.specs.Ring.{Core, new_core}
@@ -16,7 +17,7 @@ use Rattle.tmw_ring.specs.Rule.{PartFits, Shown}
 use Rattle.tmw_ring.specs.Words.{words_of, tail_word}
 use Rattle.tmw_ring.specs.declared.part.Part.{Part}
 use Rattle.tmw_ring.specs.declared.part.Part.TheVariants.{Writes, Reads}
-use Rattle.tmw_ring.proofs.Moves.{Follows, knows_all, moves_each}
+use Rattle.tmw_ring.proofs.Moves.{Follows, Remains, knows_all, moves_each}
 
 -- What stands in a mapped list is the image of what stood there.
 at_mapped : {A B : Type 0} (f : A → B) (items : List A) (found : B) (place : ℕ) → get_elem? (map f items) place ≡ some found
@@ -69,6 +70,10 @@ all_follow core run old fit place part placed =
       knows_all run part (ap run_of is ∙ run_known core.tail run was),
     )
 
+all_remain : (tail : ℕ) (run : List Answered) (old : Parts) → Remains old (map (with_tail tail run) old)
+all_remain tail run old place was placed =
+    (with_tail tail run was, at_map (with_tail tail run) old place was placed, same_key tail run was)
+
 module _ {S : Type 0} where
   -- The load changes no word, so the ring stays as it was.
   pub finds_tail : (size : RingSize) (slots seat : ℕ) (me : Me S Parts)
@@ -92,7 +97,7 @@ module _ {S : Type 0} where
         tt,
         moves_each size state shown seat tail_word (slice_index state.words tail_word) me.0
             (map (with_tail (slice_index state.words tail_word) run) me.0) shown.core [] seated refl shown.sound shown.real loaded.1
-            refl follow (λ other apart fits. fits) (λ other apart. refl),
+            refl follow (all_remain (slice_index state.words tail_word) run me.0) (λ other apart fits. fits) (λ other apart. refl),
         (
           run,
           shown.core.log,

@@ -1,8 +1,9 @@
 -- A step of one seat keeps the rule of a ring's table, and so does another arrangement of the parts.
-use Rattle.std.proofs.Common.{◌≡◌, ◌≢◌, ◌++◌, ℕ, zero, suc, List, [], ◌∷◌, set, Some, refl, sym, ap, ◌∙◌, subst, inl, inr}
+use Rattle.std.proofs.Common.{◌≡◌, ◌≢◌, ◌++◌, ◌≤◌, ℕ, zero, suc, List, [], ◌∷◌, set, Some, refl, sym, ap, ◌∙◌, subst, inl, inr}
 use mathlib.Core.Option.{some, some-injective, some-ne-none}
 use lib.ListN.{get_elem?}
-use Rattle.atomic_table.proofs.Lists.{at_set}
+use native.Mathlib.Decide.{ℕ_discrete}
+use Rattle.atomic_table.proofs.Lists.{at_set, set_else}
 use Rattle.atomic_table.specs.Table.{State, keeps, stepped}
 use Rattle.tmw_ring_defs.specs.Ring.{Core}
 use Rattle.tmw_ring_defs.specs.RingSound.{Sound}
@@ -22,6 +23,11 @@ abbrev pub Follows : Core → List Answered → Parts → Parts → Type 0
 Follows next run old new = (place : ℕ) (part : Part) → get_elem? new place ≡ some part
     → (was : Part) × (get_elem? old place ≡ some was) × (key part ≡ key was) × PartFits next part × Knows run part
 
+-- Each old part's actor has a new part in its place.
+abbrev pub Remains : Parts → Parts → Type 0
+Remains old new = (place : ℕ) (was : Part) → get_elem? old place ≡ some was
+    → (part : Part) × (get_elem? new place ≡ some part) × (key part ≡ key was)
+
 -- No actor whose part is among these is the part's.
 abbrev pub IsAnothers : Parts → Part → Type 0
 IsAnothers old part = (place : ℕ) (was : Part) → get_elem? old place ≡ some was → key part ≢ key was
@@ -35,15 +41,30 @@ pub record Makes (actor : ℕ) (core : Core) (answered : Answered) (next : Core)
 pub knows_all : (run : List Answered) (part : Part) → run_of part ≡ run → Knows run part
 knows_all run part is = subst (λ (known : List Answered). Knows known part) is (gone-none (key part) (run_of part))
 
+-- What was set stands there.
+pub set_over : {A : Type 0} (items : List A) (place : ℕ) (was item : A) → get_elem? items place ≡ some was
+    → get_elem? (set items place item) place ≡ some item
+set_over [] place was item at = absurd (some-ne-none was (sym at))
+set_over (first ∷ items) zero was item at = refl
+set_over (first ∷ items) (suc place) was item at = set_over items place was item at
+
 module _ {S : Type 0} where
+  -- In a seat with these parts the part stands among them.
+  pub lies_among : (state : State S Parts) (seat at place : ℕ) (view : Parts) (part : Part) → get_elem? state.views seat ≡ some view
+      → at ≡ seat → Lies state at place part → get_elem? view place ≡ some part
+  lies_among state seat at place view part seated is lies =
+      let same : lies.view ≡ view =
+      some-injective lies.view view (sym lies.seated ∙ ap (λ (n : ℕ). get_elem? state.views n) is ∙ seated) in
+      subst (λ (v : Parts). get_elem? v place ≡ some part) same lies.placed
+
   -- A seat that steps from these parts to those keeps the rule, if all other actors' parts fit the new ring still.
   pub moves_each : (size : RingSize) (state : State S Parts) (shown : Shown size state) (seat word value : ℕ) (old new : Parts) (next : Core)
       (since : List Answered) → get_elem? state.views seat ≡ some old → next.size ≡ shown.core.size → Sound next → IsReal next
       → set state.words word value ≡ words_of next → Runs shown.core since next → Follows next (shown.run ++ since) old new
-      → ((other : Part) → IsAnothers old other → PartFits shown.core other → PartFits next other)
+      → Remains old new → ((other : Part) → IsAnothers old other → PartFits shown.core other → PartFits next other)
       → ((other : Part) → IsAnothers old other → NoneOf (key other) since)
       → Shown size (stepped state word value seat [] new keeps)
-  moves_each size state shown seat word value old new next since seated sized sound real words ran follows others none = record {
+  moves_each size state shown seat word value old new next since seated sized sound real words ran follows remains others none = record {
     core = next;
     sized = sized ∙ shown.sized;
     sound = sound;
@@ -52,10 +73,39 @@ module _ {S : Type 0} where
     run = shown.run ++ since;
     ran = runs-append (new_core size) shown.core next shown.run since shown.ran ran;
     where_is = shown.where_is;
+    present = present;
     each = each;
     knows = knows;
   }
     where
+      -- Where an actor's part lay, it has a part still.
+      remained : (at place : ℕ) (part : Part) → Lies state at place part → Dec (at ≡ seat)
+          → (now : Part) × Lies (stepped state word value seat [] new keeps) at place now × (key now ≡ key part)
+      remained at place part lies (yes is) =
+          let (now, placed, same) = remains place part (lies_among state seat at place old part seated is lies) in (
+            now,
+            record {
+              view = new;
+              seated = ap (λ (n : ℕ). get_elem? (set state.views seat new) n) is ∙ set_over state.views seat old new seated;
+              placed = placed;
+            },
+            same,
+          )
+      remained at place part lies (no apart) = (
+        part,
+        record { view = lies.view; seated = set_else state.views seat at new apart ∙ lies.seated; placed = lies.placed },
+        refl,
+      )
+
+      present : (actor : ℕ) → actor ≤ size.writers
+          → (part : Part)
+          × Lies (stepped state word value seat [] new keeps) (shown.where_is actor).0 (shown.where_is actor).1 part
+          × (key part ≡ actor)
+      present actor among =
+          let (part, lies, is) = shown.present actor among in
+          let at = shown.where_is actor in
+          let (now, lain, same) = remained at.0 at.1 part lies (ℕ_discrete at.0 seat) in (now, lain, same ∙ is)
+
       -- A part that lies in another seat is another actor's.
       anothers : (at place : ℕ) (part : Part) → at ≢ seat → Lies state at place part → IsAnothers old part
       anothers at place part there lies other was placed same =
@@ -99,7 +149,7 @@ module _ {S : Type 0} where
       → Shown size (stepped state word value seat [] (new ∷ []) keeps)
   moves size state shown seat word value old new next answered seated sized sound real words makes same known fits others =
       moves_each size state shown seat word value (old ∷ []) (new ∷ []) next (answered ∷ []) seated sized sound real words
-      (next, makes.step, refl) follows (λ other apart. others other (apart zero old refl))
+      (next, makes.step, refl) follows remains (λ other apart. others other (apart zero old refl))
       (λ other apart. own-others (key other) answered (λ is. apart zero old refl (sym is ∙ makes.whose)))
     where
       follows : Follows next (shown.run ++ answered ∷ []) (old ∷ []) (new ∷ [])
@@ -113,15 +163,24 @@ module _ {S : Type 0} where
           )
       follows (suc place) part placed = absurd (some-ne-none part (sym placed))
 
+      remains : Remains (old ∷ []) (new ∷ [])
+      remains zero was placed = (new, refl, same ∙ ap key (some-injective old was placed))
+      remains (suc place) was placed = absurd (some-ne-none was (sym placed))
+
   -- Each part of these views lay in one of the state's, and `to` says where it lies now.
   abbrev pub Rearranged : State S Parts → List Parts → (ℕ × ℕ → ℕ × ℕ) → Type 0
   Rearranged state views to = (seat place : ℕ) (view : Parts) (part : Part) → get_elem? views seat ≡ some view → get_elem? view place ≡ some part
       → (from : ℕ × ℕ) × Lies state from.0 from.1 part × (to from ≡ (seat, place))
 
+  -- Each part of the state lies among these views, where `to` says.
+  abbrev pub Stays : State S Parts → List Parts → (ℕ × ℕ → ℕ × ℕ) → Type 0
+  Stays state views to = (from : ℕ × ℕ) (part : Part) → Lies state from.0 from.1 part
+      → Lies (record state { views = views }) (to from).0 (to from).1 part
+
   -- The same parts in other places keep the rule.
   pub rearrange : (size : RingSize) (state : State S Parts) (views : List Parts) (to : ℕ × ℕ → ℕ × ℕ) → Shown size state
-      → Rearranged state views to → Shown size (record state { views = views })
-  rearrange size state views to shown lay = record {
+      → Rearranged state views to → Stays state views to → Shown size (record state { views = views })
+  rearrange size state views to shown lay stays = record {
     core = shown.core;
     sized = shown.sized;
     sound = shown.sound;
@@ -130,6 +189,8 @@ module _ {S : Type 0} where
     run = shown.run;
     ran = shown.ran;
     where_is = λ actor. to (shown.where_is actor);
+    present = λ actor among.
+        let (part, lies, is) = shown.present actor among in (part, stays (shown.where_is actor) part lies, is);
     each = λ seat place part lies.
         let (from, lain, now) = lay seat place lies.view part lies.seated lies.placed in
         let before = shown.each from.0 from.1 part lain in

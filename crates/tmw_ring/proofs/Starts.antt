@@ -1,5 +1,5 @@
 -- A new ring keeps the rule of its table.
-use Rattle.std.proofs.Common.{◌≡◌, ◌+◌, ◌%◌, ◌<◌, ℕ, zero, suc, [], Some, replicate, refl, sym, ap, ◌∙◌, subst, arith}
+use Rattle.std.proofs.Common.{◌≡◌, ◌+◌, ◌%◌, ◌<◌, ◌≤◌, ℕ, zero, suc, [], Some, replicate, refl, sym, ap, ◌∙◌, subst, arith}
 use Rattle.std.proofs.lemmas.List.Elements.{All-replicate}
 use Rattle.std.specs.Prelude.{slice_get}
 use mathlib.Core.Option.{some, some-injective, some-ne-none}
@@ -37,6 +37,21 @@ writers_at size from (suc count) (suc place) part at =
     let later = writers_at size (from + 1) count place part at in
     let same : from + 1 + place ≡ from + suc place = omega arith in
     (omega (arith, later.0), later.1 ∙ ap (λ (n : ℕ). Writes (new_writer size n)) same)
+
+writer_there : (size : RingSize) (from count place : ℕ) → place < count
+    → get_elem? (new_writers size from count) place ≡ some (Writes (new_writer size (from + place)))
+writer_there size from zero place within = absurd (omega (arith, within))
+writer_there size from (suc count) zero within =
+    let same : from ≡ from + 0 = omega arith in ap (λ (n : ℕ). some (Writes (new_writer size n))) same
+writer_there size from (suc count) (suc place) within =
+    let same : from + 1 + place ≡ from + suc place = omega arith in
+    writer_there size (from + 1) count place (omega (arith, within)) ∙ ap (λ (n : ℕ). some (Writes (new_writer size n))) same
+
+new_part_there : (size : RingSize) (number : ℕ) → number < size.writers
+    → get_elem? (new_parts size) (suc number) ≡ some (Writes (new_writer size number))
+new_part_there size number within =
+    let same : 0 + number ≡ number = omega arith in
+    writer_there size 0 size.writers number within ∙ ap (λ (n : ℕ). some (Writes (new_writer size n))) same
 
 new_core-real : (size : RingSize) → IsReal (new_core size)
 new_core-real size = record {
@@ -86,10 +101,19 @@ module _ {S : Type 0} where
     run = [];
     ran = refl;
     where_is = λ actor. (0, actor);
+    present = present;
     each = each;
     knows = knows;
   }
     where
+      present : (actor : ℕ) → actor ≤ size.writers → (part : Part) × Lies (opened size) 0 actor part × (key part ≡ actor)
+      present zero among = (Reads (new_reader size), record { view = new_parts size; seated = refl; placed = refl }, refl)
+      present (suc number) among = (
+        Writes (new_writer size number),
+        record { view = new_parts size; seated = refl; placed = new_part_there size number (omega (arith, among)) },
+        (new_writer-fits size number (omega (arith, among))).1,
+      )
+
       knows : (seat place : ℕ) (part : Part) → Lies (opened size) seat place part → Knows [] part
       knows zero place part lies =
           let known = part_at size place part

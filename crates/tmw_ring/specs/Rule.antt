@@ -65,8 +65,8 @@ pub record Lies {S : Type 0} (state : State S Parts) (seat place : ℕ) (part : 
   pub seated : get_elem? state.views seat ≡ some view
   pub placed : get_elem? view place ≡ some part
 
--- The table of a ring of this size shows a sound ring, which all parts fit, and a run that leads to it from a new ring. No actor
--- has two parts, and what each part knows of the run is so.
+-- The table of a ring of this size shows a sound ring, which all parts fit, and a run that leads to it from a new ring. Each actor
+-- has one part, and what each part knows of the run is so.
 pub record Shown {S : Type 0} (size : RingSize) (state : State S Parts) : Type 0 where
   pub core : Core
   pub sized : core.size ≡ size
@@ -75,7 +75,9 @@ pub record Shown {S : Type 0} (size : RingSize) (state : State S Parts) : Type 0
   pub words : state.words ≡ words_of core
   pub run : List Answered
   pub ran : Runs (new_core size) run core
-  -- where the part of each actor lies, if anywhere
+  -- where the part of each actor lies
   pub where_is : ℕ → ℕ × ℕ
+  pub present : (actor : ℕ) → actor ≤ size.writers
+      → (part : Part) × Lies state (where_is actor).0 (where_is actor).1 part × (key part ≡ actor)
   pub each : (seat place : ℕ) (part : Part) → Lies state seat place part → PartFits core part × (where_is (key part) ≡ (seat, place))
   pub knows : (seat place : ℕ) (part : Part) → Lies state seat place part → Knows run part
