@@ -13,4 +13,5 @@ pub mod RingStart
 pub mod RingStores
 pub mod RingTakes
 pub mod RingWrites
+pub mod RunsActors
 pub mod RunsProof
