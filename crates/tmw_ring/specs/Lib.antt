@@ -4,6 +4,7 @@ pub mod NewRing
 pub mod Parts
 pub mod Recording
 pub mod Rule
+pub mod RunLaws
 pub mod Seats
 pub mod Settling
 pub mod Takes

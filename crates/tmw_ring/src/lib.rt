@@ -15,6 +15,7 @@ mod record;
 mod record_tests;
 mod refused;
 mod rule;
+mod run_laws;
 mod settle;
 #[cfg(test)]
 mod settle_tests;
@@ -28,8 +29,9 @@ mod tests;
 pub use cuts::{AllParts, BothParts, SecondPart};
 pub use ends::{Reader, Ring, Writer};
 pub use make::ring;
-pub use part::{Look, Made, Part, ReaderPart, WriterPart};
+pub use part::{Made, Part, ReaderPart, WriterPart};
 pub use refused::Refused;
 pub use rule::{RingRule, RingSeat, RingTable};
+pub use run_laws::{law_claims, law_runs};
 pub use settled::Settled;
 pub use tmw_ring_defs::{RingFault, RingSize};
