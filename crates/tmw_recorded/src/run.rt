@@ -44,12 +44,9 @@ pub fn record_and_judge<R: Threads + Wait + Sync>(
         return Err(RecordFault::Memory);
     };
     let pump = Pump::new(alloc, reader, monitor);
-    let (pump, writers, stops) = match record_in_threads(
+    let (pump, writers, stops) = record_in_threads(
         rt, alloc, &ring, pump, writers, lists, plan.tries,
-    ) {
-        Ok(left) => left,
-        Err(fault) => return Err(fault),
-    };
+    )?;
     let Ok((events, verdict)) = judge_rest(pump.settle(ring, writers)) else {
         return Err(RecordFault::Memory);
     };
@@ -115,10 +112,7 @@ fn record_within<'s, E, R: Threads + Wait>(
     ensures back { IfOk result (λ left. AreBack ring.now lists.now left.1.items left.2.items) }
     ensures err { IfErr result IsOfThreads }
 {
-    let handles = match start_all(scope, alloc, ring, writers, lists, tries, ended) {
-        Ok(handles) => handles,
-        Err(fault) => return Err(fault),
-    };
+    let handles = start_all(scope, alloc, ring, writers, lists, tries, ended)?;
     let Ok(()) = pump_running(rt, ring, &mut pump, ended, lists.len() as u64) else {
         return Err(RecordFault::Memory);
     };

@@ -16,13 +16,13 @@ returns-clause-ok g c =
     let rules = rules_of plan.registers zeros plan.bounds in
     let start = c.new-pump.result.front in
     let new = c.new-pump.ensures in
-    let left = c.in-Ok-record_in_threads.left in
-    let recorded = c.in-Ok-record_in_threads.ensures in
+    let left = c.in_ok-pump in
+    let recorded = c.in_ok-pump.ensures in
     let rest = c.settle.result in
     let settled = c.settle.ensures in
     let judged = c.in-Ok-judge_rest.ensures in
-    let taken = left.0.reader.taken in
-    let writers = left.1.items in
+    let taken = left.pump.reader.taken in
+    let writers = left.writers.items in
     let log = all_of rest in
     let began : Fits rules start.judged.items start.monitor =
     subst (λ (l : List Event). Fits rules l start.monitor) (sym new.judged)
@@ -30,7 +30,7 @@ returns-clause-ok g c =
     let fits : Fits rules rest.front.judged.items rest.front.monitor =
     subst (λ (f : Front). Fits rules f.judged.items f.monitor) (sym settled.front) (recorded.fits rules began) in
     let all : log ≡ taken ++ rest.settled =
-    ap (λ (f : Front). came f ++ rest.settled) settled.front ∙ ap (λ (l : List Event). l ++ rest.settled) left.0.all in
-    whole plan lists c.in-Ok.made.0 writers record { events = c.in-Ok-judge_rest.events; verdict = c.in-Ok-judge_rest.verdict; stops = left.2 }
+    ap (λ (f : Front). came f ++ rest.settled) settled.front ∙ ap (λ (l : List Event). l ++ rest.settled) left.pump.all in
+    whole plan lists c.in-Ok.made.0 writers record { events = c.in-Ok-judge_rest.events; verdict = c.in-Ok-judge_rest.verdict; stops = left.stops }
     log c.in-Ok.ensures.ok.sized recorded.back (own-settled taken rest.settled log writers settled.settled all) settled.one_log judged.all
     (judged.headline rules log writers fits settled.one_log)
