@@ -8,6 +8,7 @@ mod pumping;
 mod record;
 mod recorded;
 mod run;
+mod signals;
 #[cfg(test)]
 mod tests;
 mod threads;

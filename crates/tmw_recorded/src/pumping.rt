@@ -5,9 +5,9 @@ ghost use Rattle.tmw_pump.specs.Headline.{GivesHeadline};
 ghost use Rattle.tmw_pump.specs.Resting.{all_of};
 ghost use Rattle.tmw_ring.specs.Ends.{ReaderOf};
 
+use crate::signals::Signals;
 use std::alloc::AllocError;
 use std::sync::Wait;
-use std::sync::atomic::{AtomicU64, Ordering};
 use std::thread;
 use tmw_defs::Verdict;
 use tmw_events::Event;
@@ -22,7 +22,7 @@ pub fn pump_running<R: Wait>(
     rt: &R,
     ring: &Ring,
     pump: &mut Pump,
-    ended: &AtomicU64,
+    signals: &Signals,
     threads: u64,
 ) -> Result<(), AllocError>
     requires { ReaderOf ring.now pump.old.reader }
@@ -30,7 +30,7 @@ pub fn pump_running<R: Wait>(
     ensures fits { OnOk result (KeepsFit pump.old.front pump.new.front) }
 {
     for _ in rt.forever() {
-        if ended.load(Ordering::SeqCst) == threads {
+        if signals.ended() == threads {
             break;
         }
         let pumped = pump.pump(ring, TURN)?;

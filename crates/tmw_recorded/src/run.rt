@@ -11,10 +11,10 @@ use crate::fault::RecordFault;
 use crate::plan::Plan;
 use crate::pumping::{judge_rest, pump_running};
 use crate::recorded::Recorded;
+use crate::signals::Signals;
 use crate::threads::start_all;
 use std::alloc::Global;
 use std::sync::Wait;
-use std::sync::atomic::AtomicU64;
 use std::thread;
 use std::thread::{Scope, Threads};
 use tmw_events::Kind;
@@ -75,8 +75,8 @@ fn record_in_threads<R: Threads + Wait + Sync>(
     ensures back { IfOk result (λ left. AreBack ring.now lists.now left.1.items left.2.items) }
     ensures err { IfErr result IsOfThreads }
 {
-    let count = AtomicU64::new(0);
-    let ended = &count;
+    let told = Signals::new();
+    let signals = &told;
     thread::scope(
         thread::scope_env(),
         rt,
@@ -88,11 +88,11 @@ fn record_in_threads<R: Threads + Wait + Sync>(
             ensures fits { IfOk result (λ left. KeepsFit pump.front left.0.front) }
             ensures back { IfOk result (λ left. AreBack ring.entry.now lists.entry.now left.1.items left.2.items) }
             ensures err { IfErr result IsOfThreads }
-        { record_within(rt, scope, alloc, ring, pump, writers, lists, tries, ended) },
+        { record_within(rt, scope, alloc, ring, pump, writers, lists, tries, signals) },
     )
 }
 
-/// The same, by threads of this scope, which count in `ended` that they have ended.
+/// The same, by threads of this scope. Where it fails, threads that find the ring full stop.
 fn record_within<'s, E, R: Threads + Wait>(
     rt: &R,
     scope: &Scope<'s, E>,
@@ -102,7 +102,7 @@ fn record_within<'s, E, R: Threads + Wait>(
     writers: Vec<Writer>,
     lists: &'s [Vec<Kind>],
     tries: u64,
-    ended: &'s AtomicU64,
+    signals: &'s Signals,
 ) -> Result<Left, RecordFault>
     requires reader { ReaderOf ring.now pump.reader }
     requires writers { AreNewWriters ring.now writers.items }
@@ -112,8 +112,15 @@ fn record_within<'s, E, R: Threads + Wait>(
     ensures back { IfOk result (λ left. AreBack ring.now lists.now left.1.items left.2.items) }
     ensures err { IfErr result IsOfThreads }
 {
-    let handles = start_all(scope, alloc, ring, writers, lists, tries, ended)?;
-    let Ok(()) = pump_running(rt, ring, &mut pump, ended, lists.len() as u64) else {
+    let handles = match start_all(scope, alloc, ring, writers, lists, tries, signals) {
+        Ok(handles) => handles,
+        Err(fault) => {
+            signals.give_up();
+            return Err(fault);
+        }
+    };
+    let Ok(()) = pump_running(rt, ring, &mut pump, signals, lists.len() as u64) else {
+        signals.give_up();
         return Err(RecordFault::Memory);
     };
     let Ok(back) = thread::join_promised(rt, handles) else {

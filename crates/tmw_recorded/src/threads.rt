@@ -7,8 +7,8 @@ ghost use Rattle.tmw_ring.specs.NewRing.{AreNewWriters};
 
 use crate::fault::RecordFault;
 use crate::record::record_list;
+use crate::signals::Signals;
 use std::alloc::Global;
-use std::sync::atomic::AtomicU64;
 use std::thread::{Promise, PromisedHandle, Scope};
 use tmw_events::{Ix, Kind};
 use tmw_ring::{Refused, Ring, Writer};
@@ -35,7 +35,7 @@ pub fn start_all<'s, E>(
     writers: Vec<Writer>,
     lists: &'s [Vec<Kind>],
     tries: u64,
-    ended: &'s AtomicU64,
+    signals: &'s Signals,
 ) -> Result<Vec<PromisedHandle<(Writer, Option<Refused>), Recording<'s>>>, RecordFault>
     requires { AreNewWriters ring.now writers.items }
     ensures count { IfOk result (λ handles. length handles.items ≡ length writers.items) }
@@ -58,7 +58,7 @@ pub fn start_all<'s, E>(
                 requires of_ring { WriterOf ring.now writer }
                 requires new { writer.made ≡ [] }
                 ensures { IsBack ring.entry.now lists.entry.now writer.number.number result.0 result.1 }
-            { record_list(ring, writer, lists, tries, ended) },
+            { record_list(ring, writer, lists, tries, signals) },
         ) else {
             return Err(RecordFault::Thread);
         };

@@ -9,8 +9,8 @@ pub returns-clause-back : goal.returns-clause-back
 returns-clause-back g c =
     let ring = c.args.ring.now in
     let lists = c.args.lists.now in
-    let started = c.in_ok-handles.ensures in
-    let handles = c.in_ok-handles.handles in
+    let started = c.in-Ok.ensures in
+    let handles = c.in-Ok.handles in
     let joined = c.in-Ok-join_promised.ensures in
     let back = c.in-Ok-join_promised.back in
     let sorted = c.in-Ok-sort_back.ensures in
