@@ -1,0 +1,8 @@
+use Rattle.std.proofs.Common.{sym, subst}
+use Rattle.tmw_pump.specs.Headline.{IsLogOf}
+use Rattle.tmw_recorded.proofs.pumping.judge_rest.Goals as goal
+
+pub returns-clause-headline : goal.returns-clause-headline
+returns-clause-headline c by log writers fits one_log =
+    let rested = c.in_ok-pump.ensures.ok.counted in
+    c.finish.ensures.headline by log writers (rested.judged.fits by fits) (subst (IsLogOf log writers) (sym rested.all) one_log)

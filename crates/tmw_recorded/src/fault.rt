@@ -1,0 +1,16 @@
+use thiserror::Error;
+use tmw_ring::RingFault;
+
+/// Why there is no record that was judged to its end. All threads that were started have ended.
+#[derive(Clone, Copy, PartialEq, Eq, Debug, Error)]
+pub enum RecordFault {
+    /// There is no ring of this size.
+    #[error("{0}")]
+    Ring(RingFault),
+    /// A growth was refused.
+    #[error("out of memory")]
+    Memory,
+    /// A thread could not be started.
+    #[error("no more threads can be started")]
+    Thread,
+}
