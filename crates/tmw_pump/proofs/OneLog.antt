@@ -2,14 +2,14 @@
 use Rattle.std.proofs.Common.{◌≡◌, ◌++◌, List, [], sym, ap, ◌∙◌}
 use Rattle.std.proofs.lemmas.List.{append-nil}
 use Rattle.tmw_events.specs.declared.event.Event.{Event}
-use Rattle.tmw_ring.specs.Ends.{WriterIs}
+use Rattle.tmw_ring.specs.Ends.{WriterIs, ReaderIs}
 use Rattle.tmw_ring.specs.Parts.{made_from}
 use Rattle.tmw_ring.specs.Settling.{AreInOrder, IsSettled}
 use Rattle.tmw_pump.specs.Headline.{IsLogOf}
 
-pub log-settled : (taken : List Event) (writers : List WriterIs) (left all : List Event) → IsSettled taken writers left
-    → AreInOrder writers → all ≡ taken ++ left → IsLogOf all writers all
-log-settled taken writers left all settled order whole = record {
+pub log-settled : (reader : ReaderIs) (writers : List WriterIs) (left all : List Event) → IsSettled reader writers left
+    → AreInOrder writers → all ≡ reader.taken ++ left → IsLogOf all writers all
+log-settled reader writers left all settled order whole = record {
   rest = [];
   begins = sym (append-nil all);
   pairs = λ k d below. settled.made k d below

@@ -123,7 +123,7 @@ impl Pump {
         requires writers { All (WriterOf ring) writers.items }
         requires count { length writers.items ≡ ring.size.writers }
         requires order { AreInOrder writers.items }
-        ensures settled { IsSettled self.reader.taken writers.items result.settled }
+        ensures settled { IsSettled self.reader writers.items result.settled }
         ensures front { result.front ≡ self.front }
         ensures one_log { IsLogOf (all_of result) writers.items (all_of result) }
     {

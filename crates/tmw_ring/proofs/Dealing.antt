@@ -78,7 +78,7 @@ new_writers-push ring writers writer number are count of new = record {
 -- What callers see of a new writer.
 new_writer_is : (table : TableId) (size : RingSize) (number : ℕ) → number < 8
     → IsNewWriter number (writer_is table (new_writer size number))
-new_writer_is table size number within = record { numbered = omega (arith, within); made = refl; seen = refl; looks = refl }
+new_writer_is table size number within = record { numbered = omega (arith, within); made = refl; seen = refl; run = refl }
 
 module _ {S : Type 0} where
   -- One more writer, by whose seat it is new.

@@ -1,20 +1,23 @@
--- A seat with any parts may load tail, and what its parts know is of one log.
-use Rattle.std.proofs.Common.{◌≡◌, ◌++◌, ℕ, zero, suc, List, [], ◌∷◌, map, set, drop, slice_index, refl, sym, ap, ◌∙◌, subst, arith}
+-- A seat with any parts may load tail, and what its parts know is of one run and its log.
+use Rattle.std.proofs.Common.{◌≡◌, ◌++◌, ℕ, zero, suc, List, [], ◌∷◌, map, set, drop, slice_index, append-nil, refl, sym, ap, ◌∙◌, subst, arith}
 use Rattle.std.proofs.lemmas.List.{take-append-drop}
 use mathlib.Core.Option.{none, some, some-injective, some-ne-none}
 use lib.ListN.{get_elem?}
+use Rattle.atomic_table.proofs.Lists.{at_map}
 use Rattle.atomic_table.specs.Table.{Me, Allows, keeps, step}
 use Rattle.tmw_events.specs.declared.event.Event.{Event}
-use Rattle.tmw_ring_defs.specs.Ring.{Core}
+use Rattle.tmw_ring_defs.specs.Ring.{Core, new_core}
 use Rattle.tmw_ring_defs.specs.RingSound.{Sound}
+use Rattle.tmw_ring_defs.specs.Runs.{IsRunTo, Runs}
 use Rattle.tmw_ring_defs.specs.declared.ring_size.RingSize.{RingSize}
+use Rattle.tmw_ring_defs.specs.declared.ring_step.Answered.{Answered}
 use Rattle.tmw_ring.specs.Meeting.{with_tail, IsOfLog, HasFoundTail}
-use Rattle.tmw_ring.specs.Parts.{Parts, key}
+use Rattle.tmw_ring.specs.Parts.{Parts, key, run_of, size_of}
 use Rattle.tmw_ring.specs.Rule.{PartFits, Shown}
 use Rattle.tmw_ring.specs.Words.{words_of, tail_word}
 use Rattle.tmw_ring.specs.declared.part.Part.{Part}
 use Rattle.tmw_ring.specs.declared.part.Part.TheVariants.{Writes, Reads}
-use Rattle.tmw_ring.proofs.Moves.{Follows, moves_each}
+use Rattle.tmw_ring.proofs.Moves.{Follows, Remains, knows_all, moves_each}
 
 -- What stands in a mapped list is the image of what stood there.
 at_mapped : {A B : Type 0} (f : A → B) (items : List A) (found : B) (place : ℕ) → get_elem? (map f items) place ≡ some found
@@ -31,13 +34,21 @@ loaded_words core words are =
     (refl, refl)
 
 -- A part that has found tail fits the ring still.
-fits_still : (core : Core) (part : Part) → PartFits core part → PartFits core (with_tail core.tail part)
-fits_still core (Writes part) fits = record { sized = fits.sized; phase = fits.phase; made = fits.made; seen = omega arith }
-fits_still core (Reads part) fits = fits
+fits_still : (core : Core) (run : List Answered) (part : Part) → PartFits core part → PartFits core (with_tail core.tail run part)
+fits_still core run (Writes part) fits = record { sized = fits.sized; phase = fits.phase; made = fits.made; seen = omega arith }
+fits_still core run (Reads part) fits = record { sized = fits.sized; phase = fits.phase; taken = fits.taken }
 
-same_key : (tail : ℕ) (part : Part) → key (with_tail tail part) ≡ key part
-same_key tail (Writes part) = refl
-same_key tail (Reads part) = refl
+same_key : (tail : ℕ) (run : List Answered) (part : Part) → key (with_tail tail run part) ≡ key part
+same_key tail run (Writes part) = refl
+same_key tail run (Reads part) = refl
+
+run_known : (tail : ℕ) (run : List Answered) (part : Part) → run_of (with_tail tail run part) ≡ run
+run_known tail run (Writes part) = refl
+run_known tail run (Reads part) = refl
+
+sized_so : (core : Core) (part : Part) → PartFits core part → size_of part ≡ core.size
+sized_so core (Writes part) fits = fits.sized
+sized_so core (Reads part) fits = fits.sized
 
 -- What a part that fits knows is of the ring's log.
 of_log : (core : Core) → Sound core → (part : Part) → PartFits core part → IsOfLog core.log part
@@ -47,11 +58,21 @@ of_log core sound (Reads part) fits =
     sym (take-append-drop core.front core.log) ∙ ap (λ (first : List Event). first ++ drop core.front core.log) (sym sound.begins) in
     (drop core.front core.log, begins ∙ ap (λ (taken : List Event). taken ++ drop core.front core.log) (sym fits.taken))
 
-all_follow : (core : Core) (old : Parts) → ((place : ℕ) (part : Part) → get_elem? old place ≡ some part → PartFits core part)
-    → Follows core old (map (with_tail core.tail) old)
-all_follow core old fit place part placed =
-    let (was, at, is) = at_mapped (with_tail core.tail) old part place placed in
-    (was, at, ap key is ∙ same_key core.tail was, subst (PartFits core) (sym is) (fits_still core was (fit place was at)))
+all_follow : (core : Core) (run : List Answered) (old : Parts)
+    → ((place : ℕ) (part : Part) → get_elem? old place ≡ some part → PartFits core part)
+    → Follows core run old (map (with_tail core.tail run) old)
+all_follow core run old fit place part placed =
+    let (was, at, is) = at_mapped (with_tail core.tail run) old part place placed in (
+      was,
+      at,
+      ap key is ∙ same_key core.tail run was,
+      subst (PartFits core) (sym is) (fits_still core run was (fit place was at)),
+      knows_all run part (ap run_of is ∙ run_known core.tail run was),
+    )
+
+all_remain : (tail : ℕ) (run : List Answered) (old : Parts) → Remains old (map (with_tail tail run) old)
+all_remain tail run old place was placed =
+    (with_tail tail run was, at_map (with_tail tail run) old place was placed, same_key tail run was)
 
 module _ {S : Type 0} where
   -- The load changes no word, so the ring stays as it was.
@@ -61,12 +82,31 @@ module _ {S : Type 0} where
       let loaded = loaded_words shown.core state.words shown.words in
       let fit : (place : ℕ) (part : Part) → get_elem? me.0 place ≡ some part → PartFits shown.core part =
       λ place part at. (shown.each seat place part (record { view = me.0; seated = seated; placed = at })).0 in
-      let follow = subst (λ (n : ℕ). Follows shown.core me.0 (map (with_tail n) me.0)) (sym loaded.0) (all_follow shown.core me.0 fit) in (
-        map (with_tail (slice_index state.words tail_word)) me.0,
+      let run : List Answered = shown.run in
+      let follow = subst (λ (r : List Answered). Follows shown.core r me.0 (map (with_tail (slice_index state.words tail_word) run) me.0))
+      (sym (append-nil run))
+      (subst (λ (n : ℕ). Follows shown.core run me.0 (map (with_tail n run) me.0)) (sym loaded.0) (all_follow shown.core run me.0 fit)) in
+      let ran : (part : Part) → PartFits shown.core part → IsRunTo (size_of part) run shown.core.log =
+      λ part fits. (
+        shown.core,
+        subst (λ (z : RingSize). Runs (new_core z) run shown.core) (sym (sized_so shown.core part fits ∙ shown.sized)) shown.ran,
+        refl,
+      ) in (
+        map (with_tail (slice_index state.words tail_word) run) me.0,
         keeps,
         tt,
         moves_each size state shown seat tail_word (slice_index state.words tail_word) me.0
-            (map (with_tail (slice_index state.words tail_word)) me.0) shown.core seated refl shown.sound shown.real loaded.1 follow
-            (λ other apart fits. fits),
-        (refl, shown.core.log, loaded.0 ∙ shown.sound.tail, λ place part at. of_log shown.core shown.sound part (fit place part at)),
+            (map (with_tail (slice_index state.words tail_word) run) me.0) shown.core [] seated refl shown.sound shown.real loaded.1
+            refl follow (all_remain (slice_index state.words tail_word) run me.0) (λ other apart fits. fits) (λ other apart. refl),
+        (
+          run,
+          shown.core.log,
+          refl,
+          loaded.0 ∙ shown.sound.tail,
+          λ place part at. record {
+            of_log = of_log shown.core shown.sound part (fit place part at);
+            knows = shown.knows seat place part (record { view = me.0; seated = seated; placed = at });
+            run_to = ran part (fit place part at);
+          },
+        ),
       )

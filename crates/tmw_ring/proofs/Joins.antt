@@ -2,12 +2,13 @@
 use Rattle.std.proofs.Common.{◌≡◌, ◌≢◌, ◌⊎◌, ◌+◌, ℕ, zero, suc, List, [], ◌∷◌, ◌++◌, length, set, sym, ap, ◌∙◌, subst, inl, inr, arith}
 use mathlib.Core.Option.{some, some-ne-none}
 use lib.ListN.{get_elem?}
-use Rattle.atomic_table.proofs.Lists.{at_set, set_else}
+use native.Mathlib.Decide.{ℕ_discrete}
+use Rattle.atomic_table.proofs.Lists.{at_longer, at_set, set_else}
 use Rattle.atomic_table.specs.Table.{State, Joins}
 use Rattle.tmw_ring_defs.specs.declared.ring_size.RingSize.{RingSize}
 use Rattle.tmw_ring.specs.Parts.{Parts}
-use Rattle.tmw_ring.specs.Rule.{Shown}
-use Rattle.tmw_ring.proofs.Moves.{Rearranged, rearrange}
+use Rattle.tmw_ring.specs.Rule.{Lies, Shown}
+use Rattle.tmw_ring.proofs.Moves.{Rearranged, Stays, lies_among, rearrange, set_over}
 use Rattle.tmw_ring.proofs.Seats.{from_seat, from_this, from_other}
 
 -- What stands in two lists in a row stands in the first, or so far past it in the second.
@@ -20,6 +21,14 @@ at_either (first ∷ items) more (suc place) found at =
       | inl before ↦ inl before
       | inr after ↦ let (past, is, there) = after in inr (past, omega (arith, is), there)
     ]
+
+-- What stands in the second of two lists in a row stands so far past the first.
+at_past : {A : Type 0} (items more : List A) (place : ℕ) (found : A) → get_elem? more place ≡ some found
+    → get_elem? (items ++ more) (length items + place) ≡ some found
+at_past [] more place found at = let same : 0 + place ≡ place = omega arith in ap (get_elem? more) same ∙ at
+at_past (first ∷ items) more place found at =
+    let same : suc (length items) + place ≡ suc (length items + place) = omega arith in
+    ap (get_elem? (first ∷ items ++ more)) same ∙ at_past items more place found at
 
 -- Where the parts of the seat that is taken in go.
 abbrev joined_to : ℕ → Parts → ℕ → ℕ × ℕ
@@ -58,8 +67,49 @@ module _ {S : Type 0} where
         ]
       ]
 
+  join_stays : (state : State S Parts) (seat other : ℕ) (view more : Parts) → get_elem? state.views seat ≡ some view → other ≢ seat
+      → get_elem? state.views other ≡ some more
+      → Stays state (set (set state.views seat (view ++ more)) other []) (from_seat other (joined_to seat view))
+  join_stays state seat other view more seated apart there from part lies =
+      by_seat (ℕ_discrete from.0 other) (ℕ_discrete from.0 seat)
+    where
+      all : List Parts
+      all = set (set state.views seat (view ++ more)) other []
+
+      -- The seat has both lists of parts.
+      both : get_elem? all seat ≡ some (view ++ more)
+      both = set_else (set state.views seat (view ++ more)) other seat [] (λ same. apart (sym same))
+          ∙ set_over state.views seat view (view ++ more) seated
+
+      by_seat : Dec (from.0 ≡ other) → Dec (from.0 ≡ seat)
+          → Lies (record state { views = all }) (from_seat other (joined_to seat view) from).0 (from_seat other (joined_to seat view) from).1 part
+      by_seat (yes is) here =
+          let now : from_seat other (joined_to seat view) from ≡ (seat, length view + from.1) =
+          ap (λ (n : ℕ). from_seat other (joined_to seat view) (n, from.1)) is ∙ from_this other (joined_to seat view) from.1 in
+          subst (λ (to : ℕ × ℕ). Lies (record state { views = all }) to.0 to.1 part) (sym now) (record {
+            view = view ++ more;
+            seated = both;
+            placed = at_past view more from.1 part (lies_among state other from.0 from.1 more part there is lies);
+          })
+      by_seat (no away) (yes is) =
+          let stays : from_seat other (joined_to seat view) from ≡ from = from_other other (joined_to seat view) from.0 from.1 away in
+          subst (λ (to : ℕ × ℕ). Lies (record state { views = all }) to.0 to.1 part) (sym stays) (record {
+            view = view ++ more;
+            seated = ap (get_elem? all) is ∙ both;
+            placed = at_longer view more from.1 part (lies_among state seat from.0 from.1 view part seated is lies);
+          })
+      by_seat (no away) (no else) =
+          let stays : from_seat other (joined_to seat view) from ≡ from = from_other other (joined_to seat view) from.0 from.1 away in
+          subst (λ (to : ℕ × ℕ). Lies (record state { views = all }) to.0 to.1 part) (sym stays) (record {
+            view = lies.view;
+            seated = set_else (set state.views seat (view ++ more)) other from.0 [] away
+                ∙ set_else state.views seat from.0 (view ++ more) else ∙ lies.seated;
+            placed = lies.placed;
+          })
+
   -- The other seat is left with no part.
   pub joins_both : (size : RingSize) (seat other : ℕ) (view more : Parts) → Joins (Shown {S = S} size) seat view other more (view ++ more) []
   joins_both size seat other view more state shown seated apart there =
       rearrange size state (set (set state.views seat (view ++ more)) other []) (from_seat other (joined_to seat view)) shown
       (join_lies state seat other view more seated apart (sym (set_else state.views seat other (view ++ more) apart) ∙ there))
+      (join_stays state seat other view more seated apart (sym (set_else state.views seat other (view ++ more) apart) ∙ there))

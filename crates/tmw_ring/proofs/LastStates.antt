@@ -5,13 +5,15 @@ use Rattle.std.specs.Prelude.{slice_get}
 use mathlib.Core.Option.{some}
 use lib.ListN.{get_elem?}
 use Rattle.atomic_table.specs.Table.{Me, Final, Seen}
-use Rattle.tmw_ring_defs.specs.Ring.{Core}
+use Rattle.tmw_ring_defs.specs.Ring.{Core, new_core}
 use Rattle.tmw_ring_defs.specs.RingSound.{Sound, IsHeld, IsPublished}
 use Rattle.tmw_ring_defs.specs.declared.ring_phase.WriterPhase.TheVariants.{Idle, Claimed}
+use Rattle.tmw_ring_defs.specs.Runs.{Runs}
 use Rattle.tmw_ring_defs.specs.declared.ring_size.RingSize.{RingSize}
+use Rattle.tmw_ring_defs.specs.declared.ring_step.Answered.{Answered}
 use Rattle.tmw_ring.specs.Ends.{WriterIs}
 use Rattle.tmw_ring.specs.Parts.{Parts}
-use Rattle.tmw_ring.specs.Rule.{PartFits, IsReal, ReaderFits, Shown}
+use Rattle.tmw_ring.specs.Rule.{PartFits, IsReal, Knows, Lies, ReaderFits, Shown}
 use Rattle.tmw_ring.specs.Seats.{reader_in, IsReader}
 use Rattle.tmw_ring.specs.Settling.{AreInOrder, part_of}
 use Rattle.tmw_ring.specs.Words.{words_of}
@@ -27,6 +29,10 @@ pub record Ended (size : RingSize) (reader : ReaderPart) (writers : List WriterI
   pub shown : words ≡ words_of core
   pub reads : ReaderFits core reader
   pub writes : (number : ℕ) (fallback : WriterIs) → number < length writers → PartFits core (part_of (get_or writers number fallback))
+  pub run : List Answered
+  pub ran : Runs (new_core size) run core
+  pub reader_knows : Knows run (Reads reader)
+  pub writers_know : (number : ℕ) (fallback : WriterIs) → number < length writers → Knows run (part_of (get_or writers number fallback))
 
 -- A writer's part stands where the writer does.
 part_at : (writers : List WriterIs) (number : ℕ) (fallback : WriterIs) → number < length writers
@@ -43,19 +49,26 @@ module _ {S : Type 0} where
       let state = final.0 in
       let shown = final.1.0 in
       let seated = final.1.1 ∙ ap some are in
+      let reader_lies : Lies state seat 0 (Reads reader) =
+      record { view = Reads reader ∷ map part_of writers; seated = seated; placed = refl } in
+      let writer_lies : (number : ℕ) (fallback : WriterIs) → number < length writers
+      → Lies state seat (suc number) (part_of (get_or writers number fallback)) =
+      λ number fallback within.
+      record { view = Reads reader ∷ map part_of writers; seated = seated; placed = part_at writers number fallback within } in
       record {
         core = shown.core;
         sized = shown.sized;
         sound = shown.sound;
         real = shown.real;
         shown = sym final.2 ∙ shown.words;
-        reads = (shown.each seat 0 (Reads reader) (record { view = Reads reader ∷ map part_of writers; seated = seated; placed = refl })).0;
+        reads = (shown.each seat 0 (Reads reader) reader_lies).0;
         writes = λ number fallback within.
-            (shown.each seat (suc number) (part_of (get_or writers number fallback)) (record {
-              view = Reads reader ∷ map part_of writers;
-              seated = seated;
-              placed = part_at writers number fallback within;
-            })).0;
+            (shown.each seat (suc number) (part_of (get_or writers number fallback)) (writer_lies number fallback within)).0;
+        run = shown.run;
+        ran = shown.ran;
+        reader_knows = shown.knows seat 0 (Reads reader) reader_lies;
+        writers_know = λ number fallback within.
+            shown.knows seat (suc number) (part_of (get_or writers number fallback)) (writer_lies number fallback within);
       }
 
   -- The same of the reader's seat, once it has taken in all writers' parts.

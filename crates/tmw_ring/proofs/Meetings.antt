@@ -4,8 +4,9 @@ use Rattle.atomic_table.specs.Seated.{TableId}
 use Rattle.atomic_table.specs.Table.{Me, Step}
 use Rattle.tmw_events.specs.declared.event.Event.{Event}
 use Rattle.tmw_events.specs.declared.ix.Ix.{Ix}
+use Rattle.tmw_ring_defs.specs.declared.ring_step.Answered.{Answered}
 use Rattle.tmw_ring.specs.Ends.{WriterIs, ReaderIs}
-use Rattle.tmw_ring.specs.Meeting.{with_tail, IsOfLog, HasFoundTail, SeatsHaveMet, WriterMeets, ReaderMeets}
+use Rattle.tmw_ring.specs.Meeting.{with_tail, IsOf, HasFoundTail, SeatsHaveMet, WriterMeets, ReaderMeets}
 use Rattle.tmw_ring.specs.Parts.{Parts}
 use Rattle.tmw_ring.specs.Seats.{second_alone, without_second, writer_in, reader_in, writer_is, reader_is, IsIdleWriter, IsWaitingReader}
 use Rattle.tmw_ring.specs.declared.part.Part.{Part}
@@ -25,60 +26,68 @@ module _ {S : Type 0} where
       let all : joined ≡ (first ∷ second ∷ [], []) =
       join ∙ ap (λ (m : Me S Parts). let n : Me S Parts = (m.0 ++ given.0, m.1) in n) alone
       ∙ ap (λ (parts : Parts). let n : Me S Parts = (first ∷ parts, []) in n) others in
-      let (after, log, is, each) = subst (λ (m : Me S Parts). HasFoundTail step m tail found) all has in
+      let (run, log, after, is, each) = subst (λ (m : Me S Parts). HasFoundTail step m tail found) all has in
       record {
+        run = run;
         log = log;
         one_of = each 0 first refl;
         other_of = each 1 second refl;
         one_after =
             left ∙ ap (λ (m : Me S Parts). let n : Me S Parts = (without_second m.0, m.1) in n) after
-            ∙ ap (λ (t : ℕ). let n : Me S Parts = (with_tail t first ∷ [], []) in n) is;
+            ∙ ap (λ (t : ℕ). let n : Me S Parts = (with_tail t run first ∷ [], []) in n) is;
         other_after =
             right ∙ ap (λ (m : Me S Parts). let n : Me S Parts = (second_alone m.0, []) in n) after
-            ∙ ap (λ (t : ℕ). let n : Me S Parts = (with_tail t second ∷ [], []) in n) is;
+            ∙ ap (λ (t : ℕ). let n : Me S Parts = (with_tail t run second ∷ [], []) in n) is;
       }
 
   -- A writer is idle still.
-  pub idle_still : (number : Ix) (tail : ℕ) (before after : Me S Parts) → IsIdleWriter number before
-      → after ≡ (with_tail tail (Writes (writer_in before.0)) ∷ [], []) → IsIdleWriter number after
-  idle_still number tail before after idle is =
+  pub idle_still : (number : Ix) (tail : ℕ) (run : List Answered) (before after : Me S Parts) → IsIdleWriter number before
+      → after ≡ (with_tail tail run (Writes (writer_in before.0)) ∷ [], []) → IsIdleWriter number after
+  idle_still number tail run before after idle is =
       subst (λ (m : Me S Parts). IsIdleWriter number m) (sym is) (record { seated = refl; idle = idle.idle; numbered = idle.numbered })
 
   -- The reader waits still.
-  pub waiting_still : (count : ℕ) (before after : Me S Parts) → IsWaitingReader count before
-      → after ≡ (Reads (reader_in before.0) ∷ [], []) → IsWaitingReader count after
-  waiting_still count before after waiting is =
+  pub waiting_still : (count : ℕ) (run : List Answered) (before after : Me S Parts) → IsWaitingReader count before
+      → after ≡ (Reads (record (reader_in before.0) { run = run }) ∷ [], []) → IsWaitingReader count after
+  waiting_still count run before after waiting is =
       subst (λ (m : Me S Parts). IsWaitingReader count m) (sym is)
       (record { seated = refl; waiting = waiting.waiting; counted = waiting.counted })
 
   -- What callers see of a writer that has met.
-  pub writer_met : (log : List Event) (table table_after : TableId) (before after : Me S Parts) (writer : WriterIs) → table_after ≡ table
-      → IsOfLog log (Writes (writer_in before.0)) → after ≡ (with_tail (length log) (Writes (writer_in before.0)) ∷ [], [])
-      → writer_is table (writer_in before.0) ≡ writer → WriterMeets log writer (writer_is table_after (writer_in after.0))
-  writer_met log table table_after before after writer same of is seen =
-      let left : writer_in after.0 ≡ writer_in ((with_tail (length log) (Writes (writer_in before.0)) ∷ [])) =
+  pub writer_met : (run : List Answered) (log : List Event) (table table_after : TableId) (before after : Me S Parts) (writer : WriterIs)
+      → table_after ≡ table → IsOf run log (Writes (writer_in before.0))
+      → after ≡ (with_tail (length log) run (Writes (writer_in before.0)) ∷ [], [])
+      → writer_is table (writer_in before.0) ≡ writer → WriterMeets run log writer (writer_is table_after (writer_in after.0))
+  writer_met run log table table_after before after writer same of is seen =
+      let left : writer_in after.0 ≡ writer_in ((with_tail (length log) run (Writes (writer_in before.0)) ∷ [])) =
       ap (λ (m : Me S Parts). writer_in m.0) is in
-      subst (λ (w : WriterIs). WriterMeets log w (writer_is table_after (writer_in after.0))) seen
-      (subst (λ (w : WriterPart). WriterMeets log (writer_is table (writer_in before.0)) (writer_is table_after w)) (sym left) (record {
+      subst (λ (w : WriterIs). WriterMeets run log w (writer_is table_after (writer_in after.0))) seen
+      (subst (λ (w : WriterPart). WriterMeets run log (writer_is table (writer_in before.0)) (writer_is table_after w)) (sym left) (record {
         table = same;
         size = refl;
         number = refl;
         made = refl;
-        logged = of.0;
-        reached = of.1;
+        logged = of.of_log.0;
+        reached = of.of_log.1;
         seen = omega arith;
-        looks = refl;
+        knows = refl;
+        gone = of.knows;
+        run_to = of.run_to;
       }))
 
   -- What callers see of the reader that has met a writer.
-  pub reader_met : (log : List Event) (table table_after : TableId) (before after : Me S Parts) (reader : ReaderIs) → table_after ≡ table
-      → IsOfLog log (Reads (reader_in before.0)) → after ≡ (with_tail (length log) (Reads (reader_in before.0)) ∷ [], [])
-      → reader_is table (reader_in before.0) ≡ reader → ReaderMeets log reader (reader_is table_after (reader_in after.0))
-  reader_met log table table_after before after reader same of is seen =
-      let left : reader_in after.0 ≡ reader_in before.0 = ap (λ (m : Me S Parts). reader_in m.0) is in
-      subst (λ (r : ReaderIs). ReaderMeets log r (reader_is table_after (reader_in after.0))) seen
-      (subst (λ (r : ReaderPart). ReaderMeets log (reader_is table (reader_in before.0)) (reader_is table_after r)) (sym left) (record {
-        same = ap (λ (t : TableId). reader_is t (reader_in before.0)) same;
-        rest = of.0;
-        begins = of.1;
+  pub reader_met : (run : List Answered) (log : List Event) (table table_after : TableId) (before after : Me S Parts) (reader : ReaderIs)
+      → table_after ≡ table → IsOf run log (Reads (reader_in before.0))
+      → after ≡ (with_tail (length log) run (Reads (reader_in before.0)) ∷ [], [])
+      → reader_is table (reader_in before.0) ≡ reader → ReaderMeets run log reader (reader_is table_after (reader_in after.0))
+  reader_met run log table table_after before after reader same of is seen =
+      let met : ReaderPart = record (reader_in before.0) { run = run } in
+      let left : reader_in after.0 ≡ met = ap (λ (m : Me S Parts). reader_in m.0) is in
+      subst (λ (r : ReaderIs). ReaderMeets run log r (reader_is table_after (reader_in after.0))) seen
+      (subst (λ (r : ReaderPart). ReaderMeets run log (reader_is table (reader_in before.0)) (reader_is table_after r)) (sym left) (record {
+        same = ap (λ (t : TableId). reader_is t met) same;
+        rest = of.of_log.0;
+        begins = of.of_log.1;
+        gone = of.knows;
+        run_to = of.run_to;
       }))

@@ -3,14 +3,15 @@ use Rattle.std.proofs.Common.{◌≡◌, ◌≢◌, ◌⊎◌, ℕ, zero, suc, e
 use Rattle.std.proofs.lemmas.List.{length-set}
 use mathlib.Core.Option.{some, some-injective, some-ne-none}
 use lib.ListN.{get_elem?}
-use Rattle.atomic_table.proofs.Lists.{at_set}
+use native.Mathlib.Decide.{ℕ_discrete}
+use Rattle.atomic_table.proofs.Lists.{at_last, at_longer, at_set, set_else}
 use Rattle.atomic_table.specs.Table.{State, Splits}
 use Rattle.tmw_ring_defs.specs.declared.ring_size.RingSize.{RingSize}
 use Rattle.tmw_ring.specs.Parts.{Parts}
-use Rattle.tmw_ring.specs.Rule.{Shown}
+use Rattle.tmw_ring.specs.Rule.{Lies, Shown}
 use Rattle.tmw_ring.specs.Seats.{second_alone, without_second}
 use Rattle.tmw_ring.specs.declared.part.Part.{Part}
-use Rattle.tmw_ring.proofs.Moves.{Rearranged, rearrange}
+use Rattle.tmw_ring.proofs.Moves.{Rearranged, Stays, lies_among, rearrange, set_over}
 
 -- What stands in a list with one more item stood there before, or is the last.
 at_push : {A : Type 0} (items : List A) (item found : A) (place : ℕ) → get_elem? (items ++ item ∷ []) place ≡ some found
@@ -34,12 +35,15 @@ from_this seat to place = rw (eq-eqb seat seat refl) refl
 pub from_other : (seat : ℕ) (to : ℕ → ℕ × ℕ) (other place : ℕ) → other ≢ seat → from_seat seat to (other, place) ≡ (other, place)
 from_other seat to other place apart = rw (ne_eqb other seat apart) refl
 
--- Each part of the two halves was the seat's, and `to` says where it lies now.
+-- Each part of the two halves was the seat's, and each of the seat's is in one of them: `to` says where it lies now.
 pub record Cut (view left right : Parts) (seat other : ℕ) (to : ℕ → ℕ × ℕ) : Type 0 where
   pub kept : (place : ℕ) (part : Part) → get_elem? left place ≡ some part
       → (from : ℕ) × (get_elem? view from ≡ some part) × (to from ≡ (seat, place))
   pub given : (place : ℕ) (part : Part) → get_elem? right place ≡ some part
       → (from : ℕ) × (get_elem? view from ≡ some part) × (to from ≡ (other, place))
+  pub stays : (place : ℕ) (part : Part) → get_elem? view place ≡ some part
+      → (((to place).0 ≡ seat) × (get_elem? left (to place).1 ≡ some part))
+      ⊎ (((to place).0 ≡ other) × (get_elem? right (to place).1 ≡ some part))
 
 -- Where each part goes when the second is cut off.
 abbrev second_to : ℕ → ℕ → ℕ → ℕ × ℕ
@@ -51,18 +55,33 @@ second_cut : (view : Parts) (seat other : ℕ) → Cut view (without_second view
 second_cut [] seat other = record {
   kept = λ place part at. absurd (some-ne-none part (sym at));
   given = λ place part at. absurd (some-ne-none part (sym at));
+  stays = λ place part at. absurd (some-ne-none part (sym at));
 }
 second_cut (first ∷ []) seat other = record {
   kept = kept;
   given = λ place part at. absurd (some-ne-none part (sym at));
+  stays = stays;
 }
   where
+    stays : (place : ℕ) (part : Part) → get_elem? (first ∷ []) place ≡ some part
+        → (((second_to seat other place).0 ≡ seat) × (get_elem? (first ∷ []) (second_to seat other place).1 ≡ some part))
+        ⊎ (((second_to seat other place).0 ≡ other) × (get_elem? {A = Part} [] (second_to seat other place).1 ≡ some part))
+    stays zero part at = inl (refl, at)
+    stays (suc place) part at = absurd (some-ne-none part (sym at))
+
     kept : (place : ℕ) (part : Part) → get_elem? (first ∷ []) place ≡ some part
         → (from : ℕ) × (get_elem? (first ∷ []) from ≡ some part) × (second_to seat other from ≡ (seat, place))
     kept zero part at = (0, at, refl)
     kept (suc place) part at = absurd (some-ne-none part (sym at))
-second_cut (first ∷ second ∷ rest) seat other = record { kept = kept; given = given }
+second_cut (first ∷ second ∷ rest) seat other = record { kept = kept; given = given; stays = stays }
   where
+    stays : (place : ℕ) (part : Part) → get_elem? (first ∷ second ∷ rest) place ≡ some part
+        → (((second_to seat other place).0 ≡ seat) × (get_elem? (first ∷ rest) (second_to seat other place).1 ≡ some part))
+        ⊎ (((second_to seat other place).0 ≡ other) × (get_elem? (second ∷ []) (second_to seat other place).1 ≡ some part))
+    stays zero part at = inl (refl, at)
+    stays (suc zero) part at = inr (refl, at)
+    stays (suc (suc place)) part at = inl (refl, at)
+
     kept : (place : ℕ) (part : Part) → get_elem? (first ∷ rest) place ≡ some part
         → (from : ℕ) × (get_elem? (first ∷ second ∷ rest) from ≡ some part) × (second_to seat other from ≡ (seat, place))
     kept zero part at = (0, at, refl)
@@ -72,6 +91,13 @@ second_cut (first ∷ second ∷ rest) seat other = record { kept = kept; given 
         → (from : ℕ) × (get_elem? (first ∷ second ∷ rest) from ≡ some part) × (second_to seat other from ≡ (other, place))
     given zero part at = (1, at, refl)
     given (suc place) part at = absurd (some-ne-none part (sym at))
+
+all_cut : (view : Parts) (seat other : ℕ) → Cut view [] view seat other (λ place. (other, place))
+all_cut view seat other = record {
+  kept = λ place part at. absurd (some-ne-none part (sym at));
+  given = λ place part at. (place, at, refl);
+  stays = λ place part at. inr (refl, at);
+}
 
 module _ {S : Type 0} where
   cut_lies : (state : State S Parts) (seat : ℕ) (view left right : Parts) (to : ℕ → ℕ × ℕ) → get_elem? state.views seat ≡ some view
@@ -98,6 +124,45 @@ module _ {S : Type 0} where
             )
       ]
 
+  cut_stays : (state : State S Parts) (seat : ℕ) (view left right : Parts) (to : ℕ → ℕ × ℕ) → get_elem? state.views seat ≡ some view
+      → Cut view left right seat (length state.views) to
+      → Stays state (set state.views seat left ++ right ∷ []) (from_seat seat to)
+  cut_stays state seat view left right to seated cut from part lies = by_seat (ℕ_discrete from.0 seat)
+    where
+      all : List Parts
+      all = set state.views seat left ++ right ∷ []
+
+      here : from.0 ≡ seat → Lies (record state { views = all }) (to from.1).0 (to from.1).1 part
+      here is =
+          elim (cut.stays from.1 part (lies_among state seat from.0 from.1 view part seated is lies)) [
+            | inl own ↦ record {
+              view = left;
+              seated = ap (get_elem? all) own.0
+                  ∙ at_longer (set state.views seat left) (right ∷ []) seat left (set_over state.views seat view left seated);
+              placed = own.1;
+            }
+            | inr gone ↦ record {
+              view = right;
+              seated = ap (get_elem? all) gone.0
+                  ∙ at_last (set state.views seat left) right (length state.views) (length-set state.views seat left);
+              placed = gone.1;
+            }
+          ]
+
+      by_seat : Dec (from.0 ≡ seat) → Lies (record state { views = all }) (from_seat seat to from).0 (from_seat seat to from).1 part
+      by_seat (yes is) =
+          let now : from_seat seat to from ≡ to from.1 =
+          ap (λ (n : ℕ). from_seat seat to (n, from.1)) is ∙ from_this seat to from.1 in
+          subst (λ (at : ℕ × ℕ). Lies (record state { views = all }) at.0 at.1 part) (sym now) (here is)
+      by_seat (no apart) =
+          let same : from_seat seat to from ≡ from = from_other seat to from.0 from.1 apart in
+          subst (λ (at : ℕ × ℕ). Lies (record state { views = all }) at.0 at.1 part) (sym same) (record {
+            view = lies.view;
+            seated = at_longer (set state.views seat left) (right ∷ []) from.0 lies.view
+                (set_else state.views seat from.0 left apart ∙ lies.seated);
+            placed = lies.placed;
+          })
+
   -- The second part may be cut off.
   pub splits_second : (size : RingSize) (seat : ℕ) (view : Parts) → Splits (Shown {S = S} size) seat view (without_second view) (second_alone view)
   splits_second size seat view state shown seated =
@@ -105,12 +170,12 @@ module _ {S : Type 0} where
       (from_seat seat (second_to seat (length state.views))) shown
       (cut_lies state seat view (without_second view) (second_alone view) (second_to seat (length state.views)) seated
       (second_cut view seat (length state.views)))
+      (cut_stays state seat view (without_second view) (second_alone view) (second_to seat (length state.views)) seated
+      (second_cut view seat (length state.views)))
 
   -- So may all parts.
   pub splits_all : (size : RingSize) (seat : ℕ) (view : Parts) → Splits (Shown {S = S} size) seat view [] view
   splits_all size seat view state shown seated =
       rearrange size state (set state.views seat [] ++ view ∷ []) (from_seat seat (λ place. (length state.views, place))) shown
-      (cut_lies state seat view [] view (λ place. (length state.views, place)) seated (record {
-        kept = λ place part at. absurd (some-ne-none part (sym at));
-        given = λ place part at. (place, at, refl);
-      }))
+      (cut_lies state seat view [] view (λ place. (length state.views, place)) seated (all_cut view seat (length state.views)))
+      (cut_stays state seat view [] view (λ place. (length state.views, place)) seated (all_cut view seat (length state.views)))

@@ -1,16 +1,19 @@
 -- A ring that has all its ends back has the rest of the log in its words.
-use Rattle.std.proofs.Common.{◌≡◌, ◌-◌, ◌^◌, ◌≤◌, ◌<◌, ℕ, List, ◌++◌, length, get_or, drop, sym, ap, ◌∙◌, subst, arith}
+use Rattle.std.proofs.Common.{◌≡◌, ◌-◌, ◌^◌, ◌≤◌, ◌<◌, ℕ, List, ◌++◌, length, get_or, drop, refl, sym, ap, ◌∙◌, subst, arith}
 use Rattle.std.proofs.lemmas.List.{take-append-drop}
 use Rattle.std.proofs.lemmas.Option.{slice_get-get_or}
 use Rattle.std.specs.Prelude.{slice_index}
 use mathlib.Core.Option.{some}
 use lib.ListN.{get_elem?}
 use Rattle.tmw_events.specs.declared.event.Event.{Event}
-use Rattle.tmw_ring_defs.specs.Ring.{Core}
+use Rattle.atomic_table.specs.Seated.{TableId}
+use Rattle.tmw_ring_defs.specs.Ring.{Core, new_core}
 use Rattle.tmw_ring_defs.specs.RingSound.{Sound}
+use Rattle.tmw_ring_defs.specs.Runs.{Runs}
 use Rattle.tmw_ring_defs.specs.declared.ring_size.RingSize.{RingSize}
 use Rattle.tmw_ring.specs.Ends.{WriterIs}
 use Rattle.tmw_ring.specs.Parts.{made_from}
+use Rattle.tmw_ring.specs.Seats.{reader_is}
 use Rattle.tmw_ring.specs.Settling.{AreInOrder, IsSettled, HasEvent, events_from}
 use Rattle.tmw_ring.specs.Words.{words_of}
 use Rattle.tmw_ring.specs.declared.part.ReaderPart.{ReaderPart}
@@ -34,10 +37,10 @@ few_claimed : (core : Core) → Sound core → core.tail ≤ 2 ^ 40
 few_claimed core sound = omega (arith, sound.limited, core.size.most_places)
 
 -- The log is what was taken and what is left.
-pub settles : (size : RingSize) (reader : ReaderPart) (writers : List WriterIs) (words : List ℕ) (front tail : ℕ)
+pub settles : (table : TableId) (size : RingSize) (reader : ReaderPart) (writers : List WriterIs) (words : List ℕ) (front tail : ℕ)
     → Ended size reader writers words → length writers ≡ size.writers → AreInOrder writers → Counted reader words front tail
-    → IsSettled reader.taken writers (events_from words size.cells front (tail - front))
-settles size reader writers words front tail ends count order counted =
+    → IsSettled (reader_is table reader) writers (events_from words size.cells front (tail - front))
+settles table size reader writers words front tail ends count order counted =
     let core = ends.core in
     let is = counts size reader writers words front tail ends counted in
     let few = few_claimed core ends.sound in
@@ -64,6 +67,14 @@ settles size reader writers words front tail ends count order counted =
       seen = λ number fallback within.
           let fits = ends.writes number fallback within in
           omega (arith, fits.seen, ends.sound.tail);
+      run = ends.run;
+      run_to = (
+        core,
+        subst (λ (z : RingSize). Runs (new_core z) ends.run core) (sym (ends.reads.sized ∙ ends.sized)) ends.ran,
+        refl,
+      );
+      reader_gone = ends.reader_knows;
+      writers_gone = ends.writers_know;
     }
 
 -- What is left stands in the words.

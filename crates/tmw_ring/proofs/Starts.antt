@@ -1,5 +1,5 @@
 -- A new ring keeps the rule of its table.
-use Rattle.std.proofs.Common.{◌≡◌, ◌+◌, ◌%◌, ◌<◌, ℕ, zero, suc, [], Some, replicate, refl, sym, ap, ◌∙◌, subst, arith}
+use Rattle.std.proofs.Common.{◌≡◌, ◌+◌, ◌%◌, ◌<◌, ◌≤◌, ℕ, zero, suc, [], Some, replicate, refl, sym, ap, ◌∙◌, subst, arith}
 use Rattle.std.proofs.lemmas.List.Elements.{All-replicate}
 use Rattle.std.specs.Prelude.{slice_get}
 use mathlib.Core.Option.{some, some-injective, some-ne-none}
@@ -13,11 +13,12 @@ use Rattle.tmw_ring_defs.specs.declared.ring_phase.WriterPhase.TheVariants.{Idle
 use Rattle.tmw_ring_defs.specs.declared.ring_size.RingSize.{RingSize}
 use Rattle.tmw_ring_defs.proofs.RingPhases.{all_idle}
 use Rattle.tmw_ring_defs.proofs.RingStart.{new_core-sound}
-use Rattle.tmw_ring.specs.Parts.{Parts, key, new_writer, new_writers, new_reader, new_parts}
-use Rattle.tmw_ring.specs.Rule.{PartFits, FitsPhase, IsReal, Lies, Shown, WriterFits}
+use Rattle.tmw_ring.specs.Parts.{Parts, key, run_of, new_writer, new_writers, new_reader, new_parts}
+use Rattle.tmw_ring.specs.Rule.{PartFits, FitsPhase, IsReal, Knows, Lies, Shown, WriterFits}
 use Rattle.tmw_ring.specs.Words.{word_count}
 use Rattle.tmw_ring.specs.declared.part.Part.{Part}
 use Rattle.tmw_ring.specs.declared.part.Part.TheVariants.{Writes, Reads}
+use Rattle.tmw_ring.proofs.Moves.{knows_all}
 use Rattle.tmw_ring.proofs.Words.{new_words}
 
 idle_at : (count writer : ℕ) → writer < count → slice_get (replicate count Idle) writer ≡ Some Idle
@@ -36,6 +37,21 @@ writers_at size from (suc count) (suc place) part at =
     let later = writers_at size (from + 1) count place part at in
     let same : from + 1 + place ≡ from + suc place = omega arith in
     (omega (arith, later.0), later.1 ∙ ap (λ (n : ℕ). Writes (new_writer size n)) same)
+
+writer_there : (size : RingSize) (from count place : ℕ) → place < count
+    → get_elem? (new_writers size from count) place ≡ some (Writes (new_writer size (from + place)))
+writer_there size from zero place within = absurd (omega (arith, within))
+writer_there size from (suc count) zero within =
+    let same : from ≡ from + 0 = omega arith in ap (λ (n : ℕ). some (Writes (new_writer size n))) same
+writer_there size from (suc count) (suc place) within =
+    let same : from + 1 + place ≡ from + suc place = omega arith in
+    writer_there size (from + 1) count place (omega (arith, within)) ∙ ap (λ (n : ℕ). some (Writes (new_writer size n))) same
+
+new_part_there : (size : RingSize) (number : ℕ) → number < size.writers
+    → get_elem? (new_parts size) (suc number) ≡ some (Writes (new_writer size number))
+new_part_there size number within =
+    let same : 0 + number ≡ number = omega arith in
+    writer_there size 0 size.writers number within ∙ ap (λ (n : ℕ). some (Writes (new_writer size n))) same
 
 new_core-real : (size : RingSize) → IsReal (new_core size)
 new_core-real size = record {
@@ -59,16 +75,16 @@ new_writer-fits size number within =
     (fits, omega (arith, same))
 
 part_at : (size : RingSize) (place : ℕ) (part : Part) → get_elem? (new_parts size) place ≡ some part
-    → PartFits (new_core size) part × (key part ≡ place)
+    → PartFits (new_core size) part × (key part ≡ place) × (run_of part ≡ [])
 part_at size zero part at =
-    subst (λ (found : Part). PartFits (new_core size) found × (key found ≡ 0)) (some-injective (Reads (new_reader size)) part at)
-    (record { sized = refl; phase = refl; taken = refl }, refl)
+    subst (λ (found : Part). PartFits (new_core size) found × (key found ≡ 0) × (run_of found ≡ []))
+    (some-injective (Reads (new_reader size)) part at) (record { sized = refl; phase = refl; taken = refl }, refl, refl)
 part_at size (suc place) part at =
     let (within, new) = writers_at size 0 size.writers place part at in
     let from : 0 + place ≡ place = omega arith in
     let known = new_writer-fits size place within in
-    subst (λ (found : Part). PartFits (new_core size) found × (key found ≡ suc place))
-    (ap (λ (n : ℕ). Writes (new_writer size n)) (sym from) ∙ sym new) known
+    subst (λ (found : Part). PartFits (new_core size) found × (key found ≡ suc place) × (run_of found ≡ []))
+    (ap (λ (n : ℕ). Writes (new_writer size n)) (sym from) ∙ sym new) (known.0, known.1, refl)
 
 module _ {S : Type 0} where
   -- The words and the one seat of a new table.
@@ -82,10 +98,29 @@ module _ {S : Type 0} where
     sound = new_core-sound size;
     real = new_core-real size;
     words = new_words size;
+    run = [];
+    ran = refl;
     where_is = λ actor. (0, actor);
+    present = present;
     each = each;
+    knows = knows;
   }
     where
+      present : (actor : ℕ) → actor ≤ size.writers → (part : Part) × Lies (opened size) 0 actor part × (key part ≡ actor)
+      present zero among = (Reads (new_reader size), record { view = new_parts size; seated = refl; placed = refl }, refl)
+      present (suc number) among = (
+        Writes (new_writer size number),
+        record { view = new_parts size; seated = refl; placed = new_part_there size number (omega (arith, among)) },
+        (new_writer-fits size number (omega (arith, among))).1,
+      )
+
+      knows : (seat place : ℕ) (part : Part) → Lies (opened size) seat place part → Knows [] part
+      knows zero place part lies =
+          let known = part_at size place part
+          (subst (λ (view : Parts). get_elem? view place ≡ some part) (sym (some-injective (new_parts size) lies.view lies.seated)) lies.placed) in
+          knows_all [] part known.2
+      knows (suc seat) place part lies = absurd (some-ne-none lies.view (sym lies.seated))
+
       each : (seat place : ℕ) (part : Part) → Lies (opened size) seat place part
           → PartFits (new_core size) part × (◌≡◌ {A = ℕ × ℕ} (0, key part) (seat, place))
       each zero place part lies =

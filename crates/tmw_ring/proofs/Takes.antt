@@ -10,28 +10,29 @@ use Rattle.tmw_events.proofs.Unpacks.{pack-words}
 use Rattle.tmw_events.specs.Packing.{stamp_of, header_of, IsHeader}
 use Rattle.tmw_events.specs.Unpacking.{unpacked}
 use Rattle.tmw_events.specs.declared.event.Event.{Event}
-use Rattle.tmw_ring_defs.specs.Ring.{Core}
+use Rattle.tmw_ring_defs.specs.Ring.{Core, new_core}
 use Rattle.tmw_ring_defs.specs.RingCells.{empty_cell}
 use Rattle.tmw_ring_defs.specs.RingSound.{HasRead, Sound}
-use Rattle.tmw_ring_defs.specs.RingSteps.{cell_at, peek_step, read_step, free_step}
+use Rattle.tmw_ring_defs.specs.RingSteps.{Stepped, cell_at, peek_step, read_step, free_step}
+use Rattle.tmw_ring_defs.specs.Runs.{IsRun, reader_actor}
 use Rattle.tmw_ring_defs.specs.declared.ring_cell.RingCell.{RingCell}
 use Rattle.tmw_ring_defs.specs.declared.ring_phase.ReaderPhase.{ReaderPhase}
 use Rattle.tmw_ring_defs.specs.declared.ring_phase.ReaderPhase.TheVariants.{Waiting, Ready, Told}
 use Rattle.tmw_ring_defs.specs.declared.ring_size.RingSize.{RingSize}
+use Rattle.tmw_ring_defs.specs.declared.ring_step.Answered.{Answered}
 use Rattle.tmw_ring_defs.specs.declared.ring_step.Reply.TheVariants.{Ready as IsReady, NotReady, Word, Taken}
+use Rattle.tmw_ring_defs.proofs.RunsProof.{gone-step, runs-append}
 use Rattle.tmw_ring_defs.proofs.RingStores.{has_cell}
 use Rattle.tmw_ring_defs.proofs.RingTakes.{peek_keeps, read_keeps, free_keeps}
 use Rattle.tmw_ring.specs.Parts.{Parts, key}
 use Rattle.tmw_ring.specs.Rule.{PartFits, IsReal, ReaderFits, Shown}
 use Rattle.tmw_ring.specs.Seats.{reader_in, IsWaitingReader}
-use Rattle.tmw_ring.specs.Takes.{phase_after, after_look, phase_with, after_read, next_event, after_free, IsToldEvent, IsReadyReader, IsToldReader, StampSeen, ValueRead, PlaceFreed}
+use Rattle.tmw_ring.specs.Takes.{phase_after, after_look, phase_with, after_read, next_event, after_free, peeking, reading, freeing, IsToldEvent, IsReadyReader, IsToldReader, ReaderMade, StampSeen, ValueRead, PlaceFreed}
 use Rattle.tmw_ring.specs.Words.{cell_words, words_of, front_word, stamp_word, value_word}
-use Rattle.tmw_ring.specs.declared.part.Look.{Look}
-use Rattle.tmw_ring.specs.declared.part.Look.TheVariants.{Stamp}
 use Rattle.tmw_ring.specs.declared.part.Part.{Part}
 use Rattle.tmw_ring.specs.declared.part.Part.TheVariants.{Writes, Reads}
 use Rattle.tmw_ring.specs.declared.part.ReaderPart.{ReaderPart}
-use Rattle.tmw_ring.proofs.Moves.{moves}
+use Rattle.tmw_ring.proofs.Moves.{Makes, moves}
 use Rattle.tmw_ring.proofs.Words.{stamp_found, value_found}
 
 -- the ring whose reader has come so far
@@ -56,6 +57,27 @@ reader_real core front phase taken real = record { headers = real.headers; event
 
 when_true : {A : Type 0} (test : Bool) (a b : A) → test ≡ true → (if test then a else b) ≡ a
 when_true test a b is = rw is refl
+
+when_false : {A : Type 0} (test : Bool) (a b : A) → test ≡ false → (if test then a else b) ≡ b
+when_false test a b is = rw is refl
+
+-- A waiting reader's look at the next place's stamp and header, and what it is answered.
+peek_makes : (core : Core) (stamp header : ℕ) (test : Bool) → core.reader ≡ Waiting → (cell_at core core.front).stamp ≡ stamp
+    → (cell_at core core.front).header ≡ header → (stamp == core.front + 1) ≡ test
+    → peek_step core core.reader
+    ≡ Some (if test then IsReady else NotReady, with_reader core core.front (if test then Ready header else Waiting) core.taken)
+peek_makes core stamp header true waiting is_stamp is_header is =
+    let cell : RingCell = cell_at core core.front in
+    let tested : (cell.stamp == core.front + 1) ≡ true = ap (λ (n : ℕ). n == core.front + 1) is_stamp ∙ is in
+    ap (peek_step core) waiting
+    ∙ when_true (cell.stamp == core.front + 1) (Some (IsReady, record core { reader = Ready cell.header })) (Some (NotReady, core)) tested
+    ∙ ap (λ (h : ℕ). let next : Stepped = Some (IsReady, record core { reader = Ready h }) in next) is_header
+peek_makes core stamp header false waiting is_stamp is_header is =
+    let cell : RingCell = cell_at core core.front in
+    let tested : (cell.stamp == core.front + 1) ≡ false = ap (λ (n : ℕ). n == core.front + 1) is_stamp ∙ is in
+    ap (peek_step core) waiting
+    ∙ when_false (cell.stamp == core.front + 1) (Some (IsReady, record core { reader = Ready cell.header })) (Some (NotReady, core)) tested
+    ∙ ap (λ (phase : ReaderPhase). let next : Stepped = Some (NotReady, record core { reader = phase }) in next) waiting
 
 -- A look at the next place's stamp and header leaves a sound ring.
 look_sound : (core : Core) (stamp header : ℕ) (test : Bool) → Sound core → core.reader ≡ Waiting
@@ -114,15 +136,30 @@ module _ {S : Type 0} where
 
   -- A step of the reader keeps the rule.
   reader_moves : (size : RingSize) (state : State S Parts) (shown : Shown size state) (seat word value front : ℕ) (phase : ReaderPhase)
-      (taken events : List Event) (looks : List Look) (part : ReaderPart) → get_elem? state.views seat ≡ some (Reads part ∷ [])
-      → Sound (with_reader shown.core front phase taken) → set state.words word value ≡ words_of (with_reader shown.core front phase taken)
+      (taken events : List Event) (answered : Answered) (part : ReaderPart) → get_elem? state.views seat ≡ some (Reads part ∷ [])
+      → Makes reader_actor shown.core answered (with_reader shown.core front phase taken) → Sound (with_reader shown.core front phase taken) → set state.words word value ≡ words_of (with_reader shown.core front phase taken)
       → events ≡ taken
-      → Shown size (stepped state word value seat [] (Reads (record part { phase = phase; taken = events; looks = looks }) ∷ []) keeps)
-  reader_moves size state shown seat word value front phase taken events looks part seated sound words same =
-      moves size state shown seat word value (Reads part) (Reads (record part { phase = phase; taken = events; looks = looks }))
-      (with_reader shown.core front phase taken) seated refl sound (reader_real shown.core front phase taken shown.real) words refl
+      → Shown size (stepped state word value seat []
+      (Reads (record part { phase = phase; taken = events; run = shown.run ++ answered ∷ [] }) ∷ []) keeps)
+  reader_moves size state shown seat word value front phase taken events answered part seated makes sound words same =
+      moves size state shown seat word value (Reads part)
+      (Reads (record part { phase = phase; taken = events; run = shown.run ++ answered ∷ [] })) (with_reader shown.core front phase taken)
+      answered seated refl sound (reader_real shown.core front phase taken shown.real) words makes refl refl
       (record { sized = (reader_fits size state shown seat part seated).sized; phase = refl; taken = same })
       (others_fit shown.core front phase taken)
+
+  -- What the reader has made, once the ring has run so.
+  reader_made : (size : RingSize) (state : State S Parts) (shown : Shown size state) (seat : ℕ) (part : ReaderPart) (next : Core)
+      (answered : Answered) → get_elem? state.views seat ≡ some (Reads part ∷ []) → Makes reader_actor shown.core answered next
+      → ReaderMade part answered (shown.run ++ answered ∷ [])
+  reader_made size state shown seat part next answered seated makes =
+      let fits = reader_fits size state shown seat part seated in
+      let knows = shown.knows seat 0 (Reads part) (record { view = Reads part ∷ []; seated = seated; placed = refl }) in
+      let ran = runs-append (new_core size) shown.core next shown.run (answered ∷ []) shown.ran (next, makes.step, refl) in
+      record {
+        gone = gone-step reader_actor part.run shown.run answered makes.whose knows;
+        is_run = subst (λ (z : RingSize). IsRun z (shown.run ++ answered ∷ [])) (sym (fits.sized ∙ shown.sized)) (next, ran);
+      }
 
   look_allowed : (size : RingSize) (slots seat front : ℕ) (part : ReaderPart) → part.phase ≡ Waiting → length part.taken ≡ front
       → Allows {S = S} (Shown size) slots seat (Reads part ∷ [], []) (stamp_word size.cells front) (λ found. found)
@@ -144,14 +181,23 @@ module _ {S : Type 0} where
       ∙ stamp_found core core.front in
       let is_stamp : cell.stamp ≡ stamp_of found = sym (ap stamp_of is_found ∙ parts.0) in
       let is_header : cell.header ≡ header_of found = sym (ap header_of is_found ∙ parts.1) in
-      let sound = look_sound core (stamp_of found) (header_of found) (stamp_of found == length part.taken + 1) shown.sound
-      (sym fits.phase ∙ waiting) is_stamp is_header (ap (λ (n : ℕ). stamp_of found == n + 1) (sym is_front)) in (
-        Reads (after_look part found) ∷ [],
+      let test : Bool = stamp_of found == length part.taken + 1 in
+      let tested : (stamp_of found == core.front + 1) ≡ test = ap (λ (n : ℕ). stamp_of found == n + 1) (sym is_front) in
+      let is_waiting : core.reader ≡ Waiting = sym fits.phase ∙ waiting in
+      let sound = look_sound core (stamp_of found) (header_of found) test shown.sound is_waiting is_stamp is_header tested in
+      let next : Core = with_reader core core.front (phase_after (length part.taken) found) core.taken in
+      let makes : Makes reader_actor core (peeking found part) next =
+      record { step = peek_makes core (stamp_of found) (header_of found) test is_waiting is_stamp is_header tested; whose = refl } in (
+        Reads (after_look part found (shown.run ++ peeking found part ∷ [])) ∷ [],
         keeps,
         tt,
         reader_moves size state shown seat word found core.front (phase_after (length part.taken) found) core.taken part.taken
-            (part.looks ++ Stamp (stamp_of found) ∷ []) part seated sound (set-get_or state.words word 0 ∙ shown.words) fits.taken,
-        record { seated = refl; few = omega (arith, is_front, front_small core shown.sound) },
+            (peeking found part) part seated makes sound (set-get_or state.words word 0 ∙ shown.words) fits.taken,
+        record {
+          seated = refl;
+          steps = reader_made size state shown seat part next (peeking found part) seated makes;
+          few = omega (arith, is_front, front_small core shown.sound);
+        },
       )
 
   -- A waiting reader may look at the next place's stamp.
@@ -179,16 +225,25 @@ module _ {S : Type 0} where
       sym (ap (λ (words : List ℕ). slice_index words word) shown.words ∙ ap (slice_index (words_of core)) is_word
       ∙ value_found core core.front) in
       let is_ready : core.reader ≡ Ready header = sym fits.phase ∙ ready in
-      let is_told : Told header found ≡ phase_with part.phase found = ap (λ (phase : ReaderPhase). phase_with phase found) (sym ready) in (
-        Reads (after_read part found) ∷ [],
+      let is_told : Told header found ≡ phase_with part.phase found = ap (λ (phase : ReaderPhase). phase_with phase found) (sym ready) in
+      let next : Core = with_reader core core.front (phase_with part.phase found) core.taken in
+      let answer : ReaderPhase → ℕ → Stepped = λ phase value. Some (Word value, with_reader core core.front phase core.taken) in
+      let makes : Makes reader_actor core (reading found) next = record {
+        step = ap (read_step core) is_ready ∙ ap (λ (value : ℕ). answer (Told header value) value) is_value
+            ∙ ap (λ (phase : ReaderPhase). answer phase found) is_told;
+        whose = refl;
+      } in (
+        Reads (after_read part found (shown.run ++ reading found ∷ [])) ∷ [],
         keeps,
         tt,
-        reader_moves size state shown seat word found core.front (phase_with part.phase found) core.taken part.taken part.looks part seated
+        reader_moves size state shown seat word found core.front (phase_with part.phase found) core.taken part.taken (reading found) part
+            seated makes
             (subst (λ (phase : ReaderPhase). Sound (with_reader core core.front phase core.taken)) is_told
             (read_sound core header found shown.sound is_ready is_value))
             (set-get_or state.words word 0 ∙ shown.words) fits.taken,
         record {
           seated = refl;
+          steps = reader_made size state shown seat part next (reading found) seated makes;
           event = subst IsToldEvent is_told (read_event core header found shown.sound shown.real is_ready is_value);
         },
       )
@@ -217,16 +272,26 @@ module _ {S : Type 0} where
       ap (λ (phase : ReaderPhase). part.taken ++ next_event phase ∷ []) told
       ∙ ap (λ (events : List Event). events ++ event ∷ []) fits.taken in
       let count : length (part.taken ++ next_event part.phase ∷ []) ≡ core.front + 1 =
-      ap (λ (events : List Event). length events) same ∙ sym sound.front in (
-        Reads (after_free part) ∷ [],
+      ap (λ (events : List Event). length events) same ∙ sym sound.front in
+      let is_told : core.reader ≡ Told header value = sym fits.phase ∙ told in
+      let makes : Makes reader_actor core (freeing (next_event part.phase)) next = record {
+        step = ap (free_step core) is_told
+            ∙ ap (λ (phase : ReaderPhase). let made : Stepped = Some (Taken (next_event phase), next) in made) (sym told);
+        whose = refl;
+      } in (
+        Reads (after_free part (shown.run ++ freeing (next_event part.phase) ∷ [])) ∷ [],
         keeps,
         tt,
         reader_moves size state shown seat front_word (front + 1) (core.front + 1) Waiting (core.taken ++ event ∷ [])
-            (part.taken ++ next_event part.phase ∷ []) part.looks part seated sound
+            (part.taken ++ next_event part.phase ∷ []) (freeing (next_event part.phase)) part seated makes sound
             (ap (λ (words : List ℕ). set words front_word (front + 1)) shown.words
             ∙ ap (λ (n : ℕ). core.tail ∷ (n + 1) ∷ cell_words core.cells) is_front)
             same,
-        record { seated = refl; few = omega (arith, count, front_small next sound) },
+        record {
+          seated = refl;
+          steps = reader_made size state shown seat part next (freeing (next_event part.phase)) seated makes;
+          few = omega (arith, count, front_small next sound);
+        },
       )
 
   -- A reader that knows both words may free the place.

@@ -9,22 +9,27 @@ use Rattle.tmw_events.specs.declared.event.Kind.{Kind}
 use Rattle.tmw_events.specs.declared.ix.Ix.{Ix}
 use Rattle.tmw_ring_defs.specs.Ring.{Core}
 use Rattle.tmw_ring_defs.specs.RingSound.{IsIn, Sound, cleared}
+use Rattle.tmw_ring_defs.specs.RingSteps.{claim_step}
+use Rattle.tmw_ring_defs.specs.Runs.{writer_actor}
 use Rattle.tmw_ring_defs.specs.declared.ring_phase.WriterPhase.{WriterPhase}
 use Rattle.tmw_ring_defs.specs.declared.ring_phase.WriterPhase.TheVariants.{Cleared}
 use Rattle.tmw_ring_defs.specs.declared.ring_size.RingSize.{RingSize}
+use Rattle.tmw_ring_defs.specs.declared.ring_step.Answered.{Answered}
 use Rattle.tmw_ring_defs.specs.declared.ring_step.Reply.TheVariants.{Place}
 use Rattle.tmw_ring_defs.proofs.RingClaims.{with_claim, claim_keeps}
 use Rattle.tmw_ring_defs.proofs.RingPlaces.{event_of}
+use Rattle.tmw_ring_defs.proofs.RunsProof.{by_writer-in}
 use Rattle.tmw_ring.specs.Parts.{Parts, made_from}
 use Rattle.tmw_ring.specs.Recording.{made_at}
 use Rattle.tmw_ring.specs.Rule.{Shown, WriterFits, IsReal, IsRecorded}
 use Rattle.tmw_ring.specs.Seats.{writer_in}
 use Rattle.tmw_ring.specs.Words.{words_of}
-use Rattle.tmw_ring.specs.WriterSteps.{claimed, IsSeatOf, HasClaimed}
+use Rattle.tmw_ring.specs.WriterSteps.{claimed, claiming, IsSeatOf, HasClaimed, WriterMade}
 use Rattle.tmw_ring.specs.declared.part.Made.{Made}
 use Rattle.tmw_ring.specs.declared.part.Part.TheVariants.{Writes}
 use Rattle.tmw_ring.specs.declared.part.WriterPart.{WriterPart}
-use Rattle.tmw_ring.proofs.Writing.{Goes, writer_fits, writer_moves}
+use Rattle.tmw_ring.proofs.Moves.{Makes}
+use Rattle.tmw_ring.proofs.Writing.{Goes, writer_fits, writer_moves, writer_made}
 
 -- Places of a longer log: the writer's own event stands at its end,
 made_from-own : (writer : Ix) (kind : Kind) (from : ℕ) (log : List Event)
@@ -66,9 +71,16 @@ log_cases (first ∷ log) last zero event P before now at = before 0 event at
 log_cases (first ∷ log) last (suc place) event P before now at =
     log_cases log last place event P (λ later found is. before (suc later) found is) now at
 
-claim_goes : (kind : Kind) (core : Core) (part : WriterPart) → Sound core → IsReal core → WriterFits core part
-    → part.phase ≡ Cleared kind → Goes core (with_claim part.number kind core) part (claimed kind core.tail part)
-claim_goes kind core part sound real fits is_cleared =
+claim_makes : (kind : Kind) (core : Core) (part : WriterPart) → WriterFits core part → part.phase ≡ Cleared kind
+    → Makes (writer_actor part.number) core (claiming core.tail part) (with_claim part.number kind core)
+claim_makes kind core part fits is_cleared = record {
+  step = by_writer-in part.number core (claim_step part.number core) (Cleared kind) (fits.phase ∙ ap Some is_cleared);
+  whose = refl;
+}
+
+claim_goes : (kind : Kind) (core : Core) (part : WriterPart) (run : List Answered) → Sound core → IsReal core → WriterFits core part
+    → part.phase ≡ Cleared kind → Goes core (with_claim part.number kind core) part (claimed kind core.tail run part)
+claim_goes kind core part run sound real fits is_cleared =
     let at : IsIn core part.number.number (Cleared kind) = fits.phase ∙ ap Some is_cleared in
     let next : Core = with_claim part.number kind core in
     let sound_next : Sound next = (claim_keeps part.number core (Cleared kind) (Place core.tail) next sound at refl).0 in
@@ -109,7 +121,9 @@ module _ {S : Type 0} where
   claim_allowed size slots seat kind part is_cleared state shown none_lent seated small =
       let core = shown.core in
       let fits = writer_fits size state shown seat part seated in
-      let goes = claim_goes kind core part shown.sound shown.real fits is_cleared in
+      let makes = claim_makes kind core part fits is_cleared in
+      let run : List Answered = shown.run ++ claiming core.tail part ∷ [] in
+      let goes = claim_goes kind core part run shown.sound shown.real fits is_cleared in
       let at : IsIn core part.number.number (Cleared kind) = fits.phase ∙ ap Some is_cleared in
       let found : slice_index state.words 0 ≡ core.tail = ap (λ (words : List ℕ). slice_index words 0) shown.words in
       let more : core.tail + cleared core.writers ≤ core.size.limit = shown.sound.limited in
@@ -117,8 +131,9 @@ module _ {S : Type 0} where
       let below : core.tail < core.size.limit = omega (arith, more, some_cleared) in
       let few = core.size.most_places in
       let sum : (slice_index state.words 0 + 1) % 18446744073709551616 ≡ core.tail + 1 = omega (arith, found, below, few) in
-      let new : WriterPart = claimed kind (slice_index state.words 0) part in
+      let new : WriterPart = claimed kind (slice_index state.words 0) run part in
       let next : Core = with_claim part.number kind core in
+      let made = writer_made size state shown seat part next (claiming core.tail part) seated makes in
       let words : set state.words 0 ((slice_index state.words 0 + 1) % 18446744073709551616) ≡ words_of next =
       ap (λ (words : List ℕ). set words 0 ((slice_index state.words 0 + 1) % 18446744073709551616)) shown.words
       ∙ ap (λ (tail : ℕ). set (words_of core) 0 tail) sum in
@@ -126,9 +141,15 @@ module _ {S : Type 0} where
         Writes new ∷ [],
         keeps,
         tt,
-        writer_moves size state shown seat 0 ((slice_index state.words 0 + 1) % 18446744073709551616) part new next seated words
-            (subst (λ (tail : ℕ). Goes core next part (claimed kind tail part)) (sym found) goes),
-        (refl, omega (arith, found, fits.seen), omega (arith, found, limit, below)),
+        writer_moves size state shown seat 0 ((slice_index state.words 0 + 1) % 18446744073709551616) part new next
+            (claiming core.tail part) seated words makes refl
+            (subst (λ (tail : ℕ). Goes core next part (claimed kind tail run part)) (sym found) goes),
+        (
+          refl,
+          subst (λ (tail : ℕ). WriterMade part (claiming tail part) run) (sym found) made,
+          omega (arith, found, fits.seen),
+          omega (arith, found, limit, below),
+        ),
       )
 
   -- A cleared writer may claim a place.

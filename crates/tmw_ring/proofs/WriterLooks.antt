@@ -1,44 +1,72 @@
 -- A writer may look at front and at tail.
-use Rattle.std.proofs.Common.{◌≡◌, ◌≤◌, ℕ, Bool, true, false, List, [], ◌∷◌, Some, set, refl, sym, ap, ◌∙◌, subst, arith}
+use Rattle.std.proofs.Common.{◌≡◌, ◌≤◌, ◌++◌, ℕ, Bool, true, false, List, [], ◌∷◌, Some, set, refl, sym, ap, ◌∙◌, subst, arith}
 use Rattle.std.specs.Prelude.{slice_index}
 use Rattle.atomic_table.specs.Table.{Me, Allows, keeps}
 use Rattle.tmw_events.specs.Text.{FitsKind}
 use Rattle.tmw_events.specs.declared.event.Kind.{Kind}
 use Rattle.tmw_ring_defs.specs.Ring.{Core}
 use Rattle.tmw_ring_defs.specs.RingSound.{IsIn, Sound}
-use Rattle.tmw_ring_defs.specs.RingSteps.{with_phase}
+use Rattle.tmw_ring_defs.specs.RingSteps.{Stepped, with_phase, front_step, tail_step}
+use Rattle.tmw_ring_defs.specs.Runs.{writer_actor}
 use Rattle.tmw_ring_defs.specs.Room.{is_spent, is_full, room_phase, room_reply}
 use Rattle.tmw_ring_defs.specs.declared.ring_phase.WriterPhase.{WriterPhase}
 use Rattle.tmw_ring_defs.specs.declared.ring_phase.WriterPhase.TheVariants.{Idle, Looked}
 use Rattle.tmw_ring_defs.specs.declared.ring_size.RingSize.{RingSize}
+use Rattle.tmw_ring_defs.specs.declared.ring_step.Answered.{Answered}
 use Rattle.tmw_ring_defs.specs.declared.ring_step.Reply.TheVariants.{Saw}
+use Rattle.tmw_ring_defs.proofs.RunsProof.{by_writer-in}
 use Rattle.tmw_ring_defs.proofs.RingLooks.{front_keeps, tail_keeps}
 use Rattle.tmw_ring.specs.Parts.{Parts}
 use Rattle.tmw_ring.specs.Rule.{FitsPhase, Shown, WriterFits, IsReal}
 use Rattle.tmw_ring.specs.Seats.{writer_in}
 use Rattle.tmw_ring.specs.Words.{words_of}
-use Rattle.tmw_ring.specs.WriterSteps.{front_seen, tail_seen, front_in, IsSeatOf, HasSeenFront, HasSeenTail}
+use Rattle.tmw_ring.specs.WriterSteps.{front_seen, tail_seen, front_in, front_look, tail_look, IsSeatOf, HasSeenFront, HasSeenTail, WriterMade}
 use Rattle.tmw_ring.specs.declared.part.Part.TheVariants.{Writes}
 use Rattle.tmw_ring.specs.declared.part.WriterPart.{WriterPart}
-use Rattle.tmw_ring.proofs.Writing.{Goes, cells_go, writer_fits, writer_moves}
+use Rattle.tmw_ring.proofs.Moves.{Makes}
+use Rattle.tmw_ring.proofs.Writing.{Goes, cells_go, writer_fits, writer_moves, writer_made}
 
-front_goes : (kind : Kind) (core : Core) (part : WriterPart) → Sound core → IsReal core → WriterFits core part → part.phase ≡ Idle
-    → FitsKind kind → Goes core (with_phase part.number.number (Looked kind core.front) core) part (front_seen kind core.front part)
-front_goes kind core part sound real fits idle fits_kind =
+front_makes : (kind : Kind) (core : Core) (part : WriterPart) → WriterFits core part → part.phase ≡ Idle
+    → Makes (writer_actor part.number) core (front_look kind core.front part) (with_phase part.number.number (Looked kind core.front) core)
+front_makes kind core part fits idle = record {
+  step = by_writer-in part.number core (front_step part.number.number kind core) Idle (fits.phase ∙ ap Some idle);
+  whose = refl;
+}
+
+front_goes : (kind : Kind) (core : Core) (part : WriterPart) (run : List Answered) → Sound core → IsReal core → WriterFits core part
+    → part.phase ≡ Idle → FitsKind kind
+    → Goes core (with_phase part.number.number (Looked kind core.front) core) part (front_seen kind core.front run part)
+front_goes kind core part run sound real fits idle fits_kind =
     let at : IsIn core part.number.number Idle = fits.phase ∙ ap Some idle in
     let next : Core = with_phase part.number.number (Looked kind core.front) core in
     let sound_next : Sound next = (front_keeps part.number kind core Idle (Saw core.front) next sound at refl).0 in
-    cells_go core core.cells part (front_seen kind core.front part) fits real sound_next real.headers refl refl refl fits.seen fits_kind
+    cells_go core core.cells part (front_seen kind core.front run part) fits real sound_next real.headers refl refl refl fits.seen fits_kind
 
 room_fits : (spent full : Bool) (kind : Kind) → FitsKind kind → FitsPhase (room_phase spent full kind)
 room_fits true full kind fits_kind = tt
 room_fits false true kind fits_kind = tt
 room_fits false false kind fits_kind = fits_kind
 
-tail_goes : (kind : Kind) (front : ℕ) (core : Core) (part : WriterPart) → Sound core → IsReal core → WriterFits core part
+tail_makes : (kind : Kind) (front : ℕ) (core : Core) (part : WriterPart) (run : List Answered) → WriterFits core part
     → part.phase ≡ Looked kind front
-    → Goes core (with_phase part.number.number (tail_seen kind core.tail part).phase core) part (tail_seen kind core.tail part)
-tail_goes kind front core part sound real fits looked =
+    → Makes (writer_actor part.number) core (tail_look core.tail part)
+    (with_phase part.number.number (tail_seen kind core.tail run part).phase core)
+tail_makes kind front core part run fits looked =
+    let answer : RingSize → ℕ → Stepped = λ size seen.
+    Some (
+      room_reply (is_spent size core.tail) (is_full size seen core.tail) seen core.tail,
+      with_phase part.number.number (room_phase (is_spent size core.tail) (is_full size seen core.tail) kind) core,
+    ) in
+    record {
+      step = by_writer-in part.number core (tail_step part.number.number core) (Looked kind front) (fits.phase ∙ ap Some looked)
+          ∙ sym (ap (λ size. answer size (front_in part.phase)) fits.sized ∙ ap (λ phase. answer core.size (front_in phase)) looked);
+      whose = refl;
+    }
+
+tail_goes : (kind : Kind) (front : ℕ) (core : Core) (part : WriterPart) (run : List Answered) → Sound core → IsReal core
+    → WriterFits core part → part.phase ≡ Looked kind front
+    → Goes core (with_phase part.number.number (tail_seen kind core.tail run part).phase core) part (tail_seen kind core.tail run part)
+tail_goes kind front core part run sound real fits looked =
     let at : IsIn core part.number.number (Looked kind front) = fits.phase ∙ ap Some looked in
     let spent = is_spent core.size core.tail in
     let full = is_full core.size front core.tail in
@@ -46,11 +74,11 @@ tail_goes kind front core part sound real fits looked =
     let sound_step : Sound next =
     (tail_keeps part.number core (Looked kind front) (room_reply spent full front core.tail) next sound at refl).0 in
     let phase : RingSize → ℕ → WriterPhase = λ size seen. room_phase (is_spent size core.tail) (is_full size seen core.tail) kind in
-    let same : phase core.size front ≡ (tail_seen kind core.tail part).phase =
+    let same : phase core.size front ≡ (tail_seen kind core.tail run part).phase =
     sym (ap (λ size. phase size (front_in part.phase)) fits.sized ∙ ap (λ found. phase core.size (front_in found)) looked) in
-    let sound_next : Sound (with_phase part.number.number (tail_seen kind core.tail part).phase core) =
+    let sound_next : Sound (with_phase part.number.number (tail_seen kind core.tail run part).phase core) =
     subst (λ (found : WriterPhase). Sound (with_phase part.number.number found core)) same sound_step in
-    cells_go core core.cells part (tail_seen kind core.tail part) fits real sound_next real.headers refl refl refl (omega arith)
+    cells_go core core.cells part (tail_seen kind core.tail run part) fits real sound_next real.headers refl refl refl (omega arith)
     (room_fits (is_spent part.size core.tail) (is_full part.size (front_in part.phase) core.tail) kind
     (real.phases part.number.number (Looked kind front) at))
 
@@ -60,18 +88,21 @@ module _ {S : Type 0} where
       (HasSeenFront kind (Writes part ∷ [], []))
   front_allowed size slots seat kind part idle fits_kind state shown none_lent seated small =
       let fits = writer_fits size state shown seat part seated in
-      let goes = front_goes kind shown.core part shown.sound shown.real fits idle fits_kind in
+      let makes = front_makes kind shown.core part fits idle in
+      let run : List Answered = shown.run ++ front_look kind shown.core.front part ∷ [] in
+      let goes = front_goes kind shown.core part run shown.sound shown.real fits idle fits_kind in
       let next : Core = with_phase part.number.number (Looked kind shown.core.front) shown.core in
+      let made = writer_made size state shown seat part next (front_look kind shown.core.front part) seated makes in
       let found : slice_index state.words 1 ≡ shown.core.front = ap (λ (words : List ℕ). slice_index words 1) shown.words in
       let words : set state.words 1 (slice_index state.words 1) ≡ words_of next =
       ap (λ (words : List ℕ). set words 1 (slice_index words 1)) shown.words in
-      let new : WriterPart = front_seen kind (slice_index state.words 1) part in (
+      let new : WriterPart = front_seen kind (slice_index state.words 1) run part in (
         Writes new ∷ [],
         keeps,
         tt,
-        writer_moves size state shown seat 1 (slice_index state.words 1) part new next seated words
-            (subst (λ (front : ℕ). Goes shown.core next part (front_seen kind front part)) (sym found) goes),
-        refl,
+        writer_moves size state shown seat 1 (slice_index state.words 1) part new next (front_look kind shown.core.front part) seated
+            words makes refl (subst (λ (front : ℕ). Goes shown.core next part (front_seen kind front run part)) (sym found) goes),
+        (refl, subst (λ (front : ℕ). WriterMade part (front_look kind front part) run) (sym found) made),
       )
 
   -- An idle writer may look at front.
@@ -86,11 +117,14 @@ module _ {S : Type 0} where
       (HasSeenTail kind (Writes part ∷ [], []))
   tail_allowed size slots seat kind front part looked state shown none_lent seated small =
       let fits = writer_fits size state shown seat part seated in
-      let goes = tail_goes kind front shown.core part shown.sound shown.real fits looked in
+      let run : List Answered = shown.run ++ tail_look shown.core.tail part ∷ [] in
+      let makes = tail_makes kind front shown.core part run fits looked in
+      let goes = tail_goes kind front shown.core part run shown.sound shown.real fits looked in
       let at : IsIn shown.core part.number.number (Looked kind front) = fits.phase ∙ ap Some looked in
       let found : slice_index state.words 0 ≡ shown.core.tail = ap (λ (words : List ℕ). slice_index words 0) shown.words in
-      let new : WriterPart = tail_seen kind (slice_index state.words 0) part in
-      let next : Core = with_phase part.number.number new.phase shown.core in
+      let new : WriterPart = tail_seen kind (slice_index state.words 0) run part in
+      let next : Core = with_phase part.number.number (tail_seen kind shown.core.tail run part).phase shown.core in
+      let made = writer_made size state shown seat part next (tail_look shown.core.tail part) seated makes in
       let words : set state.words 0 (slice_index state.words 0) ≡ words_of next =
       ap (λ (words : List ℕ). set words 0 (slice_index words 0)) shown.words in
       let low : front ≤ shown.core.front = shown.sound.looks part.number.number front kind at in
@@ -99,11 +133,11 @@ module _ {S : Type 0} where
         Writes new ∷ [],
         keeps,
         tt,
-        writer_moves size state shown seat 0 (slice_index state.words 0) part new next seated words
-            (subst (λ (tail : ℕ). Goes shown.core (with_phase part.number.number (tail_seen kind tail part).phase shown.core) part
-            (tail_seen kind tail part)) (sym found) goes),
+        writer_moves size state shown seat 0 (slice_index state.words 0) part new next (tail_look shown.core.tail part) seated words
+            makes refl (subst (λ (tail : ℕ). Goes shown.core next part (tail_seen kind tail run part)) (sym found) goes),
         (
           refl,
+          subst (λ (tail : ℕ). WriterMade part (tail_look tail part) run) (sym found) made,
           omega (arith, found, fits.seen),
           omega (arith, found, low, same, shown.sound.order),
           omega (arith, found, limit, shown.sound.limited),

@@ -1,5 +1,5 @@
 -- A writer may fill and publish the place that it has claimed.
-use Rattle.std.proofs.Common.{◌≡◌, ◌%◌, ℕ, true, false, List, [], ◌∷◌, Some, set, refl, sym, ap, ◌∙◌, subst, arith}
+use Rattle.std.proofs.Common.{◌≡◌, ◌%◌, ◌++◌, ℕ, true, false, List, [], ◌∷◌, Some, set, refl, sym, ap, ◌∙◌, subst, arith}
 use Rattle.std.proofs.lemmas.List.Elements.{All-set}
 use Rattle.atomic_table.specs.Table.{Me, Allows, keeps}
 use Rattle.tmw_events.proofs.PackedWords.{packed_header-small}
@@ -8,25 +8,29 @@ use Rattle.tmw_events.specs.declared.event.Kind.{Kind}
 use Rattle.tmw_ring_defs.specs.Ring.{Core}
 use Rattle.tmw_ring_defs.specs.RingCells.{empty_cell, set_cell, filled, published}
 use Rattle.tmw_ring_defs.specs.RingSound.{IsIn, Sound}
-use Rattle.tmw_ring_defs.specs.RingSteps.{cell_at, with_cell, with_phase}
+use Rattle.tmw_ring_defs.specs.RingSteps.{Stepped, cell_at, with_cell, with_phase, fill_step, publish_step}
+use Rattle.tmw_ring_defs.specs.Runs.{writer_actor}
 use Rattle.tmw_ring_defs.specs.declared.ring_cell.RingCell.{RingCell}
 use Rattle.tmw_ring_defs.specs.declared.ring_phase.WriterPhase.{WriterPhase}
 use Rattle.tmw_ring_defs.specs.declared.ring_phase.WriterPhase.TheVariants.{Idle, Claimed}
 use Rattle.tmw_ring_defs.specs.declared.ring_size.RingSize.{RingSize}
+use Rattle.tmw_ring_defs.specs.declared.ring_step.Answered.{Answered}
 use Rattle.tmw_ring_defs.specs.declared.ring_step.Reply.TheVariants.{Filled, Published}
 use Rattle.tmw_ring_defs.proofs.RingFills.{fill_keeps}
 use Rattle.tmw_ring_defs.proofs.RingPlaces.{event_of}
 use Rattle.tmw_ring_defs.proofs.RingPublishes.{publish_keeps}
 use Rattle.tmw_ring_defs.proofs.RingStores.{has_cell}
+use Rattle.tmw_ring_defs.proofs.RunsProof.{by_writer-in}
 use Rattle.tmw_ring.specs.Parts.{Parts}
 use Rattle.tmw_ring.specs.Rule.{FitsPhase, Shown, WriterFits, IsReal}
 use Rattle.tmw_ring.specs.Seats.{writer_in}
 use Rattle.tmw_ring.specs.Words.{words_of, stamp_word, value_word}
-use Rattle.tmw_ring.specs.WriterSteps.{place_in, value_filled, done, IsSeatOf, HasFilled, HasPublished}
+use Rattle.tmw_ring.specs.WriterSteps.{place_in, value_filled, done, filling, publishing, IsSeatOf, HasFilled, HasPublished}
 use Rattle.tmw_ring.specs.declared.part.Part.TheVariants.{Writes}
 use Rattle.tmw_ring.specs.declared.part.WriterPart.{WriterPart}
 use Rattle.tmw_ring.proofs.Words.{filled_words, published_words}
-use Rattle.tmw_ring.proofs.Writing.{Goes, cells_go, writer_fits, writer_moves}
+use Rattle.tmw_ring.proofs.Moves.{Makes}
+use Rattle.tmw_ring.proofs.Writing.{Goes, cells_go, writer_fits, writer_moves, writer_made}
 
 -- the state after a store to the place's cell, by a writer that goes on to the phase
 abbrev with_store : ℕ → ℕ → RingCell → WriterPhase → Core → Core
@@ -46,31 +50,57 @@ store_goes core place cell old new sound fits real sound_next header same_size s
 cell_header : (core : Core) (place : ℕ) → Sound core → IsReal core → IsHeader (cell_at core place).header
 cell_header core place sound real = real.headers (place % core.size.cells) empty_cell (has_cell core place sound)
 
-fill_goes : (kind : Kind) (place : ℕ) (core : Core) (part : WriterPart) → Sound core → IsReal core → WriterFits core part
+fill_makes : (kind : Kind) (place : ℕ) (core : Core) (part : WriterPart) (run : List Answered) → WriterFits core part
     → part.phase ≡ Claimed place kind false
-    → Goes core (with_store part.number.number place (filled kind (cell_at core place)) (value_filled kind part).phase core) part
-    (value_filled kind part)
-fill_goes kind place core part sound real fits is_claimed =
+    → Makes (writer_actor part.number) core (filling part)
+    (with_store part.number.number place (filled kind (cell_at core place)) (value_filled kind run part).phase core)
+fill_makes kind place core part run fits is_claimed =
+    let cell : RingCell = filled kind (cell_at core place) in
+    let answer : WriterPhase → Stepped = λ phase. Some (Filled, with_store part.number.number place cell (Claimed (place_in phase) kind true) core) in
+    record {
+      step = by_writer-in part.number core (fill_step part.number.number core) (Claimed place kind false) (fits.phase ∙ ap Some is_claimed)
+          ∙ sym (ap answer is_claimed);
+      whose = refl;
+    }
+
+fill_goes : (kind : Kind) (place : ℕ) (core : Core) (part : WriterPart) (run : List Answered) → Sound core → IsReal core
+    → WriterFits core part → part.phase ≡ Claimed place kind false
+    → Goes core (with_store part.number.number place (filled kind (cell_at core place)) (value_filled kind run part).phase core) part
+    (value_filled kind run part)
+fill_goes kind place core part run sound real fits is_claimed =
     let at : IsIn core part.number.number (Claimed place kind false) = fits.phase ∙ ap Some is_claimed in
     let cell : RingCell = filled kind (cell_at core place) in
     let next : Core = with_store part.number.number place cell (Claimed place kind true) core in
     let sound_step : Sound next = (fill_keeps part.number core (Claimed place kind false) Filled next sound at refl).0 in
-    let same : Claimed place kind true ≡ (value_filled kind part).phase =
+    let same : Claimed place kind true ≡ (value_filled kind run part).phase =
     ap (λ (phase : WriterPhase). Claimed (place_in phase) kind true) (sym is_claimed) in
-    let sound_next : Sound (with_store part.number.number place cell (value_filled kind part).phase core) =
+    let sound_next : Sound (with_store part.number.number place cell (value_filled kind run part).phase core) =
     subst (λ (phase : WriterPhase). Sound (with_store part.number.number place cell phase core)) same sound_step in
-    store_goes core place cell part (value_filled kind part) sound fits real sound_next (cell_header core place sound real)
+    store_goes core place cell part (value_filled kind run part) sound fits real sound_next (cell_header core place sound real)
     refl refl refl refl (real.phases part.number.number (Claimed place kind false) at)
 
-publish_goes : (kind : Kind) (place : ℕ) (core : Core) (part : WriterPart) → Sound core → IsReal core → WriterFits core part
-    → part.phase ≡ Claimed place kind true
-    → Goes core (with_store part.number.number place (published place (event_of part.number kind) (cell_at core place)) Idle core) part (done part)
-publish_goes kind place core part sound real fits is_claimed =
+publish_makes : (kind : Kind) (place : ℕ) (core : Core) (part : WriterPart) → WriterFits core part → part.phase ≡ Claimed place kind true
+    → Makes (writer_actor part.number) core (publishing part)
+    (with_store part.number.number place (published place (event_of part.number kind) (cell_at core place)) Idle core)
+publish_makes kind place core part fits is_claimed =
+    let cell : RingCell = published place (event_of part.number kind) (cell_at core place) in
+    let answer : WriterPhase → Stepped = λ phase. Some (Published (place_in phase), with_store part.number.number place cell Idle core) in
+    record {
+      step = by_writer-in part.number core (publish_step part.number core) (Claimed place kind true) (fits.phase ∙ ap Some is_claimed)
+          ∙ sym (ap answer is_claimed);
+      whose = refl;
+    }
+
+publish_goes : (kind : Kind) (place : ℕ) (core : Core) (part : WriterPart) (run : List Answered) → Sound core → IsReal core
+    → WriterFits core part → part.phase ≡ Claimed place kind true
+    → Goes core (with_store part.number.number place (published place (event_of part.number kind) (cell_at core place)) Idle core) part
+    (done run part)
+publish_goes kind place core part run sound real fits is_claimed =
     let at : IsIn core part.number.number (Claimed place kind true) = fits.phase ∙ ap Some is_claimed in
     let cell : RingCell = published place (event_of part.number kind) (cell_at core place) in
     let next : Core = with_store part.number.number place cell Idle core in
     let sound_next : Sound next = (publish_keeps part.number core (Claimed place kind true) (Published place) next sound at refl).0 in
-    store_goes core place cell part (done part) sound fits real sound_next (packed_header-small (event_of part.number kind))
+    store_goes core place cell part (done run part) sound fits real sound_next (packed_header-small (event_of part.number kind))
     refl refl refl refl tt
 
 module _ {S : Type 0} where
@@ -81,8 +111,10 @@ module _ {S : Type 0} where
   fill_allowed size slots seat kind place value part is_claimed is_value state shown none_lent seated small =
       let core = shown.core in
       let fits = writer_fits size state shown seat part seated in
-      let goes = fill_goes kind place core part shown.sound shown.real fits is_claimed in
-      let new : WriterPart = value_filled kind part in
+      let run : List Answered = shown.run ++ filling part ∷ [] in
+      let makes = fill_makes kind place core part run fits is_claimed in
+      let goes = fill_goes kind place core part run shown.sound shown.real fits is_claimed in
+      let new : WriterPart = value_filled kind run part in
       let next : Core = with_store part.number.number place (filled kind (cell_at core place)) new.phase core in
       let word : ℕ = value_word size.cells place in
       let words : set state.words word value ≡ words_of next =
@@ -90,7 +122,13 @@ module _ {S : Type 0} where
       ∙ ap (λ (n : ℕ). set (words_of core) word n) is_value
       ∙ ap (λ (z : RingSize). set (words_of core) (value_word z.cells place) (kind_value kind)) (sym shown.sized)
       ∙ filled_words core place kind in
-      (Writes new ∷ [], keeps, tt, writer_moves size state shown seat word value part new next seated words goes, refl)
+      let made = writer_made size state shown seat part next (filling part) seated makes in (
+        Writes new ∷ [],
+        keeps,
+        tt,
+        writer_moves size state shown seat word value part new next (filling part) seated words makes refl goes,
+        (refl, made),
+      )
 
   -- A writer that has claimed the place may fill in its event's value.
   pub fills : (size own : RingSize) (slots seat : ℕ) (kind : Kind) (place word value : ℕ) (me : Me S Parts)
@@ -110,8 +148,10 @@ module _ {S : Type 0} where
   publish_allowed size slots seat kind place header part is_claimed is_header state shown none_lent seated small =
       let core = shown.core in
       let fits = writer_fits size state shown seat part seated in
-      let goes = publish_goes kind place core part shown.sound shown.real fits is_claimed in
-      let new : WriterPart = done part in
+      let makes = publish_makes kind place core part fits is_claimed in
+      let run : List Answered = shown.run ++ publishing part ∷ [] in
+      let goes = publish_goes kind place core part run shown.sound shown.real fits is_claimed in
+      let new : WriterPart = done run part in
       let next : Core =
       with_store part.number.number place (published place (event_of part.number kind) (cell_at core place)) Idle core in
       let word : ℕ = stamp_word size.cells place in
@@ -121,7 +161,13 @@ module _ {S : Type 0} where
       ∙ ap (λ (z : RingSize). set (words_of core) (stamp_word z.cells place) (joined place (packed_header (event_of part.number kind))))
       (sym shown.sized)
       ∙ published_words core place (event_of part.number kind) in
-      (Writes new ∷ [], keeps, tt, writer_moves size state shown seat word (joined place header) part new next seated words goes, refl)
+      let made = writer_made size state shown seat part next (publishing part) seated makes in (
+        Writes new ∷ [],
+        keeps,
+        tt,
+        writer_moves size state shown seat word (joined place header) part new next (publishing part) seated words makes refl goes,
+        (refl, made),
+      )
 
   -- A writer that has filled the place may publish it.
   pub publishes : (size own : RingSize) (slots seat : ℕ) (kind : Kind) (place header word value : ℕ) (me : Me S Parts)

@@ -1,5 +1,5 @@
 -- A writer's step keeps the rule of a ring's table, if what the writer then knows is so.
-use Rattle.std.proofs.Common.{◌≡◌, ◌≢◌, ◌+◌, ◌≤◌, ℕ, List, [], ◌∷◌, Some, slice_set, set, All, refl, sym, ap, ◌∙◌, subst, inl, inr, arith}
+use Rattle.std.proofs.Common.{◌≡◌, ◌≢◌, ◌+◌, ◌++◌, ◌≤◌, ℕ, List, [], ◌∷◌, Some, slice_set, set, All, refl, sym, ap, ◌∙◌, subst, inl, inr, arith}
 use Rattle.std.proofs.lemmas.Option.{slice_get_within}
 use Rattle.std.specs.Prelude.{slice_get}
 use mathlib.Core.Option.{some}
@@ -11,6 +11,10 @@ use Rattle.tmw_ring_defs.specs.Ring.{Core}
 use Rattle.tmw_ring_defs.specs.RingSound.{Sound}
 use Rattle.tmw_ring_defs.specs.declared.ring_cell.RingCell.{RingCell}
 use Rattle.tmw_ring_defs.specs.declared.ring_size.RingSize.{RingSize}
+use Rattle.tmw_ring_defs.specs.declared.ring_step.Answered.{Answered}
+use Rattle.tmw_ring_defs.specs.Runs.{IsRun, writer_actor}
+use Rattle.tmw_ring_defs.proofs.RunsProof.{gone-step, runs-append}
+use Rattle.tmw_ring_defs.specs.Ring.{new_core}
 use Rattle.tmw_ring_defs.proofs.RingPhases.{phase_set, phase_kept, phase_cases}
 use Rattle.tmw_ring.specs.Parts.{Parts, key, made_from}
 use Rattle.tmw_ring.specs.Rule.{PartFits, FitsPhase, IsReal, IsRecorded, Shown, WriterFits}
@@ -18,7 +22,8 @@ use Rattle.tmw_ring.specs.Words.{words_of}
 use Rattle.tmw_ring.specs.declared.part.Part.{Part}
 use Rattle.tmw_ring.specs.declared.part.Part.TheVariants.{Writes, Reads}
 use Rattle.tmw_ring.specs.declared.part.WriterPart.{WriterPart}
-use Rattle.tmw_ring.proofs.Moves.{moves}
+use Rattle.tmw_ring.specs.WriterSteps.{WriterMade}
+use Rattle.tmw_ring.proofs.Moves.{Makes, moves}
 
 -- By a step of the writer with this part the ring goes on to the next state, in which the writer knows the new part.
 pub record Goes (core next : Core) (old new : WriterPart) : Type 0 where
@@ -110,10 +115,25 @@ module _ {S : Type 0} where
       (shown.each seat 0 (Writes part) (record { view = Writes part ∷ []; seated = seated; placed = refl })).0
 
   pub writer_moves : (size : RingSize) (state : State S Parts) (shown : Shown size state) (seat word value : ℕ) (old new : WriterPart)
-      (next : Core) → get_elem? state.views seat ≡ some (Writes old ∷ []) → set state.words word value ≡ words_of next
-      → Goes shown.core next old new → Shown size (stepped state word value seat [] (Writes new ∷ []) keeps)
-  writer_moves size state shown seat word value old new next seated words goes =
+      (next : Core) (answered : Answered) → get_elem? state.views seat ≡ some (Writes old ∷ [])
+      → set state.words word value ≡ words_of next → Makes (writer_actor old.number) shown.core answered next
+      → new.run ≡ shown.run ++ answered ∷ [] → Goes shown.core next old new
+      → Shown size (stepped state word value seat [] (Writes new ∷ []) keeps)
+  writer_moves size state shown seat word value old new next answered seated words makes known goes =
       let fits = writer_fits size state shown seat old seated in
-      moves size state shown seat word value (Writes old) (Writes new) next seated goes.sized goes.sound
-      (next-real shown.core next old new fits shown.real goes) words (ap (λ ix. ix.number + 1) goes.same_number)
+      moves size state shown seat word value (Writes old) (Writes new) next answered seated goes.sized goes.sound
+      (next-real shown.core next old new fits shown.real goes) words makes (ap writer_actor goes.same_number) known
       (new-fits shown.core next old new fits goes) (others-fit shown.core next old new goes)
+
+  -- What the writer has made, once the ring has run so.
+  pub writer_made : (size : RingSize) (state : State S Parts) (shown : Shown size state) (seat : ℕ) (part : WriterPart) (next : Core)
+      (answered : Answered) → get_elem? state.views seat ≡ some (Writes part ∷ []) → Makes (writer_actor part.number) shown.core answered next
+      → WriterMade part answered (shown.run ++ answered ∷ [])
+  writer_made size state shown seat part next answered seated makes =
+      let fits = writer_fits size state shown seat part seated in
+      let knows = shown.knows seat 0 (Writes part) (record { view = Writes part ∷ []; seated = seated; placed = refl }) in
+      let ran = runs-append (new_core size) shown.core next shown.run (answered ∷ []) shown.ran (next, makes.step, refl) in
+      record {
+        gone = gone-step (writer_actor part.number) part.run shown.run answered makes.whose knows;
+        is_run = subst (λ (z : RingSize). IsRun z (shown.run ++ answered ∷ [])) (sym (fits.sized ∙ shown.sized)) (next, ran);
+      }

@@ -3,12 +3,12 @@ use Rattle.std.specs.Prelude.{◌≡◌, ◌<◌, ℕ, List, [], length, get_or,
 use Rattle.tmw_ring_defs.specs.Sizes.{HasNumbers}
 use Rattle.tmw_ring.specs.Ends.{RingIs, WriterIs, ReaderIs, WriterOf, ReaderOf}
 
--- The writer of this number has claimed nothing and seen nothing.
+-- The writer of this number has claimed nothing and seen nothing, and no step was made.
 pub record IsNewWriter (number : ℕ) (writer : WriterIs) : Type 0 where
   pub numbered : writer.number.number ≡ number
   pub made : writer.made ≡ []
   pub seen : writer.seen ≡ 0
-  pub looks : writer.looks ≡ []
+  pub run : writer.run ≡ []
 
 -- These are the first of the ring's writers, in the order of their numbers.
 pub record AreNewWriters (ring : RingIs) (writers : List WriterIs) : Type 0 where
@@ -22,4 +22,4 @@ pub record IsNewRing (cells writers_asked limit : ℕ) (ring : RingIs) (writers 
   pub writers_new : AreNewWriters ring writers
   pub reader_of : ReaderOf ring reader
   pub taken : reader.taken ≡ []
-  pub looks : reader.looks ≡ []
+  pub run : reader.run ≡ []

@@ -4,7 +4,9 @@ use Rattle.tmw_events.specs.Unpacking.{ix_of}
 use Rattle.tmw_events.specs.declared.event.Event.{Event}
 use Rattle.tmw_ring_defs.specs.declared.ring_phase.ReaderPhase.TheVariants.{Waiting}
 use Rattle.tmw_ring_defs.specs.declared.ring_phase.WriterPhase.TheVariants.{Idle}
+use Rattle.tmw_ring_defs.specs.Runs.{reader_actor, writer_actor}
 use Rattle.tmw_ring_defs.specs.declared.ring_size.RingSize.{RingSize}
+use Rattle.tmw_ring_defs.specs.declared.ring_step.Answered.{Answered}
 use Rattle.tmw_ring.specs.declared.part.Made.{Made}
 use Rattle.tmw_ring.specs.declared.part.Part.{Part}
 use Rattle.tmw_ring.specs.declared.part.Part.TheVariants.{Writes, Reads}
@@ -15,10 +17,19 @@ use Rattle.tmw_ring.specs.declared.part.WriterPart.{WriterPart}
 abbrev pub Parts : Type 0
 Parts = List Part
 
--- the actor whose part this is: 0 for the reader, and one more than its number for a writer
+-- the actor whose part this is
 abbrev pub key : Part → ℕ
-key (Writes part) = part.number.number + 1
-key (Reads part) = 0
+key (Writes part) = writer_actor part.number
+key (Reads part) = reader_actor
+
+abbrev pub size_of : Part → RingSize
+size_of (Writes part) = part.size
+size_of (Reads part) = part.size
+
+-- the ring's run, as far as the part knows it
+abbrev pub run_of : Part → List Answered
+run_of (Writes part) = part.run
+run_of (Reads part) = part.run
 
 -- of these events, whose places are counted from this one on: those of this writer, each with its place
 abbrev pub made_from : ℕ → ℕ → List Event → List Made
@@ -30,7 +41,7 @@ made_from writer place (event ∷ events) =
 
 -- At the start a writer is idle, and knows nothing.
 abbrev pub new_writer : RingSize → ℕ → WriterPart
-new_writer size number = record { size = size; number = ix_of number; phase = Idle; made = []; seen = 0; looks = [] }
+new_writer size number = record { size = size; number = ix_of number; phase = Idle; made = []; seen = 0; run = [] }
 
 -- the parts of so many writers, whose numbers rise from this one
 abbrev pub new_writers : RingSize → ℕ → ℕ → Parts
@@ -38,7 +49,7 @@ new_writers size number zero = []
 new_writers size number (suc count) = Writes (new_writer size number) ∷ new_writers size (number + 1) count
 
 abbrev pub new_reader : RingSize → ReaderPart
-new_reader size = record { size = size; phase = Waiting; taken = []; looks = [] }
+new_reader size = record { size = size; phase = Waiting; taken = []; run = [] }
 
 -- the parts of a new ring, all in one seat
 abbrev pub new_parts : RingSize → Parts

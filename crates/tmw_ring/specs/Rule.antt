@@ -1,17 +1,19 @@
--- The rule of a ring's table: its words and the parts of all its seats show one sound ring.
-use Rattle.std.specs.Prelude.{◌≡◌, ◌≤◌, ◌<◌, ℕ, Some, slice_get, All}
+-- The rule of a ring's table: its words and the parts of all its seats show one sound ring, and one run that led to it.
+use Rattle.std.specs.Prelude.{◌≡◌, ◌≤◌, ◌<◌, ℕ, List, [], Some, slice_get, All}
 use mathlib.Core.Option.{some}
 use lib.ListN.{get_elem?}
 use Rattle.atomic_table.specs.Table.{State}
 use Rattle.tmw_events.specs.Packing.{IsHeader}
 use Rattle.tmw_events.specs.Text.{FitsKind}
 use Rattle.tmw_events.specs.declared.event.Event.{Event}
-use Rattle.tmw_ring_defs.specs.Ring.{Core}
+use Rattle.tmw_ring_defs.specs.Ring.{Core, new_core}
 use Rattle.tmw_ring_defs.specs.RingSound.{IsIn, Sound}
+use Rattle.tmw_ring_defs.specs.Runs.{Runs, Gone}
 use Rattle.tmw_ring_defs.specs.declared.ring_phase.WriterPhase.{WriterPhase}
 use Rattle.tmw_ring_defs.specs.declared.ring_phase.WriterPhase.TheVariants.{Idle, Looked, Cleared, Claimed}
 use Rattle.tmw_ring_defs.specs.declared.ring_size.RingSize.{RingSize}
-use Rattle.tmw_ring.specs.Parts.{Parts, key, made_from}
+use Rattle.tmw_ring_defs.specs.declared.ring_step.Answered.{Answered}
+use Rattle.tmw_ring.specs.Parts.{Parts, key, run_of, made_from}
 use Rattle.tmw_ring.specs.Words.{words_of}
 use Rattle.tmw_ring.specs.declared.part.Part.{Part}
 use Rattle.tmw_ring.specs.declared.part.Part.TheVariants.{Writes, Reads}
@@ -34,6 +36,10 @@ pub record ReaderFits (core : Core) (part : ReaderPart) : Type 0 where
 abbrev pub PartFits : Core → Part → Type 0
 PartFits core (Writes part) = WriterFits core part
 PartFits core (Reads part) = ReaderFits core part
+
+-- The part knows the run up to its actor's last step: none of the steps since is the actor's.
+abbrev pub Knows : List Answered → Part → Type 0
+Knows run part = Gone (key part) (run_of part) [] run
 
 -- The event is one of a writer of this ring, and its value has 64 bits.
 pub record IsRecorded (size : RingSize) (event : Event) : Type 0 where
@@ -59,13 +65,19 @@ pub record Lies {S : Type 0} (state : State S Parts) (seat place : ℕ) (part : 
   pub seated : get_elem? state.views seat ≡ some view
   pub placed : get_elem? view place ≡ some part
 
--- The table of a ring of this size shows a sound ring, which all parts fit, and no actor has two parts.
+-- The table of a ring of this size shows a sound ring, which all parts fit, and a run that leads to it from a new ring. Each actor
+-- has one part, and what each part knows of the run is so.
 pub record Shown {S : Type 0} (size : RingSize) (state : State S Parts) : Type 0 where
   pub core : Core
   pub sized : core.size ≡ size
   pub sound : Sound core
   pub real : IsReal core
   pub words : state.words ≡ words_of core
-  -- where the part of each actor lies, if anywhere
+  pub run : List Answered
+  pub ran : Runs (new_core size) run core
+  -- where the part of each actor lies
   pub where_is : ℕ → ℕ × ℕ
+  pub present : (actor : ℕ) → actor ≤ size.writers
+      → (part : Part) × Lies state (where_is actor).0 (where_is actor).1 part × (key part ≡ actor)
   pub each : (seat place : ℕ) (part : Part) → Lies state seat place part → PartFits core part × (where_is (key part) ≡ (seat, place))
+  pub knows : (seat place : ℕ) (part : Part) → Lies state seat place part → Knows run part

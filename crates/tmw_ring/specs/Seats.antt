@@ -94,8 +94,8 @@ writer_is table part = record {
   number = part.number;
   made = part.made;
   seen = part.seen;
-  looks = part.looks;
+  run = part.run;
 }
 
 abbrev pub reader_is : TableId → ReaderPart → ReaderIs
-reader_is table part = record { table = table; size = part.size; taken = part.taken; looks = part.looks }
+reader_is table part = record { table = table; size = part.size; taken = part.taken; run = part.run }

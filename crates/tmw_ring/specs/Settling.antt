@@ -6,8 +6,10 @@ use Rattle.tmw_events.specs.Packing.{pack, header_of}
 use Rattle.tmw_events.specs.Text.{FitsKind}
 use Rattle.tmw_events.specs.Unpacking.{unpacked}
 use Rattle.tmw_events.specs.declared.event.Event.{Event}
+use Rattle.tmw_ring_defs.specs.Runs.{Gone, IsRunTo, reader_actor, writer_actor}
 use Rattle.tmw_ring_defs.specs.declared.ring_phase.WriterPhase.TheVariants.{Idle}
-use Rattle.tmw_ring.specs.Ends.{WriterIs}
+use Rattle.tmw_ring_defs.specs.declared.ring_step.Answered.{Answered}
+use Rattle.tmw_ring.specs.Ends.{WriterIs, ReaderIs}
 use Rattle.tmw_ring.specs.Parts.{made_from}
 use Rattle.tmw_ring.specs.Words.{stamp_word, value_word, word_count}
 use Rattle.tmw_ring.specs.declared.part.Part.{Part}
@@ -17,15 +19,19 @@ use Rattle.tmw_ring.specs.declared.part.Part.TheVariants.{Writes}
 abbrev pub AreInOrder : List WriterIs → Type 0
 AreInOrder writers = (place : ℕ) (fallback : WriterIs) → place < length writers → (get_or writers place fallback).number.number ≡ place
 
--- One list of events, of which some were taken and the rest is left, has each writer's events at the places that it has claimed,
--- and no other.
-pub record IsSettled (taken : List Event) (writers : List WriterIs) (left : List Event) : Type 0 where
+-- One list of events, of which the reader has taken some and the rest is left, has each writer's events at the places that it has
+-- claimed, and no other. It is the log of one run, in which each end's steps are those that the end knows.
+pub record IsSettled (reader : ReaderIs) (writers : List WriterIs) (left : List Event) : Type 0 where
   pub log : List Event
   pub few : length log ≤ 2 ^ 40
-  pub rest : log ≡ taken ++ left
+  pub rest : log ≡ reader.taken ++ left
   pub own : All (λ event. event.thread.number < length writers) log
   pub made : (number : ℕ) (fallback : WriterIs) → number < length writers → (get_or writers number fallback).made ≡ made_from number 0 log
   pub seen : (number : ℕ) (fallback : WriterIs) → number < length writers → (get_or writers number fallback).seen ≤ length log
+  pub run : List Answered
+  pub run_to : IsRunTo reader.size run log
+  pub reader_gone : Gone reader_actor reader.run [] run
+  pub writers_gone : All (λ writer. Gone (writer_actor writer.number) writer.run [] run) writers
 
 -- the part of a writer that has come back
 abbrev pub part_of : WriterIs → Part
@@ -35,7 +41,7 @@ part_of writer = Writes (record {
   phase = Idle;
   made = writer.made;
   seen = writer.seen;
-  looks = writer.looks;
+  run = writer.run;
 })
 
 -- the header and the value in the words of the place's cell, and the event that these tell

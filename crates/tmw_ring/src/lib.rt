@@ -28,7 +28,7 @@ mod tests;
 pub use cuts::{AllParts, BothParts, SecondPart};
 pub use ends::{Reader, Ring, Writer};
 pub use make::ring;
-pub use part::{Look, Made, Part, ReaderPart, WriterPart};
+pub use part::{Made, Part, ReaderPart, WriterPart};
 pub use refused::Refused;
 pub use rule::{RingRule, RingSeat, RingTable};
 pub use settled::Settled;

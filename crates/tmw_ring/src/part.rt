@@ -1,7 +1,7 @@
 //! What a seat of the ring's table knows. Such values stand in views alone, and none is made when the program runs.
 use std::collections::LinkedList;
 use tmw_events::{Event, Ix};
-use tmw_ring_defs::{ReaderPhase, RingSize, WriterPhase};
+use tmw_ring_defs::{Answered, ReaderPhase, RingSize, WriterPhase};
 
 /// What one actor of the ring knows.
 pub enum Part {
@@ -21,8 +21,8 @@ pub struct WriterPart {
     pub made: LinkedList<Made>,
     /// So many places, at least, were claimed.
     pub seen: u64,
-    /// What the steps that load a word have announced, in order.
-    pub looks: LinkedList<Look>,
+    /// All steps that were made on the ring up to its own last step, or up to its last meeting.
+    pub run: LinkedList<Answered>,
 }
 
 /// What the reader knows.
@@ -32,22 +32,12 @@ pub struct ReaderPart {
     pub phase: ReaderPhase,
     /// The events that it has taken, in order.
     pub taken: LinkedList<Event>,
-    /// What the steps that load a stamp have announced, in order.
-    pub looks: LinkedList<Look>,
+    /// All steps that were made on the ring up to its own last step, or up to its last meeting.
+    pub run: LinkedList<Answered>,
 }
 
 /// A place that was claimed for an event.
 pub struct Made {
     pub place: u64,
     pub event: Event,
-}
-
-/// A load of one of the ring's words, and what it found there.
-pub enum Look {
-    /// Front.
-    Front(u64),
-    /// Tail.
-    Tail(u64),
-    /// The stamp of a place's cell.
-    Stamp(u64),
 }

@@ -151,7 +151,7 @@ fn record_as<C: Choice>(
     ensures writer { IsSeatOf ring.now.size Idle seat.new.me }
     ensures number { (writer_in seat.new.me.0).number ≡ (writer_in seat.old.me.0).number }
     ensures ok { IfOk result (λ place. HasRecorded kind place (writer_is seat.old.table_id (writer_in seat.old.me.0)) (writer_is seat.new.table_id (writer_in seat.new.me.0))) }
-    ensures err { IfErr result (λ refused. IsRefusal (writer_is seat.old.table_id (writer_in seat.old.me.0)) refused (writer_is seat.new.table_id (writer_in seat.new.me.0))) }
+    ensures err { IfErr result (λ refused. IsRefusal kind (writer_is seat.old.table_id (writer_in seat.old.me.0)) refused (writer_is seat.new.table_id (writer_in seat.new.me.0))) }
 {
     let (header, value) = pack(Event {
         thread: number,
@@ -180,7 +180,7 @@ impl Ring {
         ensures still_of_ring { WriterOf self.now writer.new }
         ensures number { writer.new.number ≡ writer.old.number }
         ensures ok { IfOk result (λ place. HasRecorded kind place writer.old writer.new) }
-        ensures err { IfErr result (λ refused. IsRefusal writer.old refused writer.new) }
+        ensures err { IfErr result (λ refused. IsRefusal kind writer.old refused writer.new) }
     {
         record_as::<Brand>(self, &mut writer.seat, writer.number, kind)
     }

@@ -15,7 +15,7 @@ impl Ring {
         requires writers { All (WriterOf self) writers.items }
         requires count { length writers.items ≡ self.size.writers }
         requires order { AreInOrder writers.items }
-        ensures { IsSettled reader.taken writers.items result }
+        ensures { IsSettled reader writers.items result }
     {
         let Reader { front, mut seat } = reader;
         join_all(&self, &mut seat, writers);

@@ -1,4 +1,4 @@
-pub mod Answered
+pub mod LogAnswers
 pub mod MachineProof
 pub mod OneLogProof
 pub mod RingClaims
@@ -13,3 +13,5 @@ pub mod RingStart
 pub mod RingStores
 pub mod RingTakes
 pub mod RingWrites
+pub mod RunsActors
+pub mod RunsProof

@@ -1,7 +1,7 @@
 -- Whatever steps a ring's machine makes, its answers are those of one sequential log.
 use Rattle.std.proofs.Common.{◌≡◌, ◌++◌, ℕ, zero, suc, List, [], ◌∷◌, drop, Some, replicate, slice_get, refl, sym, ap, ◌∙◌, take-append-drop}
 use Rattle.tmw_events.specs.declared.event.Event.{Event}
-use Rattle.tmw_ring_defs.proofs.Answered.{Knows, IsAnnounced, core_step-answered}
+use Rattle.tmw_ring_defs.proofs.LogAnswers.{Knows, IsAnnounced, core_step-answered}
 use Rattle.tmw_ring_defs.proofs.RingSizes.{after-size}
 use Rattle.tmw_ring_defs.proofs.MachineProof.{machine_step-each, machine_step-sound, after-sound, after-spares}
 use Rattle.tmw_ring_defs.specs.OneLog.{Announced, announces, Asks, AskInOrder, sequential_of, OneLogLaw}

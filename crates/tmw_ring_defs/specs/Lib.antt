@@ -5,4 +5,5 @@ pub mod RingMachine
 pub mod RingSound
 pub mod RingSteps
 pub mod Room
+pub mod Runs
 pub mod Sizes

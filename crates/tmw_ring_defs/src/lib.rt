@@ -13,4 +13,4 @@ pub use ring_cell::RingCell;
 pub use ring_fault::RingFault;
 pub use ring_phase::{ReaderPhase, WriterPhase};
 pub use ring_size::{MOST_CELLS, MOST_PLACES, MOST_WRITERS, RingSize};
-pub use ring_step::{Reply, Step};
+pub use ring_step::{Answered, Reply, Step};

@@ -54,3 +54,10 @@ pub enum Reply {
     /// The step is not its actor's next, or the ring has no such writer. Nothing has changed.
     NotNow,
 }
+
+/// A step that was made, and how it was answered.
+#[derive(Clone, Copy, PartialEq, Eq, Debug)]
+pub struct Answered {
+    pub step: Step,
+    pub reply: Reply,
+}

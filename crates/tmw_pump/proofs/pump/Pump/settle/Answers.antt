@@ -13,4 +13,4 @@ returns-clause-one_log c =
     ap (λ (l : List Event). came c.new.result.front ++ l) c.new.ensures.settled
     ∙ ap (λ (front : Front). came front ++ c.settle.result) c.new.ensures.front
     ∙ ap (λ (l : List Event). l ++ c.settle.result) pump.all in
-    log-settled pump.reader.taken c.args.writers.items c.settle.result (all_of c.new.result) c.settle.ensures c.requires.order whole
+    log-settled pump.reader c.args.writers.items c.settle.result (all_of c.new.result) c.settle.ensures c.requires.order whole

@@ -8,14 +8,14 @@ invariant_of-writer c =
     let met =
     c.meet_seats.ensures.met (Writes (writer_in c.writer.inside.seat.me.0)) (Reads (reader_in c.reader.inside.seat.me.0))
     c.writer.invariant.seated c.reader.invariant.seated in
-    idle_still c.writer.inside.number _ c.writer.inside.seat.me c.meet_seats.new.one.me c.writer.invariant met.one_after
+    idle_still c.writer.inside.number _ met.run c.writer.inside.seat.me c.meet_seats.new.one.me c.writer.invariant met.one_after
 
 pub invariant_of-reader : goal.invariant_of-reader
 invariant_of-reader c =
     let met =
     c.meet_seats.ensures.met (Writes (writer_in c.writer.inside.seat.me.0)) (Reads (reader_in c.reader.inside.seat.me.0))
     c.writer.invariant.seated c.reader.invariant.seated in
-    waiting_still c.reader.inside.front c.reader.inside.seat.me c.meet_seats.new.other.me c.reader.invariant met.other_after
+    waiting_still c.reader.inside.front met.run c.reader.inside.seat.me c.meet_seats.new.other.me c.reader.invariant met.other_after
 
 pub returns : goal.returns
 returns c =
@@ -23,11 +23,12 @@ returns c =
     c.meet_seats.ensures.met (Writes (writer_in c.writer.inside.seat.me.0)) (Reads (reader_in c.reader.inside.seat.me.0))
     c.writer.invariant.seated c.reader.invariant.seated in
     record {
+      run = met.run;
       log = met.log;
       writer_meets =
-          writer_met met.log c.writer.inside.seat.table_id c.meet_seats.new.one.table_id c.writer.inside.seat.me c.meet_seats.new.one.me
+          writer_met met.run met.log c.writer.inside.seat.table_id c.meet_seats.new.one.table_id c.writer.inside.seat.me c.meet_seats.new.one.me
           c.args.writer.now c.meet_seats.ensures.tables.0 met.one_of met.one_after c.writer.view_is;
       reader_meets =
-          reader_met met.log c.reader.inside.seat.table_id c.meet_seats.new.other.table_id c.reader.inside.seat.me
+          reader_met met.run met.log c.reader.inside.seat.table_id c.meet_seats.new.other.table_id c.reader.inside.seat.me
           c.meet_seats.new.other.me c.args.reader.now c.meet_seats.ensures.tables.1 met.other_of met.other_after c.reader.view_is;
     }

@@ -8,14 +8,14 @@ invariant_of-one c =
     let met =
     c.meet_seats.ensures.met (Writes (writer_in c.one.inside.seat.me.0)) (Writes (writer_in c.other.inside.seat.me.0))
     c.one.invariant.seated c.other.invariant.seated in
-    idle_still c.one.inside.number _ c.one.inside.seat.me c.meet_seats.new.one.me c.one.invariant met.one_after
+    idle_still c.one.inside.number _ met.run c.one.inside.seat.me c.meet_seats.new.one.me c.one.invariant met.one_after
 
 pub invariant_of-other : goal.invariant_of-other
 invariant_of-other c =
     let met =
     c.meet_seats.ensures.met (Writes (writer_in c.one.inside.seat.me.0)) (Writes (writer_in c.other.inside.seat.me.0))
     c.one.invariant.seated c.other.invariant.seated in
-    idle_still c.other.inside.number _ c.other.inside.seat.me c.meet_seats.new.other.me c.other.invariant met.other_after
+    idle_still c.other.inside.number _ met.run c.other.inside.seat.me c.meet_seats.new.other.me c.other.invariant met.other_after
 
 pub returns : goal.returns
 returns c =
@@ -23,11 +23,12 @@ returns c =
     c.meet_seats.ensures.met (Writes (writer_in c.one.inside.seat.me.0)) (Writes (writer_in c.other.inside.seat.me.0))
     c.one.invariant.seated c.other.invariant.seated in
     record {
+      run = met.run;
       log = met.log;
       one_meets =
-          writer_met met.log c.one.inside.seat.table_id c.meet_seats.new.one.table_id c.one.inside.seat.me c.meet_seats.new.one.me
+          writer_met met.run met.log c.one.inside.seat.table_id c.meet_seats.new.one.table_id c.one.inside.seat.me c.meet_seats.new.one.me
           c.args.one.now c.meet_seats.ensures.tables.0 met.one_of met.one_after c.one.view_is;
       other_meets =
-          writer_met met.log c.other.inside.seat.table_id c.meet_seats.new.other.table_id c.other.inside.seat.me
+          writer_met met.run met.log c.other.inside.seat.table_id c.meet_seats.new.other.table_id c.other.inside.seat.me
           c.meet_seats.new.other.me c.args.other.now c.meet_seats.ensures.tables.1 met.other_of met.other_after c.other.view_is;
     }

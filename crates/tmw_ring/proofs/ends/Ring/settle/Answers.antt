@@ -44,6 +44,6 @@ returns c =
     record { front_is = c.reader.invariant.counted; tail_is = c.word-tail.ensures } in
     let left : List Event =
     events_from (slots_items closed.words) c.self.inside.size.cells c.reader.inside.front (c.word-tail.result - c.reader.inside.front) in
-    subst (λ (taken : List Event). IsSettled taken c.args.writers.items left) (ap (λ (r : ReaderIs). r.taken) c.reader.view_is)
-    (settles c.self.inside.size reader c.args.writers.items (slots_items closed.words) c.reader.inside.front c.word-tail.result ends
+    subst (λ (r : ReaderIs). IsSettled r c.args.writers.items left) c.reader.view_is
+    (settles c.reader.inside.seat.table_id c.self.inside.size reader c.args.writers.items (slots_items closed.words) c.reader.inside.front c.word-tail.result ends
     (c.requires.count ∙ ap (λ (ring : RingIs). ring.size.writers) (sym c.self.view_is)) c.requires.order counted)

@@ -1,0 +1,129 @@
+-- Whose steps a run has: each is the reader's or one of the ring's writers', and who makes the last step knows the whole run.
+use Rattle.std.proofs.Common.{◌≡◌, ◌≢◌, ◌==◌, ◌⊎◌, ◌++◌, ◌+◌, ◌≤◌, ℕ, Bool, true, false, List, [], ◌∷◌, length, Some, refl, sym, ap, ◌∙◌, subst, append_assoc, append-nil, eq-eqb, inl, inr, arith, if◌then◌else◌}
+use Rattle.std.proofs.lemmas.List.{length_push}
+use Rattle.std.proofs.lemmas.Option.{none-some, option_and_then_some, slice_get_within}
+use Rattle.std.specs.Prelude.{slice_get}
+use native.Mathlib.Decide.{ℕ_discrete}
+use Rattle.tmw_events.specs.declared.ix.Ix.{Ix}
+use Rattle.tmw_ring_defs.specs.Ring.{Core, new_core}
+use Rattle.tmw_ring_defs.specs.RingSound.{Sound, StepLaw}
+use Rattle.tmw_ring_defs.specs.RingSteps.{Stepped, core_step, by_writer, front_step, tail_step, claim_step, fill_step, publish_step}
+use Rattle.tmw_ring_defs.specs.Runs.{actor_of, own, NoneOf, Runs, Gone}
+use Rattle.tmw_ring_defs.specs.declared.ring_phase.WriterPhase.{WriterPhase}
+use Rattle.tmw_ring_defs.specs.declared.ring_size.RingSize.{RingSize}
+use Rattle.tmw_ring_defs.specs.declared.ring_step.Answered.{Answered}
+use Rattle.tmw_ring_defs.specs.declared.ring_step.Reply.{Reply}
+use Rattle.tmw_ring_defs.specs.declared.ring_step.Step.{Step}
+use Rattle.tmw_ring_defs.specs.declared.ring_step.Step.TheVariants.{Front, Tail, Claim, Fill, Publish, Peek, Read, Free, Stop}
+use Rattle.tmw_ring_defs.proofs.RingSizes.{SameSize, core_step-size}
+use Rattle.tmw_ring_defs.proofs.RunsProof.{own-append, runs-cut, runs-sound}
+
+-- The own steps of a run that has gone on.
+pub own-gone : (actor : ℕ) (old mine new : List Answered) → Gone actor old mine new → own actor new ≡ own actor old ++ mine
+own-gone actor old mine new gone =
+    ap (own actor) gone.longer ∙ own-append actor old gone.since
+    ∙ ap (λ (run : List Answered). own actor old ++ run) gone.own_steps
+
+-- Who has made none of the steps has not made the first, and none of the others.
+none-parts : (actor : ℕ) (first : Answered) (run : List Answered) → NoneOf actor (first ∷ run)
+    → (actor_of first.step ≢ actor) × NoneOf actor run
+none-parts actor first run none = by_test (actor_of first.step == actor) refl none
+  where
+    by_test : (test : Bool) → (actor_of first.step == actor) ≡ test → (if test then first ∷ own actor run else own actor run) ≡ []
+        → (actor_of first.step ≢ actor) × NoneOf actor run
+    by_test true is none = absurd (cc)
+    by_test false is none = (λ same. let also = eq-eqb (actor_of first.step) actor same in absurd (cc), none)
+
+-- Lists with a last item have one.
+last-same : {A : Type 0} (past others : List A) (last other : A) → past ++ last ∷ [] ≡ others ++ other ∷ [] → last ≡ other
+last-same [] [] last other is = cc
+last-same [] (item ∷ others) last other is =
+    let count = ap (λ (items : List _). length items) is in absurd (omega (arith, count, length_push others other))
+last-same (item ∷ past) [] last other is =
+    let count = ap (λ (items : List _). length items) is in absurd (omega (arith, count, length_push past last))
+last-same (item ∷ past) (first ∷ others) last other is = last-same past others last other (cc)
+
+-- A list is empty or has a last item.
+pub last-item : {A : Type 0} (items : List A) → (items ≡ []) ⊎ ((past : List A) × (last : A) × (items ≡ past ++ last ∷ []))
+last-item [] = inl refl
+last-item (item ∷ items) = elim (last-item items) [
+  | inl none ↦ inr ([], item, ap (λ rest. item ∷ rest) none)
+  | inr some ↦ let (past, last, is) = some in inr (item ∷ past, last, ap (λ rest. item ∷ rest) is)
+]
+
+-- Who makes the last step knows the whole run.
+pub last-known : (known since past : List Answered) (last : Answered) → known ++ since ≡ past ++ last ∷ []
+    → NoneOf (actor_of last.step) since → since ≡ []
+last-known known [] past last is none = refl
+last-known known (first ∷ since) past last is none =
+    let parts = none-parts (actor_of last.step) first since none in
+    let moved : (known ++ first ∷ []) ++ since ≡ past ++ last ∷ [] = append_assoc known (first ∷ []) since ∙ is in
+    let rest : since ≡ [] = last-known (known ++ first ∷ []) since past last moved parts.1 in
+    let same : known ++ first ∷ [] ≡ past ++ last ∷ [] =
+    sym (append-nil (known ++ first ∷ [])) ∙ ap (λ (run : List Answered). (known ++ first ∷ []) ++ run) (sym rest) ∙ moved in
+    absurd (parts.0 (ap (λ (answered : Answered). actor_of answered.step) (last-same known past first last same)))
+
+-- The writer that steps is one of the ring's.
+writer-among : (writer : Ix) (core next : Core) (reply : Reply) (step : WriterPhase → Stepped)
+    → by_writer writer core step ≡ Some (reply, next) → writer.number + 1 ≤ length core.writers
+writer-among writer core next reply step is =
+    option_and_then_some step (slice_get core.writers writer.number) (reply, next) is
+    (λ phase at made. omega (arith, slice_get_within core.writers writer.number phase at))
+
+step-among : (step : Step) (core next : Core) (reply : Reply) → core_step step core ≡ Some (reply, next)
+    → actor_of step ≤ length core.writers
+step-among (Front writer kind) core next reply is = writer-among writer core next reply (front_step writer.number kind core) is
+step-among (Tail writer) core next reply is = writer-among writer core next reply (tail_step writer.number core) is
+step-among (Claim writer) core next reply is = writer-among writer core next reply (claim_step writer core) is
+step-among (Fill writer) core next reply is = writer-among writer core next reply (fill_step writer.number core) is
+step-among (Publish writer) core next reply is = writer-among writer core next reply (publish_step writer core) is
+step-among Peek core next reply is = omega arith
+step-among Read core next reply is = omega arith
+step-among Free core next reply is = omega arith
+step-among (Stop writer) core next reply is = absurd (none-some (reply, next) is)
+
+-- In a sound ring of this size.
+among : (size : RingSize) (core next : Core) (first : Answered) → Sound core → core.size ≡ size
+    → core_step first.step core ≡ Some (first.reply, next) → actor_of first.step ≤ size.writers
+among size core next first sound sized is =
+    let count : core.size.writers ≡ size.writers = ap (λ (z : RingSize). z.writers) sized in
+    omega (arith, step-among first.step core next first.reply is, sound.writers, count)
+
+same_size : (size : RingSize) (core next : Core) (first : Answered) → core.size ≡ size
+    → core_step first.step core ≡ Some (first.reply, next) → next.size ≡ size
+same_size size core next first sized is = subst (SameSize core) is (core_step-size first.step core) ∙ sized
+
+pub runs-size : (size : RingSize) (core end : Core) (run : List Answered) → core.size ≡ size → Runs core run end → end.size ≡ size
+runs-size size core end [] sized ran = ap (λ (c : Core). c.size) ran ∙ sized
+runs-size size core end (first ∷ run) sized (next, is, ran) =
+    runs-size size next end run (same_size size core next first sized is) ran
+
+-- Who makes the last step of a run is among the actors.
+pub last-among : StepLaw → (size : RingSize) (end : Core) (past : List Answered) (last : Answered) → Sound (new_core size)
+    → Runs (new_core size) (past ++ last ∷ []) end → actor_of last.step ≤ size.writers
+last-among law size end past last sound ran =
+    let (mid, before, after) = runs-cut (new_core size) end past (last ∷ []) ran in
+    among size mid after.0 last (runs-sound law (new_core size) mid past sound before)
+    (runs-size size (new_core size) mid past refl before) after.1
+
+-- A run in which no actor makes a step has none.
+pub none-left : (size : RingSize) (core end : Core) (run : List Answered) → Sound core → core.size ≡ size → Runs core run end
+    → ((actor : ℕ) → actor ≤ size.writers → NoneOf actor run) → run ≡ []
+none-left size core end [] sound sized ran none = refl
+none-left size core end (first ∷ run) sound sized (next, is, ran) none =
+    absurd ((none-parts (actor_of first.step) first run (none (actor_of first.step) (among size core next first sound sized is))).0 refl)
+
+-- A run in which no other actor makes a step has the actor's own alone.
+pub all-own : StepLaw → (size : RingSize) (actor : ℕ) (core end : Core) (run : List Answered) → Sound core → core.size ≡ size
+    → Runs core run end → ((other : ℕ) → other ≤ size.writers → other ≢ actor → NoneOf other run) → own actor run ≡ run
+all-own law size actor core end [] sound sized ran none = refl
+all-own law size actor core end (first ∷ run) sound sized (next, is, ran) none =
+    by_actor (ℕ_discrete (actor_of first.step) actor)
+    (all-own law size actor next end run (law first.step core next first.reply sound is).0 (same_size size core next first sized is) ran
+    (λ other small apart. (none-parts other first run (none other small apart)).1))
+  where
+    by_actor : Dec (actor_of first.step ≡ actor) → own actor run ≡ run → own actor (first ∷ run) ≡ first ∷ run
+    by_actor (yes same) rest = rw (eq-eqb (actor_of first.step) actor same) (ap (λ (later : List Answered). first ∷ later) rest)
+    by_actor (no apart) rest =
+        let small = among size core next first sound sized is in
+        absurd ((none-parts (actor_of first.step) first run (none (actor_of first.step) small apart)).0 refl)
