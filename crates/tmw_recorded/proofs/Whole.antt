@@ -12,7 +12,7 @@ use Rattle.tmw_recorded.specs.Recorded.{IsRecorded}
 use Rattle.tmw_recorded.specs.Recording.{kinds_made, kinds_at, IsRecordOf, AreBack}
 use Rattle.tmw_recorded.specs.declared.plan.Plan.{Plan}
 use Rattle.tmw_recorded.specs.declared.recorded.Recorded.{Recorded}
-use Rattle.tmw_ring.specs.Ends.{RingIs, WriterIs, WriterOf}
+use Rattle.tmw_ring.specs.Ends.{RingIs, WriterIs, ReaderIs, WriterOf}
 use Rattle.tmw_ring.specs.Parts.{made_from}
 use Rattle.tmw_ring.specs.Settling.{AreInOrder, IsSettled}
 use Rattle.tmw_ring.specs.declared.refused.Refused.{Refused}
@@ -48,9 +48,9 @@ kinds_of-made log writers place fallback one_log order low =
     ∙ ap (λ (n : ℕ). kinds_of n log) (order place fallback low)
 
 -- No event of the log is of another thread.
-pub own-settled : (taken left log : List Event) (writers : List WriterIs) → IsSettled taken writers left → log ≡ taken ++ left
+pub own-settled : (reader : ReaderIs) (left log : List Event) (writers : List WriterIs) → IsSettled reader writers left → log ≡ reader.taken ++ left
     → All (λ event. event.thread.number < length writers) log
-own-settled taken left log writers settled is =
+own-settled reader left log writers settled is =
     subst (All (λ (event : Event). event.thread.number < length writers)) (settled.rest ∙ sym is) settled.own
 
 pub whole : (plan : Plan) (lists : List (Vec Kind)) (ring : RingIs) (writers : List WriterIs) (recorded : Recorded) (log : List Event)

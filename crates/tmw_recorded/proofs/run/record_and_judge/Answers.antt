@@ -32,5 +32,5 @@ returns-clause-ok g c =
     let all : log ≡ taken ++ rest.settled =
     ap (λ (f : Front). came f ++ rest.settled) settled.front ∙ ap (λ (l : List Event). l ++ rest.settled) left.pump.all in
     whole plan lists c.in-Ok.made.0 writers record { events = c.in-Ok-judge_rest.events; verdict = c.in-Ok-judge_rest.verdict; stops = left.stops }
-    log c.in-Ok.ensures.ok.sized recorded.back (own-settled taken rest.settled log writers settled.settled all) settled.one_log judged.all
+    log c.in-Ok.ensures.ok.sized recorded.back (own-settled left.pump.reader rest.settled log writers settled.settled all) settled.one_log judged.all
     (judged.headline rules log writers fits settled.one_log)
