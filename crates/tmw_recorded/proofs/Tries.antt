@@ -14,22 +14,22 @@ kinds_made-push [] one = refl
 kinds_made-push (first ∷ made) one = ap (λ (l : List Kind). first.event.kind ∷ l) (kinds_made-push made one)
 
 -- A refused call has recorded nothing.
-made-refused : (old : WriterIs) (refused : Refused) (new : WriterIs) → IsRefusal old refused new → new.made ≡ old.made
-made-refused old (Full front tail) new is = is.0.made
-made-refused old (Spent tail) new is = is.1.made
+made-refused : (kind : Kind) (old : WriterIs) (refused : Refused) (new : WriterIs) → IsRefusal kind old refused new → new.made ≡ old.made
+made-refused kind old (Full front tail) new is = is.0.made
+made-refused kind old (Spent tail) new is = is.1.made
 
-pub kinds_made-refused : (old : WriterIs) (refused : Refused) (new : WriterIs) → IsRefusal old refused new → kinds_made new.made ≡ kinds_made old.made
-kinds_made-refused old refused new is = ap kinds_made (made-refused old refused new is)
+pub kinds_made-refused : (kind : Kind) (old : WriterIs) (refused : Refused) (new : WriterIs) → IsRefusal kind old refused new → kinds_made new.made ≡ kinds_made old.made
+kinds_made-refused kind old refused new is = ap kinds_made (made-refused kind old refused new is)
 
 -- A writer that has recorded nothing since the start tries once more.
 pub tried : (ring : RingIs) (kind : Kind) (start old : WriterIs) (result : Result ℕ Refused) (new : WriterIs)
     → kinds_made old.made ≡ kinds_made start.made → WriterOf ring old → WriterOf ring new → new.number ≡ old.number
-    → IfOk result (λ place. HasRecorded kind place old new) → IfErr result (λ refused. IsRefusal old refused new)
+    → IfOk result (λ place. HasRecorded kind place old new) → IfErr result (λ refused. IsRefusal kind old refused new)
     → HasTried kind start result new
 tried ring kind start old (Ok place) new same old_of new_of number ok err =
     ap kinds_made ok.made ∙ kinds_made-push old.made (made_at old.number kind place) ∙ ap (λ (l : List Kind). l ++ kind ∷ []) same
 tried ring kind start old (Err refused) new same old_of new_of number ok err = (
-  kinds_made-refused old refused new err ∙ same,
+  kinds_made-refused kind old refused new err ∙ same,
   record {
     before = old;
     table = old_of.0 ∙ sym new_of.0;

@@ -12,11 +12,14 @@ use Rattle.tmw_recorded.specs.Recorded.{IsRecorded}
 use Rattle.tmw_recorded.specs.Recording.{kinds_made, kinds_at, IsRecordOf, AreBack}
 use Rattle.tmw_recorded.specs.declared.plan.Plan.{Plan}
 use Rattle.tmw_recorded.specs.declared.recorded.Recorded.{Recorded}
-use Rattle.tmw_ring.specs.Ends.{RingIs, WriterIs, WriterOf}
+use Rattle.tmw_ring.specs.Ends.{RingIs, WriterIs, ReaderIs, WriterOf, ReaderOf}
 use Rattle.tmw_ring.specs.Parts.{made_from}
 use Rattle.tmw_ring.specs.Settling.{AreInOrder, IsSettled}
 use Rattle.tmw_ring.specs.declared.refused.Refused.{Refused}
+use Rattle.tmw_ring_defs.specs.Runs.{IsRunTo}
 use Rattle.tmw_ring_defs.specs.Sizes.{HasNumbers}
+use Rattle.tmw_ring_defs.specs.declared.ring_size.RingSize.{RingSize}
+use Rattle.tmw_ring_defs.specs.declared.ring_step.Answered.{Answered}
 
 -- The kinds of a writer's items of a log are those of its thread's events there.
 kinds_made-made_from : (writer place : ℕ) (log : List Event) → kinds_made (made_from writer place log) ≡ kinds_of writer log
@@ -48,17 +51,24 @@ kinds_of-made log writers place fallback one_log order low =
     ∙ ap (λ (n : ℕ). kinds_of n log) (order place fallback low)
 
 -- No event of the log is of another thread.
-pub own-settled : (taken left log : List Event) (writers : List WriterIs) → IsSettled taken writers left → log ≡ taken ++ left
+pub own-settled : (reader : ReaderIs) (left log : List Event) (writers : List WriterIs) → IsSettled reader writers left → log ≡ reader.taken ++ left
     → All (λ event. event.thread.number < length writers) log
-own-settled taken left log writers settled is =
+own-settled reader left log writers settled is =
     subst (All (λ (event : Event). event.thread.number < length writers)) (settled.rest ∙ sym is) settled.own
 
-pub whole : (plan : Plan) (lists : List (Vec Kind)) (ring : RingIs) (writers : List WriterIs) (recorded : Recorded) (log : List Event)
+-- One run of the ring's machine leads to the log.
+pub run-settled : (ring : RingIs) (reader : ReaderIs) (left log : List Event) (writers : List WriterIs) → ReaderOf ring reader
+    → (settled : IsSettled reader writers left) → log ≡ reader.taken ++ left → IsRunTo ring.size settled.run log
+run-settled ring reader left log writers of settled is =
+    subst (λ (size : RingSize). IsRunTo size settled.run log) of.1
+    (subst (λ (l : List Event). IsRunTo reader.size settled.run l) (settled.rest ∙ sym is) settled.run_to)
+
+pub whole : (plan : Plan) (lists : List (Vec Kind)) (ring : RingIs) (writers : List WriterIs) (recorded : Recorded) (log : List Event) (run : List Answered)
     → HasNumbers plan.cells (length lists) plan.limit ring.size → AreBack ring lists writers recorded.stops.items
-    → All (λ event. event.thread.number < length writers) log → IsLogOf log writers log → recorded.events.items ≡ log
+    → IsRunTo ring.size run log → All (λ event. event.thread.number < length writers) log → IsLogOf log writers log → recorded.events.items ≡ log
     → Headline (rules_of plan.registers zeros plan.bounds) log writers recorded.events.items recorded.verdict
     → IsRecorded plan lists recorded
-whole plan lists ring writers recorded log sized back own one_log is headline =
+whole plan lists ring writers recorded log run sized back ran own one_log is headline =
     let order = order-back ring lists writers recorded.stops.items back in
     let rules = rules_of plan.registers zeros plan.bounds in
     let threads : (thread : ℕ) (fallback : WriterIs) → thread < length lists
@@ -76,6 +86,8 @@ whole plan lists ring writers recorded log sized back own one_log is headline =
       count = back.count;
       stop_count = back.stop_count;
       headline = subst (λ (l : List Event). Headline rules l writers recorded.events.items recorded.verdict) (sym is) headline;
+      run = run;
+      run_to = subst (λ (l : List Event). IsRunTo ring.size run l) (sym is) ran;
       own = subst (λ (l : List Event). All (λ (event : Event). event.thread.number < length lists) l) (sym is)
           (subst (λ (n : ℕ). All (λ (event : Event). event.thread.number < n) log) back.count own);
       threads = subst (λ (l : List Event). (thread : ℕ) (fallback : WriterIs) → thread < length lists

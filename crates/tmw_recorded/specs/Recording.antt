@@ -21,25 +21,25 @@ kinds_in (Some kinds) = kinds.items
 abbrev pub kinds_at : List (Vec Kind) → ℕ → List Kind
 kinds_at lists thread = kinds_in (slice_get lists thread)
 
--- The writer's last record call was refused so.
-pub record WasRefused (refused : Refused) (writer : WriterIs) : Type 0 where
+-- The writer's last record call, of this kind, was refused so.
+pub record WasRefused (kind : Kind) (refused : Refused) (writer : WriterIs) : Type 0 where
   pub before : WriterIs
   pub table : before.table ≡ writer.table
   pub sized : before.size ≡ writer.size
   pub number : before.number ≡ writer.number
-  pub refusal : IsRefusal before refused writer
+  pub refusal : IsRefusal kind before refused writer
 
 -- The writer has recorded one event more, of this kind. Or it has recorded none, and its last call was refused so.
 abbrev pub HasTried : Kind → WriterIs → Result ℕ Refused → WriterIs → Type 0
 HasTried kind old (Ok place) new = kinds_made new.made ≡ kinds_made old.made ++ kind ∷ []
-HasTried kind old (Err refused) new = (kinds_made new.made ≡ kinds_made old.made) × WasRefused refused new
+HasTried kind old (Err refused) new = (kinds_made new.made ≡ kinds_made old.made) × WasRefused kind refused new
 
 -- What was recorded are the first of these kinds, in their order, and the record of the next was refused so.
 pub record HasStopped (kinds recorded : List Kind) (refused : Refused) (writer : WriterIs) : Type 0 where
   pub next : Kind
   pub rest : List Kind
   pub begins : kinds ≡ recorded ++ next ∷ rest
-  pub refusal : WasRefused refused writer
+  pub refusal : WasRefused next refused writer
 
 -- What was recorded are these kinds, in their order: all of them, or those before a refusal.
 abbrev pub IsRecordOf : List Kind → List Kind → Option Refused → WriterIs → Type 0

@@ -6,7 +6,7 @@ use Rattle.tmw_monitor.specs.declared.monitor.Monitor.{Monitor}
 use Rattle.tmw_pump.specs.Fronts.{came}
 use Rattle.tmw_pump.specs.Resting.{all_of}
 use Rattle.tmw_pump.specs.declared.front.Front.{Front}
-use Rattle.tmw_recorded.proofs.Whole.{own-settled, whole}
+use Rattle.tmw_recorded.proofs.Whole.{own-settled, run-settled, whole}
 use Rattle.tmw_recorded.proofs.run.record_and_judge.Goals as goal
 
 pub returns-clause-ok : goal.returns-clause-ok
@@ -32,5 +32,7 @@ returns-clause-ok g c =
     let all : log ≡ taken ++ rest.settled =
     ap (λ (f : Front). came f ++ rest.settled) settled.front ∙ ap (λ (l : List Event). l ++ rest.settled) left.pump.all in
     whole plan lists c.in-Ok.made.0 writers record { events = c.in-Ok-judge_rest.events; verdict = c.in-Ok-judge_rest.verdict; stops = left.stops }
-    log c.in-Ok.ensures.ok.sized recorded.back (own-settled taken rest.settled log writers settled.settled all) settled.one_log judged.all
+    log settled.settled.run c.in-Ok.ensures.ok.sized recorded.back
+    (run-settled c.in-Ok.made.0 left.pump.reader rest.settled log writers recorded.reader settled.settled all)
+    (own-settled left.pump.reader rest.settled log writers settled.settled all) settled.one_log judged.all
     (judged.headline rules log writers fits settled.one_log)
