@@ -27,6 +27,7 @@ impl<'a> MemorySource<'a> {
         ensures told { told_bytes result ≡ [] }
         ensures failures { result.failures ≡ 0 }
         ensures fails_at { result.fails_at ≡ None }
+        ensures over { result.over ≡ false }
     {
         MemorySource::limited(content, usize::MAX, None)
     }
@@ -38,6 +39,7 @@ impl<'a> MemorySource<'a> {
         ensures told { told_bytes result ≡ [] }
         ensures failures { result.failures ≡ 0 }
         ensures limits { (result.most ≡ most) × (result.fails_at ≡ fails_at) × (result.calls ≡ 0) }
+        ensures over { result.over ≡ false }
     {
         MemorySource {
             content,
