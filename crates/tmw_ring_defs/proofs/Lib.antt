@@ -14,5 +14,4 @@ pub mod RingStores
 pub mod RingTakes
 pub mod RingWrites
 pub mod RunsActors
-pub mod RunsMachine
 pub mod RunsProof

@@ -83,13 +83,13 @@ step-among Free core next reply is = omega arith
 step-among (Stop writer) core next reply is = absurd (none-some (reply, next) is)
 
 -- In a sound ring of this size.
-pub among : (size : RingSize) (core next : Core) (first : Answered) → Sound core → core.size ≡ size
+among : (size : RingSize) (core next : Core) (first : Answered) → Sound core → core.size ≡ size
     → core_step first.step core ≡ Some (first.reply, next) → actor_of first.step ≤ size.writers
 among size core next first sound sized is =
     let count : core.size.writers ≡ size.writers = ap (λ (z : RingSize). z.writers) sized in
     omega (arith, step-among first.step core next first.reply is, sound.writers, count)
 
-pub same_size : (size : RingSize) (core next : Core) (first : Answered) → core.size ≡ size
+same_size : (size : RingSize) (core next : Core) (first : Answered) → core.size ≡ size
     → core_step first.step core ≡ Some (first.reply, next) → next.size ≡ size
 same_size size core next first sized is = subst (SameSize core) is (core_step-size first.step core) ∙ sized
 

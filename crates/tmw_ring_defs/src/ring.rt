@@ -1,4 +1,4 @@
-ghost use Rattle.tmw_ring_defs.specs.OneLog.{OneLogLaw, RunsOneLogLaw};
+ghost use Rattle.tmw_ring_defs.specs.OneLog.{OneLogLaw};
 ghost use Rattle.tmw_ring_defs.specs.RingSound.{StepLaw};
 
 /// Inductive invariant of the ring's protocol.
@@ -12,9 +12,7 @@ pub fn law_4()
 /// Linearizability of the ring to a sequential log.
 ///
 /// Whatever steps a new ring's machine makes, in whatever order, its places and the events that are taken are the answers of
-/// one sequential log, to which each claim appends its writer's event. So are those of each run of a new ring, by whatever
-/// actors.
+/// one sequential log, to which each claim appends its writer's event.
 pub fn law_one_log()
-    ensures machine { OneLogLaw }
-    ensures runs { RunsOneLogLaw }
+    ensures { OneLogLaw }
 {}

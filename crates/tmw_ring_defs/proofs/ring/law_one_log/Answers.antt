@@ -1,11 +1,7 @@
 use Rattle.tmw_ring_defs.proofs.OneLogProof.{one_log_law}
 use Rattle.tmw_ring_defs.proofs.RingLaw.{step_law}
 use Rattle.tmw_ring_defs.proofs.RingStart.{new_core-sound}
-use Rattle.tmw_ring_defs.proofs.RunsMachine.{runs_one_log_law}
 use Rattle.tmw_ring_defs.proofs.ring.law_one_log.Goals as goal
 
-pub returns-clause-machine : goal.returns-clause-machine
-returns-clause-machine c = one_log_law step_law new_core-sound
-
-pub returns-clause-runs : goal.returns-clause-runs
-returns-clause-runs c = runs_one_log_law step_law new_core-sound
+pub returns : goal.returns
+returns c = one_log_law step_law new_core-sound
