@@ -1,16 +1,16 @@
 -- A change of a ring's table that keeps its rule is made of steps of the ring's machine.
-use Rattle.std.proofs.Common.{◌≡◌, ◌≢◌, ◌++◌, ◌+◌, ◌≤◌, ℕ, zero, suc, List, [], ◌∷◌, Some, set, refl, sym, ap, ◌∙◌, subst, append_assoc, append-nil, eq-eqb, inl, inr}
+use Rattle.std.proofs.Common.{◌≡◌, ◌≢◌, ◌++◌, ◌+◌, ◌≤◌, ℕ, zero, suc, List, [], ◌∷◌, Some, set, refl, sym, ap, ◌∙◌, subst, append_assoc, append-nil, eq-eqb, lt_of_not-le, inl, inr}
 use Rattle.std.proofs.lemmas.List.{append_cancel_left}
 use Rattle.std.proofs.lemmas.Option.{none-some, option_and_then_some, some_pair_parts}
 use Rattle.std.specs.Prelude.{slice_get}
 use mathlib.Core.Option.{some, some-injective, some-ne-none}
 use lib.ListN.{get_elem?}
-use native.Mathlib.Decide.{ℕ_discrete}
+use native.Mathlib.Decide.{dec_le, ℕ_discrete}
 use Rattle.atomic_table.proofs.Lists.{set_else}
 use Rattle.tmw_events.specs.declared.event.Kind.{Kind}
 use Rattle.tmw_ring_defs.proofs.RingLaw.{step_law}
 use Rattle.tmw_ring_defs.proofs.RingStart.{new_core-sound}
-use Rattle.tmw_ring_defs.proofs.RunsActors.{own-gone, last-item, last-known, last-among, none-left, all-own}
+use Rattle.tmw_ring_defs.proofs.RunsActors.{own-gone, last-item, last-known, last-among, none-beyond, none-left, all-own}
 use Rattle.tmw_ring_defs.proofs.RunsProof.{own-append, runs-cut, runs-same}
 use Rattle.tmw_ring_defs.specs.Ring.{Core, new_core}
 use Rattle.tmw_ring_defs.specs.RingSteps.{cell_at, front_step, peek_step}
@@ -134,8 +134,16 @@ seat_law size before after shown next seat old new seated changed grown =
     let (rest, longer) = goes_on size before after shown next seat old new changes grown in (
       rest,
       rest-ran size before after shown next rest longer,
-      λ actor small away. none_elsewhere size before after shown next seat old new rest changes longer actor small away,
+      λ actor away. by_actor rest longer actor away (dec_le actor size.writers),
     )
+  where
+    by_actor : (rest : List Answered) → next.run ≡ shown.run ++ rest → (actor : ℕ)
+        → ((place : ℕ) (part : Part) → get_elem? old place ≡ some part → key part ≢ actor) → Dec (actor ≤ size.writers) → NoneOf actor rest
+    by_actor rest longer actor away (yes small) =
+        none_elsewhere size before after shown next seat old new rest (record { seated = seated; changed = changed }) longer actor small away
+    by_actor rest longer actor away (no large) =
+        none-beyond step_law size actor shown.core next.core rest shown.sound shown.sized
+        (rest-ran size before after shown next rest longer).ran (lt_of_not-le large)
 
 pub empty_seat_law : EmptySeatLaw
 empty_seat_law size before after shown next seat new seated changed =

@@ -1,6 +1,6 @@
 -- What a change of a ring's table can be, whoever makes it, where its rule holds before and after: steps of the ring's machine,
 -- by the actors whose parts lie in the seat that changes.
-use Rattle.std.specs.Prelude.{◌≡◌, ◌≢◌, ◌++◌, ◌+◌, ◌≤◌, ◌<◌, ℕ, List, [], ◌∷◌, length, slice_index, slice_set}
+use Rattle.std.specs.Prelude.{◌≡◌, ◌≢◌, ◌++◌, ◌+◌, ◌<◌, ℕ, List, [], ◌∷◌, length, slice_index, slice_set}
 use mathlib.Core.Option.{some}
 use lib.ListN.{get_elem?}
 use Rattle.atomic_table.specs.Table.{State, Step, Me, Allows}
@@ -41,7 +41,7 @@ abbrev pub SeatLaw : Type 0
 SeatLaw = (size : RingSize) (before after : TableState) (shown : Shown size before) (next : Shown size after) (seat : ℕ) (old new : Parts)
     → get_elem? before.views seat ≡ some old → after.views ≡ slice_set before.views seat new → HaveGrown old new
     → (since : List Answered) × RanOn shown next since
-    × ((actor : ℕ) → actor ≤ size.writers → ((place : ℕ) (part : Part) → get_elem? old place ≡ some part → key part ≢ actor) → NoneOf actor since)
+    × ((actor : ℕ) → ((place : ℕ) (part : Part) → get_elem? old place ≡ some part → key part ≢ actor) → NoneOf actor since)
 
 -- A seat's one part changes, and knows a longer run: then the ring has run on by just the actor's own steps of what it knows more.
 abbrev pub RunLaw : Type 0

@@ -14,4 +14,5 @@ pub mod RingStores
 pub mod RingTakes
 pub mod RingWrites
 pub mod RunsActors
+pub mod RunsMachine
 pub mod RunsProof

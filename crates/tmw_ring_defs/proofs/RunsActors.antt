@@ -1,5 +1,5 @@
 -- Whose steps a run has: each is the reader's or one of the ring's writers', and who makes the last step knows the whole run.
-use Rattle.std.proofs.Common.{◌≡◌, ◌≢◌, ◌==◌, ◌⊎◌, ◌++◌, ◌+◌, ◌≤◌, ℕ, Bool, true, false, List, [], ◌∷◌, length, Some, refl, sym, ap, ◌∙◌, subst, append_assoc, append-nil, eq-eqb, inl, inr, arith, if◌then◌else◌}
+use Rattle.std.proofs.Common.{◌≡◌, ◌≢◌, ◌==◌, ◌⊎◌, ◌++◌, ◌+◌, ◌≤◌, ◌<◌, ℕ, Bool, true, false, List, [], ◌∷◌, length, Some, refl, sym, ap, ◌∙◌, subst, append_assoc, append-nil, eq-eqb, ne_eqb, inl, inr, arith, if◌then◌else◌}
 use Rattle.std.proofs.lemmas.List.{length_push}
 use Rattle.std.proofs.lemmas.Option.{none-some, option_and_then_some, slice_get_within}
 use Rattle.std.specs.Prelude.{slice_get}
@@ -83,13 +83,13 @@ step-among Free core next reply is = omega arith
 step-among (Stop writer) core next reply is = absurd (none-some (reply, next) is)
 
 -- In a sound ring of this size.
-among : (size : RingSize) (core next : Core) (first : Answered) → Sound core → core.size ≡ size
+pub among : (size : RingSize) (core next : Core) (first : Answered) → Sound core → core.size ≡ size
     → core_step first.step core ≡ Some (first.reply, next) → actor_of first.step ≤ size.writers
 among size core next first sound sized is =
     let count : core.size.writers ≡ size.writers = ap (λ (z : RingSize). z.writers) sized in
     omega (arith, step-among first.step core next first.reply is, sound.writers, count)
 
-same_size : (size : RingSize) (core next : Core) (first : Answered) → core.size ≡ size
+pub same_size : (size : RingSize) (core next : Core) (first : Answered) → core.size ≡ size
     → core_step first.step core ≡ Some (first.reply, next) → next.size ≡ size
 same_size size core next first sized is = subst (SameSize core) is (core_step-size first.step core) ∙ sized
 
@@ -105,6 +105,17 @@ last-among law size end past last sound ran =
     let (mid, before, after) = runs-cut (new_core size) end past (last ∷ []) ran in
     among size mid after.0 last (runs-sound law (new_core size) mid past sound before)
     (runs-size size (new_core size) mid past refl before) after.1
+
+-- Nobody else makes a step.
+pub none-beyond : StepLaw → (size : RingSize) (actor : ℕ) (core end : Core) (run : List Answered) → Sound core → core.size ≡ size
+    → Runs core run end → size.writers < actor → NoneOf actor run
+none-beyond law size actor core end [] sound sized ran beyond = refl
+none-beyond law size actor core end (first ∷ run) sound sized (next, is, ran) beyond =
+    let small = among size core next first sound sized is in
+    let apart : actor_of first.step ≢ actor = λ same. absurd (omega (arith, small, same, beyond)) in
+    rw (ne_eqb (actor_of first.step) actor apart)
+    (none-beyond law size actor next end run (law first.step core next first.reply sound is).0 (same_size size core next first sized is) ran
+    beyond)
 
 -- A run in which no actor makes a step has none.
 pub none-left : (size : RingSize) (core end : Core) (run : List Answered) → Sound core → core.size ≡ size → Runs core run end

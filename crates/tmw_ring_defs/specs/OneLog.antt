@@ -1,12 +1,14 @@
 -- The sequential log, a list and a count, and that the answers of a ring are its answers.
-use Rattle.std.specs.Prelude.{◌≡◌, ◌==◌, ◌+◌, ◌++◌, ◌<◌, ℕ, List, [], ◌∷◌, length, take, Some, slice_get, if◌then◌else◌}
+use Rattle.std.specs.Prelude.{◌≡◌, ◌==◌, ◌+◌, ◌++◌, ◌<◌, ℕ, List, [], ◌∷◌, length, map, take, Some, slice_get, if◌then◌else◌}
 use Rattle.tmw_events.specs.declared.event.Event.{Event}
 use Rattle.tmw_events.specs.declared.event.Kind.{Kind}
 use Rattle.tmw_events.specs.declared.ix.Ix.{Ix}
-use Rattle.tmw_ring_defs.specs.Ring.{Core}
+use Rattle.tmw_ring_defs.specs.Ring.{Core, new_core}
 use Rattle.tmw_ring_defs.specs.RingMachine.{Machine, new_machine, after, replies}
 use Rattle.tmw_ring_defs.specs.RingSound.{Sound, Spares}
+use Rattle.tmw_ring_defs.specs.Runs.{Runs}
 use Rattle.tmw_ring_defs.specs.declared.ring_size.RingSize.{RingSize}
+use Rattle.tmw_ring_defs.specs.declared.ring_step.Answered.{Answered}
 use Rattle.tmw_ring_defs.specs.declared.ring_step.Reply.{Reply}
 use Rattle.tmw_ring_defs.specs.declared.ring_step.Reply.TheVariants.{Saw, Place, Taken}
 use Rattle.tmw_ring_defs.specs.declared.ring_step.Step.{Step}
@@ -76,3 +78,17 @@ pub record IsOneLog (size : RingSize) (steps : List Step) (said : List Reply) (m
 abbrev pub OneLogLaw : Type 0
 OneLogLaw = (size : RingSize) (steps : List Step)
     → IsOneLog size steps (replies steps (new_machine size)) (after steps (new_machine size))
+
+-- the steps of a run, and their replies
+abbrev pub steps_of : List Answered → List Step
+steps_of run = map (λ answered. answered.step) run
+
+abbrev pub replies_of : List Answered → List Reply
+replies_of run = map (λ answered. answered.reply) run
+
+-- A run of a new ring is one of its machine, of which no writer stops: the machine comes to the run's last state, and the run's
+-- replies are those of one log.
+abbrev pub OneRunLaw : Type 0
+OneRunLaw = (size : RingSize) (run : List Answered) (core : Core) → Runs (new_core size) run core
+    → IsOneLog size (steps_of run) (replies_of run) (after (steps_of run) (new_machine size))
+    × ((after (steps_of run) (new_machine size)).core ≡ core)

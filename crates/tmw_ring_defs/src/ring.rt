@@ -1,4 +1,4 @@
-ghost use Rattle.tmw_ring_defs.specs.OneLog.{OneLogLaw};
+ghost use Rattle.tmw_ring_defs.specs.OneLog.{OneLogLaw, OneRunLaw};
 ghost use Rattle.tmw_ring_defs.specs.RingSound.{StepLaw};
 
 /// Inductive invariant of the ring's protocol.
@@ -15,4 +15,12 @@ pub fn law_4()
 /// one sequential log, to which each claim appends its writer's event.
 pub fn law_one_log()
     ensures { OneLogLaw }
+{}
+
+/// Linearizability of each run of the ring.
+///
+/// A run of a new ring, by whomever its steps are made, is one of the ring's machine. So its places and the events that are taken
+/// are the answers of one sequential log, which is the log that the ring then has.
+pub fn law_one_run()
+    ensures { OneRunLaw }
 {}

@@ -1,0 +1,62 @@
+-- A run of a new ring is one of its machine, of which no writer stops.
+use Rattle.std.proofs.Common.{◌≡◌, ◌≤◌, ◌<◌, ℕ, zero, suc, false, true, List, [], ◌∷◌, Some, get_or, replicate, refl, sym, ap, ◌∙◌, subst, arith}
+use Rattle.std.proofs.lemmas.Option.{none-some}
+use Rattle.tmw_ring_defs.proofs.OneLogProof.{one_log_law}
+use Rattle.tmw_ring_defs.proofs.RunsActors.{among, same_size}
+use Rattle.tmw_ring_defs.specs.OneLog.{IsOneLog, steps_of, replies_of, OneRunLaw}
+use Rattle.tmw_ring_defs.specs.Ring.{Core, new_core}
+use Rattle.tmw_ring_defs.specs.RingMachine.{Machine, new_machine, answered, machine_step, after, replies}
+use Rattle.tmw_ring_defs.specs.RingSound.{Sound, StepLaw}
+use Rattle.tmw_ring_defs.specs.RingSteps.{core_step}
+use Rattle.tmw_ring_defs.specs.Runs.{actor_of, Runs}
+use Rattle.tmw_ring_defs.specs.declared.ring_size.RingSize.{RingSize}
+use Rattle.tmw_ring_defs.specs.declared.ring_step.Answered.{Answered}
+use Rattle.tmw_ring_defs.specs.declared.ring_step.Reply.{Reply}
+use Rattle.tmw_ring_defs.specs.declared.ring_step.Step.{Step}
+use Rattle.tmw_ring_defs.specs.declared.ring_step.Step.TheVariants.{Front, Tail, Claim, Fill, Publish, Peek, Read, Free, Stop}
+
+-- The machine of a ring in this state, of which no writer has stopped.
+abbrev unstopped : RingSize → Core → Machine
+unstopped size core = record { core = core; stopped = replicate size.writers false }
+
+none_stopped : (count writer : ℕ) → writer < count → get_or (replicate count false) writer true ≡ false
+none_stopped zero writer within = absurd (omega (arith, within))
+none_stopped (suc count) zero within = refl
+none_stopped (suc count) (suc writer) within = none_stopped count writer (omega (arith, within))
+
+machine_goes : (size : RingSize) (core next : Core) (step : Step) (reply : Reply) → actor_of step ≤ size.writers
+    → core_step step core ≡ Some (reply, next) → machine_step step (unstopped size core) ≡ (reply, unstopped size next)
+machine_goes size core next (Front writer kind) reply small is =
+    rw (none_stopped size.writers writer.number (omega (arith, small))) (ap (answered (unstopped size core)) is)
+machine_goes size core next (Tail writer) reply small is =
+    rw (none_stopped size.writers writer.number (omega (arith, small))) (ap (answered (unstopped size core)) is)
+machine_goes size core next (Claim writer) reply small is =
+    rw (none_stopped size.writers writer.number (omega (arith, small))) (ap (answered (unstopped size core)) is)
+machine_goes size core next (Fill writer) reply small is =
+    rw (none_stopped size.writers writer.number (omega (arith, small))) (ap (answered (unstopped size core)) is)
+machine_goes size core next (Publish writer) reply small is =
+    rw (none_stopped size.writers writer.number (omega (arith, small))) (ap (answered (unstopped size core)) is)
+machine_goes size core next Peek reply small is = ap (answered (unstopped size core)) is
+machine_goes size core next Read reply small is = ap (answered (unstopped size core)) is
+machine_goes size core next Free reply small is = ap (answered (unstopped size core)) is
+machine_goes size core next (Stop writer) reply small is = absurd (none-some (reply, next) is)
+
+runs-machine : StepLaw → (size : RingSize) (core end : Core) (run : List Answered) → Sound core → core.size ≡ size → Runs core run end
+    → (replies (steps_of run) (unstopped size core) ≡ replies_of run) × (after (steps_of run) (unstopped size core) ≡ unstopped size end)
+runs-machine law size core end [] sound sized ran = (refl, ap (unstopped size) (sym ran))
+runs-machine law size core end (first ∷ run) sound sized (next, is, ran) =
+    let steps : List Step = steps_of run in
+    let goes = machine_goes size core next first.step first.reply (among size core next first sound sized is) is in
+    let rest =
+    runs-machine law size next end run (law first.step core next first.reply sound is).0 (same_size size core next first sized is) ran in (
+      ap (λ (made : Reply × Machine). made.0 ∷ replies steps made.1) goes ∙ ap (λ (said : List Reply). first.reply ∷ said) rest.0,
+      ap (λ (made : Reply × Machine). after steps made.1) goes ∙ rest.1,
+    )
+
+pub one_run_law : StepLaw → ((size : RingSize) → Sound (new_core size)) → OneRunLaw
+one_run_law law starts size run core ran =
+    let made = runs-machine law size (new_core size) core run (starts size) refl ran in
+    let machine : Machine = after (steps_of run) (new_machine size) in (
+      subst (λ (said : List Reply). IsOneLog size (steps_of run) said machine) made.0 (one_log_law law starts size (steps_of run)),
+      ap (λ (m : Machine). m.core) made.1,
+    )
