@@ -1,6 +1,6 @@
 ghost use Rattle.std.specs.Prelude.{◌≡◌, OnOk, OnErr};
 ghost use Rattle.tmw_events.specs.Text.{digit, kind_text, event_text};
-ghost use Rattle.tmw_streams.specs.Told.{Adds, AddsBeginning, one_more};
+ghost use Rattle.tmw_streams.specs.Told.{Takes, TakesBeginning, one_more};
 
 use crate::event::{Event, Kind};
 use crate::ix::Ix;
@@ -9,9 +9,9 @@ use tmw_streams::{IoFault, Sink, put_all, put_with_number};
 /// Writes the event's text, without a line feed. It takes no memory. After a failed write a beginning of the text went
 /// out, and not all of it.
 pub fn put_event<K: Sink>(sink: &mut K, event: &Event) -> Result<(), IoFault>
-    ensures takes { OnOk result (Adds K.took sink.old (event_text event.now) sink.new) }
+    ensures takes { OnOk result (Takes K.took K.holds sink.old (event_text event.now) sink.new) }
     ensures well { OnOk result (K.failures sink.new ≡ K.failures sink.old) }
-    ensures begun { OnErr result (AddsBeginning K.took sink.old (event_text event.now) sink.new) }
+    ensures begun { OnErr result (TakesBeginning K.took K.holds sink.old (event_text event.now) sink.new) }
     ensures failed { OnErr result (K.failures sink.new ≡ one_more (K.failures sink.old)) }
 {
     put_all(sink, &[digit_of(event.thread), b' '])?;
@@ -20,9 +20,9 @@ pub fn put_event<K: Sink>(sink: &mut K, event: &Event) -> Result<(), IoFault>
 
 /// Writes the kind's text.
 fn put_kind<K: Sink>(sink: &mut K, kind: Kind) -> Result<(), IoFault>
-    ensures takes { OnOk result (Adds K.took sink.old (kind_text kind) sink.new) }
+    ensures takes { OnOk result (Takes K.took K.holds sink.old (kind_text kind) sink.new) }
     ensures well { OnOk result (K.failures sink.new ≡ K.failures sink.old) }
-    ensures begun { OnErr result (AddsBeginning K.took sink.old (kind_text kind) sink.new) }
+    ensures begun { OnErr result (TakesBeginning K.took K.holds sink.old (kind_text kind) sink.new) }
     ensures failed { OnErr result (K.failures sink.new ≡ one_more (K.failures sink.old)) }
 {
     match kind {

@@ -1,5 +1,5 @@
 -- The first line of a text: held whole, or longer than can be held.
-use Rattle.std.proofs.Common.{◌≡◌, ℕ, ◌+◌, ◌≤◌, Option, Some, None, IfSome, IfNone, Err, List, ◌∷◌, ◌++◌, length, take, drop, refl, ap, ◌∙◌, inl, inr, length-append, append_assoc, arith}
+use Rattle.std.proofs.Common.{◌≡◌, ℕ, ◌+◌, ◌≤◌, Option, Some, None, IfSome, IfNone, Err, List, ◌∷◌, ◌++◌, length, take, drop, refl, ap, inr, length-append, arith}
 use Rattle.tmw_lines.specs.Grammar.{Grammar, IsNoHeader}
 use Rattle.tmw_lines.specs.LineRead.{ReadsHeader}
 use Rattle.tmw_lines.specs.LongLine.{Skips}
@@ -10,8 +10,9 @@ use Rattle.tmw_lines.specs.TextFault.{HasBadHeader}
 use Rattle.tmw_lines.specs.declared.long_line.LineEnd.TheVariants.{Feed, End, Failed}
 use Rattle.tmw_lines.specs.declared.text_fault.TextFault.TheVariants.{BadHeader, Cut, Io}
 use Rattle.tmw_lines.proofs.HeldLines.{line-split, bytes-joined}
+use Rattle.tmw_lines.proofs.LongLines.{long-bad}
 use Rattle.tmw_lines.proofs.Splits.{free-append}
-use Rattle.tmw_streams.proofs.ToldBytes.{Adds-more}
+use Rattle.tmw_streams.proofs.ToldBytes.{Tells-more}
 
 pub take_header-some : {F H E : Type 0} (grammar : Grammar F H E) (bytes left : List ℕ) (count : ℕ) (found : Option H)
     → drop count bytes ≡ 10 ∷ drop (count + 1) bytes → left ≡ drop (count + 1) bytes
@@ -34,42 +35,35 @@ take_header-none grammar bytes count None free feed bad = record {
 take_header-none grammar bytes count (Some header) free feed bad = tt
 
 -- a line longer than can be held
-module _ {F H E S : Type 0} (grammar : Grammar F H E) (Told : S → List ℕ → Type 0) (Ended : Type 0) (a b c : S)
-    (before held left : List ℕ) where
-  pub long_first-feed : ((text : List ℕ) → 4096 ≤ length text → IsNoHeader grammar text) → Reads Told a b before held
-      → length held ≡ 4096 → IsFree 10 held → Skips Told Ended b c Feed
-      → ReadsHeader grammar Told Ended a c before left (Err BadHeader)
+module _ {F H E S : Type 0} (grammar : Grammar F H E) (Told : S → List ℕ → Type 0) (remaining : S → Option (List ℕ))
+    (Ended : Type 0) (a b c : S) (before held left : List ℕ) where
+  pub long_first-feed : ((text : List ℕ) → 4096 ≤ length text → IsNoHeader grammar text) → Reads Told remaining a b before held
+      → length held ≡ 4096 → IsFree 10 held → Skips Told remaining Ended b c left Feed
+      → ReadsHeader grammar Told remaining Ended a c before left (Err BadHeader)
   long_first-feed long_header r long free s = record {
     bytes = r.bytes ++ s.bytes;
-    told = Adds-more Told a b c r.bytes s.bytes r.told s.told;
-    is = rw (bytes-joined Told a b before held r s.bytes) (inr record {
-      text = held ++ s.is.front;
-      rest = s.is.rest;
-      split = ap (λ xs. held ++ xs) s.is.split ∙ simp append_assoc;
-      unbroken = free-append 10 held s.is.front free s.is.free;
-      bad = long_header (held ++ s.is.front) (simp length-append (omega (arith, long)));
-    });
+    told = Tells-more Told remaining a b c r.bytes s.bytes r.told s.told;
+    is = rw (bytes-joined Told remaining a b before held r s.bytes)
+        (inr (long-bad (IsNoHeader grammar) held s.bytes left long_header long free s.is));
   }
 
-  pub long_first-end : Reads Told a b before held → length held ≡ 4096 → IsFree 10 held → Skips Told Ended b c End
-      → ReadsHeader grammar Told Ended a c before left (Err (Cut 1))
+  pub long_first-end : Reads Told remaining a b before held → length held ≡ 4096 → IsFree 10 held
+      → Skips Told remaining Ended b c left End → ReadsHeader grammar Told remaining Ended a c before left (Err (Cut 1))
   long_first-end r long free s = record {
     bytes = r.bytes ++ s.bytes;
-    told = Adds-more Told a b c r.bytes s.bytes r.told s.told;
-    is = rw (bytes-joined Told a b before held r s.bytes) (
+    told = Tells-more Told remaining a b c r.bytes s.bytes r.told s.told;
+    is = rw (bytes-joined Told remaining a b before held r s.bytes) (
       s.is.0,
-      inl (
-        refl,
-        λ empty. absurd (omega (arith, long, ap length empty, length-append held s.bytes)),
-        free-append 10 held s.bytes free s.is.1,
-      ),
+      refl,
+      λ empty. absurd (omega (arith, long, ap length empty, length-append held s.bytes)),
+      free-append 10 held s.bytes free s.is.1,
     );
   }
 
-  pub long_first-failed : Reads Told a b before held → IsFree 10 held → Skips Told Ended b c Failed
-      → ReadsHeader grammar Told Ended a c before left (Err Io)
+  pub long_first-failed : Reads Told remaining a b before held → IsFree 10 held → Skips Told remaining Ended b c left Failed
+      → ReadsHeader grammar Told remaining Ended a c before left (Err Io)
   long_first-failed r free s = record {
     bytes = r.bytes ++ s.bytes;
-    told = Adds-more Told a b c r.bytes s.bytes r.told s.told;
-    is = rw (bytes-joined Told a b before held r s.bytes) (inl (free-append 10 held s.bytes free s.is));
+    told = Tells-more Told remaining a b c r.bytes s.bytes r.told s.told;
+    is = rw (bytes-joined Told remaining a b before held r s.bytes) (s.is.0, free-append 10 held s.bytes free s.is.1);
   }

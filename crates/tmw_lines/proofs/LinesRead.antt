@@ -1,5 +1,5 @@
 -- What a reader of lines has read, after one line more.
-use Rattle.std.proofs.Common.{◌≡◌, ℕ, ◌+◌, ◌≤◌, List, [], ◌∷◌, ◌++◌, length, sym, ap, ◌∙◌, inr, length-append, length-take, append_assoc, arith}
+use Rattle.std.proofs.Common.{◌≡◌, ℕ, ◌+◌, ◌<◌, ◌≤◌, ◌^◌, List, [], ◌∷◌, ◌++◌, length, sym, ap, ◌∙◌, inr, length-append, length-take, append_assoc, arith}
 use Rattle.std.proofs.lemmas.Grind.{flat_map-append}
 use Rattle.std.proofs.lemmas.List.{append-nil}
 use Rattle.std.proofs.lemmas.List.Elements.{All-push}
@@ -20,10 +20,14 @@ few-held held = simp length-take (omega (arith, held.within))
 
 module _ {F H E : Type 0} (grammar : Grammar F H E) where
   AreLines-push : (header : H) (items : List E) (item : E) → AreLines grammar header items
-      → grammar.FitsItem (grammar.format_of header) item → AreLines grammar header (items ++ item ∷ [])
-  AreLines-push header items item a fits = record {
-    header_fits = a.header_fits;
-    fit = All-push (grammar.FitsItem (grammar.format_of header)) items item a.fit fits;
+      → grammar.FitsItem (grammar.format_of header) item → length items < 2 ^ 40
+      → AreLines grammar header (items ++ item ∷ [])
+  AreLines-push header items item a fits few = record {
+    fit = record {
+      header_fits = a.fit.header_fits;
+      items_fit = All-push (grammar.FitsItem (grammar.format_of header)) items item a.fit.items_fit fits;
+    };
+    few = simp length-append (omega (arith, few));
   }
 
   items_text-push : (front rest : List ℕ) (items : List E) (item : E)
@@ -51,7 +55,7 @@ module _ {F H E : Type 0} (grammar : Grammar F H E) where
     reading = state ∙ r.reading;
     format = format ∙ r.format;
     counted = simp length-append (omega (arith, count, r.counted));
-    are_lines = AreLines-push header items item r.are_lines (rw r.format at given.fits);
+    are_lines = AreLines-push header items item r.are_lines (rw r.format at given.fits) (omega (arith, new.few, count, r.counted));
     text = read-more old header items before bytes r ∙ ap (λ xs. lines_text grammar header items ++ xs) given.split
         ∙ items_text-push (line (grammar.header_text header)) (bytes_of new.held) items item;
     few = few-held new.held;
@@ -65,7 +69,10 @@ module _ {F H E : Type 0} (grammar : Grammar F H E) where
     reading = reading;
     format = format;
     counted = none;
-    are_lines = record { header_fits = fits; fit = λ i d within. absurd (omega arith) };
+    are_lines = record {
+      fit = record { header_fits = fits; items_fit = λ i d within. absurd (omega arith) };
+      few = omega arith;
+    };
     text = rw nothing at text ∙ ap (λ xs. xs ++ bytes_of lines.held) (sym (append-nil (line (grammar.header_text header))));
     few = few-held lines.held;
   }
@@ -104,11 +111,14 @@ module _ {F H E : Type 0} (grammar : Grammar F H E) where
     },
   )
   text_fault-line Ended lines bytes Memory h header items before r = absurd h
-  text_fault-line Ended lines bytes Io h header items before r = inr record {
-    begun = begun-read lines header items before bytes r;
-    unbroken = h.0;
-    none = λ many. h.1 (r.counted ∙ many);
-  }
+  text_fault-line Ended lines bytes Io h header items before r = (
+    h.0,
+    inr record {
+      begun = begun-read lines header items before bytes r;
+      unbroken = h.1;
+      none = λ many. h.2 (r.counted ∙ many);
+    },
+  )
   text_fault-line Ended lines bytes TooLong h header items before r = record {
     begun = begun-read lines header items before bytes r;
     many = sym r.counted ∙ h.0;

@@ -1,31 +1,78 @@
 -- Reading on through a line that is longer than can be held.
-use Rattle.std.proofs.Common.{◌≡◌, ℕ, ◌<◌, ◌≤◌, List, ◌∷◌, ◌++◌, length, take, drop, sym, ap, ◌∙◌, ◌==◌, ◌+◌, append_assoc, take-append-drop}
+use Rattle.std.proofs.Common.{◌≡◌, ℕ, ◌<◌, ◌≤◌, Option, List, [], ◌∷◌, ◌++◌, length, take, drop, sym, ap, ◌∙◌, ◌==◌, ◌+◌, append_assoc, append-nil, length-append, take-append-drop, refl, arith}
 use Rattle.std.specs.List.{position_or_len}
 use Rattle.std.proofs.lemmas.List.{take_all}
-use Rattle.tmw_lines.specs.LongLine.{HasFeed}
+use Rattle.tmw_lines.specs.LongLine.{HasFeed, HoldsFeed, Skips}
 use Rattle.tmw_lines.specs.Parts.{IsFree}
-use Rattle.tmw_streams.specs.Told.{Adds}
+use Rattle.tmw_lines.specs.TextFault.{BeginsWithBad}
+use Rattle.tmw_lines.specs.declared.long_line.LineEnd.TheVariants.{Feed, End, Failed}
+use Rattle.tmw_streams.specs.Told.{Tells}
 use Rattle.tmw_lines.proofs.Splits.{free-append, free-before, drop-before}
+use Rattle.tmw_streams.proofs.ToldBytes.{Tells-none, Tells-more}
 
--- what the source told so far holds no line feed
-pub record HasSkipped {S : Type 0} (Told : S → List ℕ → Type 0) (old new : S) : Type 0 where
-  pub bytes : List ℕ
-  pub told : Adds Told old bytes new
-  pub free : IsFree 10 bytes
-
--- where a line feed is among the new bytes, it is the first of all
-pub feed-append : (bytes more : List ℕ) → IsFree 10 bytes → position_or_len (λ byte. byte == 10) more < length more
-    → HasFeed (bytes ++ more)
-feed-append bytes more free within =
-    let n = position_or_len (λ byte. byte == 10) more in
-    let parts : take n more ++ 10 ∷ drop (n + 1) more ≡ more = rw (drop-before 10 more within) at (take-append-drop n more) in
-    record {
-      front = bytes ++ take n more;
-      rest = drop (n + 1) more;
-      split = ap (λ xs. bytes ++ xs) (sym parts) ∙ sym (append_assoc bytes (take n more) (10 ∷ drop (n + 1) more));
-      free = free-append 10 bytes (take n more) free (free-before 10 more);
-    }
+-- where a line feed is among the bytes, the first is found
+has-feed : (bytes : List ℕ) → position_or_len (λ byte. byte == 10) bytes < length bytes → HasFeed bytes
+has-feed bytes within =
+    let n = position_or_len (λ byte. byte == 10) bytes in
+    let parts : take n bytes ++ 10 ∷ drop (n + 1) bytes ≡ bytes = rw (drop-before 10 bytes within) at (take-append-drop n bytes) in
+    record { front = take n bytes; rest = drop (n + 1) bytes; split = sym parts; free = free-before 10 bytes }
 
 -- where none is, none is among all
-pub free-all : (more : List ℕ) → length more ≤ position_or_len (λ byte. byte == 10) more → IsFree 10 more
-free-all more all = rw (take_all (position_or_len (λ byte. byte == 10) more) more all) at (free-before 10 more)
+free-all : (bytes : List ℕ) → length bytes ≤ position_or_len (λ byte. byte == 10) bytes → IsFree 10 bytes
+free-all bytes all = rw (take_all (position_or_len (λ byte. byte == 10) bytes) bytes all) at (free-before 10 bytes)
+
+-- what the source told so far holds no line feed
+pub record HasSkipped {S : Type 0} (Told : S → List ℕ → Type 0) (remaining : S → Option (List ℕ)) (old new : S) : Type 0 where
+  pub bytes : List ℕ
+  pub told : Tells Told remaining old bytes new
+  pub free : IsFree 10 bytes
+
+-- reading on from one state to the next, which tells these bytes and holds them
+module _ {S : Type 0} (Told : S → List ℕ → Type 0) (remaining : S → Option (List ℕ)) (a : S) where
+  pub HasSkipped-none : HasSkipped Told remaining a a
+  HasSkipped-none = record { bytes = []; told = Tells-none Told remaining a; free = refl }
+
+  pub HasSkipped-more : (b c : S) (bytes : List ℕ) → HasSkipped Told remaining a b → Tells Told remaining b bytes c
+      → length bytes ≤ position_or_len (λ byte. byte == 10) bytes → HasSkipped Told remaining a c
+  HasSkipped-more b c bytes before told all = record {
+    bytes = before.bytes ++ bytes;
+    told = Tells-more Told remaining a b c before.bytes bytes before.told told;
+    free = free-append 10 before.bytes bytes before.free (free-all bytes all);
+  }
+
+  pub Skips-feed : (Ended : Type 0) (b c : S) (bytes : List ℕ) → HasSkipped Told remaining a b → Tells Told remaining b bytes c
+      → position_or_len (λ byte. byte == 10) bytes < length bytes → Skips Told remaining Ended a c bytes Feed
+  Skips-feed Ended b c bytes before told within = record {
+    bytes = before.bytes ++ bytes;
+    told = Tells-more Told remaining a b c before.bytes bytes before.told told;
+    is = record { gone = before.bytes; split = refl; free = before.free; feed = has-feed bytes within };
+  }
+
+  pub Skips-end : (Ended : Type 0) (b c : S) → HasSkipped Told remaining a b → Tells Told remaining b [] c → Ended
+      → Skips Told remaining Ended a c [] End
+  Skips-end Ended b c before told ended = record {
+    bytes = before.bytes ++ [];
+    told = Tells-more Told remaining a b c before.bytes [] before.told told;
+    is = (ended, rw append-nil before.free, refl);
+  }
+
+  pub Skips-failed : (Ended : Type 0) (b c : S) → HasSkipped Told remaining a b → Tells Told remaining b [] c → (Ended → ⊥)
+      → Skips Told remaining Ended a c [] Failed
+  Skips-failed Ended b c before told no_end = record {
+    bytes = before.bytes ++ [];
+    told = Tells-more Told remaining a b c before.bytes [] before.told told;
+    is = (no_end, rw append-nil before.free, refl);
+  }
+
+-- held bytes without a line feed and the rest of their line are a line too long to be good
+pub long-bad : (IsBad : List ℕ → Type 0) (held bytes left : List ℕ) → ((text : List ℕ) → 4096 ≤ length text → IsBad text)
+    → length held ≡ 4096 → IsFree 10 held → HoldsFeed bytes left → BeginsWithBad IsBad (held ++ bytes)
+long-bad IsBad held bytes left bad long free s =
+    let rest = s.gone ++ s.feed.front in
+    record {
+      text = held ++ rest;
+      rest = s.feed.rest;
+      split = ap (λ xs. held ++ xs) (s.split ∙ ap (λ xs. s.gone ++ xs) s.feed.split) ∙ simp append_assoc;
+      unbroken = free-append 10 held rest free (free-append 10 s.gone s.feed.front s.free s.feed.free);
+      bad = bad (held ++ rest) (simp length-append (omega (arith, long)));
+    }

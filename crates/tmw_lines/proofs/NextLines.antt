@@ -1,5 +1,5 @@
 -- One line of an item: held whole, or longer than can be held.
-use Rattle.std.proofs.Common.{◌≡◌, ℕ, ◌+◌, ◌<◌, ◌≤◌, ◌^◌, Option, Some, None, IfSome, IfNone, Err, List, ◌∷◌, ◌++◌, length, take, drop, refl, ap, ◌∙◌, length-append, append_assoc, arith}
+use Rattle.std.proofs.Common.{◌≡◌, ℕ, ◌+◌, ◌<◌, ◌≤◌, ◌^◌, Option, Some, None, IfSome, IfNone, Err, List, ◌∷◌, ◌++◌, length, take, drop, refl, ap, length-append, arith}
 use Rattle.tmw_lines.specs.Grammar.{Grammar, IsNoItem}
 use Rattle.tmw_lines.specs.LineRead.{IsItemLine, ReadsLine}
 use Rattle.tmw_lines.specs.TextFault.{IsBadLine}
@@ -9,8 +9,9 @@ use Rattle.tmw_lines.specs.Piece.{Reads}
 use Rattle.tmw_lines.specs.declared.long_line.LineEnd.TheVariants.{Feed, End, Failed}
 use Rattle.tmw_lines.specs.declared.text_fault.TextFault.TheVariants.{BadLine, Cut, Io}
 use Rattle.tmw_lines.proofs.HeldLines.{line-split, bytes-joined}
+use Rattle.tmw_lines.proofs.LongLines.{long-bad}
 use Rattle.tmw_lines.proofs.Splits.{free-append}
-use Rattle.tmw_streams.proofs.ToldBytes.{Adds-more}
+use Rattle.tmw_streams.proofs.ToldBytes.{Tells-more}
 
 pub take_item-some : {F H E : Type 0} (grammar : Grammar F H E) (format : F) (bytes left : List ℕ) (count : ℕ)
     (found : Option E) → drop count bytes ≡ 10 ∷ drop (count + 1) bytes → left ≡ drop (count + 1) bytes
@@ -35,33 +36,27 @@ take_item-none grammar format bytes count None free feed bad = record {
 take_item-none grammar format bytes count (Some item) free feed bad = tt
 
 -- a line longer than can be held
-module _ {F H E S : Type 0} (grammar : Grammar F H E) (Told : S → List ℕ → Type 0) (Ended : Type 0) (a b c : S) (format : F)
-    (count : ℕ) (before held left : List ℕ) where
-  pub long-feed : ((text : List ℕ) → 4096 ≤ length text → IsNoItem grammar format text) → Reads Told a b before held
-      → length held ≡ 4096 → IsFree 10 held → Skips Told Ended b c Feed → count < 2 ^ 40
-      → ReadsLine grammar Told Ended a c format count before left (Err (BadLine (count + 2)))
+module _ {F H E S : Type 0} (grammar : Grammar F H E) (Told : S → List ℕ → Type 0) (remaining : S → Option (List ℕ))
+    (Ended : Type 0) (a b c : S) (format : F) (count : ℕ) (before held left : List ℕ) where
+  pub long-feed : ((text : List ℕ) → 4096 ≤ length text → IsNoItem grammar format text) → Reads Told remaining a b before held
+      → length held ≡ 4096 → IsFree 10 held → Skips Told remaining Ended b c left Feed → count < 2 ^ 40
+      → ReadsLine grammar Told remaining Ended a c format count before left (Err (BadLine (count + 2)))
   long-feed long_item r long free s few = record {
     bytes = r.bytes ++ s.bytes;
-    told = Adds-more Told a b c r.bytes s.bytes r.told s.told;
-    is = rw (bytes-joined Told a b before held r s.bytes) (
+    told = Tells-more Told remaining a b c r.bytes s.bytes r.told s.told;
+    is = rw (bytes-joined Told remaining a b before held r s.bytes) (
       few,
       refl,
-      record {
-        text = held ++ s.is.front;
-        rest = s.is.rest;
-        split = ap (λ xs. held ++ xs) s.is.split ∙ simp append_assoc;
-        unbroken = free-append 10 held s.is.front free s.is.free;
-        bad = long_item (held ++ s.is.front) (simp length-append (omega (arith, long)));
-      },
+      long-bad (IsNoItem grammar format) held s.bytes left long_item long free s.is,
     );
   }
 
-  pub long-end : Reads Told a b before held → length held ≡ 4096 → IsFree 10 held → Skips Told Ended b c End → count < 2 ^ 40
-      → ReadsLine grammar Told Ended a c format count before left (Err (Cut (count + 2)))
+  pub long-end : Reads Told remaining a b before held → length held ≡ 4096 → IsFree 10 held
+      → Skips Told remaining Ended b c left End → count < 2 ^ 40 → ReadsLine grammar Told remaining Ended a c format count before left (Err (Cut (count + 2)))
   long-end r long free s few = record {
     bytes = r.bytes ++ s.bytes;
-    told = Adds-more Told a b c r.bytes s.bytes r.told s.told;
-    is = rw (bytes-joined Told a b before held r s.bytes) (
+    told = Tells-more Told remaining a b c r.bytes s.bytes r.told s.told;
+    is = rw (bytes-joined Told remaining a b before held r s.bytes) (
       few,
       refl,
       s.is.0,
@@ -70,10 +65,14 @@ module _ {F H E S : Type 0} (grammar : Grammar F H E) (Told : S → List ℕ →
     );
   }
 
-  pub long-failed : Reads Told a b before held → IsFree 10 held → Skips Told Ended b c Failed → count < 2 ^ 40
-      → ReadsLine grammar Told Ended a c format count before left (Err Io)
+  pub long-failed : Reads Told remaining a b before held → IsFree 10 held → Skips Told remaining Ended b c left Failed
+      → count < 2 ^ 40 → ReadsLine grammar Told remaining Ended a c format count before left (Err Io)
   long-failed r free s few = record {
     bytes = r.bytes ++ s.bytes;
-    told = Adds-more Told a b c r.bytes s.bytes r.told s.told;
-    is = rw (bytes-joined Told a b before held r s.bytes) (free-append 10 held s.bytes free s.is, λ last. absurd (omega (arith, last)));
+    told = Tells-more Told remaining a b c r.bytes s.bytes r.told s.told;
+    is = rw (bytes-joined Told remaining a b before held r s.bytes) (
+      s.is.0,
+      free-append 10 held s.bytes free s.is.1,
+      λ last. absurd (omega (arith, last)),
+    );
   }

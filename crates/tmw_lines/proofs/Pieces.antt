@@ -1,5 +1,5 @@
 -- Reading on through a line: the bytes seen so far hold no line feed.
-use Rattle.std.proofs.Common.{◌≡◌, ℕ, ◌+◌, ◌<◌, ◌≤◌, List, ◌∷◌, ◌++◌, not, length, take, drop, sym, ap, ◌∙◌, ◌==◌, length-drop, length-append, append_assoc, arith}
+use Rattle.std.proofs.Common.{◌≡◌, ℕ, ◌+◌, ◌<◌, ◌≤◌, Option, List, [], ◌∷◌, ◌++◌, not, length, take, drop, sym, ap, ◌∙◌, ◌==◌, length-drop, length-append, append_assoc, append-nil, arith}
 use Rattle.std.specs.List.{position_or_len}
 use Rattle.std.proofs.Math.Seq.{take-add}
 use Rattle.std.proofs.lemmas.List.{drop-drop, take-append-le, take_all}
@@ -7,7 +7,8 @@ use Rattle.std.proofs.lemmas.List.Sums.{prefix_len-le-length}
 use Rattle.tmw_lines.specs.Parts.{IsFree}
 use Rattle.tmw_lines.specs.Piece.{Reads, IsSeen}
 use Rattle.tmw_lines.proofs.Splits.{free-append, free-before, drop-before}
-use Rattle.tmw_streams.proofs.ToldBytes.{Adds-more}
+use Rattle.tmw_streams.specs.Told.{Tells}
+use Rattle.tmw_streams.proofs.ToldBytes.{Tells-none, Tells-more}
 
 -- the part of the bytes after those seen, up to its first line feed, is seen too
 pub IsSeen-more : (bytes : List ℕ) (seen more : ℕ) → IsSeen seen bytes
@@ -39,10 +40,15 @@ IsSeen-append bytes rest seen s = record {
 pub free-seen : (bytes : List ℕ) (seen : ℕ) → length bytes ≤ seen → IsSeen seen bytes → IsFree 10 bytes
 free-seen bytes seen all s = rw (take_all seen bytes all) at s.free
 
-pub Reads-more : {S : Type 0} (Told : S → List ℕ → Type 0) (a b c : S) (xs ys zs : List ℕ) → Reads Told a b xs ys
-    → Reads Told b c ys zs → Reads Told a c xs zs
-Reads-more Told a b c xs ys zs r s = record {
-  bytes = r.bytes ++ s.bytes;
-  told = Adds-more Told a b c r.bytes s.bytes r.told s.told;
-  is = s.is ∙ ap (λ z. z ++ s.bytes) r.is ∙ append_assoc xs r.bytes s.bytes;
-}
+module _ {S : Type 0} (Told : S → List ℕ → Type 0) (remaining : S → Option (List ℕ)) (a : S) (xs : List ℕ) where
+  pub Reads-none : Reads Told remaining a a xs xs
+  Reads-none = record { bytes = []; told = Tells-none Told remaining a; is = sym (append-nil xs) }
+
+  -- what one more read told came behind the bytes held
+  pub Reads-more : (b c : S) (ys bytes zs : List ℕ) → Reads Told remaining a b xs ys → Tells Told remaining b bytes c
+      → zs ≡ ys ++ bytes → Reads Told remaining a c xs zs
+  Reads-more b c ys bytes zs r told is = record {
+    bytes = r.bytes ++ bytes;
+    told = Tells-more Told remaining a b c r.bytes bytes r.told told;
+    is = is ∙ ap (λ z. z ++ bytes) r.is ∙ append_assoc xs r.bytes bytes;
+  }

@@ -2,7 +2,7 @@
 use Rattle.std.proofs.Common.{◌≡◌, ℕ, List, [], ◌∷◌, ◌++◌, length, drop, refl, sym, ap, ◌∙◌, length-append, append_assoc, arith}
 use Rattle.std.specs.List.{AllByRecursion}
 use Rattle.std.proofs.lemmas.List.Elements.{recursion_from_All}
-use Rattle.tmw_lines.specs.Grammar.{Grammar, IsNaming, items_text, lines_text, AreLines}
+use Rattle.tmw_lines.specs.Grammar.{Grammar, IsNaming, items_text, lines_text, AllFit}
 use Rattle.tmw_lines.specs.Parts.{IsFree}
 use Rattle.tmw_lines.specs.Text.{line}
 use Rattle.tmw_lines.proofs.Splits.{split_free}
@@ -36,7 +36,7 @@ module _ {F H E : Type 0} (grammar : Grammar F H E) where
       ap (λ x. x ∷ ds) (naming.one_item format d e a.0 b.0 parts.0)
       ∙ ap (λ xs. e ∷ xs) (items_text-injective naming format ds es a.1 b.1 parts.1)
 
-  pub lines_text-injective : IsNaming grammar → (a b : H) (ds es : List E) → AreLines grammar a ds → AreLines grammar b es
+  pub lines_text-injective : IsNaming grammar → (a b : H) (ds es : List E) → AllFit grammar a ds → AllFit grammar b es
       → lines_text grammar a ds ≡ lines_text grammar b es → (a ≡ b) × (ds ≡ es)
   lines_text-injective naming a b ds es x y is =
       let parts = line-injective (grammar.header_text a) (grammar.header_text b) (items_text grammar ds)
@@ -44,6 +44,6 @@ module _ {F H E : Type 0} (grammar : Grammar F H E) where
       let same = naming.one_header a b x.header_fits y.header_fits parts.0 in (
         same,
         items_text-injective naming (grammar.format_of b) ds es
-            (recursion_from_All (grammar.FitsItem (grammar.format_of b)) ds (rw same at x.fit))
-            (recursion_from_All (grammar.FitsItem (grammar.format_of b)) es y.fit) parts.1,
+            (recursion_from_All (grammar.FitsItem (grammar.format_of b)) ds (rw same at x.items_fit))
+            (recursion_from_All (grammar.FitsItem (grammar.format_of b)) es y.items_fit) parts.1,
       )

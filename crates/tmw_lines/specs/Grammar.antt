@@ -1,5 +1,5 @@
 -- The lines of a text: a header's line first, and then a line for each item.
-use Rattle.std.specs.Prelude.{◌≡◌, ℕ, List, ◌++◌, All}
+use Rattle.std.specs.Prelude.{◌≡◌, ℕ, ◌≤◌, ◌^◌, List, ◌++◌, length, All}
 use Rattle.std.specs.List.{flat_map}
 use Rattle.tmw_lines.specs.Parts.{IsFree}
 use Rattle.tmw_lines.specs.Text.{line}
@@ -30,10 +30,15 @@ items_text grammar items = flat_map (λ item. line (grammar.item_text item)) ite
 abbrev pub lines_text : {F H E : Type 0} → Grammar F H E → H → List E → List ℕ
 lines_text grammar header items = line (grammar.header_text header) ++ items_text grammar items
 
--- a text may have this header and these items
-pub record AreLines {F H E : Type 0} (grammar : Grammar F H E) (header : H) (items : List E) : Type 0 where
+-- the header fits, and each item fits the format of the lines behind it
+pub record AllFit {F H E : Type 0} (grammar : Grammar F H E) (header : H) (items : List E) : Type 0 where
   pub header_fits : grammar.FitsHeader header
-  pub fit : All (grammar.FitsItem (grammar.format_of header)) items
+  pub items_fit : All (grammar.FitsItem (grammar.format_of header)) items
+
+-- a text may have this header and these items: all fit, and there are at most 2^40 items
+pub record AreLines {F H E : Type 0} (grammar : Grammar F H E) (header : H) (items : List E) : Type 0 where
+  pub fit : AllFit grammar header items
+  pub few : length items ≤ 2 ^ 40
 
 -- no header has this text
 abbrev pub IsNoHeader : {F H E : Type 0} → Grammar F H E → List ℕ → Type 0

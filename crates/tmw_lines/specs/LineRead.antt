@@ -2,10 +2,10 @@
 use Rattle.std.specs.Prelude.{◌≡◌, ◌≢◌, ℕ, ◌+◌, ◌<◌, ◌^◌, Option, Some, None, Result, Ok, Err, List, [], ◌++◌}
 use Rattle.tmw_lines.specs.Grammar.{Grammar}
 use Rattle.tmw_lines.specs.Text.{line}
-use Rattle.tmw_lines.specs.TextFault.{IsUnbroken, IsBadLine, HasTextFault}
+use Rattle.tmw_lines.specs.TextFault.{IsUnbroken, IsBadLine, HasFirstLineFault}
 use Rattle.tmw_lines.specs.declared.text_fault.TextFault.{TextFault}
 use Rattle.tmw_lines.specs.declared.text_fault.TextFault.TheVariants.{BadHeader, BadLine, Cut, Memory, Io, TooLong}
-use Rattle.tmw_streams.specs.Told.{Adds}
+use Rattle.tmw_streams.specs.Told.{Tells}
 
 -- the bytes begin with this item's line, and these are left
 pub record IsItemLine {F H E : Type 0} (grammar : Grammar F H E) (format : F) (item : E) (bytes left : List ℕ) : Type 0 where
@@ -19,7 +19,7 @@ HasLineFault grammar Ended format count bytes (BadLine number) =
 HasLineFault grammar Ended format count bytes (Cut number) =
     (count < 2 ^ 40) × (number ≡ count + 2) × Ended × IsUnbroken bytes × (bytes ≢ [])
 HasLineFault grammar Ended format count bytes TooLong = (count ≡ 2 ^ 40) × (bytes ≢ [])
-HasLineFault grammar Ended format count bytes Io = IsUnbroken bytes × (count ≡ 2 ^ 40 → bytes ≡ [])
+HasLineFault grammar Ended format count bytes Io = (Ended → ⊥) × IsUnbroken bytes × (count ≡ 2 ^ 40 → bytes ≡ [])
 HasLineFault grammar Ended format count bytes BadHeader = ⊥
 HasLineFault grammar Ended format count bytes Memory = ⊥
 
@@ -33,30 +33,23 @@ IsLineRead grammar Ended format count bytes left (Ok None) = Ended × (bytes ≡
 IsLineRead grammar Ended format count bytes left (Err fault) = HasLineFault grammar Ended format count bytes fault
 
 -- what the source told makes, behind the bytes held before, a line that was read
-pub record ReadsLine {F H E S : Type 0} (grammar : Grammar F H E) (Told : S → List ℕ → Type 0) (Ended : Type 0) (old new : S)
-    (format : F) (count : ℕ) (before left : List ℕ) (result : Result (Option E) TextFault) : Type 0 where
+pub record ReadsLine {F H E S : Type 0} (grammar : Grammar F H E) (Told : S → List ℕ → Type 0)
+    (remaining : S → Option (List ℕ)) (Ended : Type 0) (old new : S) (format : F) (count : ℕ) (before left : List ℕ)
+    (result : Result (Option E) TextFault) : Type 0 where
   pub bytes : List ℕ
-  pub told : Adds Told old bytes new
+  pub told : Tells Told remaining old bytes new
   pub is : IsLineRead grammar Ended format count (before ++ bytes) left result
-
--- a fault that the first line of a text may have: no later line is read, and no memory is taken
-abbrev pub IsOfFirstLine : TextFault → Type 0
-IsOfFirstLine BadHeader = Unit {0}
-IsOfFirstLine (Cut number) = number ≡ 1
-IsOfFirstLine Io = Unit {0}
-IsOfFirstLine (BadLine number) = ⊥
-IsOfFirstLine TooLong = ⊥
-IsOfFirstLine Memory = ⊥
 
 -- what was read of the first bytes: a header's line and what is left, or a fault
 abbrev pub IsHeaderRead : {F H E : Type 0} → Grammar F H E → Type 0 → List ℕ → List ℕ → Result H TextFault → Type 0
 IsHeaderRead grammar Ended bytes left (Ok header) =
     (bytes ≡ line (grammar.header_text header) ++ left) × grammar.FitsHeader header
-IsHeaderRead grammar Ended bytes left (Err fault) = HasTextFault grammar Ended bytes fault
+IsHeaderRead grammar Ended bytes left (Err fault) = HasFirstLineFault grammar Ended bytes fault
 
 -- what the source told makes, behind the bytes held before, a header's line that was read
-pub record ReadsHeader {F H E S : Type 0} (grammar : Grammar F H E) (Told : S → List ℕ → Type 0) (Ended : Type 0)
-    (old new : S) (before left : List ℕ) (result : Result H TextFault) : Type 0 where
+pub record ReadsHeader {F H E S : Type 0} (grammar : Grammar F H E) (Told : S → List ℕ → Type 0)
+    (remaining : S → Option (List ℕ)) (Ended : Type 0) (old new : S) (before left : List ℕ)
+    (result : Result H TextFault) : Type 0 where
   pub bytes : List ℕ
-  pub told : Adds Told old bytes new
+  pub told : Tells Told remaining old bytes new
   pub is : IsHeaderRead grammar Ended (before ++ bytes) left result

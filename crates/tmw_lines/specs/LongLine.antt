@@ -1,7 +1,7 @@
 -- The rest of a line that is longer than can be held.
-use Rattle.std.specs.Prelude.{◌≡◌, ℕ, List, ◌∷◌, ◌++◌}
+use Rattle.std.specs.Prelude.{◌≡◌, ℕ, Option, List, [], ◌∷◌, ◌++◌}
 use Rattle.tmw_lines.specs.Parts.{IsFree}
-use Rattle.tmw_streams.specs.Told.{Adds, one_more}
+use Rattle.tmw_streams.specs.Told.{Tells, one_more}
 use Rattle.tmw_lines.specs.declared.long_line.LineEnd.{LineEnd}
 use Rattle.tmw_lines.specs.declared.long_line.LineEnd.TheVariants.{Feed, End, Failed}
 
@@ -12,17 +12,25 @@ pub record HasFeed (bytes : List ℕ) : Type 0 where
   pub split : bytes ≡ front ++ 10 ∷ rest
   pub free : IsFree 10 front
 
--- the bytes of the line's rest, and perhaps some after it; `Ended` says that the source has
-abbrev pub IsLineRest : LineEnd → Type 0 → List ℕ → Type 0
-IsLineRest Feed Ended bytes = HasFeed bytes
-IsLineRest End Ended bytes = Ended × IsFree 10 bytes
-IsLineRest Failed Ended bytes = IsFree 10 bytes
+-- the last of these bytes are held, the first line feed among them; none of the others is one
+pub record HoldsFeed (bytes held : List ℕ) : Type 0 where
+  pub gone : List ℕ
+  pub split : bytes ≡ gone ++ held
+  pub free : IsFree 10 gone
+  pub feed : HasFeed held
+
+-- the bytes of the line's rest, and perhaps some after it, and those of them that are held; `Ended` says that the source has
+abbrev pub IsLineRest : LineEnd → Type 0 → List ℕ → List ℕ → Type 0
+IsLineRest Feed Ended bytes held = HoldsFeed bytes held
+IsLineRest End Ended bytes held = Ended × IsFree 10 bytes × (held ≡ [])
+IsLineRest Failed Ended bytes held = (Ended → ⊥) × IsFree 10 bytes × (held ≡ [])
 
 -- what the source told is the line's rest
-pub record Skips {S : Type 0} (Told : S → List ℕ → Type 0) (Ended : Type 0) (old new : S) (end : LineEnd) : Type 0 where
+pub record Skips {S : Type 0} (Told : S → List ℕ → Type 0) (remaining : S → Option (List ℕ)) (Ended : Type 0) (old new : S)
+    (held : List ℕ) (end : LineEnd) : Type 0 where
   pub bytes : List ℕ
-  pub told : Adds Told old bytes new
-  pub is : IsLineRest end Ended bytes
+  pub told : Tells Told remaining old bytes new
+  pub is : IsLineRest end Ended bytes held
 
 -- a source's count of failures after this end
 abbrev pub line_end_failures : LineEnd → ℕ → ℕ

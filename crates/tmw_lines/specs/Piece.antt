@@ -1,14 +1,15 @@
 -- What is read of a line, and what then stands at the front.
-use Rattle.std.specs.Prelude.{◌≡◌, ℕ, ◌+◌, ◌≤◌, List, ◌∷◌, ◌++◌, length, take, drop}
+use Rattle.std.specs.Prelude.{◌≡◌, ℕ, ◌+◌, ◌≤◌, Option, List, ◌∷◌, ◌++◌, length, take, drop}
 use Rattle.tmw_lines.specs.Parts.{IsFree}
-use Rattle.tmw_streams.specs.Told.{Adds, one_more}
+use Rattle.tmw_streams.specs.Told.{Tells, one_more}
 use Rattle.tmw_lines.specs.declared.piece.Piece.{Piece}
 use Rattle.tmw_lines.specs.declared.piece.Piece.TheVariants.{Line, End, Long, Failed}
 
 -- what the source told came behind the bytes that were held
-pub record Reads {S : Type 0} (Told : S → List ℕ → Type 0) (old new : S) (before after : List ℕ) : Type 0 where
+pub record Reads {S : Type 0} (Told : S → List ℕ → Type 0) (remaining : S → Option (List ℕ)) (old new : S)
+    (before after : List ℕ) : Type 0 where
   pub bytes : List ℕ
-  pub told : Adds Told old bytes new
+  pub told : Tells Told remaining old bytes new
   pub is : after ≡ before ++ bytes
 
 -- so many bytes at the front hold no line feed
@@ -21,7 +22,7 @@ abbrev pub IsPiece : Piece → Type 0 → List ℕ → Type 0
 IsPiece (Line count) Ended bytes = IsFree 10 (take count bytes) × (drop count bytes ≡ 10 ∷ drop (count + 1) bytes)
 IsPiece End Ended bytes = Ended × IsFree 10 bytes
 IsPiece Long Ended bytes = (length bytes ≡ 4096) × IsFree 10 bytes
-IsPiece Failed Ended bytes = IsFree 10 bytes
+IsPiece Failed Ended bytes = (Ended → ⊥) × IsFree 10 bytes
 
 -- a source's count of failures after this piece
 abbrev pub piece_failures : Piece → ℕ → ℕ

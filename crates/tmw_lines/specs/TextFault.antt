@@ -1,5 +1,5 @@
 -- Which fault a text of lines has. Lines are judged in order, and the first fault counts.
-use Rattle.std.specs.Prelude.{◌≡◌, ◌≢◌, ℕ, ◌+◌, ◌<◌, ◌^◌, ◌⊎◌, List, [], ◌++◌, length}
+use Rattle.std.specs.Prelude.{◌≡◌, ◌≢◌, ℕ, ◌+◌, ◌<◌, ◌≤◌, ◌^◌, ◌⊎◌, List, [], ◌++◌, length}
 use Rattle.tmw_lines.specs.Grammar.{Grammar, lines_text, AreLines, IsNoHeader, IsNoItem}
 use Rattle.tmw_lines.specs.Parts.{IsFree}
 use Rattle.tmw_lines.specs.Text.{line}
@@ -62,6 +62,11 @@ pub record EndsInOrder {F H E : Type 0} (grammar : Grammar F H E) (bytes : List 
   pub unbroken : IsUnbroken begun.rest
   pub none : length begun.items ≡ 2 ^ 40 → begun.rest ≡ []
 
+-- a header and items' lines, and then at most 4,096 bytes
+pub record EndsSoon {F H E : Type 0} (grammar : Grammar F H E) (bytes : List ℕ) : Type 0 where
+  pub begun : HasBegun grammar bytes
+  pub soon : length begun.rest ≤ 4096
+
 -- the last piece, which has this number, lacks its line feed
 abbrev pub IsCut : {F H E : Type 0} → Grammar F H E → List ℕ → ℕ → Type 0
 IsCut grammar bytes number = ((number ≡ 1) × (bytes ≢ []) × IsUnbroken bytes) ⊎ EndsInPiece grammar bytes number
@@ -70,15 +75,25 @@ IsCut grammar bytes number = ((number ≡ 1) × (bytes ≢ []) × IsUnbroken byt
 abbrev pub IsFaultless : {F H E : Type 0} → Grammar F H E → List ℕ → Type 0
 IsFaultless grammar bytes = IsUnbroken bytes ⊎ EndsInOrder grammar bytes
 
--- the bytes, which end here where `Ended` holds, have this fault; where a read failed, what was judged of them has none, and
--- for want of memory the first line at least is a header
+-- the bytes, which end here where `Ended` holds, have this fault; where a read failed, they don't end here and what was judged
+-- of them has none, and for want of memory at most 4,096 of them were read behind a header's and items' lines
 abbrev pub HasTextFault : {F H E : Type 0} → Grammar F H E → Type 0 → List ℕ → TextFault → Type 0
 HasTextFault grammar Ended bytes BadHeader = (Ended × (bytes ≡ [])) ⊎ HasBadHeader grammar bytes
 HasTextFault grammar Ended bytes (BadLine number) = HasBadLine grammar bytes number
 HasTextFault grammar Ended bytes (Cut number) = Ended × IsCut grammar bytes number
-HasTextFault grammar Ended bytes Memory = HasBegun grammar bytes
-HasTextFault grammar Ended bytes Io = IsFaultless grammar bytes
+HasTextFault grammar Ended bytes Memory = EndsSoon grammar bytes
+HasTextFault grammar Ended bytes Io = (Ended → ⊥) × IsFaultless grammar bytes
 HasTextFault grammar Ended bytes TooLong = IsTooLong grammar bytes
+
+-- the bytes, which end here where `Ended` holds, have this fault in their first line; where a read failed, that line isn't
+-- whole; no later line is judged, and no memory is taken
+abbrev pub HasFirstLineFault : {F H E : Type 0} → Grammar F H E → Type 0 → List ℕ → TextFault → Type 0
+HasFirstLineFault grammar Ended bytes BadHeader = (Ended × (bytes ≡ [])) ⊎ HasBadHeader grammar bytes
+HasFirstLineFault grammar Ended bytes (Cut number) = Ended × (number ≡ 1) × (bytes ≢ []) × IsUnbroken bytes
+HasFirstLineFault grammar Ended bytes Io = (Ended → ⊥) × IsUnbroken bytes
+HasFirstLineFault grammar Ended bytes (BadLine number) = ⊥
+HasFirstLineFault grammar Ended bytes TooLong = ⊥
+HasFirstLineFault grammar Ended bytes Memory = ⊥
 
 -- a source's count of failures after this fault: one more for a failed read, else as before
 abbrev pub failures_after : TextFault → ℕ → ℕ

@@ -1,6 +1,6 @@
 ghost use Rattle.std.specs.Prelude.{◌≡◌, ◌+◌, ◌∷◌, ◌++◌, take, drop, IfSome, IfNone, IfErr, OnOk};
 ghost use Rattle.tmw_lines.specs.Held.{bytes_of};
-ghost use Rattle.tmw_lines.specs.LineRead.{IsOfFirstLine, ReadsHeader};
+ghost use Rattle.tmw_lines.specs.LineRead.{ReadsHeader};
 ghost use Rattle.tmw_lines.specs.Text.{line};
 ghost use Rattle.tmw_lines.specs.TextFault.{IsUnbroken, HasBadHeader, failures_after};
 
@@ -16,9 +16,8 @@ pub fn first_line<F: LineFormat, S: Source>(
     held: &mut Held,
     source: &mut S,
 ) -> Result<F::Header, TextFault>
-    ensures reads { ReadsHeader F.grammar S.told (S.ended source.new) source.old source.new
+    ensures reads { ReadsHeader F.grammar S.told S.remaining (S.ended source.new) source.old source.new
         (bytes_of held.old) (bytes_of held.new) result }
-    ensures first { IfErr result IsOfFirstLine }
     ensures well { OnOk result (S.failures source.new ≡ S.failures source.old) }
     ensures failed { IfErr result (λ fault. S.failures source.new ≡ failures_after fault (S.failures source.old)) }
 {

@@ -1,5 +1,5 @@
 ghost use Rattle.std.specs.Prelude.{◌≡◌, ◌≢◌, ℕ, ◌+◌, ◌-◌, ◌<◌, ◌≤◌, List, [], ◌++◌, length, take, drop, IfOk, OnOk, OnErr};
-ghost use Rattle.tmw_streams.specs.Told.{Adds, one_more};
+ghost use Rattle.tmw_streams.specs.Told.{Tells, one_more};
 
 use tmw_streams::{IoFault, Source};
 
@@ -57,13 +57,15 @@ impl Held {
     /// Reads once, into the room behind the bytes, and tells how many came: none at the source's end alone.
     pub fn read<S: Source>(&mut self, source: &mut S) -> Result<usize, IoFault>
         requires room { length (bytes_of self.old) < 4096 }
-        ensures more { IfOk result (λ count. (bytes : List ℕ) × Adds S.told source.old bytes source.new
+        ensures more { IfOk result (λ count. (bytes : List ℕ) × Tells S.told S.remaining source.old bytes source.new
             × (bytes_of self.new ≡ bytes_of self.old ++ bytes) × (length bytes ≡ count)) }
         ensures falls { IfOk result (λ count. S.left source.new + count ≤ S.left source.old) }
         ensures end { IfOk result (λ count. count ≡ 0 → S.ended source.new) }
         ensures well { OnOk result (S.failures source.new ≡ S.failures source.old) }
         ensures failed { OnErr result (S.failures source.new ≡ one_more (S.failures source.old)) }
-        ensures kept { OnErr result ((bytes_of self.new ≡ bytes_of self.old) × Adds S.told source.old [] source.new) }
+        ensures kept { OnErr result ((bytes_of self.new ≡ bytes_of self.old)
+            × Tells S.told S.remaining source.old [] source.new) }
+        ensures no_end { OnErr result (S.ended source.new → ⊥) }
     {
         move_to_front(&mut self.buffer, self.start, self.end);
         self.end -= self.start;

@@ -1,8 +1,7 @@
 ghost use Rattle.std.specs.Prelude.{◌≡◌, ℕ, ◌+◌, ◌<◌, ◌≤◌, ◌^◌, List, [], IfOk, IfErr, IfSome, IfNone, OnOk, OnSome, Ok, Err, None};
-ghost use Rattle.tmw_lines.specs.LineRead.{IsOfFirstLine};
-ghost use Rattle.tmw_lines.specs.TextFault.{HasTextFault, failures_after};
+ghost use Rattle.tmw_lines.specs.TextFault.{HasFirstLineFault, failures_after};
 ghost use Rattle.tmw_lines.specs.declared.text_fault.TextFault.{TextFault};
-ghost use Rattle.tmw_streams.specs.Told.{Adds};
+ghost use Rattle.tmw_streams.specs.Told.{Tells};
 
 use crate::first_line::first_line;
 use crate::held::Held;
@@ -49,14 +48,15 @@ impl<F: LineFormat> Lines<F> {
         }
     }
 
-    /// Reads the first line: the header, or the fault of the bytes told.
+    /// Reads the first line: the header, or the line's fault.
     pub fn header<S: Source>(&mut self, source: &mut S) -> Result<F::Header, TextFault>
         requires { IsNew self.old }
         ensures header { IfOk result (λ header. (bytes : List ℕ)
-            × Adds S.told source.old bytes source.new × HasRead F.grammar self.new header [] bytes) }
+            × Tells S.told S.remaining source.old bytes source.new
+            × HasRead F.grammar self.new header [] bytes) }
         ensures fault { IfErr result (λ fault. (bytes : List ℕ)
-            × Adds S.told source.old bytes source.new × HasTextFault F.grammar (S.ended source.new) bytes fault) }
-        ensures first { IfErr result IsOfFirstLine }
+            × Tells S.told S.remaining source.old bytes source.new
+            × HasFirstLineFault F.grammar (S.ended source.new) bytes fault) }
         ensures stays { IfErr result (HasFailed self.new) }
         ensures well { OnOk result (S.failures source.new ≡ S.failures source.old) }
         ensures failed { IfErr result (λ fault. S.failures source.new ≡ failures_after fault (S.failures source.old)) }
@@ -77,13 +77,17 @@ impl<F: LineFormat> Lines<F> {
     /// answered `None` or a fault, it answers so again and reads nothing.
     pub fn next<S: Source>(&mut self, source: &mut S) -> Result<Option<F::Item>, TextFault>
         ensures item { IfOk result (λ found. IfSome found (λ item. (bytes : List ℕ)
-            × Adds S.told source.old bytes source.new × GivesItem F.grammar self.old self.new bytes item)) }
+            × Tells S.told S.remaining source.old bytes source.new
+            × GivesItem F.grammar self.old self.new bytes item)) }
         ensures end { IfOk result (λ found. IfNone found ((bytes : List ℕ)
-            × Adds S.told source.old bytes source.new × GivesEnd F.grammar (S.ended source.new) self.old bytes)) }
+            × Tells S.told S.remaining source.old bytes source.new
+            × GivesEnd F.grammar (S.ended source.new) self.old bytes)) }
         ensures fault { IfErr result (λ fault. (bytes : List ℕ)
-            × Adds S.told source.old bytes source.new × GivesFault F.grammar (S.ended source.new) self.old bytes fault) }
+            × Tells S.told S.remaining source.old bytes source.new
+            × GivesFault F.grammar (S.ended source.new) self.old bytes fault) }
         ensures at_line { IfErr result (λ fault. (bytes : List ℕ)
-            × Adds S.told source.old bytes source.new × FailsAtLine F.grammar (S.ended source.new) self.old bytes fault) }
+            × Tells S.told S.remaining source.old bytes source.new
+            × FailsAtLine F.grammar (S.ended source.new) self.old bytes fault) }
         ensures falls { IfOk result (λ found. OnSome found
             (S.left source.new + unread self.new < S.left source.old + unread self.old)) }
         ensures well { OnOk result (S.failures source.new ≡ S.failures source.old) }

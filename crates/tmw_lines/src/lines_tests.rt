@@ -5,8 +5,9 @@ ghost use Rattle.std.proofs.lemmas.Bool.Decides.{nat_tests};
 ghost use Rattle.tmw_lines.specs.Grammar.{Grammar};
 
 use crate::{LineFormat, Lines, TextFault, read_lines};
+use std::cell::Cell;
 use std::test::Fail;
-use tmw_streams::MemorySource;
+use tmw_streams::{IoFault, MemorySource, Source};
 
 /// The greatest letter that a line may be.
 #[derive(Clone, Copy, PartialEq, Eq, Debug)]
@@ -107,4 +108,57 @@ fn a_reader_answers_a_fault_and_the_end_again(rt: HostRuntime) {
     assert_eq!(rt; none.header(&mut short), Ok(b'c'));
     assert_eq!(rt; none.next(&mut short), Ok(None));
     assert_eq!(rt; none.next(&mut short), Ok(None));
+}
+
+/// A source that counts the reads of another.
+#[derive(Drop)]
+struct Counted<'a, S> {
+    source: S,
+    reads: &'a Cell<u32>,
+}
+
+impl<S: Source> Source for Counted<'_, S> {
+    ghost told = { λ counted. S.told counted.source };
+
+    ghost remaining = { λ counted. S.remaining counted.source };
+
+    ghost ended = { λ counted. S.ended counted.source };
+
+    ghost left = { λ counted. S.left counted.source };
+
+    ghost failures = { λ counted. S.failures counted.source };
+
+    fn read(&mut self, buffer: &mut [u8]) -> Result<usize, IoFault> {
+        self.reads.set(self.reads.get().saturating_add(1));
+        self.source.read(buffer)
+    }
+
+    ghost tells_some = { λ counted. S.tells_some counted.source };
+
+    ghost none_left = { λ counted. S.none_left counted.source };
+}
+
+#[test]
+fn a_source_is_read_no_more_than_is_needed(rt: HostRuntime) {
+    // One read tells all bytes, and the next, where there is one, is the end.
+    for (text, wanted) in [
+        (b"".as_slice(), 1),
+        (b"c", 2),
+        (b"c\na", 2),
+        (b"c\na\n", 2),
+        (b"c\nd\na", 1),
+    ] {
+        let reads = Cell::new(0);
+        let mut source = Counted {
+            source: MemorySource::new(text),
+            reads: &reads,
+        };
+        let mut lines = Lines::<UpTo>::new();
+        if lines.header(&mut source).is_ok() {
+            for _ in 0..3 {
+                let _ = lines.next(&mut source);
+            }
+        }
+        assert_eq!(rt; reads.get(), wanted);
+    }
 }

@@ -1,4 +1,5 @@
 ghost use Rattle.std.specs.Prelude.{◌≡◌};
+ghost use Rattle.tmw_lines.specs.Held.{bytes_of};
 ghost use Rattle.tmw_lines.specs.LongLine.{Skips, line_end_failures};
 
 use crate::held::Held;
@@ -16,9 +17,10 @@ pub enum LineEnd {
     Failed,
 }
 
-/// Reads on to the end of a line that is longer than can be held, and holds no more of it than of any other.
+/// Reads on to the end of a line that is longer than can be held. Where its line feed comes, the bytes read last are held,
+/// and it is among them; else none is held.
 pub fn skip_line<S: Source>(held: &mut Held, source: &mut S) -> LineEnd
-    ensures skips { Skips S.told (S.ended source.new) source.old source.new result }
+    ensures skips { Skips S.told S.remaining (S.ended source.new) source.old source.new (bytes_of held.new) result }
     ensures failures { S.failures source.new ≡ line_end_failures result (S.failures source.old) }
 {
     'parts: loop {

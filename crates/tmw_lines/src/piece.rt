@@ -22,7 +22,7 @@ pub enum Piece {
 /// Reads on until the bytes held begin with a whole line, or no more can be held or read. A line that is held already
 /// is found before any read.
 pub fn next_piece<S: Source>(held: &mut Held, source: &mut S) -> Piece
-    ensures reads { Reads S.told source.old source.new (bytes_of held.old) (bytes_of held.new) }
+    ensures reads { Reads S.told S.remaining source.old source.new (bytes_of held.old) (bytes_of held.new) }
     ensures piece { IsPiece result (S.ended source.new) (bytes_of held.new) }
     ensures falls { UnlessFailed result (S.left source.new + length (bytes_of held.new)
         ≤ S.left source.old + length (bytes_of held.old)) }

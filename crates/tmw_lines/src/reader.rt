@@ -1,7 +1,7 @@
 ghost use Rattle.std.specs.Prelude.{◌≡◌, ℕ, List, IfOk, IfErr, OnOk};
 ghost use Rattle.tmw_lines.specs.Grammar.{lines_text, AreLines};
 ghost use Rattle.tmw_lines.specs.TextFault.{HasTextFault, failures_after};
-ghost use Rattle.tmw_streams.specs.Told.{Adds};
+ghost use Rattle.tmw_streams.specs.Told.{Tells};
 
 use crate::line_format::LineFormat;
 use crate::lines::Lines;
@@ -18,12 +18,14 @@ pub fn read_lines<F: LineFormat, S: Source>(
     source: &mut S,
 ) -> Result<(F::Header, Vec<F::Item>), TextFault>
     // The bytes told, up to the end, are exactly the text of the header and the items.
-    ensures text { IfOk result (λ read. Adds S.told source.old (lines_text F.grammar read.0 read.1.items) source.new) }
+    ensures text { IfOk result (λ read.
+        Tells S.told S.remaining source.old (lines_text F.grammar read.0 read.1.items) source.new) }
     ensures ended { OnOk result (S.ended source.new) }
     ensures lines { IfOk result (λ read. AreLines F.grammar read.0 read.1.items) }
     // The bytes told have the fault.
     ensures fault { IfErr result (λ fault. (bytes : List ℕ)
-        × Adds S.told source.old bytes source.new × HasTextFault F.grammar (S.ended source.new) bytes fault) }
+        × Tells S.told S.remaining source.old bytes source.new
+        × HasTextFault F.grammar (S.ended source.new) bytes fault) }
     ensures well { OnOk result (S.failures source.new ≡ S.failures source.old) }
     ensures failed { IfErr result (λ fault. S.failures source.new ≡ failures_after fault (S.failures source.old)) }
 {

@@ -1,22 +1,23 @@
--- Bytes that were added in parts, of which the last may be a beginning of what was to be added.
-use Rattle.std.proofs.Common.{◌+◌, ◌≤◌, length, take, ◌++◌, ℕ, List, arith}
+-- Bytes that were taken in parts, of which the last may be a beginning of what was to be taken.
+use Rattle.std.proofs.Common.{◌+◌, ◌≤◌, length, take, ◌++◌, ℕ, Option, List, arith}
 use Rattle.std.proofs.lemmas.List.{length-append, take-append-le}
 use Rattle.std.proofs.Math.Seq.{take-append-add}
-use Rattle.tmw_streams.proofs.ToldBytes.{Adds-more}
-use Rattle.tmw_streams.specs.Told.{Adds, AddsBeginning}
+use Rattle.tmw_streams.proofs.ToldBytes.{Takes-more}
+use Rattle.tmw_streams.specs.Told.{Takes, TakesBeginning}
 
--- all of the first part, and a beginning of the second
-pub AddsBeginning-more : {S : Type 0} (Told : S → List ℕ → Type 0) (a b c : S) (xs ys : List ℕ)
-    → Adds Told a xs b → AddsBeginning Told b ys c → AddsBeginning Told a (xs ++ ys) c
-AddsBeginning-more Told a b c xs ys first (count, short, then) = (
-  length xs + count,
-  omega (arith, length-append xs ys),
-  rw take-append-add (Adds-more Told a b c xs (take count ys) first then),
-)
+module _ {S : Type 0} (Took : S → List ℕ → Type 0) (holds : S → Option (List ℕ)) (a : S) where
+  -- all of the first part, and a beginning of the second
+  pub TakesBeginning-more : (b c : S) (xs ys : List ℕ) → Takes Took holds a xs b → TakesBeginning Took holds b ys c
+      → TakesBeginning Took holds a (xs ++ ys) c
+  TakesBeginning-more b c xs ys first (count, short, then) = (
+    length xs + count,
+    omega (arith, length-append xs ys),
+    rw take-append-add (Takes-more Took holds a b c xs (take count ys) first then),
+  )
 
--- a beginning of the first part alone
-pub AddsBeginning-front : {S : Type 0} (Told : S → List ℕ → Type 0) (a b : S) (xs ys : List ℕ)
-    → AddsBeginning Told a xs b → AddsBeginning Told a (xs ++ ys) b
-AddsBeginning-front Told a b xs ys (count, short, begun) =
-    let within : count ≤ length xs = omega arith in
-    (count, omega (arith, length-append xs ys), rw take-append-le begun)
+  -- a beginning of the first part alone
+  pub TakesBeginning-front : (b : S) (xs ys : List ℕ) → TakesBeginning Took holds a xs b
+      → TakesBeginning Took holds a (xs ++ ys) b
+  TakesBeginning-front b xs ys (count, short, begun) =
+      let within : count ≤ length xs = omega arith in
+      (count, omega (arith, length-append xs ys), rw take-append-le begun)

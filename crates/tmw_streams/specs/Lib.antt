@@ -1,2 +1,3 @@
+pub mod Ends
 pub mod Memory
 pub mod Told

@@ -1,4 +1,4 @@
-ghost use Rattle.std.specs.Prelude.{◌≡◌, ◌<◌, [], refl};
+ghost use Rattle.std.specs.Prelude.{◌≡◌, ◌<◌, [], Some, refl};
 ghost use Rattle.tmw_streams.specs.Memory.{held_bytes};
 ghost use Rattle.tmw_streams.specs.Told.{one_more};
 
@@ -61,6 +61,8 @@ impl MemorySink {
 
 impl Sink for MemorySink {
     ghost took = { λ sink bytes. bytes ≡ sink.bytes.items };
+
+    ghost holds = { λ sink. Some sink.bytes.items };
 
     ghost failures = { λ sink. sink.failures };
 

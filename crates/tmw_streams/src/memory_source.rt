@@ -1,5 +1,6 @@
-ghost use Rattle.std.specs.Prelude.{◌≡◌, ◌+◌, ◌-◌, ◌<◌, ◌≤◌, [], length, take, drop, refl};
-ghost use Rattle.tmw_streams.specs.Memory.{source_bytes, told_bytes};
+ghost use Rattle.std.specs.Prelude.{◌≡◌, ◌≢◌, ◌+◌, ◌-◌, ◌<◌, ◌≤◌, [], length, take, drop, min, max, Some, IsTrue, MatchBool, if◌then◌else◌, false, refl};
+ghost use Rattle.std.proofs.lemmas.List.{drop_all};
+ghost use Rattle.tmw_streams.specs.Told.{one_more};
 
 use crate::io_fault::IoFault;
 use crate::source::Source;
@@ -13,15 +14,20 @@ pub struct MemorySource<'a> {
     fails_at: Option<u64>,
     calls: u64,
     failures: u64,
+    over: bool,
+    ghost none_left: { IsTrue over → length content.now ≤ at },
 }
 
 impl<'a> MemorySource<'a> {
+    ghost use Rattle.tmw_streams.specs.Memory.{source_bytes, told_bytes};
+
     /// A source of these bytes that never fails. It tells as many a call as fit the buffer.
     pub fn new(content: &'a [u8]) -> MemorySource<'a>
         ensures content { source_bytes result ≡ content.now }
         ensures told { told_bytes result ≡ [] }
         ensures failures { result.failures ≡ 0 }
         ensures fails_at { result.fails_at ≡ None }
+        ensures over { result.over ≡ false }
     {
         MemorySource::limited(content, usize::MAX, None)
     }
@@ -33,6 +39,7 @@ impl<'a> MemorySource<'a> {
         ensures told { told_bytes result ≡ [] }
         ensures failures { result.failures ≡ 0 }
         ensures limits { (result.most ≡ most) × (result.fails_at ≡ fails_at) × (result.calls ≡ 0) }
+        ensures over { result.over ≡ false }
     {
         MemorySource {
             content,
@@ -41,7 +48,30 @@ impl<'a> MemorySource<'a> {
             fails_at,
             calls: 0,
             failures: 0,
+            over: false,
         }
+    }
+
+    /// Counts a call, and tells whether it is the one that fails, whose failure is counted too.
+    fn fails_now(&mut self) -> bool
+        ensures fails { MatchBool result (self.old.fails_at ≡ Some (one_more self.old.calls))
+            (self.old.fails_at ≢ Some (one_more self.old.calls)) }
+        ensures failures { self.new.failures ≡ (if result then one_more self.old.failures else self.old.failures) }
+        ensures same { self.new ≡ record self.old { calls = one_more self.old.calls; failures = self.new.failures } }
+    {
+        self.calls = self.calls.saturating_add(1);
+        let fails = self.fails_at == Some(self.calls);
+        if fails {
+            self.failures = self.failures.saturating_add(1);
+        }
+        fails
+    }
+
+    /// How many bytes the next read tells into so much room.
+    fn next_count(&self, room: usize) -> usize
+        ensures { result ≡ min (min (length (source_bytes self.now) - self.now.at) room) (max self.now.most 1) }
+    {
+        self.rest().len().min(room).min(self.most.max(1))
     }
 
     /// What it still has to tell.
@@ -55,24 +85,29 @@ impl<'a> MemorySource<'a> {
 impl Source for MemorySource<'_> {
     ghost told = { λ source bytes. bytes ≡ take source.at source.content.now };
 
-    ghost ended = { λ source. length source.content.now ≤ source.at };
+    ghost remaining = { λ source. Some (drop source.at source.content.now) };
+
+    ghost ended = { λ source. IsTrue source.over };
 
     ghost left = { λ source. length source.content.now - source.at };
 
     ghost failures = { λ source. source.failures };
 
     fn read(&mut self, buffer: &mut [u8]) -> Result<usize, IoFault> {
-        self.calls = self.calls.saturating_add(1);
-        if self.fails_at == Some(self.calls) {
-            self.failures = self.failures.saturating_add(1);
+        if self.over {
+            return Ok(0);
+        }
+        if self.fails_now() {
             return Err(IoFault);
         }
-        let rest = self.rest();
-        let count = rest.len().min(buffer.len()).min(self.most.max(1));
-        buffer[..count].copy_from_slice(&rest[..count]);
+        let count = self.next_count(buffer.len());
+        buffer[..count].copy_from_slice(&self.rest()[..count]);
         self.at += count;
+        self.over = count == 0 && !buffer.is_empty();
         Ok(count)
     }
 
     ghost tells_some = { λ source. (take source.at source.content.now, refl) };
+
+    ghost none_left = { λ source over. drop_all source.at source.content.now (source.none_left over) };
 }

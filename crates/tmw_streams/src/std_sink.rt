@@ -1,4 +1,5 @@
-ghost use Rattle.std.specs.Prelude.{◌≡◌, ◌+◌, ◌-◌, ◌^◌, ◌<◌, ◌≤◌, length, min, IfSome, replicate};
+ghost use Rattle.std.specs.Prelude.{◌≡◌, ◌+◌, ◌-◌, ◌^◌, ◌<◌, ◌≤◌, [], length, take, min, IfSome, IfNone, replicate};
+ghost use Rattle.std.specs.Io.KnownBytes.{Appends};
 ghost use Rattle.std.proofs.Common.{rules};
 ghost use Rattle.std.proofs.lemmas.Grind.{common_steps};
 
@@ -6,7 +7,7 @@ use crate::io_fault::IoFault;
 use crate::sink::Sink;
 use std::io::{ErrorKind, Write};
 
-/// A sink over a std writer. It doesn't flush.
+/// A sink over a std writer, which holds what the sink took. It doesn't flush.
 #[derive(Drop)]
 pub struct StdSink<W> {
     writer: W,
@@ -33,6 +34,8 @@ impl<W: Write> StdSink<W> {
 impl<W: Write> Sink for StdSink<W> {
     ghost took = { λ sink bytes. sink.taken ≡ min (length bytes) (2 ^ 64 - 1) };
 
+    ghost holds = { λ sink. W.contents sink.writer };
+
     ghost failures = { λ sink. sink.failures };
 
     fn put(&mut self, bytes: &[u8]) -> Result<usize, IoFault> {
@@ -52,6 +55,9 @@ impl<W: Write> Sink for StdSink<W> {
 fn write_again<W: Write>(writer: &mut W, bytes: &[u8]) -> Option<usize>
     ensures within { IfSome result (λ count. count ≤ length bytes.now) }
     ensures some { IfSome result (λ count. 0 < length bytes.now → 0 < count) }
+    ensures takes { IfSome result (λ count.
+        Appends (W.contents writer.old) (W.contents writer.new) (take count bytes.now)) }
+    ensures kept { IfNone result (Appends (W.contents writer.old) (W.contents writer.new) []) }
 {
     for _ in 0..u64::MAX {
         match writer.write(bytes) {

@@ -1,4 +1,7 @@
-ghost use Rattle.std.specs.Prelude.{◌≡◌, ◌+◌, ◌-◌, ◌^◌, ◌<◌, ◌≤◌, length, IfSome, IsTrue, false, replicate};
+ghost use Rattle.std.specs.Prelude.{◌≡◌, ◌+◌, ◌-◌, ◌^◌, ◌<◌, ◌≤◌, [], length, take, IfSome, IfNone, IsTrue, false, replicate};
+ghost use Rattle.std.specs.Coded.{→_prop};
+ghost use Rattle.std.specs.Io.KnownBytes.{Consumes, IsAtEnd};
+ghost use Rattle.tmw_streams.specs.Ends.{IsAtEnd-prop};
 ghost use Rattle.tmw_streams.specs.Told.{one_more};
 ghost use Rattle.std.proofs.Common.{rules};
 ghost use Rattle.std.proofs.lemmas.Grind.{common_steps};
@@ -10,15 +13,17 @@ use std::io::{ErrorKind, Read};
 /// The most bytes that a source over a std reader tells.
 const MOST_TOLD: u64 = 1 << 60;
 
-/// A source over a std reader. It remembers the reader's end and asks no more after it, and once it has told 2^60 bytes
-/// each read fails.
+/// A source over a std reader. It tells what the reader gives, remembers the reader's end and asks no more after it.
+/// Once it has told 2^60 bytes each read fails, and it has no end.
 #[derive(Drop)]
-pub struct StdSource<R> {
+pub struct StdSource<R: Read> {
     reader: R,
     told: u64,
     failures: u64,
     over: bool,
     ghost few: { told ≤ 2 ^ 60 },
+    ghost early: { IsTrue over → told < 2 ^ 60 },
+    ghost at_end: { IsTrue over → IsAtEnd (R.remaining reader) } by { →_prop (IsAtEnd-prop (R.remaining reader)) },
 }
 
 impl<R: Read> StdSource<R> {
@@ -39,7 +44,9 @@ impl<R: Read> StdSource<R> {
 
     /// Counts a failed read.
     fn fail(&mut self) -> IoFault
-        ensures { self.new ≡ record self.old { failures = one_more self.old.failures } }
+        ensures counted { self.new.failures ≡ one_more self.old.failures }
+        ensures reader { self.new.reader ≡ self.old.reader }
+        ensures same { (self.new.told ≡ self.old.told) × (self.new.over ≡ self.old.over) }
     {
         self.failures = self.failures.saturating_add(1);
         IoFault
@@ -48,6 +55,8 @@ impl<R: Read> StdSource<R> {
 
 impl<R: Read> Source for StdSource<R> {
     ghost told = { λ source bytes. length bytes ≡ source.told };
+
+    ghost remaining = { λ source. R.remaining source.reader };
 
     ghost ended = { λ source. IsTrue source.over };
 
@@ -67,18 +76,22 @@ impl<R: Read> Source for StdSource<R> {
             return Err(self.fail());
         };
         self.told += count as u64;
-        if count == 0 && !buffer.is_empty() {
-            self.over = true;
-        }
+        self.over = count == 0 && !buffer.is_empty();
         Ok(count)
     }
 
     ghost tells_some = { λ source. (replicate source.told 0, Prim.search (rules, common_steps)) };
+
+    ghost none_left = { λ source over. source.at_end over };
 }
 
 /// One read, tried again where a signal interrupts it.
 fn read_again<R: Read>(reader: &mut R, buffer: &mut [u8]) -> Option<usize>
-    ensures { IfSome result (λ count. count ≤ length buffer.old) }
+    ensures within { IfSome result (λ count. count ≤ length buffer.old) }
+    ensures gives { IfSome result (λ count.
+        Consumes (R.remaining reader.old) (R.remaining reader.new) (take count buffer.new)) }
+    ensures end { IfSome result (λ count. 0 < length buffer.old → count ≡ 0 → IsAtEnd (R.remaining reader.new)) }
+    ensures kept { IfNone result (Consumes (R.remaining reader.old) (R.remaining reader.new) []) }
 {
     for _ in 0..u64::MAX {
         match reader.read(buffer) {

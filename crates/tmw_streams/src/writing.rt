@@ -1,5 +1,5 @@
 ghost use Rattle.std.specs.Prelude.{◌≡◌, ◌++◌, OnOk, OnErr, decimal};
-ghost use Rattle.tmw_streams.specs.Told.{Adds, AddsBeginning, one_more};
+ghost use Rattle.tmw_streams.specs.Told.{Takes, TakesBeginning, one_more};
 
 use crate::io_fault::IoFault;
 use crate::sink::Sink;
@@ -8,9 +8,9 @@ use itoa::Buffer;
 /// Writes all of the bytes, by as many calls of `put` as it takes. After a failed write a beginning of them went out, and
 /// not all. It takes no memory.
 pub fn put_all<K: Sink>(sink: &mut K, bytes: &[u8]) -> Result<(), IoFault>
-    ensures takes { OnOk result (Adds K.took sink.old bytes.now sink.new) }
+    ensures takes { OnOk result (Takes K.took K.holds sink.old bytes.now sink.new) }
     ensures well { OnOk result (K.failures sink.new ≡ K.failures sink.old) }
-    ensures begun { OnErr result (AddsBeginning K.took sink.old bytes.now sink.new) }
+    ensures begun { OnErr result (TakesBeginning K.took K.holds sink.old bytes.now sink.new) }
     ensures failed { OnErr result (K.failures sink.new ≡ one_more (K.failures sink.old)) }
 {
     let mut at = 0;
@@ -23,9 +23,9 @@ pub fn put_all<K: Sink>(sink: &mut K, bytes: &[u8]) -> Result<(), IoFault>
 /// Writes all of the bytes and then a number, in decimal digits. After a failed write a beginning of them went out, and not
 /// all. It takes no memory.
 pub fn put_with_number<K: Sink>(sink: &mut K, before: &[u8], number: u64) -> Result<(), IoFault>
-    ensures takes { OnOk result (Adds K.took sink.old (before.now ++ decimal number) sink.new) }
+    ensures takes { OnOk result (Takes K.took K.holds sink.old (before.now ++ decimal number) sink.new) }
     ensures well { OnOk result (K.failures sink.new ≡ K.failures sink.old) }
-    ensures begun { OnErr result (AddsBeginning K.took sink.old (before.now ++ decimal number) sink.new) }
+    ensures begun { OnErr result (TakesBeginning K.took K.holds sink.old (before.now ++ decimal number) sink.new) }
     ensures failed { OnErr result (K.failures sink.new ≡ one_more (K.failures sink.old)) }
 {
     put_all(sink, before)?;

@@ -56,6 +56,7 @@ trace_grammar = record {
 abbrev pub trace_text : Header → List Event → List ℕ
 trace_text header events = lines_text trace_grammar header events
 
--- these are events of a trace with this header: the version has them, and their values are numbers of 64 bits
+-- these are events of a trace with this header: the version has them, their values are numbers of 64 bits, and there are at
+-- most 2^40
 abbrev pub AreEvents : Header → List Event → Type 0
 AreEvents header events = AreLines trace_grammar header events

@@ -1,6 +1,6 @@
 ghost use Rattle.std.specs.Prelude.{◌≡◌, ℕ, List, IfOk, IfErr, OnOk};
 ghost use Rattle.tmw_lines.specs.TextFault.{HasTextFault, failures_after};
-ghost use Rattle.tmw_streams.specs.Told.{Adds};
+ghost use Rattle.tmw_streams.specs.Told.{Tells};
 ghost use Rattle.tmw_trace.specs.Text.{trace_grammar, trace_text, AreEvents};
 
 use crate::trace::Trace;
@@ -14,12 +14,14 @@ use tmw_streams::Source;
 /// from a refused growth, and nothing is read after it. Of the text at most 4,096 bytes are held.
 pub fn read_trace<S: Source>(alloc: Global, source: &mut S) -> Result<Trace, TextFault>
     // The bytes told, up to the end, are exactly the trace's text.
-    ensures text { IfOk result (λ trace. Adds S.told source.old (trace_text trace.header trace.events.items) source.new) }
+    ensures text { IfOk result (λ trace.
+        Tells S.told S.remaining source.old (trace_text trace.header trace.events.items) source.new) }
     ensures ended { OnOk result (S.ended source.new) }
     ensures events { IfOk result (λ trace. AreEvents trace.header trace.events.items) }
     // The bytes told have the fault.
     ensures fault { IfErr result (λ fault. (bytes : List ℕ)
-        × Adds S.told source.old bytes source.new × HasTextFault trace_grammar (S.ended source.new) bytes fault) }
+        × Tells S.told S.remaining source.old bytes source.new
+        × HasTextFault trace_grammar (S.ended source.new) bytes fault) }
     ensures well { OnOk result (S.failures source.new ≡ S.failures source.old) }
     ensures failed { IfErr result (λ fault. S.failures source.new ≡ failures_after fault (S.failures source.old)) }
 {

@@ -4,20 +4,20 @@ use Rattle.tmw_lines.proofs.first_line.first_line.Goals as goal
 
 pub returns-in-Feed-clause-reads : goal.returns-in-Feed-clause-reads
 returns-in-Feed-clause-reads g c =
-    long_first-feed g.F.LineFormat.grammar g.S.Source.told (g.S.Source.ended c.skip_line.new.source) c.args.source.now
-    c.next_piece.new.source c.skip_line.new.source (bytes_of c.args.held.now) (bytes_of c.next_piece.new.held)
+    long_first-feed g.F.LineFormat.grammar g.S.Source.told g.S.Source.remaining (g.S.Source.ended c.skip_line.new.source)
+    c.args.source.now c.next_piece.new.source c.skip_line.new.source (bytes_of c.args.held.now) (bytes_of c.next_piece.new.held)
     (bytes_of c.skip_line.new.held) g.met.F.LineFormat.long_header c.next_piece.ensures.reads c.in-Long.ensures.piece.0
     c.in-Long.ensures.piece.1 c.in-Feed.ensures.skips
 
 pub returns-in-End-skip_line-clause-reads : goal.returns-in-End-skip_line-clause-reads
 returns-in-End-skip_line-clause-reads g c =
-    long_first-end g.F.LineFormat.grammar g.S.Source.told (g.S.Source.ended c.skip_line.new.source) c.args.source.now
-    c.next_piece.new.source c.skip_line.new.source (bytes_of c.args.held.now) (bytes_of c.next_piece.new.held)
+    long_first-end g.F.LineFormat.grammar g.S.Source.told g.S.Source.remaining (g.S.Source.ended c.skip_line.new.source)
+    c.args.source.now c.next_piece.new.source c.skip_line.new.source (bytes_of c.args.held.now) (bytes_of c.next_piece.new.held)
     (bytes_of c.skip_line.new.held) c.next_piece.ensures.reads c.in-Long.ensures.piece.0 c.in-Long.ensures.piece.1
     c.in-End-skip_line.ensures.skips
 
 pub returns-in-Failed-skip_line-clause-reads : goal.returns-in-Failed-skip_line-clause-reads
 returns-in-Failed-skip_line-clause-reads g c =
-    long_first-failed g.F.LineFormat.grammar g.S.Source.told (g.S.Source.ended c.skip_line.new.source) c.args.source.now
-    c.next_piece.new.source c.skip_line.new.source (bytes_of c.args.held.now) (bytes_of c.next_piece.new.held)
+    long_first-failed g.F.LineFormat.grammar g.S.Source.told g.S.Source.remaining (g.S.Source.ended c.skip_line.new.source)
+    c.args.source.now c.next_piece.new.source c.skip_line.new.source (bytes_of c.args.held.now) (bytes_of c.next_piece.new.held)
     (bytes_of c.skip_line.new.held) c.next_piece.ensures.reads c.in-Long.ensures.piece.1 c.in-Failed-skip_line.ensures.skips

@@ -5,7 +5,7 @@ use Rattle.tmw_lines.proofs.piece.next_piece.Given as goal
 
 abbrev pub invariant-loop-seen : goal.invariant-loop-seen
 invariant-loop-seen g l =
-    Reads g.S.Source.told l.initial.source l.source (bytes_of l.initial.held) (bytes_of l.held)
+    Reads g.S.Source.told g.S.Source.remaining l.initial.source l.source (bytes_of l.initial.held) (bytes_of l.held)
     × IsSeen l.seen (bytes_of l.held)
     × (g.S.Source.left l.source + length (bytes_of l.held) ≤ g.S.Source.left l.initial.source + length (bytes_of l.initial.held))
     × (g.S.Source.failures l.source ≡ g.S.Source.failures l.initial.source)

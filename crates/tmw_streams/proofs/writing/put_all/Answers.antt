@@ -1,6 +1,7 @@
 -- The bytes that one more call takes follow those that were taken so far.
-use Rattle.std.proofs.Common.{append_assoc, take-add, ◌∙◌, arith}
+use Rattle.std.proofs.Common.{take, drop, take-add, ◌∙◌, arith}
 use Rattle.std.proofs.lemmas.List.{take_rest, length-drop}
+use Rattle.tmw_streams.proofs.ToldBytes.{Takes-more}
 use Rattle.tmw_streams.proofs.writing.put_all.Goals as goal
 
 pub loop-at-preserved : goal.loop-at-preserved
@@ -8,6 +9,9 @@ loop-at-preserved g c =
     let takes = rw (take_rest c.args.bytes.now c.loop-at.at) at c.in_ok-at.ensures.takes in
     let within = rw (take_rest c.args.bytes.now c.loop-at.at) at c.in_ok-at.ensures.within in (
       omega (arith, length-drop c.loop-at.at c.args.bytes.now, within),
-      (λ before held. rw (take-add c.loop-at.at c.in_ok-at.field-0 c.args.bytes.now, ← append_assoc) (takes _ (c.loop-at.invariant.1 before held))),
+      rw (take-add c.loop-at.at c.in_ok-at.field-0 c.args.bytes.now)
+          (Takes-more g.K.Sink.took g.K.Sink.holds c.args.sink.now c.loop-at.sink c.put.new.self
+          (take c.loop-at.at c.args.bytes.now) (take c.in_ok-at.field-0 (drop c.loop-at.at c.args.bytes.now))
+          c.loop-at.invariant.1 takes),
       c.in_ok-at.ensures.well ∙ c.loop-at.invariant.2,
     )

@@ -1,11 +1,11 @@
 use Rattle.std.proofs.Common.{◌≡◌, ◌-◌, ◌≤◌, length, take}
-use Rattle.tmw_streams.specs.Told.{Adds}
+use Rattle.tmw_streams.specs.Told.{Takes}
 use Rattle.tmw_streams.proofs.writing.put_all.Given as goal
 
 abbrev pub invariant-loop-at : goal.invariant-loop-at
 invariant-loop-at g l =
     (l.at ≤ length l.bytes)
-    × Adds g.K.Sink.took l.fn.sink (take l.at l.bytes) l.sink
+    × Takes g.K.Sink.took g.K.Sink.holds l.fn.sink (take l.at l.bytes) l.sink
     × (g.K.Sink.failures l.sink ≡ g.K.Sink.failures l.fn.sink)
 
 abbrev pub decreases-loop-at : goal.decreases-loop-at

@@ -1,6 +1,6 @@
--- The bytes that were copied are those that follow the ones told so far.
-use Rattle.std.proofs.Common.{◌≡◌, ◌+◌, ◌≤◌, length, take, drop, ◌++◌, ℕ, List, arith, take-add, take-take, ap}
-use Rattle.std.proofs.lemmas.List.{take-append-le, length-take-le}
+-- The bytes that were copied are those that follow the ones told so far, and the first of those still to tell.
+use Rattle.std.proofs.Common.{◌≡◌, ◌+◌, ◌≤◌, length, take, drop, ◌++◌, ℕ, List, arith, take-add, take-take, take-append-drop, sym, ap, ◌∙◌}
+use Rattle.std.proofs.lemmas.List.{take-append-le, length-take-le, length-drop, drop-drop}
 use Rattle.tmw_streams.proofs.memory_source.MemorySourceSource.read.Goals as goal
 
 front : (n : ℕ) (copied rest others : List ℕ) → copied ≡ take n rest → n ≤ length rest → take n (copied ++ others) ≡ take n rest
@@ -17,6 +17,22 @@ follows : (before content copied others rest : List ℕ) (at n : ℕ)
 follows before content copied others rest at n told is left h =
     cc (front n copied rest others is h, take-add at n content)
 
+begins : (content copied others rest : List ℕ) (at n : ℕ) → copied ≡ take n rest → rest ≡ drop at content → n ≤ length rest
+    → drop at content ≡ take n (copied ++ others) ++ drop (at + n) content
+begins content copied others rest at n is left h =
+    sym left ∙ sym (take-append-drop n rest)
+    ∙ ap (λ xs. xs ++ drop n rest) (sym (front n copied rest others is h))
+    ∙ ap (λ xs. take n (copied ++ others) ++ drop n xs) left
+    ∙ ap (λ xs. take n (copied ++ others) ++ xs) (drop-drop n at content)
+
 pub returns-clause-tells : goal.returns-clause-tells
-returns-clause-tells c before told =
-    follows before _ _ _ _ c.args.self.now.at _ told c.copy_from_slice.ensures.after c.rest-rest.ensures (omega arith)
+returns-clause-tells c =
+    let asked = c.fails_now.new.self in
+    let same = sym c.fails_now.ensures.same in
+    let within : c.next_count-count.result ≤ length c.rest.result.now =
+    omega (arith, ap length c.rest.ensures, length-drop asked.at asked.content.now) in (
+      λ before told. follows before _ _ _ _ asked.at _ (told ∙ ap (λ s. take s.at s.content.now) same)
+          c.copy_from_slice.ensures.after c.rest.ensures within,
+      ap (λ s. drop s.at s.content.now) same
+          ∙ begins asked.content.now _ _ _ asked.at _ c.copy_from_slice.ensures.after c.rest.ensures within,
+    )
