@@ -25,7 +25,7 @@ pub fn run_command<S: Source, K: Sink, E: Sink>(
     sink: &mut K,
     errors: &mut E,
 ) -> u8
-    ensures { RunsCommand (from_source S.told S.ended S.failures) (to_sink K.took K.failures) (to_sink E.took E.failures)
+    ensures { RunsCommand (from_source S.told S.remaining S.ended S.failures) (to_sink K.took K.holds K.failures) (to_sink E.took E.holds E.failures)
         (result_map_both (λ given. map string_bytes given.items) (λ fault. fault) words) source.old source.new sink.old sink.new errors.old errors.new
         result }
 {
@@ -43,7 +43,7 @@ fn run_words<W: AsStr, S: Source, K: Sink, E: Sink>(
     sink: &mut K,
     errors: &mut E,
 ) -> u8
-    ensures { RunsWords (from_source S.told S.ended S.failures) (to_sink K.took K.failures) (to_sink E.took E.failures)
+    ensures { RunsWords (from_source S.told S.remaining S.ended S.failures) (to_sink K.took K.holds K.failures) (to_sink E.took E.holds E.failures)
         (map W.text words.now) source.old source.new sink.old sink.new errors.old errors.new result }
 {
     match read_words(alloc, words) {
@@ -54,7 +54,7 @@ fn run_words<W: AsStr, S: Source, K: Sink, E: Sink>(
 
 /// Runs an order's command.
 fn run_order<S: Source, K: Sink>(alloc: Global, order: Order, source: &mut S, sink: &mut K) -> u8
-    ensures { RunsOrder (from_source S.told S.ended S.failures) (to_sink K.took K.failures) order source.old source.new sink.old
+    ensures { RunsOrder (from_source S.told S.remaining S.ended S.failures) (to_sink K.took K.holds K.failures) order source.old source.new sink.old
         sink.new result }
 {
     match order {
@@ -65,7 +65,7 @@ fn run_order<S: Source, K: Sink>(alloc: Global, order: Order, source: &mut S, si
 
 /// Answers words that give no order.
 fn answer_refusal<K: Sink, E: Sink>(refusal: Refusal, sink: &mut K, errors: &mut E) -> u8
-    ensures { AnswersRefusal (to_sink K.took K.failures) (to_sink E.took E.failures) refusal sink.old sink.new errors.old errors.new
+    ensures { AnswersRefusal (to_sink K.took K.holds K.failures) (to_sink E.took E.holds E.failures) refusal sink.old sink.new errors.old errors.new
         result }
 {
     match refusal {
@@ -80,7 +80,7 @@ fn answer_refusal<K: Sink, E: Sink>(refusal: Refusal, sink: &mut K, errors: &mut
 
 /// Writes a text that was asked for, with exit status 0.
 fn answer_text<K: Sink>(sink: &mut K, text: &str) -> u8
-    ensures { IsPut (to_sink K.took K.failures) sink.old sink.new text.now 0 result }
+    ensures { IsPut (to_sink K.took K.holds K.failures) sink.old sink.new text.now 0 result }
 {
     match put_all(sink, text.as_bytes()) {
         Ok(()) => 0,
@@ -90,7 +90,7 @@ fn answer_text<K: Sink>(sink: &mut K, text: &str) -> u8
 
 /// Sends a text as far as the sink takes it.
 fn send<E: Sink>(errors: &mut E, text: &str)
-    ensures { IsSent (to_sink E.took E.failures) errors.old errors.new text.now }
+    ensures { IsSent (to_sink E.took E.holds E.failures) errors.old errors.new text.now }
 {
     let _sent = put_all(errors, text.as_bytes());
 }

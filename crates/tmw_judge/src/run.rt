@@ -21,7 +21,7 @@ pub fn run_judge<S: Source, K: Sink>(
     sink: &mut K,
     bounds: Bounds,
 ) -> u8
-    ensures { JudgesBytes (from_source S.told S.ended S.failures) (to_sink K.took K.failures) bounds source.old source.new
+    ensures { JudgesBytes (from_source S.told S.remaining S.ended S.failures) (to_sink K.took K.holds K.failures) bounds source.old source.new
         sink.old sink.new result }
 {
     match judge(alloc, source, bounds) {
@@ -33,8 +33,8 @@ pub fn run_judge<S: Source, K: Sink>(
 /// Writes the report's line and answers its exit status. Where memory for the line is refused, that fault stands in its
 /// place.
 fn answer_report<K: Sink>(alloc: Global, sink: &mut K, report: Report) -> u8
-    ensures { IsPut (to_sink K.took K.failures) sink.old sink.new (report_line report) (report_status report) result
-        ⊎ IsPut (to_sink K.took K.failures) sink.old sink.new (fault_line Memory) 4 result }
+    ensures { IsPut (to_sink K.took K.holds K.failures) sink.old sink.new (report_line report) (report_status report) result
+        ⊎ IsPut (to_sink K.took K.holds K.failures) sink.old sink.new (fault_line Memory) 4 result }
 {
     let Ok(line) = report_text(alloc, report.events, &report.verdict) else {
         return answer_fault(sink, Fault::Memory);
