@@ -17,7 +17,7 @@ use tmw_streams::{Sink, Source, put_all};
 /// Runs the command line of these words, of which the first is the program's name, from the source to the sink: the order that
 /// they ask for, or the text of help. For words that are no command line of the program, or that can't be had, the fault's line
 /// goes to the sink, and the text that tells what is wrong to the sink for errors. The result is the exit status: that of the
-/// order, 0 for help, or 4 for any fault.
+/// order, 0 for help, or 4 for any fault and for help that was cut short.
 pub fn run_command<S: Source, K: Sink, E: Sink>(
     alloc: Global,
     words: Result<Vec<String>, Fault>,
@@ -25,9 +25,9 @@ pub fn run_command<S: Source, K: Sink, E: Sink>(
     sink: &mut K,
     errors: &mut E,
 ) -> u8
-    ensures { RunsCommand (from_source S.told S.remaining S.ended S.failures) (to_sink K.took K.holds K.failures) (to_sink E.took E.holds E.failures)
-        (result_map_both (λ given. map string_bytes given.items) (λ fault. fault) words) source.old source.new sink.old sink.new errors.old errors.new
-        result }
+    ensures { RunsCommand (from_source S.told S.remaining S.ended S.failures) (to_sink K.took K.holds K.failures)
+        (to_sink E.took E.holds E.failures) (result_map_both (λ given. map string_bytes given.items) (λ fault. fault) words)
+        source.old source.new sink.old sink.new errors.old errors.new result }
 {
     match words {
         Ok(words) => run_words(alloc, &words, source, sink, errors),
@@ -43,8 +43,9 @@ fn run_words<W: AsStr, S: Source, K: Sink, E: Sink>(
     sink: &mut K,
     errors: &mut E,
 ) -> u8
-    ensures { RunsWords (from_source S.told S.remaining S.ended S.failures) (to_sink K.took K.holds K.failures) (to_sink E.took E.holds E.failures)
-        (map W.text words.now) source.old source.new sink.old sink.new errors.old errors.new result }
+    ensures { RunsWords (from_source S.told S.remaining S.ended S.failures) (to_sink K.took K.holds K.failures)
+        (to_sink E.took E.holds E.failures) (map W.text words.now)
+        source.old source.new sink.old sink.new errors.old errors.new result }
 {
     match read_words(alloc, words) {
         Ok(order) => run_order(alloc, order, source, sink),
@@ -54,8 +55,8 @@ fn run_words<W: AsStr, S: Source, K: Sink, E: Sink>(
 
 /// Runs an order's command.
 fn run_order<S: Source, K: Sink>(alloc: Global, order: Order, source: &mut S, sink: &mut K) -> u8
-    ensures { RunsOrder (from_source S.told S.remaining S.ended S.failures) (to_sink K.took K.holds K.failures) order source.old source.new sink.old
-        sink.new result }
+    ensures { RunsOrder (from_source S.told S.remaining S.ended S.failures) (to_sink K.took K.holds K.failures) order
+        source.old source.new sink.old sink.new result }
 {
     match order {
         Order::Judge { bounds } => run_judge(alloc, source, sink, bounds),
@@ -65,8 +66,8 @@ fn run_order<S: Source, K: Sink>(alloc: Global, order: Order, source: &mut S, si
 
 /// Answers words that give no order.
 fn answer_refusal<K: Sink, E: Sink>(refusal: Refusal, sink: &mut K, errors: &mut E) -> u8
-    ensures { AnswersRefusal (to_sink K.took K.holds K.failures) (to_sink E.took E.holds E.failures) refusal sink.old sink.new errors.old errors.new
-        result }
+    ensures { AnswersRefusal (to_sink K.took K.holds K.failures) (to_sink E.took E.holds E.failures) refusal
+        sink.old sink.new errors.old errors.new result }
 {
     match refusal {
         Refusal::Help(text) => answer_text(sink, text.as_str()),

@@ -21,8 +21,8 @@ pub fn run_judge<S: Source, K: Sink>(
     sink: &mut K,
     bounds: Bounds,
 ) -> u8
-    ensures { JudgesBytes (from_source S.told S.remaining S.ended S.failures) (to_sink K.took K.holds K.failures) bounds source.old source.new
-        sink.old sink.new result }
+    ensures { JudgesBytes (from_source S.told S.remaining S.ended S.failures) (to_sink K.took K.holds K.failures) bounds
+        source.old source.new sink.old sink.new result }
 {
     match judge(alloc, source, bounds) {
         Ok(report) => answer_report(alloc, sink, report),

@@ -24,7 +24,8 @@ pub struct Run {
 /// `log L taken K`. The whole text is read first. For a fault its line alone is written. The result is the exit status: 0, or 4
 /// for any fault.
 pub fn run_steps<S: Source, K: Sink>(alloc: Global, source: &mut S, sink: &mut K) -> u8
-    ensures { RunsSteps (from_source S.told S.remaining S.ended S.failures) (to_sink K.took K.holds K.failures) source.old source.new sink.old sink.new result }
+    ensures { RunsSteps (from_source S.told S.remaining S.ended S.failures) (to_sink K.took K.holds K.failures)
+        source.old source.new sink.old sink.new result }
 {
     match run_of(alloc, source) {
         Ok(run) => match put_replies(sink, &run.replies, run.log, run.taken) {
@@ -37,7 +38,8 @@ pub fn run_steps<S: Source, K: Sink>(alloc: Global, source: &mut S, sink: &mut K
 
 /// Reads steps up to the source's end, and makes them.
 fn run_of<S: Source>(alloc: Global, source: &mut S) -> Result<Run, Fault>
-    ensures right { (bytes : List ℕ) × Tells S.told S.remaining source.old bytes source.new × AnswersSteps (S.ended source.new) bytes result }
+    ensures right { (bytes : List ℕ) × Tells S.told S.remaining source.old bytes source.new
+        × AnswersSteps (S.ended source.new) bytes result }
     ensures failures { S.failures source.new ≡ failures_after_answer result (S.failures source.old) }
 {
     match read_steps(alloc, source) {
