@@ -1,17 +1,17 @@
 -- Judging a trace as it is read: what was told is what the reader of lines has read, and its events are what the monitor was fed.
-use Rattle.std.proofs.Common.{◌≡◌, ◌+◌, ◌<◌, ◌^◌, ℕ, List, [], ◌∷◌, ◌++◌, length, Ok, Err, refl, ◌∙◌, arith, length-append}
+use Rattle.std.proofs.Common.{◌≡◌, ◌+◌, ◌<◌, ◌^◌, ℕ, Option, List, [], ◌∷◌, ◌++◌, length, Ok, Err, refl, ◌∙◌, arith, length-append}
 use Rattle.tmw_lines.specs.Lines.{GivesItem, GivesEnd, GivesFault}
 use Rattle.tmw_lines.specs.TextFault.{failures_after}
 use Rattle.tmw_trace.specs.Text.{trace_grammar}
-use Rattle.tmw_streams.specs.Told.{Adds}
+use Rattle.tmw_streams.specs.Told.{Tells}
 use Rattle.tmw_events.specs.declared.event.Event.{Event}
 use Rattle.tmw_trace.specs.declared.header.Header.{Header}
 use Rattle.tmw_trace.specs.declared.version.Version.{Version}
 use Rattle.tmw_lines.specs.declared.text_fault.TextFault.{TextFault}
 use Rattle.tmw_lines.specs.declared.text_fault.TextFault.TheVariants.{BadHeader, BadLine, Cut, Memory, Io, TooLong}
 use Rattle.tmw_lines.specs.declared.lines.Lines.{Lines}
-use Rattle.tmw_streams.proofs.ToldBytes.{Adds-more}
-use Rattle.tmw_lines.proofs.TextsRead.{HasTaken, HasTaken-push, begun-taken}
+use Rattle.tmw_streams.proofs.ToldBytes.{Tells-more}
+use Rattle.tmw_lines.proofs.TextsRead.{HasTaken, HasTaken-push, soon-taken}
 use Rattle.tmw_defs.specs.Verdict.{Rules}
 use Rattle.tmw_monitor.specs.declared.bounds.Bounds.{Bounds}
 use Rattle.tmw_monitor.specs.declared.monitor.Monitor.{Monitor}
@@ -23,17 +23,17 @@ use Rattle.tmw_report.specs.Putting.{fault_of}
 use Rattle.tmw_report.specs.CommandRun.{failures_after_answer}
 use Rattle.tmw_judge.specs.Judging.{AnswersTrace}
 
-pub record HasFed {S : Type 0} (Told : S → List ℕ → Type 0) (old new : S) (lines : Lines Version) (bounds : Bounds) (monitor : Monitor)
+pub record HasFed {S : Type 0} (Told : S → List ℕ → Type 0) (remaining : S → Option (List ℕ)) (old new : S) (lines : Lines Version) (bounds : Bounds) (monitor : Monitor)
     : Type 0 where
   pub header : Header
   pub history : List Event
-  pub taken : HasTaken trace_grammar Told old new lines header history
+  pub taken : HasTaken trace_grammar Told remaining old new lines header history
   pub fits : Fits (rules_of header.registers header.initial bounds) history monitor
 
 -- the monitor has room for an event that was read
-pub fed_room : {S : Type 0} (Told : S → List ℕ → Type 0) (a b : S) (old new : Lines Version) (bounds : Bounds) (monitor : Monitor)
-    (event : Event) (bytes : List ℕ) → HasFed Told a b old bounds monitor → GivesItem trace_grammar old new bytes event → monitor.count < 2 ^ 40
-fed_room Told a b old new bounds monitor event bytes fed gives =
+pub fed_room : {S : Type 0} (Told : S → List ℕ → Type 0) (remaining : S → Option (List ℕ)) (a b : S) (old new : Lines Version) (bounds : Bounds) (monitor : Monitor)
+    (event : Event) (bytes : List ℕ) → HasFed Told remaining a b old bounds monitor → GivesItem trace_grammar old new bytes event → monitor.count < 2 ^ 40
+fed_room Told remaining a b old new bounds monitor event bytes fed gives =
     let read = gives fed.header fed.history fed.taken.bytes fed.taken.read in
     let counted = read.counted in
     let few = new.few in
@@ -42,41 +42,41 @@ fed_room Told a b old new bounds monitor event bytes fed gives =
     omega (arith, counted, few, was, longer)
 
 -- an event more was read
-pub taken-push : {S : Type 0} (Told : S → List ℕ → Type 0) (a b c : S) (old new : Lines Version) (bounds : Bounds) (monitor : Monitor)
-    (event : Event) (bytes : List ℕ) → (fed : HasFed Told a b old bounds monitor) → Adds Told b bytes c → GivesItem trace_grammar old new bytes event
-    → HasTaken trace_grammar Told a c new fed.header (fed.history ++ event ∷ [])
-taken-push Told a b c old new bounds monitor event bytes fed told gives =
-    HasTaken-push trace_grammar Told a b c old new fed.header fed.history (fed.history ++ event ∷ []) event bytes refl fed.taken told gives
+pub taken-push : {S : Type 0} (Told : S → List ℕ → Type 0) (remaining : S → Option (List ℕ)) (a b c : S) (old new : Lines Version) (bounds : Bounds) (monitor : Monitor)
+    (event : Event) (bytes : List ℕ) → (fed : HasFed Told remaining a b old bounds monitor) → Tells Told remaining b bytes c → GivesItem trace_grammar old new bytes event
+    → HasTaken trace_grammar Told remaining a c new fed.header (fed.history ++ event ∷ [])
+taken-push Told remaining a b c old new bounds monitor event bytes fed told gives =
+    HasTaken-push trace_grammar Told remaining a b c old new fed.header fed.history (fed.history ++ event ∷ []) event bytes refl fed.taken told gives
 
 -- and fed
-pub fed-push : {S : Type 0} (Told : S → List ℕ → Type 0) (a b c : S) (old new : Lines Version) (bounds : Bounds) (monitor more : Monitor)
-    (event : Event) (bytes : List ℕ) → HasFed Told a b old bounds monitor → Adds Told b bytes c → GivesItem trace_grammar old new bytes event
+pub fed-push : {S : Type 0} (Told : S → List ℕ → Type 0) (remaining : S → Option (List ℕ)) (a b c : S) (old new : Lines Version) (bounds : Bounds) (monitor more : Monitor)
+    (event : Event) (bytes : List ℕ) → HasFed Told remaining a b old bounds monitor → Tells Told remaining b bytes c → GivesItem trace_grammar old new bytes event
     → ((rules : Rules) (history : List Event) → Fits rules history monitor → Fits rules (history ++ event ∷ []) more)
-    → HasFed Told a c new bounds more
-fed-push Told a b c old new bounds monitor more event bytes fed told gives feeds = record {
+    → HasFed Told remaining a c new bounds more
+fed-push Told remaining a b c old new bounds monitor more event bytes fed told gives feeds = record {
   header = fed.header;
   history = fed.history ++ event ∷ [];
-  taken = taken-push Told a b c old new bounds monitor event bytes fed told gives;
+  taken = taken-push Told remaining a b c old new bounds monitor event bytes fed told gives;
   fits = feeds (rules_of fed.header.registers fed.header.initial bounds) fed.history fed.fits;
 }
 
 -- what was read when memory was refused
-pub wants_memory : {S : Type 0} (Told : S → List ℕ → Type 0) (Ended : Type 0) (a b : S) (lines : Lines Version) (header : Header)
-    (history : List Event) (bounds : Bounds) → HasTaken trace_grammar Told a b lines header history
-    → (bytes : List ℕ) × Adds Told a bytes b × AnswersTrace bounds Ended bytes (Err WantsMemory)
-wants_memory Told Ended a b lines header history bounds taken =
-    let begun = begun-taken trace_grammar Told a b lines header history taken in
-    (begun.0, begun.1, (Memory, refl, begun.2))
+pub wants_memory : {S : Type 0} (Told : S → List ℕ → Type 0) (remaining : S → Option (List ℕ)) (Ended : Type 0) (a b : S) (lines : Lines Version) (header : Header)
+    (history : List Event) (bounds : Bounds) → HasTaken trace_grammar Told remaining a b lines header history
+    → (bytes : List ℕ) × Tells Told remaining a bytes b × AnswersTrace bounds Ended bytes (Err WantsMemory)
+wants_memory Told remaining Ended a b lines header history bounds taken =
+    let soon = soon-taken trace_grammar Told remaining a b lines header history taken in
+    (soon.0, soon.1, (Memory, refl, soon.2))
 
 -- the end was read
-pub reports-end : {S : Type 0} (Told : S → List ℕ → Type 0) (Ended : Type 0) (a b c : S) (lines : Lines Version) (bounds : Bounds)
-    (monitor : Monitor) (bytes : List ℕ) (report : Report) → HasFed Told a b lines bounds monitor → Adds Told b bytes c
+pub reports-end : {S : Type 0} (Told : S → List ℕ → Type 0) (remaining : S → Option (List ℕ)) (Ended : Type 0) (a b c : S) (lines : Lines Version) (bounds : Bounds)
+    (monitor : Monitor) (bytes : List ℕ) (report : Report) → HasFed Told remaining a b lines bounds monitor → Tells Told remaining b bytes c
     → GivesEnd trace_grammar Ended lines bytes → report.events ≡ monitor.count → report.verdict ≡ monitor.verdict
-    → (all : List ℕ) × Adds Told a all c × AnswersTrace bounds Ended all (Ok report)
-reports-end Told Ended a b c lines bounds monitor bytes report fed told ends counted judged =
+    → (all : List ℕ) × Tells Told remaining a all c × AnswersTrace bounds Ended all (Ok report)
+reports-end Told remaining Ended a b c lines bounds monitor bytes report fed told ends counted judged =
     let end = ends fed.header fed.history fed.taken.bytes fed.taken.read in (
       fed.taken.bytes ++ bytes,
-      Adds-more Told a b c fed.taken.bytes bytes fed.taken.told told,
+      Tells-more Told remaining a b c fed.taken.bytes bytes fed.taken.told told,
       (
         end.0,
         record {
@@ -91,13 +91,13 @@ reports-end Told Ended a b c lines bounds monitor bytes report fed told ends cou
     )
 
 -- a fault was read
-pub answers-fault : {S : Type 0} (Told : S → List ℕ → Type 0) (Ended : Type 0) (a b c : S) (lines : Lines Version) (bounds : Bounds)
-    (monitor : Monitor) (bytes : List ℕ) (told : TextFault) (fault : Fault) → HasFed Told a b lines bounds monitor → Adds Told b bytes c
+pub answers-fault : {S : Type 0} (Told : S → List ℕ → Type 0) (remaining : S → Option (List ℕ)) (Ended : Type 0) (a b c : S) (lines : Lines Version) (bounds : Bounds)
+    (monitor : Monitor) (bytes : List ℕ) (told : TextFault) (fault : Fault) → HasFed Told remaining a b lines bounds monitor → Tells Told remaining b bytes c
     → GivesFault trace_grammar Ended lines bytes told → fault ≡ fault_of told
-    → (all : List ℕ) × Adds Told a all c × AnswersTrace bounds Ended all (Err fault)
-answers-fault Told Ended a b c lines bounds monitor bytes told fault fed adds gives is = (
+    → (all : List ℕ) × Tells Told remaining a all c × AnswersTrace bounds Ended all (Err fault)
+answers-fault Told remaining Ended a b c lines bounds monitor bytes told fault fed adds gives is = (
   fed.taken.bytes ++ bytes,
-  Adds-more Told a b c fed.taken.bytes bytes fed.taken.told adds,
+  Tells-more Told remaining a b c fed.taken.bytes bytes fed.taken.told adds,
   (told, is, gives fed.header fed.history fed.taken.bytes fed.taken.read),
 )
 

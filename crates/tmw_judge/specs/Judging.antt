@@ -10,6 +10,7 @@ use Rattle.tmw_monitor.specs.Fitting.{rules_of}
 use Rattle.tmw_report.specs.declared.fault.Fault.{Fault}
 use Rattle.tmw_report.specs.Lines.{report_text, verdict_status}
 use Rattle.tmw_report.specs.CommandRun.{AnswersTextFault, IsCommandRun}
+use Rattle.tmw_report.specs.Streams.{FromSource, ToSink}
 use Rattle.tmw_judge.specs.declared.report.Report.{Report}
 
 -- The bytes are the text of a trace, and the report tells how many events it has and what the verdict on its history is.
@@ -36,7 +37,5 @@ abbrev pub report_status : Report → ℕ
 report_status report = verdict_status report.verdict
 
 -- What a run of `judge` does: an answer to the bytes that its source tells in it, and the answer's line to its sink.
-abbrev pub JudgesBytes : {S K : Type 0} → (S → List ℕ → Type 0) → (S → Type 0) → (S → ℕ) → (K → List ℕ → Type 0) → (K → ℕ) → Bounds → S
-    → S → K → K → ℕ → Type 0
-JudgesBytes Told Ended reads_failed Took writes_failed bounds =
-    IsCommandRun Told Ended reads_failed Took writes_failed (AnswersTrace bounds) report_line report_status
+abbrev pub JudgesBytes : {S K : Type 0} → FromSource S → ToSink K → Bounds → S → S → K → K → ℕ → Type 0
+JudgesBytes From To bounds = IsCommandRun From To (AnswersTrace bounds) report_line report_status

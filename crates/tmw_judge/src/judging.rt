@@ -1,5 +1,5 @@
 ghost use Rattle.std.specs.Prelude.{◌≡◌, ℕ, List};
-ghost use Rattle.tmw_streams.specs.Told.{Adds};
+ghost use Rattle.tmw_streams.specs.Told.{Tells};
 ghost use Rattle.tmw_judge.specs.Judging.{AnswersTrace};
 ghost use Rattle.tmw_report.specs.CommandRun.{failures_after_answer};
 
@@ -13,7 +13,7 @@ use tmw_trace::TraceLines;
 /// Reads a trace up to the source's end, and judges each event as its line is read. No event is kept, so the memory depends on
 /// the transactions since the last cut and not on the trace's length. Where memory is refused, nothing is read after it.
 pub fn judge<S: Source>(alloc: Global, source: &mut S, bounds: Bounds) -> Result<Report, Fault>
-    ensures right { (bytes : List ℕ) × Adds S.told source.old bytes source.new
+    ensures right { (bytes : List ℕ) × Tells S.told S.remaining source.old bytes source.new
         × AnswersTrace bounds (S.ended source.new) bytes result }
     ensures failures { S.failures source.new ≡ failures_after_answer result (S.failures source.old) }
 {

@@ -2,6 +2,7 @@ ghost use Rattle.std.specs.Prelude.{◌⊎◌};
 ghost use Rattle.tmw_report.specs.declared.fault.Fault.TheVariants.{Memory};
 ghost use Rattle.tmw_report.specs.Lines.{fault_line};
 ghost use Rattle.tmw_report.specs.Putting.{IsPut};
+ghost use Rattle.tmw_report.specs.Streams.{from_source, to_sink};
 ghost use Rattle.tmw_judge.specs.Judging.{JudgesBytes, report_line, report_status};
 
 use crate::judging::judge;
@@ -20,7 +21,8 @@ pub fn run_judge<S: Source, K: Sink>(
     sink: &mut K,
     bounds: Bounds,
 ) -> u8
-    ensures { JudgesBytes S.told S.ended S.failures K.took K.failures bounds source.old source.new sink.old sink.new result }
+    ensures { JudgesBytes (from_source S.told S.remaining S.ended S.failures) (to_sink K.took K.holds K.failures) bounds
+        source.old source.new sink.old sink.new result }
 {
     match judge(alloc, source, bounds) {
         Ok(report) => answer_report(alloc, sink, report),
@@ -31,8 +33,8 @@ pub fn run_judge<S: Source, K: Sink>(
 /// Writes the report's line and answers its exit status. Where memory for the line is refused, that fault stands in its
 /// place.
 fn answer_report<K: Sink>(alloc: Global, sink: &mut K, report: Report) -> u8
-    ensures { IsPut K.took K.failures sink.old sink.new (report_line report) (report_status report) result
-        ⊎ IsPut K.took K.failures sink.old sink.new (fault_line Memory) 4 result }
+    ensures { IsPut (to_sink K.took K.holds K.failures) sink.old sink.new (report_line report) (report_status report) result
+        ⊎ IsPut (to_sink K.took K.holds K.failures) sink.old sink.new (fault_line Memory) 4 result }
 {
     let Ok(line) = report_text(alloc, report.events, &report.verdict) else {
         return answer_fault(sink, Fault::Memory);

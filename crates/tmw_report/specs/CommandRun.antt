@@ -1,9 +1,10 @@
 -- What a run of a command does: from the bytes that its source tells to what its sink takes and the exit status.
 use Rattle.std.specs.Prelude.{◌≡◌, ℕ, List, Result, Ok, Err}
-use Rattle.tmw_streams.specs.Told.{Adds}
+use Rattle.tmw_streams.specs.Told.{Tells}
 use Rattle.tmw_lines.specs.declared.text_fault.TextFault.{TextFault}
 use Rattle.tmw_report.specs.Lines.{fault_line}
 use Rattle.tmw_report.specs.Putting.{IsPut, fault_of, failures_behind}
+use Rattle.tmw_report.specs.Streams.{FromSource, ToSink}
 use Rattle.tmw_report.specs.declared.fault.Fault.{Fault}
 
 -- This answers a text by a fault that the text has.
@@ -25,15 +26,15 @@ abbrev pub answer_status : {Found : Type 0} → (Found → ℕ) → Result Found
 answer_status exit (Ok found) = exit found
 answer_status exit (Err fault) = 4
 
--- There is an answer that is right of the bytes which the source told in the run, all of them where `Ended` holds. A failed read
+-- There is an answer that is right of the bytes which the source told in the run, all of them where it has ended. A failed read
 -- was counted where the answer is that one failed. The sink took the answer's text, and the status is the answer's; or a write
 -- failed, and it took a beginning.
-pub record IsCommandRun {S K Found : Type 0} (Told : S → List ℕ → Type 0) (Ended : S → Type 0) (reads_failed : S → ℕ)
-    (Took : K → List ℕ → Type 0) (writes_failed : K → ℕ) (IsRight : Type 0 → List ℕ → Result Found Fault → Type 0)
-    (text : Found → List ℕ) (exit : Found → ℕ) (source source_after : S) (sink sink_after : K) (status : ℕ) : Type 0 where
+pub record IsCommandRun {S K Found : Type 0} (From : FromSource S) (To : ToSink K)
+    (IsRight : Type 0 → List ℕ → Result Found Fault → Type 0) (text : Found → List ℕ) (exit : Found → ℕ)
+    (source source_after : S) (sink sink_after : K) (status : ℕ) : Type 0 where
   pub bytes : List ℕ
   pub answer : Result Found Fault
-  pub told : Adds Told source bytes source_after
-  pub right : IsRight (Ended source_after) bytes answer
-  pub failures : reads_failed source_after ≡ failures_after_answer answer (reads_failed source)
-  pub put : IsPut Took writes_failed sink sink_after (answer_text text answer) (answer_status exit answer) status
+  pub told : Tells From.told From.remaining source bytes source_after
+  pub right : IsRight (From.ended source_after) bytes answer
+  pub failures : From.failures source_after ≡ failures_after_answer answer (From.failures source)
+  pub put : IsPut To sink sink_after (answer_text text answer) (answer_status exit answer) status

@@ -1,6 +1,6 @@
 -- What a machine makes of a text's steps answers the text.
-use Rattle.std.proofs.Common.{ℕ, List, [], Result, Ok, Err, inl, inr, sym, ◌∙◌, append-nil}
-use Rattle.tmw_lines.specs.TextFault.{HasBegun}
+use Rattle.std.proofs.Common.{ℕ, List, [], Result, Ok, Err, inl, inr, sym, ◌∙◌, append-nil, arith}
+use Rattle.tmw_lines.specs.TextFault.{EndsSoon}
 use Rattle.tmw_lines.specs.declared.text_fault.TextFault.TheVariants.{Memory as WantsMemory}
 use Rattle.tmw_steps.specs.declared.size_line.SizeLine.{SizeLine}
 use Rattle.tmw_ring_defs.specs.declared.ring_step.Step.{Step}
@@ -10,11 +10,14 @@ use Rattle.tmw_steps.specs.StepText.{steps_grammar}
 use Rattle.tmw_steps.specs.declared.run.Run.{Run}
 
 -- a whole text is also the beginning of one
-begun : (bytes : List ℕ) (size : SizeLine) (steps : List Step) → IsStepsText bytes size steps → HasBegun steps_grammar bytes
-begun bytes size steps t = record { header = size; items = steps; are_lines = t.are_steps; rest = []; split = t.text ∙ sym (append-nil _) }
+soon : (bytes : List ℕ) (size : SizeLine) (steps : List Step) → IsStepsText bytes size steps → EndsSoon steps_grammar bytes
+soon bytes size steps t = record {
+  begun = record { header = size; items = steps; are_lines = t.are_steps; rest = []; split = t.text ∙ sym (append-nil _) };
+  soon = omega arith;
+}
 
 pub made-answers : (Ended : Type 0) (bytes : List ℕ) (size : SizeLine) (steps : List Step) (result : Result Run Fault)
     → Ended → IsStepsText bytes size steps → IsMade size steps result → AnswersSteps Ended bytes result
 made-answers Ended bytes size steps (Ok run) ended text made = (ended, size, steps, text, made)
 made-answers Ended bytes size steps (Err fault) ended text (inl refused) = inr (ended, size, steps, text, refused)
-made-answers Ended bytes size steps (Err fault) ended text (inr memory) = inl (WantsMemory, memory, begun bytes size steps text)
+made-answers Ended bytes size steps (Err fault) ended text (inr memory) = inl (WantsMemory, memory, soon bytes size steps text)

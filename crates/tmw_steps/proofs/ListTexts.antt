@@ -7,5 +7,5 @@ use Rattle.tmw_steps.specs.StepsNaming.{steps_naming}
 
 pub steps_law : StepsLaw
 steps_law bytes size other_size steps other_steps one other =
-    lines_text-injective steps_grammar steps_naming size other_size steps other_steps one.are_steps other.are_steps
+    lines_text-injective steps_grammar steps_naming size other_size steps other_steps one.are_steps.fit other.are_steps.fit
     (sym one.text ∙ other.text)

@@ -1,5 +1,5 @@
 -- The lines of replies, written one after the other.
-use Rattle.std.proofs.Common.{◌≡◌, ℕ, ◌+◌, ◌<◌, List, ◌∷◌, ◌++◌, length, take, drop, get_or, sym, ap, ◌∙◌, append_assoc, add-one, drop-cons, take-append-drop}
+use Rattle.std.proofs.Common.{◌≡◌, ℕ, ◌+◌, ◌<◌, List, [], ◌∷◌, ◌++◌, length, take, drop, get_or, sym, ap, ◌∙◌, append_assoc, add-one, append-nil, drop-cons, take-add, take-append-drop}
 use Rattle.std.proofs.lemmas.Grind.{flat_map-append}
 use Rattle.tmw_lines.specs.Text.{line}
 use Rattle.tmw_ring_defs.specs.declared.ring_step.Reply.{Reply}
@@ -22,3 +22,16 @@ replies-split replies log taken i reply is within =
     ap (λ xs. xs ++ counts) texts
     ∙ append_assoc (lines_text (take i replies)) (line (reply_text reply) ++ lines_text left) counts
     ∙ ap (λ xs. lines_text (take i replies) ++ xs) (append_assoc (line (reply_text reply)) (lines_text left) counts)
+
+-- the lines up to a reply, and its own
+pub lines-next : (replies : List Reply) (i : ℕ) (reply : Reply) → reply ≡ get_or replies i reply → i < length replies
+    → lines_text (take i replies) ++ line (reply_text reply) ≡ lines_text (take (i + 1) replies)
+lines-next replies i reply is within =
+    let left = drop (i + 1) replies in
+    let cons : drop i replies ≡ reply ∷ left =
+    drop-cons replies i reply within ∙ ap (λ n. get_or replies i reply ∷ drop n replies) (sym (add-one i))
+    ∙ ap (λ r. r ∷ left) (sym is) in
+    let one : take (i + 1) replies ≡ take i replies ++ reply ∷ [] =
+    take-add i 1 replies ∙ ap (λ xs. take i replies ++ take 1 xs) cons in
+    sym (ap lines_text one ∙ flat_map-append (λ r. line (reply_text r)) (take i replies) (reply ∷ [])
+    ∙ ap (λ xs. lines_text (take i replies) ++ xs) (append-nil (line (reply_text reply))))

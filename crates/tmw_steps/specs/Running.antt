@@ -6,6 +6,7 @@ use Rattle.tmw_ring_defs.specs.Sizes.{HasRoom, HasLimit, HasNumbers}
 use Rattle.tmw_ring_defs.specs.declared.ring_size.RingSize.{RingSize}
 use Rattle.tmw_ring_defs.specs.declared.ring_step.Step.{Step}
 use Rattle.tmw_report.specs.CommandRun.{AnswersTextFault, IsCommandRun}
+use Rattle.tmw_report.specs.Streams.{FromSource, ToSink}
 use Rattle.tmw_report.specs.declared.fault.Fault.{Fault}
 use Rattle.tmw_report.specs.declared.fault.Fault.TheVariants.{Size, Limit, Memory}
 use Rattle.tmw_steps.specs.ReplyText.{replies_text}
@@ -56,7 +57,5 @@ abbrev pub run_status : Run → ℕ
 run_status run = 0
 
 -- What a run of `steps` does: an answer to the bytes that its source tells in it, and the answer's text to its sink.
-abbrev pub RunsSteps : {S K : Type 0} → (S → List ℕ → Type 0) → (S → Type 0) → (S → ℕ) → (K → List ℕ → Type 0) → (K → ℕ) → S → S → K
-    → K → ℕ → Type 0
-RunsSteps Told Ended reads_failed Took writes_failed =
-    IsCommandRun Told Ended reads_failed Took writes_failed AnswersSteps run_text run_status
+abbrev pub RunsSteps : {S K : Type 0} → FromSource S → ToSink K → S → S → K → K → ℕ → Type 0
+RunsSteps From To = IsCommandRun From To AnswersSteps run_text run_status

@@ -57,6 +57,6 @@ steps_grammar = record {
 abbrev pub steps_text : SizeLine → List Step → List ℕ
 steps_text size steps = lines_text steps_grammar size steps
 
--- these are the size and the steps of a text: their numbers have 64 bits
+-- these are the size and the steps of a text: their numbers have 64 bits, and there are at most 2^40 steps
 abbrev pub AreSteps : SizeLine → List Step → Type 0
 AreSteps size steps = AreLines steps_grammar size steps

@@ -1,7 +1,7 @@
 ghost use Rattle.std.specs.Prelude.{◌≡◌, ℕ, List, IfOk, IfErr, OnOk};
 ghost use Rattle.tmw_lines.specs.TextFault.{HasTextFault, failures_after};
 ghost use Rattle.tmw_steps.specs.StepText.{steps_grammar, steps_text, AreSteps};
-ghost use Rattle.tmw_streams.specs.Told.{Adds};
+ghost use Rattle.tmw_streams.specs.Told.{Tells};
 
 use crate::step_list::StepList;
 use crate::steps_format::StepsFormat;
@@ -15,12 +15,12 @@ use tmw_streams::Source;
 /// bytes are held.
 pub fn read_steps<S: Source>(alloc: Global, source: &mut S) -> Result<StepList, TextFault>
     // The bytes told, up to the end, are exactly the list's text.
-    ensures text { IfOk result (λ list. Adds S.told source.old (steps_text list.size list.steps.items) source.new) }
+    ensures text { IfOk result (λ list. Tells S.told S.remaining source.old (steps_text list.size list.steps.items) source.new) }
     ensures ended { OnOk result (S.ended source.new) }
     ensures steps { IfOk result (λ list. AreSteps list.size list.steps.items) }
     // The bytes told have the fault.
     ensures fault { IfErr result (λ fault. (bytes : List ℕ)
-        × Adds S.told source.old bytes source.new × HasTextFault steps_grammar (S.ended source.new) bytes fault) }
+        × Tells S.told S.remaining source.old bytes source.new × HasTextFault steps_grammar (S.ended source.new) bytes fault) }
     ensures well { OnOk result (S.failures source.new ≡ S.failures source.old) }
     ensures failed { IfErr result (λ fault. S.failures source.new ≡ failures_after fault (S.failures source.old)) }
 {

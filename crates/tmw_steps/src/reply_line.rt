@@ -1,6 +1,6 @@
 ghost use Rattle.std.specs.Prelude.{◌≡◌, ◌++◌, OnOk, OnErr, decimal};
 ghost use Rattle.tmw_lines.specs.Text.{line};
-ghost use Rattle.tmw_streams.specs.Told.{Adds, AddsBeginning, one_more};
+ghost use Rattle.tmw_streams.specs.Told.{Takes, TakesBeginning, one_more};
 ghost use Rattle.tmw_ring_defs.specs.declared.ring_step.Reply.TheVariants.{Taken};
 ghost use Rattle.tmw_steps.specs.ReplyText.{reply_text, counts_text, replies_text};
 
@@ -16,9 +16,9 @@ pub fn put_replies<K: Sink>(
     log: u64,
     taken: u64,
 ) -> Result<(), IoFault>
-    ensures takes { OnOk result (Adds K.took sink.old (replies_text replies.now log taken) sink.new) }
+    ensures takes { OnOk result (Takes K.took K.holds sink.old (replies_text replies.now log taken) sink.new) }
     ensures well { OnOk result (K.failures sink.new ≡ K.failures sink.old) }
-    ensures begun { OnErr result (AddsBeginning K.took sink.old (replies_text replies.now log taken) sink.new) }
+    ensures begun { OnErr result (TakesBeginning K.took K.holds sink.old (replies_text replies.now log taken) sink.new) }
     ensures failed { OnErr result (K.failures sink.new ≡ one_more (K.failures sink.old)) }
 {
     for reply in replies {
@@ -29,9 +29,9 @@ pub fn put_replies<K: Sink>(
 
 /// Writes the reply's line, with its line feed.
 fn put_line<K: Sink>(sink: &mut K, reply: Reply) -> Result<(), IoFault>
-    ensures takes { OnOk result (Adds K.took sink.old (line (reply_text reply)) sink.new) }
+    ensures takes { OnOk result (Takes K.took K.holds sink.old (line (reply_text reply)) sink.new) }
     ensures well { OnOk result (K.failures sink.new ≡ K.failures sink.old) }
-    ensures begun { OnErr result (AddsBeginning K.took sink.old (line (reply_text reply)) sink.new) }
+    ensures begun { OnErr result (TakesBeginning K.took K.holds sink.old (line (reply_text reply)) sink.new) }
     ensures failed { OnErr result (K.failures sink.new ≡ one_more (K.failures sink.old)) }
 {
     put_reply(sink, reply)?;
@@ -40,9 +40,9 @@ fn put_line<K: Sink>(sink: &mut K, reply: Reply) -> Result<(), IoFault>
 
 /// Writes the line of the two counts, with its line feed.
 fn put_counts<K: Sink>(sink: &mut K, log: u64, taken: u64) -> Result<(), IoFault>
-    ensures takes { OnOk result (Adds K.took sink.old (line (counts_text log taken)) sink.new) }
+    ensures takes { OnOk result (Takes K.took K.holds sink.old (line (counts_text log taken)) sink.new) }
     ensures well { OnOk result (K.failures sink.new ≡ K.failures sink.old) }
-    ensures begun { OnErr result (AddsBeginning K.took sink.old (line (counts_text log taken)) sink.new) }
+    ensures begun { OnErr result (TakesBeginning K.took K.holds sink.old (line (counts_text log taken)) sink.new) }
     ensures failed { OnErr result (K.failures sink.new ≡ one_more (K.failures sink.old)) }
 {
     put_numbers(sink, b"log ", log, b" taken ", taken)?;
@@ -51,9 +51,9 @@ fn put_counts<K: Sink>(sink: &mut K, log: u64, taken: u64) -> Result<(), IoFault
 
 /// Writes the reply's text.
 fn put_reply<K: Sink>(sink: &mut K, reply: Reply) -> Result<(), IoFault>
-    ensures takes { OnOk result (Adds K.took sink.old (reply_text reply) sink.new) }
+    ensures takes { OnOk result (Takes K.took K.holds sink.old (reply_text reply) sink.new) }
     ensures well { OnOk result (K.failures sink.new ≡ K.failures sink.old) }
-    ensures begun { OnErr result (AddsBeginning K.took sink.old (reply_text reply) sink.new) }
+    ensures begun { OnErr result (TakesBeginning K.took K.holds sink.old (reply_text reply) sink.new) }
     ensures failed { OnErr result (K.failures sink.new ≡ one_more (K.failures sink.old)) }
 {
     match reply {
@@ -75,9 +75,9 @@ fn put_reply<K: Sink>(sink: &mut K, reply: Reply) -> Result<(), IoFault>
 
 /// Writes the text of an event that was taken.
 fn put_taken<K: Sink>(sink: &mut K, event: Event) -> Result<(), IoFault>
-    ensures takes { OnOk result (Adds K.took sink.old (reply_text (Taken event)) sink.new) }
+    ensures takes { OnOk result (Takes K.took K.holds sink.old (reply_text (Taken event)) sink.new) }
     ensures well { OnOk result (K.failures sink.new ≡ K.failures sink.old) }
-    ensures begun { OnErr result (AddsBeginning K.took sink.old (reply_text (Taken event)) sink.new) }
+    ensures begun { OnErr result (TakesBeginning K.took K.holds sink.old (reply_text (Taken event)) sink.new) }
     ensures failed { OnErr result (K.failures sink.new ≡ one_more (K.failures sink.old)) }
 {
     put_all(sink, b"event ")?;
@@ -92,10 +92,10 @@ fn put_numbers<K: Sink>(
     between: &[u8],
     second: u64,
 ) -> Result<(), IoFault>
-    ensures takes { OnOk result (Adds K.took sink.old
+    ensures takes { OnOk result (Takes K.took K.holds sink.old
         ((before.now ++ decimal first) ++ (between.now ++ decimal second)) sink.new) }
     ensures well { OnOk result (K.failures sink.new ≡ K.failures sink.old) }
-    ensures begun { OnErr result (AddsBeginning K.took sink.old
+    ensures begun { OnErr result (TakesBeginning K.took K.holds sink.old
         ((before.now ++ decimal first) ++ (between.now ++ decimal second)) sink.new) }
     ensures failed { OnErr result (K.failures sink.new ≡ one_more (K.failures sink.old)) }
 {

@@ -1,6 +1,7 @@
 ghost use Rattle.std.specs.Prelude.{◌≡◌, ℕ, List};
-ghost use Rattle.tmw_streams.specs.Told.{Adds};
+ghost use Rattle.tmw_streams.specs.Told.{Tells};
 ghost use Rattle.tmw_report.specs.CommandRun.{failures_after_answer};
+ghost use Rattle.tmw_report.specs.Streams.{from_source, to_sink};
 ghost use Rattle.tmw_steps.specs.Running.{AnswersSteps, IsMade, RunsSteps};
 
 use crate::reader::read_steps;
@@ -23,7 +24,8 @@ pub struct Run {
 /// `log L taken K`. The whole text is read first. For a fault its line alone is written. The result is the exit status: 0, or 4
 /// for any fault.
 pub fn run_steps<S: Source, K: Sink>(alloc: Global, source: &mut S, sink: &mut K) -> u8
-    ensures { RunsSteps S.told S.ended S.failures K.took K.failures source.old source.new sink.old sink.new result }
+    ensures { RunsSteps (from_source S.told S.remaining S.ended S.failures) (to_sink K.took K.holds K.failures)
+        source.old source.new sink.old sink.new result }
 {
     match run_of(alloc, source) {
         Ok(run) => match put_replies(sink, &run.replies, run.log, run.taken) {
@@ -36,7 +38,8 @@ pub fn run_steps<S: Source, K: Sink>(alloc: Global, source: &mut S, sink: &mut K
 
 /// Reads steps up to the source's end, and makes them.
 fn run_of<S: Source>(alloc: Global, source: &mut S) -> Result<Run, Fault>
-    ensures right { (bytes : List ℕ) × Adds S.told source.old bytes source.new × AnswersSteps (S.ended source.new) bytes result }
+    ensures right { (bytes : List ℕ) × Tells S.told S.remaining source.old bytes source.new
+        × AnswersSteps (S.ended source.new) bytes result }
     ensures failures { S.failures source.new ≡ failures_after_answer result (S.failures source.old) }
 {
     match read_steps(alloc, source) {

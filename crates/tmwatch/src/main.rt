@@ -3,33 +3,19 @@
 //! ring's steps, and writes what each of them answers.
 #![tactic(auto)]
 
-mod order;
-mod words;
-
-use clap::Error;
-use clap::error::ErrorKind;
-use order::Order;
-use std::io::ErrorKind as IoErrorKind;
+use std::io::ErrorKind;
 use std::process::ExitCode;
 use std::{env, io};
-use tmw_judge::run_judge;
-use tmw_report::{FAULT_STATUS, Fault, answer_fault};
-use tmw_steps::run_steps;
-use tmw_streams::{Sink, StdSink, StdSource};
-use words::read_words;
+use tmw_command::run_command;
+use tmw_report::Fault;
+use tmw_streams::{StdSink, StdSource};
 
 fn main(rt: HostRuntime) -> ExitCode {
     let mut source = StdSource::new(rt.stdin());
     let mut sink = StdSink::new(rt.stdout());
-    let status = match words_of(&rt) {
-        Ok(words) => match read_words(rt.alloc(), &words) {
-            Ok(Order::Judge { bounds }) => run_judge(rt.alloc(), &mut source, &mut sink, bounds),
-            Ok(Order::Steps) => run_steps(rt.alloc(), &mut source, &mut sink),
-            Err(error) => answer(&rt, &mut sink, &error),
-        },
-        Err(fault) => answer_fault(&mut sink, fault),
-    };
-    ExitCode::from(status)
+    let mut errors = StdSink::new(rt.stderr());
+    let words = words_of(&rt);
+    ExitCode::from(run_command(rt.alloc(), words, &mut source, &mut sink, &mut errors))
 }
 
 /// The words of the command line, of which the first is the program's name.
@@ -47,23 +33,7 @@ fn words_of(rt: &HostRuntime) -> Result<Vec<String>, Fault> {
 /// Why there are no words: memory was refused, or one of them is not UTF-8.
 fn unread(error: io::Error) -> Fault {
     match error.kind() {
-        IoErrorKind::OutOfMemory => Fault::Memory,
+        ErrorKind::OutOfMemory => Fault::Memory,
         _ => Fault::Usage,
-    }
-}
-
-/// Answers a command line that gives no order, by its exit status: help goes to standard output, any other text of clap's to
-/// standard error, with the fault's line on standard output.
-fn answer<R: Print + Eprint, K: Sink>(rt: &R, sink: &mut K, error: &Error) -> u8 {
-    match error.kind() {
-        ErrorKind::OutOfMemory => answer_fault(sink, Fault::Memory),
-        ErrorKind::DisplayHelp => match error.print(rt) {
-            Ok(()) => 0,
-            Err(_) => FAULT_STATUS,
-        },
-        _ => {
-            let _printed = error.print(rt);
-            answer_fault(sink, Fault::Usage)
-        }
     }
 }

@@ -6,7 +6,7 @@ use Rattle.tmw_judge.proofs.judging.judge.Given as goal
 
 abbrev pub invariant-lines : goal.invariant-lines
 invariant-lines g l =
-    HasFed g.S.Source.told l.fn.source l.source l.lines l.fn.bounds l.monitor
+    HasFed g.S.Source.told g.S.Source.remaining l.fn.source l.source l.lines l.fn.bounds l.monitor
     × (g.S.Source.failures l.source ≡ g.S.Source.failures l.fn.source)
 
 abbrev pub decreases-lines : goal.decreases-lines

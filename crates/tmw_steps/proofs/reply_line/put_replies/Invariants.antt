@@ -1,9 +1,9 @@
 use Rattle.std.proofs.Common.{◌≡◌, take}
-use Rattle.tmw_streams.specs.Told.{Adds}
+use Rattle.tmw_streams.specs.Told.{Takes}
 use Rattle.tmw_steps.specs.ReplyText.{lines_text}
 use Rattle.tmw_steps.proofs.reply_line.put_replies.Given as goal
 
 abbrev pub invariant-loop-reply : goal.invariant-loop-reply
 invariant-loop-reply g l =
-    Adds g.K.Sink.took l.fn.sink (lines_text (take l.reply-index l.replies)) l.sink
+    Takes g.K.Sink.took g.K.Sink.holds l.fn.sink (lines_text (take l.reply-index l.replies)) l.sink
     × (g.K.Sink.failures l.sink ≡ g.K.Sink.failures l.fn.sink)

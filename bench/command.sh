@@ -1,0 +1,91 @@
+#!/usr/bin/env bash
+# Runs the built program as its users do, on the command lines of docs/FORMATS.md, and compares its output and exit status.
+#
+#   bench/command.sh
+#
+# Each command line that fails is told. The last line is 'N passed, M failed', and the exit status is 1 where one failed.
+set -eu
+top=$(cd "$(dirname "${BASH_SOURCE[0]}")/.." && pwd)
+folder=$(mktemp -d)
+trap 'rm -rf "$folder"' EXIT
+passed=0 failed=0
+"$top/tmwatch" judge <"$top/examples/dirty_read.trace" >/dev/null || [ $? -eq 1 ]
+
+# Counts a command line by whether what it did is what was wanted.
+count() {
+    if [ "$2" = "$3" ]; then
+        passed=$((passed + 1))
+    else
+        failed=$((failed + 1))
+        printf '%s: %s, and not %s\n' "$1" "$3" "$2"
+    fi
+}
+
+# Runs the program with these words on standard input, and keeps what it writes and its exit status.
+run() {
+    status=0
+    "$top/tmwatch" "$@" >"$folder/output" 2>"$folder/errors" || status=$?
+}
+
+# A command line on a file, the status and the output that it has to have, and nothing on standard error.
+expect() {
+    local input=$1 wanted=$2 output=$3
+    shift 3
+    run "$@" <"$top/$input"
+    count "$* < $input" "$wanted '$output' ''" "$status '$(cat "$folder/output")' '$(cat "$folder/errors")'"
+}
+
+# A command line that asks for help: a line of its text, on standard output alone.
+expect_help() {
+    local line=$1
+    shift
+    run "$@" </dev/null
+    count "$*" "0 1 ''" "$status $(grep -cxF -- "$line" "$folder/output") '$(cat "$folder/errors")'"
+}
+
+# A wrong command line: the line of the fault, and why on standard error.
+expect_usage() {
+    local why=$1
+    shift
+    run "$@" </dev/null
+    count "$*" "4 '{\"fault\":\"usage\"}' '$why'" "$status '$(cat "$folder/output")' '$(head -n 1 "$folder/errors")'"
+}
+
+expect examples/dirty_read.trace 1 '{"at":4,"events":8,"verdict":"violated"}' judge
+expect examples/own_write.trace 0 '{"events":6,"verdict":"opaque so far"}' judge
+expect examples/left_open.trace 2 '{"at":16,"events":16,"verdict":"undecided","why":"transactions"}' judge
+expect examples/two_writers.trace 2 '{"at":8,"events":8,"verdict":"undecided","why":"states"}' judge --states 1
+expect examples/dirty_read.trace 2 '{"at":3,"events":8,"verdict":"undecided","why":"transactions"}' judge --window=1 --states=64
+expect examples/stopped_writer.steps 4 '{"fault":"bad header"}' judge
+expect examples/stopped_writer.steps 0 "$(printf '%s\n' 'saw 0' cleared 'place 0' stopped 'not now' 'saw 0' cleared 'place 1' \
+    filled 'published 1' 'not ready' 'not now' 'log 2 taken 0')" steps
+expect examples/dirty_read.trace 4 '{"fault":"bad header"}' steps
+
+expect_help 'Usage: tmwatch <COMMAND>' --help
+expect_help 'Usage: tmwatch <COMMAND>' help
+expect_help 'Usage: tmwatch judge [OPTIONS]' judge --help
+expect_help 'Usage: tmwatch judge [OPTIONS]' help judge
+expect_help 'Usage: tmwatch steps' steps --help
+
+expect_usage "error: 'tmwatch' requires a subcommand but one was not provided"
+expect_usage "error: unrecognized subcommand 'drive'" drive
+expect_usage "error: unrecognized subcommand 'drive'" help drive
+expect_usage "error: the argument '--window <N>' cannot be used multiple times" judge --window 3 --window 3
+expect_usage "error: invalid value '9' for '--window <N>': 9 is not in 1..=8" judge --window 9
+expect_usage "error: invalid value '65' for '--states <N>': 65 is not in 1..=64" judge --states=65
+expect_usage "error: unexpected argument 'further' found" judge further
+expect_usage "error: unexpected argument '--window' found" steps --window 3
+expect_usage '' judge $'\xff'
+
+# standard output that takes nothing, and standard error that takes nothing
+for words in 'judge' 'steps' '--help' 'drive'; do
+    status=0
+    "$top/tmwatch" $words <"$top/examples/dirty_read.trace" >/dev/full 2>/dev/null || status=$?
+    count "$words > /dev/full" 4 "$status"
+done
+status=0
+"$top/tmwatch" drive </dev/null >"$folder/output" 2>/dev/full || status=$?
+count 'drive 2> /dev/full' "4 '{\"fault\":\"usage\"}'" "$status '$(cat "$folder/output")'"
+
+echo "$passed passed, $failed failed"
+[ "$failed" -eq 0 ]

@@ -1,0 +1,5 @@
+mod HelpWords
+mod Numbers
+mod Orders
+mod Refusals
+mod WrittenOut

@@ -1,0 +1,4 @@
+pub mod Program
+pub mod Reading
+pub mod Running
+pub mod Words

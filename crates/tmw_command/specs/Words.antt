@@ -1,0 +1,58 @@
+-- What the words of a command line ask for: an order, help, or nothing that the program knows.
+use Rattle.std.specs.Prelude.{◌≡◌, ◌≢◌, ◌⊎◌, ℕ, Bool, false, List, [], ◌∷◌, ◌++◌, Option, Some, codes, if◌then◌else◌}
+use Rattle.std.specs.List.{remove}
+use Rattle.std.specs.Str.{bytes_eq}
+use Rattle.std.specs.Str.Parse.{IsNumeral, digits_value, without_leading_plus}
+use Rattle.clap.specs.Words.{IsAmong, Kinds, Row, Text, fault_of, one_of, subcommand_of}
+use Rattle.clap.specs.declared.error.kind.ErrorKind.{ErrorKind}
+use Rattle.clap.specs.declared.error.kind.ErrorKind.TheVariants.{DisplayHelp}
+use Rattle.tmw_monitor.specs.declared.bounds.Bounds.{Bounds}
+use Rattle.tmw_command.specs.Program.{program}
+use Rattle.tmw_command.specs.declared.order.Order.{Order}
+use Rattle.tmw_command.specs.declared.order.Order.TheVariants.{Judge, Steps}
+
+-- `help` stands in place of a command, behind the program's name.
+abbrev pub names_help : List Text → Bool
+names_help (name ∷ word ∷ others) = bytes_eq word (codes "help")
+names_help _ = false
+
+-- `help` in place of a command is `--help` behind all other words.
+abbrev pub help_as_flag : List Text → List Text
+help_as_flag words = if names_help words then remove words 1 ++ codes "--help" ∷ [] else words
+
+-- The kinds of the fault that the parser finds in the words, or of the request for help: none where they are right.
+abbrev pub kinds_of : List Text → Kinds
+kinds_of words = fault_of program (help_as_flag words)
+
+-- Of the option of this name the words give this number, or its default does where they give none. The text is the one that
+-- the option's parser reads: decimal digits, after a plus or not.
+pub record Gives (name : Text) (rows : List Row) (number : ℕ) : Type 0 where
+  pub text : Text
+  pub found : one_of name rows ≡ Some text
+  pub numeral : IsNumeral 10 (without_leading_plus text)
+  pub reads : number ≡ digits_value 10 (without_leading_plus text)
+
+-- The words give these bounds.
+abbrev pub HasBounds : List Row → Bounds → Type 0
+HasBounds rows bounds = Gives (codes "window") rows bounds.window × Gives (codes "states") rows bounds.states
+
+-- This is the order of a command and of what was found for its options.
+abbrev pub IsOrder : Option (Text × List Row) → Order → Type 0
+IsOrder found (Judge bounds) = (rows : List Row) × (found ≡ Some (codes "judge", rows)) × HasBounds rows bounds
+IsOrder found Steps = (rows : List Row) × (found ≡ Some (codes "steps", rows))
+
+-- The words are right, and ask for this order.
+abbrev pub Asks : List Text → Order → Type 0
+Asks words order = (kinds_of words ≡ []) × IsOrder (subcommand_of program (help_as_flag words)) order
+
+-- The words ask for help.
+abbrev pub AsksForHelp : List Text → Type 0
+AsksForHelp words = IsAmong DisplayHelp (kinds_of words)
+
+-- The parser finds no fault in the words, and still they give no order.
+abbrev pub AsksForNothing : List Text → Type 0
+AsksForNothing words = (kinds_of words ≡ []) × ((order : Order) → Asks words order → ⊥)
+
+-- The words are no command line of the program.
+abbrev pub IsWrong : List Text → Type 0
+IsWrong words = ((kind : ErrorKind) × IsAmong kind (kinds_of words) × (kind ≢ DisplayHelp)) ⊎ AsksForNothing words

@@ -1,0 +1,14 @@
+//! The command line: which order its words ask for, and its run from a source to a sink.
+#![tactic(auto)]
+
+mod order;
+mod parse;
+mod program;
+mod refusal;
+mod run;
+mod words;
+
+pub use order::Order;
+pub use refusal::Refusal;
+pub use run::run_command;
+pub use words::read_words;

@@ -1,0 +1,98 @@
+ghost use Rattle.std.specs.Prelude.{◌≡◌, IfErr, IfNone, IfOk, IfSome, map};
+ghost use Rattle.clap.specs.Walk.{texts};
+ghost use Rattle.clap.specs.Words.{found_of, kind_of, rows_of, subcommand_rows_of};
+ghost use Rattle.tmw_command.specs.Reading.{FailsAs};
+ghost use Rattle.tmw_command.specs.Words.{Asks, HasBounds, IsOrder, help_as_flag, names_help};
+ghost use Rattle.tmw_command.specs.declared.order.Order.{Order};
+ghost use Rattle.tmw_monitor.specs.declared.bounds.Bounds.{Bounds};
+
+use crate::order::Order;
+use crate::program::new_program;
+use clap::error::ErrorKind;
+use clap::{ArgMatches, Error};
+use std::alloc::{AllocError, Global};
+use std::convert::AsStr;
+use tmw_monitor::Bounds;
+
+/// Parses the words of the command line, of which the first is the program's name and is passed over. The error is clap's, and
+/// tells by its kind a request for help, what is wrong with the words, or a want of memory.
+pub fn parse<S: AsStr>(alloc: Global, words: &[S]) -> Result<Order, Error>
+    ensures order { IfOk result (Asks (map S.text words.now)) }
+    ensures refused { IfErr result (λ error. FailsAs (map S.text words.now) (kind_of error)) }
+{
+    let spelled = help_as_flag(alloc, words)?;
+    let mut command = new_program(alloc)?;
+    let matches = command.try_get_matches_from_mut(&spelled)?;
+    match order_of(&matches) {
+        Some(order) => Ok(order),
+        None => Err(command.error(ErrorKind::InvalidSubcommand, "the words give no command")?),
+    }
+}
+
+/// The words, where `help` in place of a command is `--help` behind all others.
+fn help_as_flag<S: AsStr>(alloc: Global, words: &[S]) -> Result<Vec<&str>, AllocError>
+    ensures { IfOk result (λ spelled. texts spelled.items ≡ help_as_flag (map S.text words.now)) }
+{
+    let mut spelled = texts_of(alloc, words)?;
+    if names_help(&spelled) {
+        spelled.remove(1);
+        spelled.push("--help")?;
+    }
+    Ok(spelled)
+}
+
+/// The words as texts.
+fn texts_of<S: AsStr>(alloc: Global, words: &[S]) -> Result<Vec<&str>, AllocError>
+    ensures { IfOk result (λ spelled. texts spelled.items ≡ map S.text words.now) }
+{
+    let mut spelled = Vec::new(alloc);
+    for word in words {
+        spelled.push(word.as_str())?;
+    }
+    Ok(spelled)
+}
+
+/// Whether `help` stands in place of a command.
+fn names_help(words: &[&str]) -> bool
+    ensures { result ≡ names_help (texts words.now) }
+{
+    match words {
+        [_, word, ..] => *word == "help",
+        _ => false,
+    }
+}
+
+/// The order that the matches hold. There is none where they lack a command or one of its values.
+fn order_of(matches: &ArgMatches<'_>) -> Option<Order>
+    ensures some { IfSome result (IsOrder (subcommand_rows_of matches.now)) }
+    ensures none { IfNone result ((order : Order) → IsOrder (subcommand_rows_of matches.now) order → ⊥) }
+{
+    match matches.subcommand() {
+        Some(("judge", judge)) => match bounds_of(judge) {
+            Some(bounds) => Some(Order::Judge { bounds }),
+            None => None,
+        },
+        Some(("steps", _)) => Some(Order::Steps),
+        _ => None,
+    }
+}
+
+/// The bounds that the matches of `judge` hold.
+fn bounds_of(judge: &ArgMatches<'_>) -> Option<Bounds>
+    ensures some { IfSome result (HasBounds (rows_of (found_of judge.now))) }
+    ensures none { IfNone result ((bounds : Bounds) → HasBounds (rows_of (found_of judge.now)) bounds → ⊥) }
+{
+    let Some(window) = judge.get_one::<u8>("window") else {
+        return None;
+    };
+    let Some(states) = judge.get_one::<u8>("states") else {
+        return None;
+    };
+    match Bounds::new(window, states) {
+        Ok(bounds) => Some(bounds),
+        Err(_) => None,
+    }
+}
+
+#[cfg(test)]
+mod tests;

@@ -1,0 +1,10 @@
+/// Why the words of a command line give no order.
+#[derive(Debug, Drop)]
+pub enum Refusal {
+    /// They ask for help: its text.
+    Help(String),
+    /// They are no command line of the program: the text that tells what is wrong with them.
+    Usage(String),
+    /// Memory was refused.
+    Memory,
+}

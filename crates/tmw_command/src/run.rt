@@ -1,0 +1,100 @@
+ghost use Rattle.std.specs.Prelude.{map, string_bytes};
+ghost use Rattle.std.specs.Result.{result_map_both};
+ghost use Rattle.tmw_report.specs.Putting.{IsPut, IsSent};
+ghost use Rattle.tmw_report.specs.Streams.{from_source, to_sink};
+ghost use Rattle.tmw_command.specs.Running.{AnswersRefusal, RunsCommand, RunsOrder, RunsWords};
+
+use crate::order::Order;
+use crate::refusal::Refusal;
+use crate::words::read_words;
+use std::alloc::Global;
+use std::convert::AsStr;
+use tmw_judge::run_judge;
+use tmw_report::{FAULT_STATUS, Fault, answer_fault};
+use tmw_steps::run_steps;
+use tmw_streams::{Sink, Source, put_all};
+
+/// Runs the command line of these words, of which the first is the program's name, from the source to the sink: the order that
+/// they ask for, or the text of help. For words that are no command line of the program, or that can't be had, the fault's line
+/// goes to the sink, and the text that tells what is wrong to the sink for errors. The result is the exit status: that of the
+/// order, 0 for help, or 4 for any fault and for help that was cut short.
+pub fn run_command<S: Source, K: Sink, E: Sink>(
+    alloc: Global,
+    words: Result<Vec<String>, Fault>,
+    source: &mut S,
+    sink: &mut K,
+    errors: &mut E,
+) -> u8
+    ensures { RunsCommand (from_source S.told S.remaining S.ended S.failures) (to_sink K.took K.holds K.failures)
+        (to_sink E.took E.holds E.failures) (result_map_both (λ given. map string_bytes given.items) (λ fault. fault) words)
+        source.old source.new sink.old sink.new errors.old errors.new result }
+{
+    match words {
+        Ok(words) => run_words(alloc, &words, source, sink, errors),
+        Err(fault) => answer_fault(sink, fault),
+    }
+}
+
+/// Reads the words, and runs their order or answers why there is none.
+fn run_words<W: AsStr, S: Source, K: Sink, E: Sink>(
+    alloc: Global,
+    words: &[W],
+    source: &mut S,
+    sink: &mut K,
+    errors: &mut E,
+) -> u8
+    ensures { RunsWords (from_source S.told S.remaining S.ended S.failures) (to_sink K.took K.holds K.failures)
+        (to_sink E.took E.holds E.failures) (map W.text words.now)
+        source.old source.new sink.old sink.new errors.old errors.new result }
+{
+    match read_words(alloc, words) {
+        Ok(order) => run_order(alloc, order, source, sink),
+        Err(refusal) => answer_refusal(refusal, sink, errors),
+    }
+}
+
+/// Runs an order's command.
+fn run_order<S: Source, K: Sink>(alloc: Global, order: Order, source: &mut S, sink: &mut K) -> u8
+    ensures { RunsOrder (from_source S.told S.remaining S.ended S.failures) (to_sink K.took K.holds K.failures) order
+        source.old source.new sink.old sink.new result }
+{
+    match order {
+        Order::Judge { bounds } => run_judge(alloc, source, sink, bounds),
+        Order::Steps => run_steps(alloc, source, sink),
+    }
+}
+
+/// Answers words that give no order.
+fn answer_refusal<K: Sink, E: Sink>(refusal: Refusal, sink: &mut K, errors: &mut E) -> u8
+    ensures { AnswersRefusal (to_sink K.took K.holds K.failures) (to_sink E.took E.holds E.failures) refusal
+        sink.old sink.new errors.old errors.new result }
+{
+    match refusal {
+        Refusal::Help(text) => answer_text(sink, text.as_str()),
+        Refusal::Usage(text) => {
+            send(errors, text.as_str());
+            answer_fault(sink, Fault::Usage)
+        }
+        Refusal::Memory => answer_fault(sink, Fault::Memory),
+    }
+}
+
+/// Writes a text that was asked for, with exit status 0.
+fn answer_text<K: Sink>(sink: &mut K, text: &str) -> u8
+    ensures { IsPut (to_sink K.took K.holds K.failures) sink.old sink.new text.now 0 result }
+{
+    match put_all(sink, text.as_bytes()) {
+        Ok(()) => 0,
+        Err(_) => FAULT_STATUS,
+    }
+}
+
+/// Sends a text as far as the sink takes it.
+fn send<E: Sink>(errors: &mut E, text: &str)
+    ensures { IsSent (to_sink E.took E.holds E.failures) errors.old errors.new text.now }
+{
+    let _sent = put_all(errors, text.as_bytes());
+}
+
+#[cfg(test)]
+mod tests;

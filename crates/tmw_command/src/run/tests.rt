@@ -1,0 +1,216 @@
+//! What the contracts leave open: that command lines are answered as their users expect, and that there is memory for it.
+use crate::run::run_command;
+use std::alloc::{AllocError, Global};
+use std::process::Abort;
+use std::str::from_utf8;
+use std::test::Fail;
+use tmw_report::Fault;
+use tmw_streams::{MemorySink, MemorySource};
+
+/// A transaction reads what another, not yet commit-pending, has written.
+const TRACE: &[u8] = b"opacity-trace 1 1\n0 W 0 1\n0 K\n1 R 0\n1 V 1\n0 T\n0 C\n1 T\n1 C\n";
+
+const VIOLATED: &str = "{\"at\":4,\"events\":8,\"verdict\":\"violated\"}\n";
+
+/// A writer of a ring of four cells sees room and claims a place.
+const STEPS: &[u8] = b"ring-steps 1 4 2 100\nfront 0 T\ntail 0\nclaim 0\n";
+
+const REPLIES: &str = "saw 0\ncleared\nplace 0\nlog 1 taken 0\n";
+
+const USAGE: &str = "{\"fault\":\"usage\"}\n";
+
+/// The words that spaces part.
+fn parted(alloc: Global, line: &str) -> Result<Vec<String>, AllocError> {
+    let mut words = Vec::new(alloc);
+    for word in line.split(' ') {
+        words.push(String::from_str(alloc, word)?)?;
+    }
+    Ok(words)
+}
+
+/// Runs a command line that gives an order, and compares what went out.
+fn expect(
+    rt: &(impl Abort + AllocGlobal),
+    line: &str,
+    input: &[u8],
+    output: &str,
+    status: u8,
+) -> Result<(), Fail> {
+    let mut source = MemorySource::new(input);
+    let mut sink = MemorySink::new(rt.alloc());
+    let mut errors = MemorySink::new(rt.alloc());
+    let words = parted(rt.alloc(), line)?;
+    let exit = run_command(rt.alloc(), Ok(words), &mut source, &mut sink, &mut errors);
+    assert_eq!(rt; sink.bytes(), output.as_bytes(), "of {line}");
+    assert_eq!(rt; errors.bytes(), b"".as_slice(), "of {line}");
+    assert_eq!(rt; exit, status, "of {line}");
+    Ok(())
+}
+
+#[test]
+fn orders(rt: HostRuntime) -> Result<(), Fail> {
+    expect(&rt, "tmwatch judge", TRACE, VIOLATED, 1)?;
+    expect(
+        &rt,
+        "tmwatch judge --window 1 --states=1",
+        TRACE,
+        "{\"at\":3,\"events\":8,\"verdict\":\"undecided\",\"why\":\"transactions\"}\n",
+        2,
+    )?;
+    expect(&rt, "tmwatch judge --window=3", TRACE, VIOLATED, 1)?;
+    expect(
+        &rt,
+        "tmwatch judge",
+        STEPS,
+        "{\"fault\":\"bad header\"}\n",
+        4,
+    )?;
+    expect(&rt, "tmwatch steps", STEPS, REPLIES, 0)?;
+    expect(
+        &rt,
+        "tmwatch steps",
+        b"ring-steps 1 0 2 100\n",
+        "{\"fault\":\"size\"}\n",
+        4,
+    )
+}
+
+/// Runs a command line, and compares its line and status, and what the text for errors begins with.
+fn expect_usage(rt: &(impl Abort + AllocGlobal), line: &str, error: &str) -> Result<(), Fail> {
+    let mut source = MemorySource::new(TRACE);
+    let mut sink = MemorySink::new(rt.alloc());
+    let mut errors = MemorySink::new(rt.alloc());
+    let words = parted(rt.alloc(), line)?;
+    let exit = run_command(rt.alloc(), Ok(words), &mut source, &mut sink, &mut errors);
+    assert_eq!(rt; sink.bytes(), USAGE.as_bytes(), "of {line}");
+    assert_eq!(rt; exit, 4, "of {line}");
+    let text = from_utf8(errors.bytes()).unwrap_or("");
+    assert!(rt; text.starts_with(error), "of {line}: {text}");
+    Ok(())
+}
+
+#[test]
+fn wrong_command_lines(rt: HostRuntime) -> Result<(), Fail> {
+    for (line, error) in [
+        (
+            "tmwatch judge --window 3 --window 3",
+            "error: the argument '--window <N>' cannot be used multiple times",
+        ),
+        (
+            "tmwatch judge --window 9",
+            "error: invalid value '9' for '--window <N>'",
+        ),
+        (
+            "tmwatch judge --states=0",
+            "error: invalid value '0' for '--states <N>'",
+        ),
+        (
+            "tmwatch judge further",
+            "error: unexpected argument 'further' found",
+        ),
+        (
+            "tmwatch steps --window 3",
+            "error: unexpected argument '--window' found",
+        ),
+        ("tmwatch drive", "error: unrecognized subcommand 'drive'"),
+        (
+            "tmwatch help drive",
+            "error: unrecognized subcommand 'drive'",
+        ),
+        ("tmwatch", "error: 'tmwatch' requires a subcommand"),
+    ] {
+        expect_usage(&rt, line, error)?;
+    }
+    Ok(())
+}
+
+#[test]
+fn requests_for_help(rt: HostRuntime) -> Result<(), Fail> {
+    for (line, usage) in [
+        ("tmwatch --help", "Usage: tmwatch <COMMAND>\n"),
+        ("tmwatch help", "Usage: tmwatch <COMMAND>\n"),
+        ("tmwatch judge --help", "Usage: tmwatch judge [OPTIONS]\n"),
+        ("tmwatch help judge", "Usage: tmwatch judge [OPTIONS]\n"),
+        ("tmwatch steps --help", "Usage: tmwatch steps\n"),
+    ] {
+        let mut source = MemorySource::new(TRACE);
+        let mut sink = MemorySink::limited(rt.alloc(), 1, None);
+        let mut errors = MemorySink::new(rt.alloc());
+        let words = parted(rt.alloc(), line)?;
+        let exit = run_command(rt.alloc(), Ok(words), &mut source, &mut sink, &mut errors);
+        let text = from_utf8(sink.bytes()).unwrap_or("");
+        assert!(rt; text.contains(usage), "of {line}: {text}");
+        assert_eq!(rt; errors.bytes(), b"".as_slice(), "of {line}");
+        assert_eq!(rt; exit, 0, "of {line}");
+    }
+    Ok(())
+}
+
+#[test]
+fn words_that_cannot_be_had(rt: HostRuntime) {
+    for (fault, line) in [
+        (Fault::Usage, USAGE),
+        (Fault::Memory, "{\"fault\":\"memory\"}\n"),
+    ] {
+        let mut source = MemorySource::new(TRACE);
+        let mut sink = MemorySink::new(rt.alloc());
+        let mut errors = MemorySink::new(rt.alloc());
+        let exit = run_command(rt.alloc(), Err(fault), &mut source, &mut sink, &mut errors);
+        assert_eq!(rt; sink.bytes(), line.as_bytes());
+        assert_eq!(rt; errors.bytes(), b"".as_slice());
+        assert_eq!(rt; exit, 4);
+    }
+}
+
+#[test]
+fn writes_that_fail(rt: HostRuntime) -> Result<(), Fail> {
+    for (line, output) in [
+        ("tmwatch judge", VIOLATED),
+        ("tmwatch steps", "{\"fault\":\"bad header\"}\n"),
+        ("tmwatch drive", USAGE),
+    ] {
+        for sent in 0..output.len() {
+            let mut source = MemorySource::new(TRACE);
+            let mut sink = MemorySink::limited(rt.alloc(), 1, Some(sent as u64 + 1));
+            let mut errors = MemorySink::new(rt.alloc());
+            let words = parted(rt.alloc(), line)?;
+            let exit = run_command(rt.alloc(), Ok(words), &mut source, &mut sink, &mut errors);
+            assert_eq!(rt;
+                sink.bytes(),
+                &output.as_bytes()[..sent],
+                "of {line} after {sent}"
+            );
+            assert_eq!(rt; exit, 4, "of {line} after {sent}");
+        }
+    }
+    Ok(())
+}
+
+#[test]
+fn help_that_is_cut_short(rt: HostRuntime) -> Result<(), Fail> {
+    for call in [1, 2, 40] {
+        let mut source = MemorySource::new(TRACE);
+        let mut sink = MemorySink::limited(rt.alloc(), 1, Some(call));
+        let mut errors = MemorySink::new(rt.alloc());
+        let words = parted(rt.alloc(), "tmwatch --help")?;
+        let exit = run_command(rt.alloc(), Ok(words), &mut source, &mut sink, &mut errors);
+        assert_eq!(rt; sink.bytes().len() as u64 + 1, call);
+        assert_eq!(rt; exit, 4, "at {call}");
+    }
+    Ok(())
+}
+
+#[test]
+fn a_failing_sink_for_errors_keeps_no_line(rt: HostRuntime) -> Result<(), Fail> {
+    for call in [1, 2] {
+        let mut source = MemorySource::new(TRACE);
+        let mut sink = MemorySink::new(rt.alloc());
+        let mut errors = MemorySink::limited(rt.alloc(), 5, Some(call));
+        let words = parted(rt.alloc(), "tmwatch drive")?;
+        let exit = run_command(rt.alloc(), Ok(words), &mut source, &mut sink, &mut errors);
+        assert_eq!(rt; sink.bytes(), USAGE.as_bytes(), "at {call}");
+        assert_eq!(rt; errors.bytes().len() as u64, 5 * (call - 1));
+        assert_eq!(rt; exit, 4, "at {call}");
+    }
+    Ok(())
+}
