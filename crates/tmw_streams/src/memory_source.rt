@@ -6,6 +6,7 @@ use crate::io_fault::IoFault;
 use crate::source::Source;
 
 /// A source over bytes in memory. It tells at most a chosen number of bytes a call, and may fail at one chosen call.
+/// Once it has answered its end, calls aren't counted.
 #[derive(Debug, Drop)]
 pub struct MemorySource<'a> {
     content: &'a [u8],

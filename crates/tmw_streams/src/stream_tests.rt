@@ -1,5 +1,5 @@
-//! What the contracts of sources and sinks don't say: that calls succeed, at which call one fails, and what std streams
-//! are given and asked.
+//! What the contracts of sources and sinks don't say: that calls succeed, at which call one fails, and when std streams
+//! are asked.
 use crate::{IoFault, MemorySink, MemorySource, Sink, Source, StdSink, StdSource, put_all};
 use std::io;
 

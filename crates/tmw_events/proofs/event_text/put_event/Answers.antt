@@ -16,6 +16,6 @@ pub returns-clause-begun : goal.returns-clause-begun
 returns-clause-begun g c =
     let thread = rw c.digit_of.ensures at c.in_ok-put_all.ensures.takes in
     on_err_weaker c.put_kind.result
-    (TakesBeginning-more {S = g.row.K.Denot} g.K.Sink.took g.K.Sink.holds c.args.sink.now c.put_all.new.sink c.put_kind.new.sink
-    (digit c.args.event.now.thread ∷ 32 ∷ []) (kind_text c.args.event.now.kind) thread)
+    (TakesBeginning-more {S = g.row.K.Denot} g.K.Sink.took g.K.Sink.holds c.args.sink.now c.put_all.new.sink
+    c.put_kind.new.sink (digit c.args.event.now.thread ∷ 32 ∷ []) (kind_text c.args.event.now.kind) thread)
     c.put_kind.ensures.begun
