@@ -15,8 +15,8 @@ use tmw_steps::run_steps;
 use tmw_streams::{Sink, Source, put_all};
 
 /// Runs the command line of these words, of which the first is the program's name, from the source to the sink: the order that
-/// they ask for, or the text of help. For words that are no command line of the program, or that can't be had, the fault's line
-/// goes to the sink, and the text that tells what is wrong to the sink for errors. The result is the exit status: that of the
+/// they ask for, or the text of help. For words that are no command line of the program the fault's line goes to the
+/// sink, and the text that tells what is wrong to the sink for errors; for words that can't be had, the fault's line alone. The result is the exit status: that of the
 /// order, 0 for help, or 4 for any fault and for help that was cut short.
 pub fn run_command<S: Source, K: Sink, E: Sink>(
     alloc: Global,

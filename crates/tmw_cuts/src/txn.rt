@@ -106,7 +106,8 @@ impl Txn {
         self.effect.after(state)
     }
 
-    /// Whether its operations need a value of a register that the register has in the one state and not in the other.
+    /// Whether its operations need a value of a register that the register has in the one state and not in the other. Said of
+    /// operations that some state answers as they were answered; of others the answer is left open.
     pub fn reads_one(&self, has: &State, has_not: &State) -> bool
         ensures { result ≡ tells (effect_of self.now) has.now has_not.now }
     {

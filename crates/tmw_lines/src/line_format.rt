@@ -9,7 +9,7 @@ pub trait LineFormat: Copy {
     /// What each other line tells.
     type Item: Copy;
 
-    /// The format that a reader keeps before it has read a header.
+    /// The format that a reader keeps before it has read a header. No promise speaks of it.
     const UNREAD: Self;
 
     /// The texts of headers and items, and which of them a text may have.

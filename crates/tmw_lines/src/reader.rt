@@ -11,8 +11,8 @@ use tmw_streams::Source;
 
 /// Reads a whole text, up to the source's end: its header and its items. Lines are judged in order, each before any further
 /// read, and the first fault is answered; a whole bad line that was delivered before a failed read comes before `Io`.
-/// `Memory` answers want of memory, of which only tests show that a growth was refused, and nothing is read after it. Of
-/// the text at most 4,096 bytes are held.
+/// `Memory` answers want of memory, with at most 4,096 bytes read behind whole lines; only tests show that a growth was
+/// refused.
 pub fn read_lines<F: LineFormat, S: Source>(
     alloc: Global,
     source: &mut S,

@@ -30,7 +30,8 @@ impl Monitor {
 
     /// A monitor for a run whose registers all begin at 0, before its first event.
     pub fn new(alloc: Global, registers: Registers, bounds: Bounds) -> Result<Monitor, AllocError>
-        ensures { IfOk result (λ monitor. Fits (rules_of registers zeros bounds) [] monitor) }
+        ensures fits { IfOk result (λ monitor. Fits (rules_of registers zeros bounds) [] monitor) }
+        ensures keeps { IfOk result (λ monitor. KeepsOnlyOpen (rules_of registers zeros bounds) [] monitor) }
     {
         Monitor::new_from(alloc, registers, [0; 8], bounds)
     }
@@ -42,7 +43,8 @@ impl Monitor {
         start: State,
         bounds: Bounds,
     ) -> Result<Monitor, AllocError>
-        ensures { IfOk result (λ monitor. Fits (rules_of registers start bounds) [] monitor) }
+        ensures fits { IfOk result (λ monitor. Fits (rules_of registers start bounds) [] monitor) }
+        ensures keeps { IfOk result (λ monitor. KeepsOnlyOpen (rules_of registers start bounds) [] monitor) }
     {
         Ok(Monitor {
             alloc,
@@ -57,8 +59,8 @@ impl Monitor {
         })
     }
 
-    /// Takes the next event, and answers the verdict on all events so far. A verdict other than opaque so far stays for good;
-    /// from then on no memory is taken. Where memory is refused, the event is not taken.
+    /// Takes the next event, and answers the verdict on all events so far. A verdict other than opaque so far stays for good,
+    /// and from then on each call succeeds. Where memory is refused, the event is not taken.
     pub fn feed(&mut self, event: Event) -> Result<Verdict, AllocError>
         requires room { self.old.count < 2 ^ 40 }
         ensures ok { IfOk result (λ verdict. (rules : Rules) (history : List Event) → Fits rules history self.old

@@ -11,8 +11,7 @@ use tmw_streams::Source;
 
 /// Reads a whole list of steps, up to the source's end. Lines are judged in order, each before any further read, and the
 /// first fault is answered; a whole bad line that was delivered before a failed read comes before `Io`. `Memory` answers
-/// want of memory, of which only tests show that a growth was refused, and nothing is read after it. Of the text at most 4,096
-/// bytes are held.
+/// want of memory, with at most 4,096 bytes read behind whole lines; only tests show that a growth was refused.
 pub fn read_steps<S: Source>(alloc: Global, source: &mut S) -> Result<StepList, TextFault>
     // The bytes told, up to the end, are exactly the list's text.
     ensures text { IfOk result (λ list. Tells S.told S.remaining source.old (steps_text list.size list.steps.items) source.new) }

@@ -1,6 +1,6 @@
-ghost use Rattle.std.specs.Prelude.{◌≡◌, ◌<◌, [], Some, refl};
+ghost use Rattle.std.specs.Prelude.{◌≡◌, ◌-◌, ◌^◌, ◌<◌, ◌≤◌, [], length, take, min, max, IfOk, OnOk, OnErr, refl};
 ghost use Rattle.tmw_streams.specs.Memory.{held_bytes};
-ghost use Rattle.tmw_streams.specs.Told.{one_more};
+ghost use Rattle.tmw_streams.specs.Told.{Takes, one_more};
 
 use crate::io_fault::IoFault;
 use crate::sink::Sink;
@@ -22,7 +22,7 @@ impl MemorySink {
     pub fn new(alloc: Global) -> MemorySink
         ensures held { held_bytes result ≡ [] }
         ensures failures { result.failures ≡ 0 }
-        ensures fails_at { result.fails_at ≡ None }
+        ensures limits { (result.most ≡ 2 ^ 64 - 1) × (result.fails_at ≡ None) × (result.calls ≡ 0) }
     {
         MemorySink::limited(alloc, usize::MAX, None)
     }
@@ -60,13 +60,27 @@ impl MemorySink {
 }
 
 impl Sink for MemorySink {
-    ghost took = { λ sink bytes. bytes ≡ sink.bytes.items };
+    ghost use Rattle.tmw_streams.specs.Memory.{sink_took, sink_holds, SinkFails, SinkCalled};
 
-    ghost holds = { λ sink. Some sink.bytes.items };
+    ghost took = { sink_took };
+
+    ghost holds = { sink_holds };
 
     ghost failures = { λ sink. sink.failures };
 
-    fn put(&mut self, bytes: &[u8]) -> Result<usize, IoFault> {
+    fn put(&mut self, bytes: &[u8]) -> Result<usize, IoFault>
+        ensures within { IfOk result (λ count. count ≤ length bytes.now) }
+        ensures some { IfOk result (λ count. 0 < length bytes.now → 0 < count) }
+        ensures takes { IfOk result (λ count. Takes sink_took sink_holds self.old (take count bytes.now) self.new) }
+        ensures well { OnOk result (self.new.failures ≡ self.old.failures) }
+        ensures failed { OnErr result (self.new.failures ≡ one_more self.old.failures) }
+        ensures kept { OnErr result (Takes sink_took sink_holds self.old [] self.new) }
+
+        // It fails at the chosen call, and else takes as many bytes as there are and as it may.
+        ensures called { SinkCalled self.old self.new }
+        ensures goes_on { OnOk result (SinkFails self.old → ⊥) }
+        ensures count { IfOk result (λ count. count ≡ min (length bytes.now) (max self.old.most 1)) }
+    {
         self.calls = self.calls.saturating_add(1);
         if self.fails_at == Some(self.calls) {
             return Err(self.fail());

@@ -1,6 +1,6 @@
-ghost use Rattle.std.specs.Prelude.{◌≡◌, ◌≢◌, ◌+◌, ◌-◌, ◌<◌, ◌≤◌, [], length, take, drop, min, max, Some, IsTrue, MatchBool, if◌then◌else◌, false, refl};
+ghost use Rattle.std.specs.Prelude.{◌≡◌, ◌≢◌, ◌+◌, ◌-◌, ◌^◌, ◌<◌, ◌≤◌, [], length, take, drop, min, max, Some, Ok, IfOk, OnOk, OnErr, IsTrue, MatchBool, if◌then◌else◌, false, refl};
 ghost use Rattle.std.proofs.lemmas.List.{drop_all};
-ghost use Rattle.tmw_streams.specs.Told.{one_more};
+ghost use Rattle.tmw_streams.specs.Told.{Tells, one_more};
 
 use crate::io_fault::IoFault;
 use crate::source::Source;
@@ -84,9 +84,11 @@ impl<'a> MemorySource<'a> {
 }
 
 impl Source for MemorySource<'_> {
-    ghost told = { λ source bytes. bytes ≡ take source.at source.content.now };
+    ghost use Rattle.tmw_streams.specs.Memory.{source_told, source_remaining, SourceFails, SourceCalled};
 
-    ghost remaining = { λ source. Some (drop source.at source.content.now) };
+    ghost told = { source_told };
+
+    ghost remaining = { source_remaining };
 
     ghost ended = { λ source. IsTrue source.over };
 
@@ -94,7 +96,25 @@ impl Source for MemorySource<'_> {
 
     ghost failures = { λ source. source.failures };
 
-    fn read(&mut self, buffer: &mut [u8]) -> Result<usize, IoFault> {
+    fn read(&mut self, buffer: &mut [u8]) -> Result<usize, IoFault>
+        ensures within { IfOk result (λ count. count ≤ length buffer.old) }
+        ensures tells { IfOk result (λ count. Tells source_told source_remaining self.old (take count buffer.new) self.new) }
+        ensures falls { IfOk result (λ count. (length self.new.content.now - self.new.at) + count
+            ≤ length self.old.content.now - self.old.at) }
+        ensures end { IfOk result (λ count. 0 < length buffer.old → count ≡ 0 → IsTrue self.new.over) }
+        ensures end_again { IsTrue self.old.over → (result ≡ Ok 0) × (self.new ≡ self.old) }
+        ensures well { OnOk result (self.new.failures ≡ self.old.failures) }
+        ensures failed { OnErr result (self.new.failures ≡ one_more self.old.failures) }
+        ensures kept { OnErr result (Tells source_told source_remaining self.old [] self.new) }
+        ensures no_end { OnErr result (IsTrue self.new.over → ⊥) }
+
+        // It fails at the chosen call alone, and tells as many bytes as there are, as fit, and as it may.
+        ensures called { self.old.over ≡ false → SourceCalled self.old self.new }
+        ensures fails { OnErr result (SourceFails self.old) }
+        ensures goes_on { OnOk result (self.old.over ≡ false → SourceFails self.old → ⊥) }
+        ensures count { IfOk result (λ count. self.old.over ≡ false
+            → count ≡ min (min (length self.old.content.now - self.old.at) (length buffer.old)) (max self.old.most 1)) }
+    {
         if self.over {
             return Ok(0);
         }

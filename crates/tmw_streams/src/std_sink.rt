@@ -7,7 +7,8 @@ use crate::io_fault::IoFault;
 use crate::sink::Sink;
 use std::io::{ErrorKind, Write};
 
-/// A sink over a std writer, which holds what the sink took. It doesn't flush.
+/// A sink over a std writer, which holds what the sink took. A failure is what it answers as one: no contract knows which
+/// of the writer's calls failed. It doesn't flush, which no clause says either.
 #[derive(Drop)]
 pub struct StdSink<W> {
     writer: W,

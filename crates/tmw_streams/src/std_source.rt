@@ -14,7 +14,8 @@ use std::io::{ErrorKind, Read};
 const MOST_TOLD: u64 = 1 << 60;
 
 /// A source over a std reader. It tells what the reader gives, remembers the reader's end and asks no more after it.
-/// Once it has told 2^60 bytes each read fails, and it has no end.
+/// Once it has told 2^60 bytes each read fails, and it has no end. A failure is what it answers as one: no contract knows
+/// which of the reader's calls failed.
 #[derive(Drop)]
 pub struct StdSource<R: Read> {
     reader: R,

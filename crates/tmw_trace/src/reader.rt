@@ -10,8 +10,8 @@ use tmw_lines::{TextFault, read_lines};
 use tmw_streams::Source;
 
 /// Reads a whole trace, up to the source's end. Lines are judged in order, each before any further read, and the first
-/// fault is answered; a whole bad line that was delivered before a failed read comes before `Io`. `Memory` comes only
-/// from a refused growth, and nothing is read after it. Of the text at most 4,096 bytes are held.
+/// fault is answered; a whole bad line that was delivered before a failed read comes before `Io`. `Memory` answers
+/// want of memory, with at most 4,096 bytes read behind whole lines; only tests show that a growth was refused.
 pub fn read_trace<S: Source>(alloc: Global, source: &mut S) -> Result<Trace, TextFault>
     // The bytes told, up to the end, are exactly the trace's text.
     ensures text { IfOk result (λ trace.
