@@ -26,7 +26,7 @@ returns-clause-ok g c =
     let log = all_of rest in
     let began : Fits rules start.judged.items start.monitor =
     subst (λ (l : List Event). Fits rules l start.monitor) (sym new.judged)
-    (subst (λ (m : Monitor). Fits rules [] m) (sym new.monitor) c.in-Ok-new.ensures) in
+    (subst (λ (m : Monitor). Fits rules [] m) (sym new.monitor) c.in-Ok-new.ensures.fits) in
     let fits : Fits rules rest.front.judged.items rest.front.monitor =
     subst (λ (f : Front). Fits rules f.judged.items f.monitor) (sym settled.front) (recorded.fits rules began) in
     let all : log ≡ taken ++ rest.settled =
