@@ -1,10 +1,9 @@
--- A window holds at most one operation for each two of the events that it stands for, and little room beside.
+-- A window holds at most one operation for each two of the events that it stands for, and few and small lists beside.
 use Rattle.std.proofs.Common.{◌≡◌, ◌+◌, ◌*◌, ◌≤◌, ℕ, List, [], ◌∷◌, ◌++◌, length, map, refl, ap, ◌∙◌, inl, inr, arith, length-append}
-use Rattle.std.specs.Prelude.{vec_capacity}
-use Rattle.std.specs.List.{flat_map, sum_by}
+use Rattle.std.specs.Prelude.{get_or}
+use Rattle.std.specs.List.{flat_map}
 use Rattle.std.proofs.lemmas.Bool.{cases_Bool}
 use Rattle.std.proofs.lemmas.List.{append-nil}
-use Rattle.std.proofs.lemmas.List.Sums.{sum_by-cons}
 use Rattle.tmw_events.specs.declared.event.Event.{Event}
 use Rattle.tmw_events.specs.declared.event.Kind.{Kind}
 use Rattle.tmw_events.specs.declared.event.Kind.TheVariants.{R, V, W, K, N}
@@ -12,7 +11,7 @@ use Rattle.tmw_defs.specs.History.{Txn, operation, operations, add_event, transa
 use Rattle.tmw_defs.proofs.OneMore.{joins, add_event_here, add_event_past}
 use Rattle.tmw_cuts.specs.declared.spare.Room.{Room}
 use Rattle.tmw_cuts.specs.declared.window.Window.{Window}
-use Rattle.tmw_cuts.specs.Standing.{StandsFor, view_of, views, views_of, operations_in, spare_room}
+use Rattle.tmw_cuts.specs.Standing.{StandsFor, view_of, views, views_of, operations_in, HasFewRooms}
 
 length-operation-le : (call answer : Kind) → length (operation call answer) ≤ 1
 length-operation-le (R r) (V v) = omega arith
@@ -80,16 +79,10 @@ length-operations_in-le window events stands =
     let few = length-ops-le (transactions events) (transactions events) in
     rw only (omega (arith, all, few))
 
-spare_room-times : (rooms : List Room) → sum_by (λ room. vec_capacity room.list) rooms ≤ length rooms * 1024
-spare_room-times [] = omega arith
-spare_room-times (room ∷ rooms) =
-    let first = room.small in
-    let rest = spare_room-times rooms in
-    omega (arith, first, rest, sum_by-cons (λ (r : Room). vec_capacity r.list) room rooms)
-
-pub spare_room-le : (window : Window) → spare_room window ≤ 8 * 1024
-spare_room-le window =
+pub has_few_rooms : (window : Window) → HasFewRooms window
+has_few_rooms window =
     let rooms = window.spare.rooms in
-    let times = spare_room-times rooms.items in
-    let few = window.spare.few in
-    omega (arith, times, few, rooms.ok.0, rooms.ok.1)
+    record {
+      few = (let few = window.spare.few in omega (arith, few, rooms.ok.0, rooms.ok.1));
+      small = λ place fallback low. let room = get_or rooms.items place fallback in (room.empty, room.small);
+    }

@@ -1,6 +1,6 @@
 -- Which events a window stands for: it shows their transactions, in the order of their first events.
-use Rattle.std.specs.Prelude.{◌≡◌, ◌+◌, ◌*◌, ℕ, List, [], ◌∷◌, ◌++◌, length, map, vec_capacity}
-use Rattle.std.specs.List.{flat_map, sum_by}
+use Rattle.std.specs.Prelude.{◌≡◌, ◌+◌, ◌*◌, ◌≤◌, ℕ, List, [], ◌∷◌, ◌++◌, length, map, vec_capacity, All}
+use Rattle.std.specs.List.{flat_map}
 use Rattle.tmw_events.specs.declared.event.Event.{Event}
 use Rattle.tmw_defs.specs.declared.op.Op.{Op}
 use Rattle.tmw_defs.specs.History.{Txn, operations, status_of, transactions}
@@ -39,9 +39,10 @@ count_of window = length (views window)
 abbrev pub operations_in : Window → List Op
 operations_in window = flat_map (λ v. v.ops) (views window) ++ flat_map (λ room. room.list.items) window.spare.rooms.items
 
--- For how many operations the lists of transactions that are gone have room.
-abbrev pub spare_room : Window → ℕ
-spare_room window = sum_by (λ room. vec_capacity room.list) window.spare.rooms.items
+-- The lists of transactions that are gone are at most eight, each empty and with room for at most 1,024 operations.
+pub record HasFewRooms (window : Window) : Type 0 where
+  pub few : length window.spare.rooms.items ≤ 8
+  pub small : All (λ room. (room.list.items ≡ []) × (vec_capacity room.list ≤ 1024)) window.spare.rooms.items
 
 pub record StandsFor (window : Window) (events : List Event) : Type 0 where
   pub shows : views window ≡ views_of events

@@ -5,7 +5,7 @@ use Rattle.tmw_events.specs.declared.event.Event.{Event}
 use Rattle.tmw_defs.specs.Outcomes.{outcomes}
 use Rattle.tmw_defs.specs.Verdict.{Rules}
 use Rattle.tmw_cuts.specs.Members.{members}
-use Rattle.tmw_cuts.proofs.Held.{length-operations_in-le, spare_room-le}
+use Rattle.tmw_cuts.proofs.Held.{length-operations_in-le, has_few_rooms}
 use Rattle.tmw_monitor.specs.declared.monitor.Monitor.{Monitor}
 use Rattle.tmw_monitor.specs.declared.open.Open.{Open}
 use Rattle.tmw_monitor.specs.Fitting.{Fits, Keeps, KeepsNothing}
@@ -46,5 +46,5 @@ pub keeps_only_open : (rules : Rules) (history : List Event) (monitor : Monitor)
 keeps_only_open rules history monitor fits = record {
   so_far = λ is. holds_open rules history monitor.kept (fits.keeps is);
   ended = λ final. holds_none monitor.kept (fits.forgets final);
-  spare = spare_room-le monitor.kept.window;
+  rooms = has_few_rooms monitor.kept.window;
 }

@@ -9,7 +9,7 @@ use Rattle.tmw_defs.specs.Outcomes.{outcomes}
 use Rattle.tmw_defs.specs.Summary.{IsLastCut}
 use Rattle.tmw_defs.specs.Verdict.{Rules}
 use Rattle.tmw_cuts.specs.Members.{members}
-use Rattle.tmw_cuts.specs.Standing.{views, views_of, operations_in, spare_room}
+use Rattle.tmw_cuts.specs.Standing.{views, views_of, operations_in, HasFewRooms}
 use Rattle.tmw_monitor.specs.declared.monitor.Monitor.{Monitor}
 use Rattle.tmw_monitor.specs.declared.open.Open.{Open}
 
@@ -30,8 +30,8 @@ pub record HoldsNone (kept : Open) : Type 0 where
   pub operations : length (operations_in kept.window) ≡ 0
 
 -- The monitor keeps of the history only its open window and the outcomes before it, and neither after a final verdict. Beside it,
--- the lists that it keeps to use them again have room for at most 8,192 operations.
+-- the lists that it keeps of transactions that are gone are few, empty and small.
 pub record KeepsOnlyOpen (rules : Rules) (history : List Event) (monitor : Monitor) : Type 0 where
   pub so_far : monitor.verdict ≡ OpaqueSoFar → HoldsOpen rules history monitor.kept
   pub ended : (monitor.verdict ≡ OpaqueSoFar → ⊥) → HoldsNone monitor.kept
-  pub spare : spare_room monitor.kept.window ≤ 8 * 1024
+  pub rooms : HasFewRooms monitor.kept.window

@@ -16,7 +16,7 @@ use Rattle.tmw_ring.specs.Ends.{RingIs, WriterIs, ReaderIs, WriterOf, ReaderOf}
 use Rattle.tmw_ring.specs.Parts.{made_from}
 use Rattle.tmw_ring.specs.Settling.{AreInOrder, IsSettled}
 use Rattle.tmw_ring.specs.declared.refused.Refused.{Refused}
-use Rattle.tmw_ring_defs.specs.Runs.{IsRunTo}
+use Rattle.tmw_ring_defs.specs.Runs.{Gone, IsRunTo, writer_actor}
 use Rattle.tmw_ring_defs.specs.Sizes.{HasNumbers}
 use Rattle.tmw_ring_defs.specs.declared.ring_size.RingSize.{RingSize}
 use Rattle.tmw_ring_defs.specs.declared.ring_step.Answered.{Answered}
@@ -65,10 +65,11 @@ run-settled ring reader left log writers of settled is =
 
 pub whole : (plan : Plan) (lists : List (Vec Kind)) (ring : RingIs) (writers : List WriterIs) (recorded : Recorded) (log : List Event) (run : List Answered)
     → HasNumbers plan.cells (length lists) plan.limit ring.size → AreBack ring lists writers recorded.stops.items
-    → IsRunTo ring.size run log → All (λ event. event.thread.number < length writers) log → IsLogOf log writers log → recorded.events.items ≡ log
+    → IsRunTo ring.size run log → All (λ writer. Gone (writer_actor writer.number) writer.run [] run) writers
+    → All (λ event. event.thread.number < length writers) log → IsLogOf log writers log → recorded.events.items ≡ log
     → Headline (rules_of plan.registers zeros plan.bounds) log writers recorded.events.items recorded.verdict
     → IsRecorded plan lists recorded
-whole plan lists ring writers recorded log run sized back ran own one_log is headline =
+whole plan lists ring writers recorded log run sized back ran gone own one_log is headline =
     let order = order-back ring lists writers recorded.stops.items back in
     let rules = rules_of plan.registers zeros plan.bounds in
     let threads : (thread : ℕ) (fallback : WriterIs) → thread < length lists
@@ -88,6 +89,7 @@ whole plan lists ring writers recorded log run sized back ran own one_log is hea
       headline = subst (λ (l : List Event). Headline rules l writers recorded.events.items recorded.verdict) (sym is) headline;
       run = run;
       run_to = subst (λ (l : List Event). IsRunTo ring.size run l) (sym is) ran;
+      gone = gone;
       own = subst (λ (l : List Event). All (λ (event : Event). event.thread.number < length lists) l) (sym is)
           (subst (λ (n : ℕ). All (λ (event : Event). event.thread.number < n) log) back.count own);
       threads = subst (λ (l : List Event). (thread : ℕ) (fallback : WriterIs) → thread < length lists

@@ -27,7 +27,7 @@ impl<'a> MemorySource<'a> {
         ensures content { source_bytes result ≡ content.now }
         ensures told { told_bytes result ≡ [] }
         ensures failures { result.failures ≡ 0 }
-        ensures fails_at { result.fails_at ≡ None }
+        ensures limits { (result.most ≡ 2 ^ 64 - 1) × (result.fails_at ≡ None) × (result.calls ≡ 0) }
         ensures over { result.over ≡ false }
     {
         MemorySource::limited(content, usize::MAX, None)
@@ -108,8 +108,10 @@ impl Source for MemorySource<'_> {
         ensures kept { OnErr result (Tells source_told source_remaining self.old [] self.new) }
         ensures no_end { OnErr result (IsTrue self.new.over → ⊥) }
 
-        // It fails at the chosen call alone, and tells as many bytes as there are, as fit, and as it may.
+        // Each call is counted until the end was answered. It fails at the chosen call alone, and tells as many bytes as there
+        // are, as fit, and as it may.
         ensures called { self.old.over ≡ false → SourceCalled self.old self.new }
+        ensures over { IfOk result (λ count. self.old.over ≡ false → IsTrue self.new.over → (0 < length buffer.old) × (count ≡ 0)) }
         ensures fails { OnErr result (SourceFails self.old) }
         ensures goes_on { OnOk result (self.old.over ≡ false → SourceFails self.old → ⊥) }
         ensures count { IfOk result (λ count. self.old.over ≡ false

@@ -14,7 +14,7 @@ use std::io::{ErrorKind, Read};
 const MOST_TOLD: u64 = 1 << 60;
 
 /// A source over a std reader. It tells what the reader gives, remembers the reader's end and asks no more after it.
-/// Once it has told 2^60 bytes each read fails, and it has no end. A failure is what it answers as one: no contract knows
+/// Once it has told 2^60 bytes each read into a buffer that isn't empty fails, and it has no end. A failure is what it answers as one: no contract knows
 /// which of the reader's calls failed.
 #[derive(Drop)]
 pub struct StdSource<R: Read> {
@@ -22,9 +22,9 @@ pub struct StdSource<R: Read> {
     told: u64,
     failures: u64,
     over: bool,
-    ghost few: { told ≤ 2 ^ 60 },
-    ghost early: { IsTrue over → told < 2 ^ 60 },
-    ghost at_end: { IsTrue over → IsAtEnd (R.remaining reader) } by { →_prop (IsAtEnd-prop (R.remaining reader)) },
+    pub ghost few: { told ≤ 2 ^ 60 },
+    pub ghost early: { IsTrue over → told < 2 ^ 60 },
+    pub ghost at_end: { IsTrue over → IsAtEnd (R.remaining reader) } by { →_prop (IsAtEnd-prop (R.remaining reader)) },
 }
 
 impl<R: Read> StdSource<R> {

@@ -33,6 +33,6 @@ returns-clause-ok g c =
     ap (λ (f : Front). came f ++ rest.settled) settled.front ∙ ap (λ (l : List Event). l ++ rest.settled) left.pump.all in
     whole plan lists c.in-Ok.made.0 writers record { events = c.in-Ok-judge_rest.events; verdict = c.in-Ok-judge_rest.verdict; stops = left.stops }
     log settled.settled.run c.in-Ok.ensures.ok.sized recorded.back
-    (run-settled c.in-Ok.made.0 left.pump.reader rest.settled log writers recorded.reader settled.settled all)
+    (run-settled c.in-Ok.made.0 left.pump.reader rest.settled log writers recorded.reader settled.settled all) settled.settled.writers_gone
     (own-settled left.pump.reader rest.settled log writers settled.settled all) settled.one_log judged.all
     (judged.headline rules log writers fits settled.one_log)

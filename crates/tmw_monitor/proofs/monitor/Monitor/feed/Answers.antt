@@ -36,4 +36,4 @@ pub returns-clause-keeps : goal.returns-clause-keeps
 returns-clause-keeps c judged_by history fits =
     let final : c.args.self.now.verdict ≡ OpaqueSoFar → ⊥ = search rules in
     let keeps = keeps_only_open judged_by history c.args.self.now fits in
-    record { so_far = λ is. absurd (final is); ended = keeps.ended; spare = keeps.spare }
+    record { so_far = λ is. absurd (final is); ended = keeps.ended; rooms = keeps.rooms }
