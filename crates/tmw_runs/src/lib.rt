@@ -1,0 +1,2 @@
+//! Scripts of calls, and their runs: what a thread records that carries a script out on a memory.
+#![tactic(auto)]

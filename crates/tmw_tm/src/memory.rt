@@ -1,0 +1,43 @@
+ghost use Rattle.tmw_tm.specs.Answers.{Call, Answer, got_answer, did_answer};
+ghost use Rattle.tmw_tm.specs.Answers.Call.{Begin, Read, Write, Add, Commit};
+
+use crate::answer::{Did, Got};
+use crate::tx::Tx;
+use std::ops::Drop;
+use tmw_events::{Ix, Registers};
+
+/// A transactional memory: registers of 64 bits, all 0 at first, which several threads may read and write in transactions.
+///
+/// A thread begins a transaction by `begin` with a `Tx` of its own, calls `read`, `write` and `add` with it, and ends it by
+/// `commit` or `abort`. An answer `Abort` of any call has ended it. Nothing is assumed of a memory but that each call returns
+/// and that its answers are those that it gives.
+pub trait Tm: Drop {
+    /// The memory may answer this call so. It never changes.
+    ghost gives: { Self → Call → Answer → Type 0 };
+
+    /// How many registers it has.
+    fn registers(&self) -> Registers;
+
+    /// Begins a transaction.
+    fn begin(&self, tx: &mut Tx) -> Did
+        ensures gives { gives self.now Begin (did_answer result) };
+
+    /// The value of the register.
+    fn read(&self, tx: &mut Tx, register: Ix) -> Got
+        ensures gives { gives self.now (Read register) (got_answer result) };
+
+    /// Gives the register this value, for this transaction and, once it has committed, for all that follow.
+    fn write(&self, tx: &mut Tx, register: Ix, value: u64) -> Did
+        ensures gives { gives self.now (Write register value) (did_answer result) };
+
+    /// Adds to the register, modulo 2^64, and answers the value before.
+    fn add(&self, tx: &mut Tx, register: Ix, addend: u64) -> Got
+        ensures gives { gives self.now (Add register addend) (got_answer result) };
+
+    /// Ends the transaction with all that it has written, or aborts it.
+    fn commit(&self, tx: &mut Tx) -> Did
+        ensures gives { gives self.now Commit (did_answer result) };
+
+    /// Ends the transaction with nothing written.
+    fn abort(&self, tx: &mut Tx);
+}
