@@ -1,0 +1,77 @@
+#!/usr/bin/env bash
+# Times `tmwatch drive` on a workload of eight scripts, with the trace and without it.
+#
+#   bench/drive.sh
+#
+# Each script has 1,000 transactions of 13 calls: reads, writes and a commit. The order has 100,000 entries, in which two
+# threads at a time run a transaction each, call by call in turn, over registers of their own, so that none aborts and no
+# window has more than two transactions. A line for each of the two runs comes out: whether the trace was asked for, the seconds
+# (the best of RUNS runs), calls a second, the peak memory in KiB, and the report; then the seconds of reading the workload
+# alone, as the run of one whose order is empty. With PEER set to another program of the same bytes, its seconds stand beside
+# ours, and the exit status is 1 where the bytes differ.
+# Environment: PEER, RUNS (5), MEMORY (norec).
+set -eu
+top=$(cd "$(dirname "${BASH_SOURCE[0]}")/.." && pwd)
+folder=$(mktemp -d)
+trap 'rm -rf "$folder"' EXIT
+memory=${MEMORY:-norec}
+"$top/tmwatch" judge <"$top/examples/dirty_read.trace" >/dev/null || [ $? -eq 1 ]
+program=$top/crates/tmwatch/out/tmwatch
+
+# A workload whose order has this many entries.
+workload() {
+    awk -v entries="$1" 'BEGIN {
+        printf "{\"registers\":8,\"scripts\":["
+        for (thread = 0; thread < 8; thread++) {
+            printf "%s[", thread ? "," : ""
+            for (transaction = 0; transaction < 1000; transaction++) {
+                printf "%s[", transaction ? "," : ""
+                for (call = 0; call < 12; call++) {
+                    register = (thread % 2) * 4 + (thread + transaction + call) % 4
+                    if (call % 3 == 2) printf "\"W %d %d\",", register, transaction * 16 + call
+                    else printf "\"R %d\",", register
+                }
+                printf "\"T\"]"
+            }
+            printf "]"
+        }
+        printf "],\"order\":["
+        for (entry = 0; entry < entries; entry++)
+            printf "%s%d", entry ? "," : "", int(entry / 26) % 4 * 2 + entry % 2
+        print "]}"
+    }'
+}
+
+# The least seconds and the peak memory of a program's runs on a workload with these words.
+measure() {
+    local least=999999 most=0 of=$1 input=$2
+    shift 2
+    for _ in $(seq "${RUNS:-5}"); do
+        began=$(date +%s.%N)
+        /usr/bin/time -q -o "$folder/time" -f '%M' "$of" drive --memory "$memory" "$@" <"$input" >"$folder/output" || true
+        ended=$(date +%s.%N)
+        read -r kib <"$folder/time"
+        least=$(echo "$least $began $ended" | awk '{ s = $3 - $2; printf "%.4f", s < $1 ? s : $1 }')
+        most=$((kib > most ? kib : most))
+    done
+    echo "$least $most"
+}
+
+workload 100000 >"$folder/whole"
+workload 0 >"$folder/read"
+differ=0
+printf '%-10s %9s %9s %10s %8s  %s\n' run seconds peer calls/s KiB report
+for words in '' '--trace'; do
+    read -r ours kib <<<"$(measure "$program" "$folder/whole" $words)"
+    mv "$folder/output" "$folder/ours"
+    theirs=0
+    if [ -n "${PEER:-}" ]; then
+        read -r theirs _ <<<"$(measure "$PEER" "$folder/whole" $words)"
+        cmp -s "$folder/ours" "$folder/output" || differ=1
+    fi
+    awk -v run="${words:---}" -v ours="$ours" -v theirs="$theirs" -v kib="$kib" -v report="$(tail -n 1 "$folder/ours")" \
+        'BEGIN { printf "%-10s %9.4f %9.4f %10d %8d  %s\n", run, ours, theirs, 100000 / ours, kib, report }'
+done
+read -r seconds kib <<<"$(measure "$program" "$folder/read")"
+printf '%-10s %9.4f %9s %10s %8d  %s\n' reading "$seconds" - - "$kib" "$(tail -n 1 "$folder/output")"
+exit $differ
