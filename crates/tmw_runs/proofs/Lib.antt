@@ -5,3 +5,4 @@ pub mod StandingSteps
 pub mod TurnsOfRuns
 pub mod WellFormed
 pub mod WholeRuns
+mod Worked
