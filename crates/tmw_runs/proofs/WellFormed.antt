@@ -83,8 +83,8 @@ is_well_formed-turns registers history turns =
         texts_of_thread registers (of_thread thread (transactions history)) (ap (is_turns registers) law.joined ∙ turns thread) law.ended
         (λ earlier later t split. (law.placed earlier later t split).unbroken)
 
--- a thread's events in a prefix begin its events
-kinds_of-append : (thread : ℕ) (front back : List Event) → kinds_of thread (front ++ back) ≡ kinds_of thread front ++ kinds_of thread back
+-- a thread's events in a history that goes on
+pub kinds_of-append : (thread : ℕ) (front back : List Event) → kinds_of thread (front ++ back) ≡ kinds_of thread front ++ kinds_of thread back
 kinds_of-append thread front back =
     ap (map (λ e. e.kind)) (filter-append (λ e. e.thread.number == thread) front back)
     ∙ map-append (λ e. e.kind) (filter (λ e. e.thread.number == thread) front) (filter (λ e. e.thread.number == thread) back)

@@ -29,7 +29,7 @@ is_transaction registers (call ∷ more) = is_operation registers call && is_tra
 abbrev pub are_transactions : ℕ → List (List Kind) → Bool
 are_transactions registers script = list_all (is_transaction registers) script
 
--- Each of these asks for something of a run with so many registers: none of them is an answer.
+-- Each transaction of these makes calls alone, on registers that the run has.
 abbrev pub are_calls : ℕ → List (List Kind) → Bool
 are_calls registers script = list_all (list_all (is_call registers)) script
 
