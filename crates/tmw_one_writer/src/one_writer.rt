@@ -1,4 +1,4 @@
-ghost use Rattle.std.specs.Prelude.{◌≡◌, ◌<◌, IsTrue};
+ghost use Rattle.std.specs.Prelude.{◌≡◌, ◌<◌, ◌↔◌, true, IsTrue};
 
 use std::array;
 use std::sync::atomic::AtomicU64;
@@ -31,7 +31,7 @@ impl OneWriter {
 
     /// Whether the transaction has begun, and there is such a register.
     fn may_use(&self, tx: &Tx, register: Ix) -> bool
-        ensures { IsTrue result → register.number < self.now.registers.number }
+        ensures { IsTrue result ↔ ((tx.now.begun ≡ true) × (register.number < self.now.registers.number)) }
     {
         tx.begun && register.get() < self.registers.get()
     }
