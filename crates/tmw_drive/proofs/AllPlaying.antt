@@ -1,10 +1,9 @@
 -- All players, one of which does an entry of the order.
-use Rattle.std.proofs.Common.{◌≡◌, ◌<◌, ◌++◌, ℕ, zero, suc, List, [], ◌∷◌, length, set, get_or, refl, sym, ap, subst, ◌∙◌, inl, inr, arith}
+use Rattle.std.proofs.Common.{◌≡◌, ◌<◌, ℕ, List, [], length, set, get_or, sym, ap, subst, ◌∙◌, inl, inr}
 use Rattle.std.proofs.lemmas.Bool.{cases_eq}
 use Rattle.std.proofs.lemmas.List.{get_or-set_same, get_or-set_other, length-set}
 use Rattle.tmw_defs.specs.Texts.{kinds_of}
 use Rattle.tmw_drive.proofs.Entries.{kinds_of-entry_other}
-use Rattle.tmw_drive.proofs.Places.{get_or-read}
 use Rattle.tmw_drive.proofs.Players.{plays-new}
 use Rattle.tmw_drive.specs.Driving.{script_at, DoesEntry}
 use Rattle.tmw_drive.specs.Playing.{AllNew, AllPlay, Plays}

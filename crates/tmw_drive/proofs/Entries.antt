@@ -1,15 +1,13 @@
 -- What an entry of the order adds to the log, and what a whole order does.
-use Rattle.std.proofs.Common.{◌≡◌, ◌==◌, ◌<◌, ◌≤◌, ◌+◌, ◌*◌, ◌++◌, ℕ, suc, Bool, true, false, List, [], ◌∷◌, length, map, drop, get_or, IsTrue, refl, sym, ap, subst, ◌∙◌, inl, inr, append_assoc, arith, length-append}
-use Rattle.std.specs.Prelude.{All, filter}
+use Rattle.std.proofs.Common.{◌≡◌, ◌<◌, ◌≤◌, ◌+◌, ◌*◌, ◌++◌, ℕ, List, [], ◌∷◌, length, refl, sym, ap, subst, ◌∙◌, inl, inr, append_assoc, arith, length-append}
+use Rattle.std.specs.Prelude.{All}
 use Rattle.std.proofs.lemmas.Bool.{eq-eqb, ne_eqb}
 use Rattle.std.proofs.lemmas.List.{append-nil}
 use Rattle.std.proofs.lemmas.List.Elements.{All-append, All-cons, All-head, All-nil, All-tail}
 use Rattle.tmw_defs.specs.Texts.{kinds_of}
 use Rattle.tmw_drive.specs.Driving.{script_at, DoesEntry, Drives}
-use Rattle.tmw_drive.specs.Playing.{DrivesOn}
 use Rattle.tmw_events.specs.declared.event.Event.{Event}
 use Rattle.tmw_events.specs.declared.event.Kind.{Kind}
-use Rattle.tmw_runs.specs.Runs.{IsWholeRun, IsBeginning}
 use Rattle.tmw_runs.proofs.WellFormed.{kinds_of-append}
 
 -- a call and its answer are pushed one after the other
@@ -83,6 +81,10 @@ own-drives scripts threads before [] after low is own = subst (All (λ event. ev
 own-drives scripts threads before (thread ∷ order) after low (next, entry, rest) own =
     own-drives scripts threads next order after (All-tail (λ t. t < threads) thread order low) rest
     (own-entry (script_at scripts thread) threads thread before next (All-head (λ t. t < threads) thread order low) entry own)
+
+-- whatever the rest of the order makes of this log, the whole order makes of the log at the start
+abbrev pub DrivesOn : List (List (List Kind)) → List Event → List ℕ → List Event → List ℕ → Type 0
+DrivesOn scripts start order log rest = (last : List Event) → Drives scripts log rest last → Drives scripts start order last
 
 -- the order goes on by one entry more
 pub drives_on-none : (scripts : List (List (List Kind))) (start : List Event) (order : List ℕ) → DrivesOn scripts start order start order

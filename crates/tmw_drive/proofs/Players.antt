@@ -1,14 +1,13 @@
 -- A player that makes its next call, or has none left.
-use Rattle.std.proofs.Common.{◌≡◌, ◌==◌, ◌+◌, ◌++◌, ℕ, Bool, true, false, List, [], ◌∷◌, Option, Some, None, drop, IsTrue, refl, sym, ap, subst, ◌∙◌, inl, inr}
+use Rattle.std.proofs.Common.{◌≡◌, ◌==◌, ◌+◌, ◌++◌, ℕ, true, List, [], ◌∷◌, Option, Some, None, drop, IsTrue, refl, sym, ap, subst, ◌∙◌, inl, inr}
 use Rattle.std.specs.Prelude.{MatchBool}
-use Rattle.std.proofs.lemmas.Bool.{cases_Bool, and_parts, MatchBool-at_true, MatchBool-at_false}
-use Rattle.tmw_defs.specs.History.{answers, ends, is_call}
-use Rattle.tmw_drive.proofs.Going.{Nexts, next_of-some, next_of-none, left_of-goes_on, first-goes_on, leaves-next_left, are_transactions-next_left}
+use Rattle.std.proofs.lemmas.Bool.{cases_Bool, MatchBool-at_true, MatchBool-at_false}
+use Rattle.tmw_defs.specs.History.{answers, ends}
+use Rattle.tmw_drive.proofs.Going.{next_left, next_of-some, next_of-none, left_of-goes_on, first-goes_on, leaves-next_left, are_transactions-next_left}
 use Rattle.tmw_drive.specs.Driving.{EndsAs}
 use Rattle.tmw_drive.specs.Fresh.{IsFresh}
-use Rattle.tmw_drive.specs.Playing.{from_call, left_of, next_of, next_left, BeginsNext, MakesNext, GoesOn, IsNew, IsEnding, Plays}
+use Rattle.tmw_drive.specs.Playing.{from_call, left_of, next_of, BeginsNext, MakesNext, GoesOn, IsNew, IsEnding, Plays}
 use Rattle.tmw_drive.specs.declared.ending.Ending.{Ending}
-use Rattle.tmw_drive.specs.declared.ending.Ending.TheVariants.{Done, Left}
 use Rattle.tmw_drive.specs.declared.player.Player.{Player}
 use Rattle.tmw_events.specs.declared.event.Kind.{Kind}
 use Rattle.tmw_events.specs.declared.event.Kind.TheVariants.{A}

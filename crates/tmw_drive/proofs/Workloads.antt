@@ -1,13 +1,13 @@
 -- What a workload tells of its scripts and its order.
-use Rattle.std.proofs.Common.{◌≡◌, ◌<◌, ◌≤◌, ◌&&◌, ℕ, zero, suc, Bool, true, List, [], ◌∷◌, length, get_or, IsTrue, refl, arith}
+use Rattle.std.proofs.Common.{◌<◌, ◌≤◌, ◌&&◌, ℕ, zero, suc, List, [], ◌∷◌, length, IsTrue, refl}
 use Rattle.std.specs.Prelude.{All, nat_lt, nat_le}
 use Rattle.std.specs.List.{list_all}
 use Rattle.std.proofs.lemmas.Bool.{and_parts, and_from, leb-true, ltb-true}
 use Rattle.std.proofs.lemmas.List.Elements.{All-cons, All-nil}
 use Rattle.tmw_drive.specs.Driving.{script_at}
 use Rattle.tmw_events.specs.declared.event.Kind.{Kind}
-use Rattle.tmw_runs.specs.Scripts.{is_transaction, are_transactions}
-use Rattle.tmw_workloads.specs.Workload.{is_short_transaction, is_short_script, are_scripts, is_order, is_workload}
+use Rattle.tmw_runs.specs.Scripts.{are_transactions}
+use Rattle.tmw_workloads.specs.Workload.{is_short_transaction, is_short_script, are_scripts, is_workload}
 
 pub threads-workload : (registers : ℕ) (scripts : List (List (List Kind))) (order : List ℕ) → IsTrue (is_workload registers scripts order)
     → length scripts ≤ 8

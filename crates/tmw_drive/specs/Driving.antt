@@ -13,8 +13,8 @@ use Rattle.tmw_tm.specs.Answers.{Call, Answer}
 abbrev pub script_at : List (List (List Kind)) → ℕ → List (List Kind)
 script_at scripts thread = get_or scripts thread []
 
--- The thread makes the next call of its script, and the call and its answer come into the log side by side. Where the thread's
--- run of the script is whole, nothing comes.
+-- Where the thread's run of its script is whole, its entry adds nothing to the log. Else the thread makes its next call, and the
+-- call and its answer come into the log side by side. No whole run is a proper beginning of another, so not both can be.
 abbrev pub DoesEntry : List (List Kind) → ℕ → List Event → List Event → Type 0
 DoesEntry script thread before after =
     (IsWholeRun script (kinds_of thread before) × (after ≡ before))
@@ -33,8 +33,8 @@ EndsAs script kinds Done = IsWholeRun script kinds
 EndsAs script kinds Left = IsBeginning script kinds × (IsWholeRun script kinds → ⊥)
 EndsAs script kinds (Stopped refused) = ⊥
 
--- The log is what the scripts make of the memory in this order, each answer is one that the memory gives, and so far has each
--- script come.
+-- The log is what the scripts make of a memory in this order: each answer is one that the memory gives, the ends tell how far each
+-- script has come, and no other thread has events.
 pub record IsDriven (gives : Call → Answer → Type 0) (scripts : List (List (List Kind))) (order : List ℕ) (log : List Event) (ends : List Ending) : Type 0 where
   pub driven : Drives scripts [] order log
   pub stands : (thread : ℕ) → AllStand gives true (kinds_of thread log)

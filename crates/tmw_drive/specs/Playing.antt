@@ -1,9 +1,9 @@
 -- How a thread stands to its script, of which it makes one call after another.
 use Rattle.std.specs.Global.{Vec}
-use Rattle.std.specs.Prelude.{◌≡◌, ◌==◌, ◌<◌, ◌+◌, ℕ, IsTrue, MatchBool, List, [], ◌∷◌, Option, Some, None, length, get_or, drop, map, if◌then◌else◌}
+use Rattle.std.specs.Prelude.{◌≡◌, ◌==◌, ◌<◌, ◌+◌, ℕ, IsTrue, MatchBool, List, [], ◌∷◌, Option, Some, None, length, get_or, drop, map}
 use Rattle.tmw_defs.specs.History.{ends}
 use Rattle.tmw_defs.specs.Texts.{kinds_of}
-use Rattle.tmw_drive.specs.Driving.{script_at, Drives}
+use Rattle.tmw_drive.specs.Driving.{script_at}
 use Rattle.tmw_drive.specs.Fresh.{IsFresh}
 use Rattle.tmw_drive.specs.declared.ending.Ending.{Ending}
 use Rattle.tmw_drive.specs.declared.ending.Ending.TheVariants.{Done, Left}
@@ -33,10 +33,17 @@ abbrev pub next_of : List (List Kind) → Option Kind
 next_of ((call ∷ calls) ∷ later) = Some call
 next_of _ = None
 
--- What is left after this answer to the next call.
-abbrev pub next_left : Kind → List (List Kind) → List (List Kind)
-next_left answer ((call ∷ calls) ∷ later) = if ends answer then later else calls ∷ later
-next_left answer left = left
+-- A thread that has a next call is left, and one that has none is done.
+abbrev pub IsEnding : Option Kind → Ending → Type 0
+IsEnding None ending = ending ≡ Done
+IsEnding (Some call) ending = ending ≡ Left
+
+-- The player of this thread has made no call.
+pub record IsNew (thread : ℕ) (player : Player) : Type 0 where
+  pub numbered : player.thread.number ≡ thread
+  pub transaction : player.transaction ≡ 0
+  pub call : player.call ≡ 0
+  pub fresh : IsFresh player.tx
 
 -- The player is at the first call of the next transaction.
 pub record BeginsNext (old new : Player) : Type 0 where
@@ -48,18 +55,6 @@ pub record BeginsNext (old new : Player) : Type 0 where
 pub record MakesNext (old new : Player) : Type 0 where
   pub transaction : new.transaction ≡ old.transaction
   pub call : new.call ≡ old.call + 1
-
--- The player of this thread has made no call.
-pub record IsNew (thread : ℕ) (player : Player) : Type 0 where
-  pub numbered : player.thread.number ≡ thread
-  pub transaction : player.transaction ≡ 0
-  pub call : player.call ≡ 0
-  pub fresh : IsFresh player.tx
-
--- A thread that has a next call is left, and one that has none is done.
-abbrev pub IsEnding : Option Kind → Ending → Type 0
-IsEnding None ending = ending ≡ Done
-IsEnding (Some call) ending = ending ≡ Left
 
 -- The player goes on after this answer.
 abbrev pub GoesOn : Kind → Player → Player → Type 0
@@ -89,7 +84,3 @@ pub record AllEnd (scripts : List (List (List Kind))) (players : List Player) (e
   pub counted : length ends ≡ length players
   pub each : (thread : ℕ) (fallback : Ending) → thread < length ends → (player : Player)
       → IsEnding (next_of (left_of (script_at scripts thread) (get_or players thread player))) (get_or ends thread fallback)
-
--- Whatever the rest of the order makes of this log, the whole order makes of the log at the start.
-abbrev pub DrivesOn : List (List (List Kind)) → List Event → List ℕ → List Event → List ℕ → Type 0
-DrivesOn scripts start order log rest = (last : List Event) → Drives scripts log rest last → Drives scripts start order last

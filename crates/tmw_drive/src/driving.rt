@@ -1,4 +1,4 @@
-ghost use Rattle.std.specs.Prelude.{◌≡◌, ◌<◌, ℕ, IfOk, IfErr};
+ghost use Rattle.std.specs.Prelude.{◌≡◌, ◌≢◌, ◌<◌, ℕ, IfOk, IfErr};
 ghost use Rattle.tmw_defs.specs.Opaque.{zeros};
 ghost use Rattle.tmw_defs.specs.Verdict.{IsVerdict};
 ghost use Rattle.tmw_defs.specs.declared.verdict.Verdict.TheVariants.{Malformed};
@@ -24,6 +24,9 @@ use tmw_workloads::Workload;
 /// answer is recorded. A transaction begins, with a new `Tx`, before its first call; where the memory aborts it then, the call
 /// is not made. After a commit or an abort event the script goes on with its next transaction. A thread without a call left
 /// does nothing. Transactions that the order leaves open are not aborted.
+///
+/// `Registers` where the memory has fewer registers than the workload; it is asked for no more than that. `Memory` where a growth
+/// was refused; what was called until then is lost to the caller.
 pub fn drive(
     alloc: Global,
     memory: &(dyn Tm + Sync),
@@ -32,7 +35,7 @@ pub fn drive(
 ) -> Result<Outcome, DriveFault>
     ensures driven { IfOk result (λ outcome. IsDriven (gives memory.now) (scripts_of workload.now.scripts.items) workload.now.order.items outcome.log.items outcome.ends.items) }
     ensures verdict { IfOk result (λ outcome. IsVerdict (rules_of workload.now.registers zeros bounds) outcome.log.items outcome.verdict) }
-    ensures formed { IfOk result (λ outcome. (events : ℕ) → outcome.verdict ≡ Malformed events → ⊥) }
+    ensures formed { IfOk result (λ outcome. (events : ℕ) → outcome.verdict ≢ Malformed events) }
     ensures registers { IfErr result (λ fault. fault ≡ TooManyRegisters → 1 < workload.now.registers.number) }
 {
     if memory.registers().get() < workload.registers.get() {

@@ -7,6 +7,6 @@ pub enum Ending {
     Done,
     /// The order ran out before the script.
     Left,
-    /// An event could not be recorded.
+    /// An event could not be recorded in a ring. A workload that is driven in one thread never ends so.
     Stopped(Refused),
 }

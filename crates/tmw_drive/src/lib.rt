@@ -8,6 +8,8 @@ mod fault;
 mod outcome;
 mod player;
 mod playing;
+#[cfg(test)]
+mod tests;
 
 pub use driving::drive;
 pub use ending::Ending;

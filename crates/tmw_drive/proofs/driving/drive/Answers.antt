@@ -1,4 +1,4 @@
-use Rattle.std.proofs.Common.{◌≡◌, ◌≤◌, ◌^◌, ◌∙◌, List, length, sym, ap, subst}
+use Rattle.std.proofs.Common.{◌≤◌, ◌^◌, List, length, sym, subst}
 use Rattle.tmw_defs.specs.Opaque.{zeros}
 use Rattle.tmw_defs.specs.Verdict.{IsVerdict}
 use Rattle.tmw_drive.proofs.Driven.{formed-driven, length-driven}

@@ -3,7 +3,6 @@ use Rattle.std.specs.Prelude.{slice_get}
 use Rattle.std.proofs.lemmas.Grind.{common_steps}
 use Rattle.std.proofs.lemmas.Option.{gets, slice_get_read}
 use Rattle.tmw_drive.proofs.Positions.{next_of-get}
-use Rattle.tmw_events.specs.declared.event.Kind.{Kind}
 use Rattle.tmw_drive.proofs.player.Player.next.Goals as goal
 
 pub returns-in-Some-clause-next : goal.returns-in-Some-clause-next
