@@ -1,5 +1,3 @@
-ghost use Rattle.std.specs.Prelude.{◌≡◌};
-ghost use Rattle.tmw_defs.specs.Opaque.{zeros};
 ghost use Rattle.tmw_run_drive.specs.Driven.{IsHeaderOf};
 
 use tmw_drive::Outcome;

@@ -1,7 +1,5 @@
 -- A beginning of the trace, or of the line after it.
-use Rattle.std.proofs.Common.{◌++◌, ◌∙◌}
 use Rattle.std.proofs.lemmas.Result.{on_ok_weaker, on_err_weaker, err_from_is_err_and}
-use Rattle.tmw_run_drive.specs.Driven.{log_text}
 use Rattle.tmw_streams.proofs.Beginnings.{TakesBeginning-more, TakesBeginning-front}
 use Rattle.tmw_streams.proofs.ToldBytes.{Takes-more}
 use Rattle.tmw_trace.specs.Text.{trace_text}
