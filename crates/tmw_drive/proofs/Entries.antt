@@ -1,5 +1,5 @@
 -- What an entry of the order adds to the log, and what a whole order does.
-use Rattle.std.proofs.Common.{◌≡◌, ◌<◌, ◌≤◌, ◌+◌, ◌*◌, ◌++◌, ℕ, List, [], ◌∷◌, length, refl, sym, ap, subst, ◌∙◌, inl, inr, append_assoc, arith, length-append}
+use Rattle.std.proofs.Common.{◌≡◌, ◌<◌, ◌≤◌, ◌+◌, ◌*◌, ◌++◌, ℕ, List, [], ◌∷◌, length, sym, ap, subst, ◌∙◌, inl, inr, append_assoc, arith, length-append}
 use Rattle.std.specs.Prelude.{All}
 use Rattle.std.proofs.lemmas.Bool.{eq-eqb, ne_eqb}
 use Rattle.std.proofs.lemmas.List.{append-nil}
@@ -85,16 +85,3 @@ own-drives scripts threads before (thread ∷ order) after low (next, entry, res
 -- whatever the rest of the order makes of this log, the whole order makes of the log at the start
 abbrev pub DrivesOn : List (List (List Kind)) → List Event → List ℕ → List Event → List ℕ → Type 0
 DrivesOn scripts start order log rest = (last : List Event) → Drives scripts log rest last → Drives scripts start order last
-
--- the order goes on by one entry more
-pub drives_on-none : (scripts : List (List (List Kind))) (start : List Event) (order : List ℕ) → DrivesOn scripts start order start order
-drives_on-none scripts start order last drives = drives
-
-pub drives_on-more : (scripts : List (List (List Kind))) (start : List Event) (order : List ℕ) (log next : List Event) (thread : ℕ) (rest : List ℕ)
-    → DrivesOn scripts start order log (thread ∷ rest) → DoesEntry (script_at scripts thread) thread log next
-    → DrivesOn scripts start order next rest
-drives_on-more scripts start order log next thread rest on entry last drives = on last (next, entry, drives)
-
-pub drives_on-all : (scripts : List (List (List Kind))) (start : List Event) (order : List ℕ) (log : List Event)
-    → DrivesOn scripts start order log [] → Drives scripts start order log
-drives_on-all scripts start order log on = on log refl

@@ -2,7 +2,6 @@ mod AllPlaying
 mod Driven
 mod Entries
 mod Going
-mod Places
 mod Players
 mod Positions
 mod Workloads

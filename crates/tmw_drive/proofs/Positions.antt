@@ -2,7 +2,7 @@
 use Rattle.std.proofs.Common.{◌≡◌, ◌<◌, ℕ, zero, suc, List, [], ◌∷◌, Some, length, drop, get_or, refl, sym, ap, ◌∙◌}
 use Rattle.std.specs.Global.{Vec}
 use Rattle.std.specs.Prelude.{slice_get}
-use Rattle.tmw_drive.proofs.Places.{get_or-map}
+use Rattle.std.proofs.lemmas.List.{get_or-map}
 use Rattle.tmw_drive.specs.Driving.{script_at}
 use Rattle.tmw_drive.specs.Playing.{calls_of, from_call, next_of}
 use Rattle.tmw_events.specs.declared.event.Kind.{Kind}

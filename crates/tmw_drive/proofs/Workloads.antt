@@ -9,12 +9,6 @@ use Rattle.tmw_events.specs.declared.event.Kind.{Kind}
 use Rattle.tmw_runs.specs.Scripts.{are_transactions}
 use Rattle.tmw_workloads.specs.Workload.{is_short_transaction, is_short_script, are_scripts, is_workload}
 
-pub threads-workload : (registers : ℕ) (scripts : List (List (List Kind))) (order : List ℕ) → IsTrue (is_workload registers scripts order)
-    → length scripts ≤ 8
-threads-workload registers scripts order is =
-    let one = (and_parts (are_scripts registers scripts) _ is).0 in
-    leb-true (length scripts) 8 (and_parts (nat_lt 0 (length scripts)) _ (and_parts (nat_lt 0 (length scripts) && nat_le (length scripts) 8) _ one).0).1
-
 pub length-order : (registers : ℕ) (scripts : List (List (List Kind))) (order : List ℕ) → IsTrue (is_workload registers scripts order)
     → length order ≤ 100000
 length-order registers scripts order is =
