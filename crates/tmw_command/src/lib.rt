@@ -6,9 +6,11 @@ mod parse;
 mod program;
 mod refusal;
 mod run;
+mod which;
 mod words;
 
 pub use order::Order;
 pub use refusal::Refusal;
 pub use run::run_command;
+pub use which::Which;
 pub use words::read_words;

@@ -112,10 +112,18 @@ fn wrong_command_lines(rt: HostRuntime) -> Result<(), Fail> {
             "tmwatch steps --window 3",
             "error: unexpected argument '--window' found",
         ),
-        ("tmwatch drive", "error: unrecognized subcommand 'drive'"),
         (
-            "tmwatch help drive",
-            "error: unrecognized subcommand 'drive'",
+            "tmwatch drive --memory norec2",
+            "error: invalid value 'norec2' for '--memory <MEMORY>'",
+        ),
+        (
+            "tmwatch judge --trace",
+            "error: unexpected argument '--trace' found",
+        ),
+        ("tmwatch replay", "error: unrecognized subcommand 'replay'"),
+        (
+            "tmwatch help replay",
+            "error: unrecognized subcommand 'replay'",
         ),
         ("tmwatch", "error: 'tmwatch' requires a subcommand"),
     ] {
@@ -131,6 +139,11 @@ fn requests_for_help(rt: HostRuntime) -> Result<(), Fail> {
         ("tmwatch help", "Usage: tmwatch <COMMAND>\n"),
         ("tmwatch judge --help", "Usage: tmwatch judge [OPTIONS]\n"),
         ("tmwatch help judge", "Usage: tmwatch judge [OPTIONS]\n"),
+        ("tmwatch drive --help", "Usage: tmwatch drive [OPTIONS]\n"),
+        (
+            "tmwatch drive --help",
+            "[possible values: norec, lock, torn]",
+        ),
         ("tmwatch steps --help", "Usage: tmwatch steps\n"),
     ] {
         let mut source = MemorySource::new(TRACE);
@@ -167,7 +180,7 @@ fn writes_that_fail(rt: HostRuntime) -> Result<(), Fail> {
     for (line, output) in [
         ("tmwatch judge", VIOLATED),
         ("tmwatch steps", "{\"fault\":\"bad header\"}\n"),
-        ("tmwatch drive", USAGE),
+        ("tmwatch replay", USAGE),
     ] {
         for sent in 0..output.len() {
             let mut source = MemorySource::new(TRACE);
@@ -206,7 +219,7 @@ fn a_failing_sink_for_errors_keeps_no_line(rt: HostRuntime) -> Result<(), Fail> 
         let mut source = MemorySource::new(TRACE);
         let mut sink = MemorySink::new(rt.alloc());
         let mut errors = MemorySink::limited(rt.alloc(), 5, Some(call));
-        let words = parted(rt.alloc(), "tmwatch drive")?;
+        let words = parted(rt.alloc(), "tmwatch replay")?;
         let exit = run_command(rt.alloc(), Ok(words), &mut source, &mut sink, &mut errors);
         assert_eq!(rt; sink.bytes(), USAGE.as_bytes(), "at {call}");
         assert_eq!(rt; errors.bytes().len() as u64, 5 * (call - 1));
