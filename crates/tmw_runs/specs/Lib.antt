@@ -1,2 +1,6 @@
+pub mod Law
+pub mod Leaving
 pub mod Runs
 pub mod Scripts
+pub mod Standing
+pub mod Turns

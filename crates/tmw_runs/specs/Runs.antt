@@ -4,6 +4,7 @@ use Rattle.tmw_defs.specs.History.{answers}
 use Rattle.tmw_events.specs.declared.event.Kind.{Kind}
 use Rattle.tmw_events.specs.declared.event.Kind.TheVariants.{A}
 
+-- An abort event.
 abbrev pub is_abort : Kind → Bool
 is_abort A = true
 is_abort _ = false

@@ -2,6 +2,7 @@
 use Rattle.std.specs.Prelude.{ℕ, Bool, true, false, List, [], ◌∷◌, ◌&&◌, nat_lt, map}
 use Rattle.std.specs.Global.{Vec}
 use Rattle.std.specs.List.{list_all}
+use Rattle.tmw_defs.specs.History.{is_call}
 use Rattle.tmw_events.specs.declared.event.Kind.{Kind}
 use Rattle.tmw_events.specs.declared.event.Kind.TheVariants.{R, W, N, T, X}
 
@@ -27,6 +28,10 @@ is_transaction registers (call ∷ more) = is_operation registers call && is_tra
 -- Each of these is the calls of a transaction.
 abbrev pub are_transactions : ℕ → List (List Kind) → Bool
 are_transactions registers script = list_all (is_transaction registers) script
+
+-- Each transaction of these makes calls alone, on registers that the run has.
+abbrev pub are_calls : ℕ → List (List Kind) → Bool
+are_calls registers script = list_all (list_all (is_call registers)) script
 
 -- The script that a vector of vectors of calls is.
 abbrev pub script_of : Vec (Vec Kind) → List (List Kind)

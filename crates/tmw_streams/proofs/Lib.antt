@@ -1,2 +1,4 @@
 pub mod Beginnings
+pub mod FlatMaps
+pub mod PassedOn
 pub mod ToldBytes

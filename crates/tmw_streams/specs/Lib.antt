@@ -1,3 +1,6 @@
+pub mod Bounded
 pub mod Ends
 pub mod Memory
+pub mod PassedOn
+pub mod Reading
 pub mod Told

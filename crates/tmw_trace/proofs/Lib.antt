@@ -2,3 +2,4 @@ mod EventLines
 mod HeaderLines
 mod Spoken
 pub mod ValueParts
+mod WrittenLines

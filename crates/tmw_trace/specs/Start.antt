@@ -1,5 +1,5 @@
 -- What a trace's version lets its header and its events say.
-use Rattle.std.specs.Prelude.{◌==◌, ℕ, Bool, true, false, List, drop}
+use Rattle.std.specs.Prelude.{◌==◌, ℕ, Bool, true, false, cond, List, drop}
 use Rattle.std.specs.List.{list_all}
 use Rattle.tmw_events.specs.declared.event.Event.{Event}
 use Rattle.tmw_events.specs.declared.event.Kind.{Kind}
@@ -25,3 +25,7 @@ is_spoken Two _ = true
 -- each of these events is one that the version has
 abbrev pub are_spoken : Version → List Event → Bool
 are_spoken version events = list_all (λ e. is_spoken version e.kind) events
+
+-- version one, where it has all of these events, and else version two
+abbrev pub version_of : List Event → Version
+version_of events = cond (are_spoken One events) One Two

@@ -33,7 +33,7 @@ pub fn event_of(version: Version, bytes: &[u8]) -> Option<Event>
 }
 
 /// Whether the version has this kind.
-fn speaks(version: Version, kind: Kind) -> bool
+pub fn speaks(version: Version, kind: Kind) -> bool
     ensures { result ≡ is_spoken version kind }
 {
     match (version, kind) {

@@ -4,6 +4,7 @@
 mod event_line;
 mod header;
 mod header_line;
+mod header_text;
 mod naming;
 mod reader;
 #[cfg(test)]
@@ -11,6 +12,9 @@ mod reader_tests;
 mod trace;
 mod trace_lines;
 mod version;
+mod writer;
+#[cfg(test)]
+mod writer_tests;
 
 pub use event_line::event_of;
 pub use header::Header;
@@ -20,4 +24,5 @@ pub use reader::read_trace;
 pub use tmw_lines::TextFault as TraceFault;
 pub use trace::Trace;
 pub use trace_lines::TraceLines;
-pub use version::Version;
+pub use version::{Version, version_of};
+pub use writer::write_trace;

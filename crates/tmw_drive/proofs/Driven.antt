@@ -1,0 +1,110 @@
+-- What the players have recorded when the order is done.
+use Rattle.std.proofs.Common.{◌≡◌, ◌==◌, ◌<◌, ◌≤◌, ◌+◌, ◌*◌, ◌^◌, ◌++◌, ℕ, true, false, List, [], ◌∷◌, length, get_or, IsTrue, refl, sym, ap, subst, ◌∙◌, inl, inr, arith}
+use Rattle.std.specs.Prelude.{All}
+use Rattle.std.proofs.lemmas.Bool.{cases_lt, ne_eqb}
+use Rattle.std.proofs.lemmas.List.{append-nil, get_or_past}
+use Rattle.std.proofs.lemmas.List.Elements.{All-head, All-nil, All-tail}
+use Rattle.tmw_defs.specs.Texts.{kinds_of}
+use Rattle.tmw_defs.specs.Verdict.{Rules, IsVerdict}
+use Rattle.tmw_defs.specs.declared.verdict.Verdict.{Verdict}
+use Rattle.tmw_defs.specs.declared.verdict.Verdict.TheVariants.{Malformed}
+use Rattle.tmw_drive.proofs.Entries.{length-drives, own-drives}
+use Rattle.tmw_drive.proofs.Players.{ends_as-plays}
+use Rattle.tmw_drive.proofs.Workloads.{are_transactions-workload, length-order, within-order}
+use Rattle.tmw_drive.specs.Driving.{script_at, Drives, EndsAs, IsDriven}
+use Rattle.tmw_drive.specs.Playing.{AllEnd, AllPlay}
+use Rattle.tmw_drive.specs.declared.ending.Ending.{Ending}
+use Rattle.tmw_drive.specs.declared.ending.Ending.TheVariants.{Done, Left, Stopped}
+use Rattle.tmw_drive.specs.declared.player.Player.{Player}
+use Rattle.tmw_events.specs.declared.event.Event.{Event}
+use Rattle.tmw_events.specs.declared.event.Kind.{Kind}
+use Rattle.tmw_runs.proofs.NeverMalformed.{formed_law, never_malformed}
+use Rattle.tmw_runs.proofs.StandingSteps.{so_far_all}
+use Rattle.tmw_runs.specs.Runs.{IsWholeRun, IsBeginning}
+use Rattle.tmw_runs.specs.Standing.{AllStand}
+use Rattle.tmw_tm.specs.Answers.{Call, Answer}
+use Rattle.tmw_workloads.specs.Workload.{is_workload}
+
+-- a thread without a script has no events
+no_kinds : (threads thread : ℕ) (log : List Event) → All (λ event. event.thread.number < threads) log → threads ≤ thread
+    → kinds_of thread log ≡ []
+no_kinds threads thread [] own past = refl
+no_kinds threads thread (event ∷ log) own past =
+    let low : event.thread.number < threads = All-head (λ e. e.thread.number < threads) event log own in
+    rw (ne_eqb event.thread.number thread (λ same. absurd (omega arith)))
+    (no_kinds threads thread log (All-tail (λ e. e.thread.number < threads) event log own) past)
+
+some_player : (players : List Player) (place : ℕ) → place < length players → Player
+some_player [] place low = absurd (omega (arith, low))
+some_player (player ∷ players) place low = player
+
+-- the players' log is what the scripts make of the memory
+pub is_driven : (gives : Call → Answer → Type 0) (registers : ℕ) (scripts : List (List (List Kind))) (order : List ℕ)
+    (players : List Player) (log : List Event) (ends : List Ending) → IsTrue (is_workload registers scripts order)
+    → AllPlay gives scripts players log → Drives scripts [] order log → AllEnd scripts players ends
+    → IsDriven gives scripts order log ends
+is_driven gives registers scripts order players log ends is all drives ended = record {
+  driven = drives;
+  stands = λ thread. stands_at thread;
+  counted = ended.counted ∙ all.counted;
+  ended = λ thread fallback low. ends_at thread fallback low;
+  own = own;
+}
+  where
+    own : All (λ event. event.thread.number < length scripts) log
+    own = own-drives scripts (length scripts) [] order log (within-order registers scripts order is) drives
+        (All-nil (λ event. event.thread.number < length scripts))
+
+    stands_at : (thread : ℕ) → AllStand gives true (kinds_of thread log)
+    stands_at thread =
+        elim (cases_lt thread (length players)) [
+          | inl low ↦
+              so_far_all gives (kinds_of thread log) _ (all.each thread (some_player players thread low) low).stands
+          | inr past ↦
+              subst (AllStand gives true) (sym (no_kinds (length scripts) thread log own (subst (λ n. n ≤ thread) all.counted past))) tt
+        ]
+
+    ends_at : (thread : ℕ) (fallback : Ending) → thread < length scripts
+        → EndsAs (script_at scripts thread) (kinds_of thread log) (get_or ends thread fallback)
+    ends_at thread fallback low =
+        let below : thread < length players = subst (λ n. thread < n) (sym all.counted) low in
+        let within : thread < length ends = subst (λ n. thread < n) (sym ended.counted) below in
+        let player = some_player players thread below in
+        ends_as-plays gives (script_at scripts thread) (get_or players thread player) (kinds_of thread log) (get_or ends thread fallback)
+        (all.each thread player below) (ended.each thread fallback within player)
+
+begins-ends_as : (script : List (List Kind)) (kinds : List Kind) (ending : Ending) → EndsAs script kinds ending → IsBeginning script kinds
+begins-ends_as script kinds Done whole = ([], subst (IsWholeRun script) (sym (append-nil kinds)) whole)
+begins-ends_as script kinds Left left = left.0
+begins-ends_as script kinds (Stopped refused) never = absurd never
+
+-- each thread's events begin a run of its script
+begins-driven : (gives : Call → Answer → Type 0) (scripts : List (List (List Kind))) (order : List ℕ) (log : List Event) (ends : List Ending)
+    → IsDriven gives scripts order log ends → (thread : ℕ) → IsBeginning (script_at scripts thread) (kinds_of thread log)
+begins-driven gives scripts order log ends driven thread =
+    elim (cases_lt thread (length scripts)) [
+      | inl low ↦ begins-ends_as (script_at scripts thread) (kinds_of thread log) (get_or ends thread Done) (driven.ended thread Done low)
+      | inr past ↦
+          let script : script_at scripts thread ≡ [] = get_or_past scripts thread [] past in
+          let none : kinds_of thread log ≡ [] = no_kinds (length scripts) thread log driven.own past in
+          subst (λ (s : List (List Kind)). IsBeginning s (kinds_of thread log)) (sym script)
+          (subst (λ (k : List Kind). IsBeginning [] k) (sym none) ([], refl))
+    ]
+
+-- no verdict on the log says that it is malformed
+pub formed-driven : (gives : Call → Answer → Type 0) (rules : Rules) (scripts : List (List (List Kind))) (order : List ℕ) (log : List Event)
+    (ends : List Ending) (verdict : Verdict) → IsTrue (is_workload rules.registers scripts order) → IsDriven gives scripts order log ends
+    → IsVerdict rules log verdict → (events : ℕ) → verdict ≡ Malformed events → ⊥
+formed-driven gives rules scripts order log ends verdict is driven told =
+    never_malformed rules log verdict
+    (formed_law rules.registers (λ thread. script_at scripts thread) log
+    (are_transactions-workload rules.registers scripts order is) (begins-driven gives scripts order log ends driven))
+    told
+
+-- the log is short enough to be judged
+pub length-driven : (gives : Call → Answer → Type 0) (registers : ℕ) (scripts : List (List (List Kind))) (order : List ℕ) (log : List Event)
+    (ends : List Ending) → IsTrue (is_workload registers scripts order) → IsDriven gives scripts order log ends → length log ≤ 2 ^ 40
+length-driven gives registers scripts order log ends is driven =
+    let short = length-drives scripts [] order log driven.driven in
+    let few = length-order registers scripts order is in
+    omega arith

@@ -1,0 +1,152 @@
+-- What is left of a script after its next call and the answer to it.
+use Rattle.std.proofs.Common.{◌≡◌, ◌==◌, ◌+◌, ◌++◌, ℕ, Bool, true, false, List, [], ◌∷◌, Option, Some, None, drop, IsTrue, refl, sym, ap, subst, ◌∙◌, inl, inr, arith, zero-add}
+use Rattle.std.specs.Prelude.{MatchBool}
+use Rattle.std.proofs.lemmas.Bool.{cases_Bool, and_parts, and_from, MatchBool-at_true, MatchBool-at_false, ne_eqb}
+use Rattle.std.proofs.lemmas.List.{drop-drop}
+use Rattle.tmw_defs.specs.History.{answers, ends}
+use Rattle.tmw_drive.specs.Playing.{from_call, left_of, next_of, next_left, BeginsNext, MakesNext, GoesOn}
+use Rattle.tmw_drive.specs.declared.player.Player.{Player}
+use Rattle.tmw_events.specs.declared.event.Kind.{Kind}
+use Rattle.tmw_events.specs.declared.event.Kind.TheVariants.{R, V, W, K, T, C, X, A, N}
+use Rattle.tmw_runs.specs.Leaving.{Leaves}
+use Rattle.tmw_runs.specs.Scripts.{is_operation, is_request, is_transaction, are_transactions}
+use Rattle.tmw_runs.proofs.LeavingSteps.{leaves_answered, leaves_aborted, leaves_next}
+
+-- what is left has this call first
+pub record Nexts (left : List (List Kind)) (call : Kind) : Type 0 where
+  pub calls : List Kind
+  pub later : List (List Kind)
+  pub is : left ≡ (call ∷ calls) ∷ later
+
+pub next_of-some : (left : List (List Kind)) (call : Kind) → next_of left ≡ Some call → Nexts left call
+next_of-some [] call is = absurd (cc)
+next_of-some ([] ∷ later) call is = absurd (cc)
+next_of-some ((first ∷ calls) ∷ later) call is =
+    let same : first ≡ call = cc in
+    record { calls = calls; later = later; is = ap (λ c. (c ∷ calls) ∷ later) same }
+
+-- where there is no next call, nothing is left
+pub next_of-none : (registers : ℕ) (left : List (List Kind)) → IsTrue (are_transactions registers left) → next_of left ≡ None
+    → left ≡ []
+next_of-none registers [] asks is = refl
+next_of-none registers ([] ∷ later) asks is = absurd (cc)
+next_of-none registers ((call ∷ calls) ∷ later) asks is = absurd (cc)
+
+-- one item more is dropped
+drop-one : {X : Type 0} (xs : List X) (n : ℕ) (x : X) (rest : List X) → drop n xs ≡ x ∷ rest → drop (n + 1) xs ≡ rest
+drop-one xs n x rest is = sym (drop-drop 1 n xs) ∙ ap (drop 1) is
+
+-- the transaction in which a call is left
+record Within (number : ℕ) (script : List (List Kind)) (call : Kind) (calls : List Kind) (later : List (List Kind)) : Type 0 where
+  transaction : List Kind
+  is : script ≡ transaction ∷ later
+  rest : drop number transaction ≡ call ∷ calls
+
+from_call-within : (number : ℕ) (script : List (List Kind)) (call : Kind) (calls : List Kind) (later : List (List Kind))
+    → from_call number script ≡ (call ∷ calls) ∷ later → Within number script call calls later
+from_call-within number [] call calls later is = absurd (cc)
+from_call-within number (transaction ∷ more) call calls later is =
+    let same : more ≡ later = cc in
+    record { transaction = transaction; is = ap (λ l. transaction ∷ l) same; rest = cc }
+
+from_call-zero : (script : List (List Kind)) → from_call 0 script ≡ script
+from_call-zero [] = refl
+from_call-zero (transaction ∷ more) = refl
+
+left_of-begins : (script : List (List Kind)) (old new : Player) (call : Kind) (calls : List Kind) (later : List (List Kind))
+    → left_of script old ≡ (call ∷ calls) ∷ later → BeginsNext old new → left_of script new ≡ later
+left_of-begins script old new call calls later is begins =
+    let within = from_call-within old.call (drop old.transaction script) call calls later is in
+    let rest : drop new.transaction script ≡ later
+    = ap (λ n. drop n script) begins.transaction ∙ drop-one script old.transaction within.transaction later within.is
+    in
+    ap (λ n. from_call n (drop new.transaction script)) begins.call ∙ from_call-zero (drop new.transaction script) ∙ rest
+
+left_of-makes : (script : List (List Kind)) (old new : Player) (call : Kind) (calls : List Kind) (later : List (List Kind))
+    → left_of script old ≡ (call ∷ calls) ∷ later → MakesNext old new → left_of script new ≡ calls ∷ later
+left_of-makes script old new call calls later is makes =
+    let within = from_call-within old.call (drop old.transaction script) call calls later is in
+    let place : drop new.transaction script ≡ within.transaction ∷ later
+    = ap (λ n. drop n script) makes.transaction ∙ within.is
+    in
+    let rest : drop new.call within.transaction ≡ calls
+    = ap (λ n. drop n within.transaction) makes.call ∙ drop-one within.transaction old.call call calls within.rest
+    in
+    ap (from_call new.call) place ∙ ap (λ l. l ∷ later) rest
+
+-- what is left of the script once the player has gone on
+pub left_of-goes_on : (script : List (List Kind)) (old new : Player) (call answer : Kind) (next : Nexts (left_of script old) call)
+    → GoesOn answer old new → left_of script new ≡ next_left answer ((call ∷ next.calls) ∷ next.later)
+left_of-goes_on script old new call answer next goes =
+    elim (cases_Bool (ends answer)) [
+      | inl over ↦ rw over (left_of-begins script old new call next.calls next.later next.is (MatchBool-at_true _ _ over goes))
+      | inr on ↦ rw on (left_of-makes script old new call next.calls next.later next.is (MatchBool-at_false _ _ on goes))
+    ]
+
+-- after an answer that ends its transaction, and after no other, the next call is the first of one
+pub first-goes_on : (old new : Player) (answer : Kind) → GoesOn answer old new → (new.call == 0) ≡ ends answer
+first-goes_on old new answer goes =
+    elim (cases_Bool (ends answer)) [
+      | inl over ↦ ap (λ n. n == 0) (MatchBool-at_true (BeginsNext old new) _ over goes).call ∙ sym over
+      | inr on ↦
+          let call : new.call ≡ old.call + 1 = (MatchBool-at_false _ (MakesNext old new) on goes).call in
+          ne_eqb new.call 0 (λ none. absurd (omega arith)) ∙ sym on
+    ]
+
+leaves-request : (script : List (List Kind)) (kinds : List Kind) (call answer : Kind) (later : List (List Kind))
+    → IsTrue (is_request call) → IsTrue (answers call answer) → Leaves script kinds ((call ∷ []) ∷ later)
+    → Leaves script (kinds ++ call ∷ answer ∷ []) (next_left answer ((call ∷ []) ∷ later))
+leaves-request script kinds T C later asks fits leaves =
+    leaves_next script (kinds ++ T ∷ C ∷ []) later (leaves_answered script kinds T C [] later leaves refl refl)
+leaves-request script kinds T A later asks fits leaves = leaves_aborted script kinds T A [] later leaves refl refl
+leaves-request script kinds X A later asks fits leaves = leaves_aborted script kinds X A [] later leaves refl refl
+leaves-request script kinds _ _ later asks fits leaves = absurd (cc)
+
+leaves-operation : (registers : ℕ) (script : List (List Kind)) (kinds : List Kind) (call answer : Kind) (calls : List Kind) (later : List (List Kind))
+    → IsTrue (is_operation registers call) → IsTrue (answers call answer) → Leaves script kinds ((call ∷ calls) ∷ later)
+    → Leaves script (kinds ++ call ∷ answer ∷ []) (next_left answer ((call ∷ calls) ∷ later))
+leaves-operation registers script kinds (R r) (V v) calls later asks fits leaves =
+    leaves_answered script kinds (R r) (V v) calls later leaves refl refl
+leaves-operation registers script kinds (R r) A calls later asks fits leaves =
+    leaves_aborted script kinds (R r) A calls later leaves refl refl
+leaves-operation registers script kinds (W r v) K calls later asks fits leaves =
+    leaves_answered script kinds (W r v) K calls later leaves refl refl
+leaves-operation registers script kinds (W r v) A calls later asks fits leaves =
+    leaves_aborted script kinds (W r v) A calls later leaves refl refl
+leaves-operation registers script kinds (N r d) (V v) calls later asks fits leaves =
+    leaves_answered script kinds (N r d) (V v) calls later leaves refl refl
+leaves-operation registers script kinds (N r d) A calls later asks fits leaves =
+    leaves_aborted script kinds (N r d) A calls later leaves refl refl
+leaves-operation registers script kinds _ _ calls later asks fits leaves = absurd (cc)
+
+-- after the next call and its answer the events leave what is left then
+pub leaves-next_left : (registers : ℕ) (script : List (List Kind)) (kinds : List Kind) (call answer : Kind) (calls : List Kind) (later : List (List Kind))
+    → IsTrue (are_transactions registers ((call ∷ calls) ∷ later)) → IsTrue (answers call answer)
+    → Leaves script kinds ((call ∷ calls) ∷ later)
+    → Leaves script (kinds ++ call ∷ answer ∷ []) (next_left answer ((call ∷ calls) ∷ later))
+leaves-next_left registers script kinds call answer [] later asks fits leaves =
+    leaves-request script kinds call answer later (and_parts (is_request call) _ asks).0 fits leaves
+leaves-next_left registers script kinds call answer (next ∷ calls) later asks fits leaves =
+    let first = (and_parts (is_transaction registers (call ∷ next ∷ calls)) _ asks).0 in
+    leaves-operation registers script kinds call answer (next ∷ calls) later (and_parts (is_operation registers call) _ first).0 fits leaves
+
+ends-request : (call answer : Kind) → IsTrue (is_request call) → IsTrue (answers call answer) → IsTrue (ends answer)
+ends-request T C asks fits = refl
+ends-request T A asks fits = refl
+ends-request X A asks fits = refl
+ends-request _ _ asks fits = absurd (cc)
+
+-- and what is left then are transactions again
+pub are_transactions-next_left : (registers : ℕ) (call answer : Kind) (calls : List Kind) (later : List (List Kind))
+    → IsTrue (are_transactions registers ((call ∷ calls) ∷ later)) → IsTrue (answers call answer)
+    → IsTrue (are_transactions registers (next_left answer ((call ∷ calls) ∷ later)))
+are_transactions-next_left registers call answer [] later asks fits =
+    let (first, rest) = and_parts (is_request call) _ asks in
+    rw (ends-request call answer first fits) rest
+are_transactions-next_left registers call answer (next ∷ calls) later asks fits =
+    let (first, rest) = and_parts (is_transaction registers (call ∷ next ∷ calls)) _ asks in
+    let more = (and_parts (is_operation registers call) _ first).1 in
+    elim (cases_Bool (ends answer)) [
+      | inl over ↦ rw over rest
+      | inr on ↦ rw on (and_from _ _ more rest)
+    ]

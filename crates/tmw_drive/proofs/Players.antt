@@ -1,0 +1,131 @@
+-- A player that makes its next call, or has none left.
+use Rattle.std.proofs.Common.{◌≡◌, ◌==◌, ◌+◌, ◌++◌, ℕ, Bool, true, false, List, [], ◌∷◌, Option, Some, None, drop, IsTrue, refl, sym, ap, subst, ◌∙◌, inl, inr}
+use Rattle.std.specs.Prelude.{MatchBool}
+use Rattle.std.proofs.lemmas.Bool.{cases_Bool, and_parts, MatchBool-at_true, MatchBool-at_false}
+use Rattle.tmw_defs.specs.History.{answers, ends, is_call}
+use Rattle.tmw_drive.proofs.Going.{Nexts, next_of-some, next_of-none, left_of-goes_on, first-goes_on, leaves-next_left, are_transactions-next_left}
+use Rattle.tmw_drive.specs.Driving.{EndsAs}
+use Rattle.tmw_drive.specs.Fresh.{IsFresh}
+use Rattle.tmw_drive.specs.Playing.{from_call, left_of, next_of, next_left, BeginsNext, MakesNext, GoesOn, IsNew, IsEnding, Plays}
+use Rattle.tmw_drive.specs.declared.ending.Ending.{Ending}
+use Rattle.tmw_drive.specs.declared.ending.Ending.TheVariants.{Done, Left}
+use Rattle.tmw_drive.specs.declared.player.Player.{Player}
+use Rattle.tmw_events.specs.declared.event.Kind.{Kind}
+use Rattle.tmw_events.specs.declared.event.Kind.TheVariants.{A}
+use Rattle.tmw_runs.proofs.Calls.{answers_abort, are_calls-transactions, are_calls_first}
+use Rattle.tmw_runs.proofs.LeavingSteps.{leaves_all, whole_run, beginning, not_whole}
+use Rattle.tmw_runs.proofs.StandingSteps.{so_far_none, so_far_answered}
+use Rattle.tmw_runs.specs.Leaving.{Leaves}
+use Rattle.tmw_runs.specs.Runs.{IsWholeRun, IsBeginning}
+use Rattle.tmw_runs.specs.Scripts.{are_transactions}
+use Rattle.tmw_runs.specs.Standing.{Stands, StandsSoFar}
+use Rattle.tmw_tm.specs.Answers.{Call, Answer}
+
+-- a new player has its whole script left
+pub left_of-new : (script : List (List Kind)) (thread : ℕ) (player : Player) → IsNew thread player → left_of script player ≡ script
+left_of-new script thread player new =
+    ap (λ n. from_call n (drop player.transaction script)) new.call ∙ ap (λ n. from_call 0 (drop n script)) new.transaction ∙ whole script
+  where
+    whole : (s : List (List Kind)) → from_call 0 (drop 0 s) ≡ s
+    whole [] = refl
+    whole (calls ∷ later) = refl
+
+pub plays-new : (gives : Call → Answer → Type 0) (registers : ℕ) (script : List (List Kind)) (thread : ℕ) (player : Player)
+    → IsTrue (are_transactions registers script) → IsNew thread player → Plays gives script player []
+plays-new gives registers script thread player asks new =
+    let left : script ≡ left_of script player = sym (left_of-new script thread player new) in
+    let first : true ≡ (player.call == 0) = sym (ap (λ n. n == 0) new.call) in
+    record {
+      leaves = subst (Leaves script []) left (leaves_all script);
+      calls = (registers, subst (λ l. IsTrue (are_transactions registers l)) left asks);
+      stands = subst (StandsSoFar gives []) first (so_far_none gives);
+      fresh = λ _. new.fresh;
+    }
+
+-- the next call may be answered by an abort event
+pub call-plays : (gives : Call → Answer → Type 0) (script : List (List Kind)) (player : Player) (kinds : List Kind) (call : Kind)
+    → Plays gives script player kinds → next_of (left_of script player) ≡ Some call → IsTrue (answers call A)
+call-plays gives script player kinds call plays is =
+    let next = next_of-some (left_of script player) call is in
+    let (registers, asks) = plays.calls in
+    let left : IsTrue (are_transactions registers ((call ∷ next.calls) ∷ next.later))
+    = subst (λ l. IsTrue (are_transactions registers l)) next.is asks
+    in
+    answers_abort registers call (are_calls_first registers call next.calls next.later (are_calls-transactions registers ((call ∷ next.calls) ∷ next.later) left))
+
+-- the player has made its next call, and has gone on after the answer to it
+pub plays-goes_on : (gives : Call → Answer → Type 0) (script : List (List Kind)) (old new : Player) (kinds : List Kind) (call answer : Kind)
+    → Plays gives script old kinds → next_of (left_of script old) ≡ Some call → IsTrue (answers call answer)
+    → Stands gives (old.call == 0) call answer → GoesOn answer old new → Plays gives script new (kinds ++ call ∷ answer ∷ [])
+plays-goes_on gives script old new kinds call answer plays is fits stands goes =
+    let next = next_of-some (left_of script old) call is in
+    let (registers, asks) = plays.calls in
+    let asks_left : IsTrue (are_transactions registers ((call ∷ next.calls) ∷ next.later))
+    = subst (λ l. IsTrue (are_transactions registers l)) next.is asks
+    in
+    let left : next_left answer ((call ∷ next.calls) ∷ next.later) ≡ left_of script new = sym (left_of-goes_on script old new call answer next goes) in
+    let first : ends answer ≡ (new.call == 0) = sym (first-goes_on old new answer goes) in
+    record {
+      leaves = subst (Leaves script (kinds ++ call ∷ answer ∷ [])) left
+          (leaves-next_left registers script kinds call answer next.calls next.later asks_left fits (subst (Leaves script kinds) next.is plays.leaves));
+      calls = (
+        registers,
+        subst (λ l. IsTrue (are_transactions registers l)) left
+            (are_transactions-next_left registers call answer next.calls next.later asks_left fits),
+      );
+      stands = subst (StandsSoFar gives (kinds ++ call ∷ answer ∷ [])) first
+          (so_far_answered gives kinds (old.call == 0) call answer plays.stands stands);
+      fresh = λ zero_call. fresh_at (first ∙ zero_call);
+    }
+  where
+    fresh_at : IsTrue (ends answer) → IsFresh new.tx
+    fresh_at over = (MatchBool-at_true (BeginsNext old new) _ over goes).fresh
+
+-- a player without a next call has recorded a whole run, one with a next call a beginning
+pub whole-plays : (gives : Call → Answer → Type 0) (script : List (List Kind)) (player : Player) (kinds : List Kind)
+    → Plays gives script player kinds → next_of (left_of script player) ≡ None → IsWholeRun script kinds
+whole-plays gives script player kinds plays is =
+    whole_run script kinds (subst (Leaves script kinds) (next_of-none plays.calls.0 (left_of script player) plays.calls.1 is) plays.leaves)
+
+pub beginning-plays : (gives : Call → Answer → Type 0) (script : List (List Kind)) (player : Player) (kinds : List Kind)
+    → Plays gives script player kinds → IsBeginning script kinds
+beginning-plays gives script player kinds plays =
+    let (registers, asks) = plays.calls in
+    beginning registers script kinds (left_of script player) (are_calls-transactions registers (left_of script player) asks) plays.leaves
+
+not_whole-plays : (gives : Call → Answer → Type 0) (script : List (List Kind)) (player : Player) (kinds : List Kind) (call : Kind)
+    → Plays gives script player kinds → next_of (left_of script player) ≡ Some call → IsWholeRun script kinds → ⊥
+not_whole-plays gives script player kinds call plays is =
+    let next = next_of-some (left_of script player) call is in
+    let (registers, asks) = plays.calls in
+    let left : IsTrue (are_transactions registers ((call ∷ next.calls) ∷ next.later))
+    = subst (λ l. IsTrue (are_transactions registers l)) next.is asks
+    in
+    not_whole registers script kinds call next.calls next.later (are_calls-transactions registers ((call ∷ next.calls) ∷ next.later) left)
+    (subst (Leaves script kinds) next.is plays.leaves)
+
+-- the ending of a player is that of its run
+pub ends_as-plays : (gives : Call → Answer → Type 0) (script : List (List Kind)) (player : Player) (kinds : List Kind) (ending : Ending)
+    → Plays gives script player kinds → IsEnding (next_of (left_of script player)) ending → EndsAs script kinds ending
+ends_as-plays gives script player kinds ending plays is = by_next (next_of (left_of script player)) refl is
+  where
+    by_next : (next : Option Kind) → next_of (left_of script player) ≡ next → IsEnding next ending → EndsAs script kinds ending
+    by_next None none is = subst (EndsAs script kinds) (sym is) (whole-plays gives script player kinds plays none)
+    by_next (Some call) some is =
+        subst (EndsAs script kinds) (sym is)
+        (beginning-plays gives script player kinds plays, not_whole-plays gives script player kinds call plays some)
+
+-- asking the memory moves no player
+pub goes_on-same : (old middle new : Player) (answer : Kind) → middle.transaction ≡ old.transaction → middle.call ≡ old.call
+    → GoesOn answer middle new → GoesOn answer old new
+goes_on-same old middle new answer transaction call goes =
+    elim (cases_Bool (ends answer)) as (λ _. GoesOn answer old new) [
+      | inl over ↦
+          let begins : BeginsNext middle new = MatchBool-at_true _ _ over goes in
+          subst (λ b. MatchBool b (BeginsNext old new) (MakesNext old new)) (sym over)
+          record { transaction = begins.transaction ∙ ap (λ n. n + 1) transaction; call = begins.call; fresh = begins.fresh }
+      | inr on ↦
+          let makes : MakesNext middle new = MatchBool-at_false _ _ on goes in
+          subst (λ b. MatchBool b (BeginsNext old new) (MakesNext old new)) (sym on)
+          record { transaction = makes.transaction ∙ transaction; call = makes.call ∙ ap (λ n. n + 1) call }
+    ]

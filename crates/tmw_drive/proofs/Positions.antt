@@ -1,0 +1,30 @@
+-- The script and the call that are read at a player's position.
+use Rattle.std.proofs.Common.{◌≡◌, ◌<◌, ℕ, zero, suc, List, [], ◌∷◌, Option, Some, None, length, map, drop, get_or, refl, sym, ap, subst, ◌∙◌, arith}
+use Rattle.std.specs.Global.{Vec}
+use Rattle.std.specs.Prelude.{slice_get}
+use Rattle.tmw_drive.proofs.Places.{get_or-map}
+use Rattle.tmw_drive.specs.Driving.{script_at}
+use Rattle.tmw_drive.specs.Playing.{calls_of, from_call, next_of}
+use Rattle.tmw_events.specs.declared.event.Kind.{Kind}
+use Rattle.tmw_runs.specs.Scripts.{script_of, scripts_of}
+
+next_of-drop : (calls : List Kind) (call : ℕ) (later : List (List Kind)) → next_of (drop call calls ∷ later) ≡ slice_get calls call
+next_of-drop [] zero later = refl
+next_of-drop [] (suc call) later = refl
+next_of-drop (first ∷ calls) zero later = refl
+next_of-drop (first ∷ calls) (suc call) later = next_of-drop calls call later
+
+-- the next call is the one at its place in the transaction at its place
+pub next_of-get : (script : List (Vec Kind)) (transaction call : ℕ) (calls : Vec Kind) → slice_get script transaction ≡ Some calls
+    → next_of (from_call call (drop transaction (calls_of script))) ≡ slice_get calls.items call
+next_of-get [] transaction call calls is = absurd (cc)
+next_of-get (first ∷ script) zero call calls is =
+    let same : first ≡ calls = cc in
+    next_of-drop first.items call (calls_of script) ∙ ap (λ (v : Vec Kind). slice_get v.items call) same
+next_of-get (first ∷ script) (suc transaction) call calls is = next_of-get script transaction call calls is
+
+-- the script of a thread is the vector at its place
+pub script_at-read : (scripts : List (Vec (Vec Kind))) (place : ℕ) (script : Vec (Vec Kind)) → place < length scripts
+    → script ≡ get_or scripts place script → script_at (scripts_of scripts) place ≡ calls_of script.items
+script_at-read scripts place script low is =
+    get_or-map script_of scripts place script [] low ∙ ap (λ (v : Vec (Vec Kind)). calls_of v.items) (sym is)

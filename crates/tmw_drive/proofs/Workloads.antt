@@ -1,0 +1,58 @@
+-- What a workload tells of its scripts and its order.
+use Rattle.std.proofs.Common.{◌≡◌, ◌<◌, ◌≤◌, ◌&&◌, ℕ, zero, suc, Bool, true, List, [], ◌∷◌, length, get_or, IsTrue, refl, arith}
+use Rattle.std.specs.Prelude.{All, nat_lt, nat_le}
+use Rattle.std.specs.List.{list_all}
+use Rattle.std.proofs.lemmas.Bool.{and_parts, and_from, leb-true, ltb-true}
+use Rattle.std.proofs.lemmas.List.Elements.{All-cons, All-nil}
+use Rattle.tmw_drive.specs.Driving.{script_at}
+use Rattle.tmw_events.specs.declared.event.Kind.{Kind}
+use Rattle.tmw_runs.specs.Scripts.{is_transaction, are_transactions}
+use Rattle.tmw_workloads.specs.Workload.{is_short_transaction, is_short_script, are_scripts, is_order, is_workload}
+
+pub threads-workload : (registers : ℕ) (scripts : List (List (List Kind))) (order : List ℕ) → IsTrue (is_workload registers scripts order)
+    → length scripts ≤ 8
+threads-workload registers scripts order is =
+    let one = (and_parts (are_scripts registers scripts) _ is).0 in
+    leb-true (length scripts) 8 (and_parts (nat_lt 0 (length scripts)) _ (and_parts (nat_lt 0 (length scripts) && nat_le (length scripts) 8) _ one).0).1
+
+pub length-order : (registers : ℕ) (scripts : List (List (List Kind))) (order : List ℕ) → IsTrue (is_workload registers scripts order)
+    → length order ≤ 100000
+length-order registers scripts order is =
+    let one = (and_parts (are_scripts registers scripts) _ is).1 in
+    leb-true (length order) 100000 (and_parts (nat_le (length order) 100000) _ one).0
+
+all_below : (threads : ℕ) (order : List ℕ) → IsTrue (list_all (λ thread. nat_lt thread threads) order) → All (λ thread. thread < threads) order
+all_below threads [] is = All-nil (λ thread. thread < threads)
+all_below threads (first ∷ order) is =
+    let (here, rest) = and_parts (nat_lt first threads) _ is in
+    All-cons (λ thread. thread < threads) first order (ltb-true first threads here) (all_below threads order rest)
+
+-- each entry names a thread that has a script
+pub within-order : (registers : ℕ) (scripts : List (List (List Kind))) (order : List ℕ) → IsTrue (is_workload registers scripts order)
+    → All (λ thread. thread < length scripts) order
+within-order registers scripts order is =
+    let one = (and_parts (are_scripts registers scripts) _ is).1 in
+    all_below (length scripts) order (and_parts (nat_le (length order) 100000) _ one).1
+
+are_transactions-short : (registers : ℕ) (script : List (List Kind)) → IsTrue (list_all (is_short_transaction registers) script)
+    → IsTrue (are_transactions registers script)
+are_transactions-short registers [] is = refl
+are_transactions-short registers (calls ∷ script) is =
+    let (here, rest) = and_parts (is_short_transaction registers calls) _ is in
+    and_from _ _ (and_parts (nat_le (length calls) 64) _ here).1 (are_transactions-short registers script rest)
+
+at_thread : (registers : ℕ) (scripts : List (List (List Kind))) (thread : ℕ) → IsTrue (list_all (is_short_script registers) scripts)
+    → IsTrue (are_transactions registers (script_at scripts thread))
+at_thread registers [] thread is = refl
+at_thread registers (script ∷ scripts) zero is =
+    let here = (and_parts (is_short_script registers script) _ is).0 in
+    are_transactions-short registers script (and_parts (nat_le (length script) 1000) _ here).1
+at_thread registers (script ∷ scripts) (suc thread) is =
+    at_thread registers scripts thread (and_parts (is_short_script registers script) _ is).1
+
+-- each thread's script is of transactions; a thread without a script has none
+pub are_transactions-workload : (registers : ℕ) (scripts : List (List (List Kind))) (order : List ℕ) → IsTrue (is_workload registers scripts order)
+    → (thread : ℕ) → IsTrue (are_transactions registers (script_at scripts thread))
+are_transactions-workload registers scripts order is thread =
+    let one = (and_parts (are_scripts registers scripts) _ is).0 in
+    at_thread registers scripts thread (and_parts (nat_lt 0 (length scripts) && nat_le (length scripts) 8) _ one).1

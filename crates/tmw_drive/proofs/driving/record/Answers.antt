@@ -1,0 +1,59 @@
+use Rattle.std.proofs.Common.{◌≡◌, ℕ, List, [], length, drop, sym, ap, subst, ◌∙◌}
+use Rattle.std.proofs.lemmas.List.{length-map, take_at}
+use Rattle.tmw_drive.proofs.AllPlaying.{all_play-new}
+use Rattle.tmw_drive.proofs.Driven.{is_driven}
+use Rattle.tmw_drive.proofs.Workloads.{are_transactions-workload}
+use Rattle.tmw_drive.specs.Driving.{Drives}
+use Rattle.tmw_drive.specs.Playing.{AllEnd, AllNew, AllPlay}
+use Rattle.tmw_drive.specs.declared.player.Player.{Player}
+use Rattle.tmw_events.specs.declared.event.Event.{Event}
+use Rattle.tmw_runs.specs.Scripts.{script_of, scripts_of}
+use Rattle.tmw_tm.specs.Answers.{Call, Answer}
+use Rattle.tmw_drive.proofs.driving.record.Goals as goal
+
+pub play-requires-clause-all : goal.play-requires-clause-all
+play-requires-clause-all g c =
+    let workload = c.args.workload.now in
+    let registers = workload.registers.number in
+    let scripts = scripts_of workload.scripts.items in
+    let players = c.in_ok-players.players.items in
+    let gives : Call → Answer → Type 0 = λ call answer. (goal.Tm-dyn g c.args.memory.now).gives c.args.memory.now.1 call answer in
+    let count : c.len.result ≡ length scripts
+    = c.len.ensures ∙ workload.scripts.ok.0 ∙ sym (length-map workload.scripts.items script_of)
+    in
+    let new : AllNew (length scripts) players = subst (λ n. AllNew n players) count c.in_ok-players.ensures in
+    let start : AllPlay gives scripts players []
+    = all_play-new gives registers scripts players (are_transactions-workload registers scripts workload.order.items workload.is) new
+    in
+    subst (λ (log : List Event). AllPlay gives (scripts_of c.deref.result.now) c.deref_mut.result.now log) (sym c.new-log.ensures.items)
+    (subst (λ (p : List Player). AllPlay gives (scripts_of c.deref.result.now) p []) (sym c.deref_mut.ensures.value)
+    (subst (λ s. AllPlay gives (scripts_of s) players []) (sym c.deref.ensures.value) start))
+
+pub returns : goal.returns
+returns g c =
+    let workload = c.args.workload.now in
+    let registers = workload.registers.number in
+    let scripts = scripts_of workload.scripts.items in
+    let order = workload.order.items in
+    let players = c.play.new.players in
+    let log = c.play.new.log.items in
+    let ends = c.in_ok-ends.ends.items in
+    let gives : Call → Answer → Type 0 = λ call answer. (goal.Tm-dyn g c.args.memory.now).gives c.args.memory.now.1 call answer in
+    let all : AllPlay gives scripts players log
+    = subst (λ s. AllPlay gives (scripts_of s) players log) c.deref.ensures.value c.in_ok-play.ensures.all
+    in
+    let drives : Drives scripts [] order log
+    = subst (λ (l : List Event). Drives scripts l order log) c.new-log.ensures.items
+    (subst (λ s. Drives (scripts_of s) c.new-log.result.items order log) c.deref.ensures.value
+    (subst (λ o. Drives (scripts_of c.deref.result.now) c.new-log.result.items o log) c.deref-2.ensures.value c.in_ok-play.ensures.drives))
+    in
+    let made = c.in_ok-players.players in
+    let stayed : c.deref-4.result.now ≡ players
+    = c.deref-4.ensures.value ∙ take_at players (drop (length players) made.items) made.len
+    (c.play.auto.players ∙ ap (λ (p : List Player). length p) c.deref_mut.ensures.value ∙ sym {A = ℕ} made.ok.0)
+    in
+    let ended : AllEnd scripts players ends
+    = subst (λ s. AllEnd (scripts_of s) players ends) c.deref-3.ensures.value
+    (subst (λ (p : List Player). AllEnd (scripts_of c.deref-3.result.now) p ends) stayed c.in_ok-ends.ensures)
+    in
+    is_driven gives registers scripts order players log ends workload.is all drives ended

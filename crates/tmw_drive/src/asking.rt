@@ -1,0 +1,56 @@
+//! A call is made of the memory, and what is recorded of its answer.
+ghost use Rattle.std.specs.Prelude.{◌≡◌, IsTrue};
+ghost use Rattle.tmw_defs.specs.History.{answers, ends};
+ghost use Rattle.tmw_drive.specs.Fresh.{IsFresh};
+ghost use Rattle.tmw_events.specs.declared.event.Kind.TheVariants.{A};
+ghost use Rattle.tmw_runs.specs.Standing.{Stands};
+
+use tmw_events::Kind;
+use tmw_tm::{Did, Got, Tm, Tx};
+
+/// Makes the call with this transaction, begun before its first call, and answers the event that answers the call. Where the
+/// memory does not begin the transaction, the call is not made.
+pub fn ask(memory: &(dyn Tm + Sync), tx: &mut Tx, first: bool, call: Kind) -> Kind
+    requires fresh { IsTrue first → IsFresh tx.old }
+    // An abort event may answer each call, and nothing but a call.
+    requires call { IsTrue (answers call A) }
+    ensures fits { IsTrue (answers call result) }
+    ensures stands { Stands (gives memory.now) first call result }
+{
+    if first {
+        match memory.begin(tx) {
+            Did::Done => {}
+            Did::Abort => return Kind::A,
+        }
+    }
+    match call {
+        Kind::R(register) => match memory.read(tx, register) {
+            Got::Value(value) => Kind::V(value),
+            Got::Abort => Kind::A,
+        },
+        Kind::W(register, value) => match memory.write(tx, register, value) {
+            Did::Done => Kind::K,
+            Did::Abort => Kind::A,
+        },
+        Kind::N(register, addend) => match memory.add(tx, register, addend) {
+            Got::Value(value) => Kind::V(value),
+            Got::Abort => Kind::A,
+        },
+        Kind::T => match memory.commit(tx) {
+            Did::Done => Kind::C,
+            Did::Abort => Kind::A,
+        },
+        // An abort request, the only call that is left.
+        _ => {
+            memory.abort(tx);
+            Kind::A
+        }
+    }
+}
+
+/// Whether the answer ends its transaction.
+pub fn ends(answer: Kind) -> bool
+    ensures { result ≡ ends answer }
+{
+    matches!(answer, Kind::C | Kind::A)
+}

@@ -1,0 +1,12 @@
+use tmw_ring::Refused;
+
+/// How far a thread has come in its script.
+#[derive(Clone, Copy, PartialEq, Eq, Debug)]
+pub enum Ending {
+    /// All calls were made and answered.
+    Done,
+    /// The order ran out before the script.
+    Left,
+    /// An event could not be recorded.
+    Stopped(Refused),
+}

@@ -1,0 +1,27 @@
+-- The history of threads that carry out scripts is never malformed.
+use Rattle.std.proofs.Common.{◌≡◌, ℕ, List, take, IsTrue, subst}
+use Rattle.std.proofs.lemmas.Bool.{both_ways}
+use Rattle.tmw_events.specs.declared.event.Event.{Event}
+use Rattle.tmw_defs.specs.declared.verdict.Verdict.{Verdict}
+use Rattle.tmw_defs.specs.declared.verdict.Verdict.TheVariants.{Malformed}
+use Rattle.tmw_defs.specs.History.{is_well_formed}
+use Rattle.tmw_defs.specs.Texts.{kinds_of}
+use Rattle.tmw_defs.specs.Verdict.{Rules, IsVerdict}
+use Rattle.tmw_runs.specs.Law.{FormedLaw}
+use Rattle.tmw_runs.proofs.Calls.{are_calls-transactions}
+use Rattle.tmw_runs.proofs.TurnsOfRuns.{beginning_turns}
+use Rattle.tmw_runs.proofs.WellFormed.{is_well_formed-turns_take}
+
+pub formed_law : FormedLaw
+formed_law registers scripts history asks begin =
+    is_well_formed-turns_take registers history (λ thread.
+    beginning_turns registers (scripts thread) (kinds_of thread history)
+    (are_calls-transactions registers (scripts thread) (asks thread)) (begin thread))
+
+-- where each prefix is well-formed, the verdict does not say that one is malformed
+pub never_malformed : (rules : Rules) (history : List Event) (verdict : Verdict)
+    → ((m : ℕ) → IsTrue (is_well_formed rules.registers (take m history))) → IsVerdict rules history verdict
+    → (m : ℕ) → verdict ≡ Malformed m → ⊥
+never_malformed rules history verdict formed told m malformed =
+    let first : IsVerdict rules history (Malformed m) = subst (IsVerdict rules history) malformed told in
+    both_ways (is_well_formed rules.registers (take m history)) first.here.ill_formed (formed m)

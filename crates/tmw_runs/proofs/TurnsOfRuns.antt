@@ -1,0 +1,47 @@
+-- The events of a thread that carries a script out are calls and answers in turn.
+use Rattle.std.proofs.Common.{◌&&◌, ◌++◌, ℕ, List, [], ◌∷◌, IsTrue, refl, sym, ap, subst, ◌∙◌, inl, inr}
+use Rattle.std.specs.List.{list_all}
+use Rattle.std.proofs.lemmas.Bool.{cases_Bool, and_parts, and_from, MatchBool-at_true, MatchBool-at_false}
+use Rattle.tmw_events.specs.declared.event.Kind.{Kind}
+use Rattle.tmw_defs.specs.History.{is_call, answers}
+use Rattle.tmw_runs.specs.Runs.{is_abort, IsWholeText, IsWholeRun, IsBeginning}
+use Rattle.tmw_runs.specs.Scripts.{are_calls}
+use Rattle.tmw_runs.specs.Turns.{is_turns}
+
+-- the front of turns is turns
+pub is_turns_front : (registers : ℕ) (front back : List Kind) → IsTrue (is_turns registers (front ++ back))
+    → IsTrue (is_turns registers front)
+is_turns_front registers [] back turns = refl
+is_turns_front registers (call ∷ []) [] turns = turns
+is_turns_front registers (call ∷ []) (answer ∷ back) turns =
+    (and_parts (is_call registers call) _ (and_parts (is_call registers call && answers call answer) _ turns).0).0
+is_turns_front registers (call ∷ answer ∷ front) back turns =
+    let (here, rest) = and_parts (is_call registers call && answers call answer) _ turns in
+    and_from _ _ here (is_turns_front registers front back rest)
+
+-- a whole text, and turns after it
+text_turns : (registers : ℕ) (calls text more : List Kind) → IsTrue (list_all (is_call registers) calls)
+    → IsWholeText calls text → IsTrue (is_turns registers more) → IsTrue (is_turns registers (text ++ more))
+text_turns registers [] text more asks whole turns = subst (λ t. IsTrue (is_turns registers (t ++ more))) (sym whole) turns
+text_turns registers (call ∷ calls) text more asks (answer, rest, is, fits, whole) turns =
+    let (call_asks, calls_ask) = and_parts (is_call registers call) _ asks in
+    let rest_turns : IsTrue (is_turns registers (rest ++ more)) =
+    elim (cases_Bool (is_abort answer)) [
+      | inl over ↦ subst (λ t. IsTrue (is_turns registers (t ++ more))) (sym (MatchBool-at_true _ _ over whole)) turns
+      | inr on ↦ text_turns registers calls rest more calls_ask (MatchBool-at_false _ _ on whole) turns
+    ]
+    in
+    subst (λ t. IsTrue (is_turns registers (t ++ more))) (sym is)
+    (and_from (is_call registers call && answers call answer) _ (and_from _ _ call_asks fits) rest_turns)
+
+pub run_turns : (registers : ℕ) (script : List (List Kind)) (kinds : List Kind) → IsTrue (are_calls registers script)
+    → IsWholeRun script kinds → IsTrue (is_turns registers kinds)
+run_turns registers [] kinds asks run = ap (is_turns registers) run
+run_turns registers (calls ∷ script) kinds asks (text, more, is, whole, run) =
+    let (calls_ask, script_asks) = and_parts (list_all (is_call registers) calls) _ asks in
+    ap (is_turns registers) is ∙ text_turns registers calls text more calls_ask whole (run_turns registers script more script_asks run)
+
+pub beginning_turns : (registers : ℕ) (script : List (List Kind)) (kinds : List Kind) → IsTrue (are_calls registers script)
+    → IsBeginning script kinds → IsTrue (is_turns registers kinds)
+beginning_turns registers script kinds asks (more, run) =
+    is_turns_front registers kinds more (run_turns registers script (kinds ++ more) asks run)

@@ -1,0 +1,10 @@
+-- A thread's events, taken by themselves: calls and their answers in turn.
+use Rattle.std.specs.Prelude.{ℕ, Bool, true, List, [], ◌∷◌, ◌&&◌}
+use Rattle.tmw_events.specs.declared.event.Kind.{Kind}
+use Rattle.tmw_defs.specs.History.{is_call, answers}
+
+-- Each call is followed by an answer that fits it; the last may be without one. Transactions follow one another.
+abbrev pub is_turns : ℕ → List Kind → Bool
+is_turns registers [] = true
+is_turns registers (call ∷ []) = is_call registers call
+is_turns registers (call ∷ answer ∷ more) = is_call registers call && answers call answer && is_turns registers more

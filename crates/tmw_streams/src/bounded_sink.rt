@@ -1,0 +1,92 @@
+ghost use Rattle.std.specs.Prelude.{◌≡◌, ◌+◌, ◌<◌, ◌≤◌, [], length, take, IfOk, OnOk, OnErr, refl};
+ghost use Rattle.tmw_streams.specs.Bounded.{bounded_bytes};
+ghost use Rattle.tmw_streams.specs.Told.{Takes, one_more};
+
+use crate::io_fault::IoFault;
+use crate::sink::Sink;
+use arrayvec::ArrayVec;
+
+/// The greatest number of bytes that a `BoundedSink` holds.
+const MOST_BYTES: usize = 4096;
+
+/// A sink that holds at most 4,096 bytes and takes no memory. It takes all the bytes of a call, or none where they don't
+/// fit, which is a failed write.
+#[derive(Drop)]
+pub struct BoundedSink {
+    bytes: ArrayVec<u8, MOST_BYTES>,
+    failures: u64,
+}
+
+impl BoundedSink {
+    /// Nothing is held.
+    pub fn new() -> BoundedSink
+        ensures held { bounded_bytes result ≡ [] }
+        ensures failures { result.failures ≡ 0 }
+    {
+        BoundedSink {
+            bytes: ArrayVec::new(),
+            failures: 0,
+        }
+    }
+
+    /// The bytes that are held, in the order in which they were taken.
+    pub fn bytes(&self) -> &[u8]
+        ensures { result.now ≡ bounded_bytes self.now }
+    {
+        self.bytes.as_slice()
+    }
+
+    /// How many bytes are held.
+    pub fn len(&self) -> usize
+        ensures { result ≡ length (bounded_bytes self.now) }
+    {
+        self.bytes.len()
+    }
+
+    /// Keeps the first bytes alone, where there are more.
+    pub fn truncate(&mut self, count: usize)
+        ensures held { bounded_bytes self.new ≡ take count (bounded_bytes self.old) }
+        ensures failures { self.new.failures ≡ self.old.failures }
+    {
+        self.bytes.truncate(count);
+    }
+
+    /// Lets go of all bytes.
+    pub fn clear(&mut self)
+        ensures held { bounded_bytes self.new ≡ [] }
+        ensures failures { self.new.failures ≡ self.old.failures }
+    {
+        self.bytes.clear();
+    }
+}
+
+impl Sink for BoundedSink {
+    ghost use Rattle.tmw_streams.specs.Bounded.{bounded_took, bounded_holds};
+
+    ghost took = { bounded_took };
+
+    ghost holds = { bounded_holds };
+
+    ghost failures = { λ sink. sink.failures };
+
+    fn put(&mut self, bytes: &[u8]) -> Result<usize, IoFault>
+        ensures within { IfOk result (λ count. count ≤ length bytes.now) }
+        ensures some { IfOk result (λ count. 0 < length bytes.now → 0 < count) }
+        ensures takes { IfOk result (λ count. Takes bounded_took bounded_holds self.old (take count bytes.now) self.new) }
+        ensures well { OnOk result (self.new.failures ≡ self.old.failures) }
+        ensures failed { OnErr result (self.new.failures ≡ one_more self.old.failures) }
+        ensures kept { OnErr result (Takes bounded_took bounded_holds self.old [] self.new) }
+
+        // It takes all bytes where they fit, and fails only where they don't.
+        ensures whole { IfOk result (λ count. count ≡ length bytes.now) }
+        ensures full { OnErr result (4096 < length (bounded_bytes self.old) + length bytes.now) }
+    {
+        if self.bytes.try_extend_from_slice(bytes).is_err() {
+            self.failures = self.failures.saturating_add(1);
+            return Err(IoFault);
+        }
+        Ok(bytes.len())
+    }
+
+    ghost took_some = { λ sink. (sink.bytes.items, refl) };
+}

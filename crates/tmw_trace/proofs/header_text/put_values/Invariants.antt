@@ -1,0 +1,9 @@
+use Rattle.std.proofs.Common.{◌≡◌, take}
+use Rattle.tmw_streams.specs.Told.{Takes}
+use Rattle.tmw_trace.specs.Text.{values_text}
+use Rattle.tmw_trace.proofs.header_text.put_values.Given as goal
+
+abbrev pub invariant-loop-value : goal.invariant-loop-value
+invariant-loop-value g l =
+    Takes g.K.Sink.took g.K.Sink.holds l.fn.sink (values_text (take l.value-index l.values)) l.sink
+    × (g.K.Sink.failures l.sink ≡ g.K.Sink.failures l.fn.sink)

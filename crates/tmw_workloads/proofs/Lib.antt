@@ -1,0 +1,4 @@
+mod Lists
+mod Rules
+mod Transactions
+mod Values

@@ -1,0 +1,46 @@
+-- The calls of a transaction, by their texts and one by one.
+use Rattle.std.proofs.Common.{◌≡◌, ℕ, Bool, true, false, ◌&&◌, List, [], ◌∷◌, ◌++◌, map, All, IsTrue, refl, sym, ap, ◌∙◌, subst}
+use Rattle.std.specs.List.{list_all}
+use Rattle.std.proofs.Math.Bool.{and-true, and_assoc}
+use Rattle.std.proofs.lemmas.Bool.{both_ways}
+use Rattle.std.proofs.lemmas.List.Elements.{All-head, All-tail}
+use Rattle.serde_json.specs.Data.{Data, string}
+use Rattle.tmw_events.specs.Text.{kind_text, FitsKind}
+use Rattle.tmw_events.specs.declared.event.Kind.{Kind}
+use Rattle.tmw_trace.specs.KindTexts.{kind_text-injective}
+use Rattle.tmw_runs.specs.Scripts.{is_operation, is_request, is_transaction}
+use Rattle.tmw_workloads.specs.Json.{call_data, list_data, transaction_data}
+use Rattle.tmw_workloads.specs.Parts.{IsNone, IsTransaction}
+use Rattle.tmw_workloads.proofs.Lists.{HasRead, list_from_read}
+use Rattle.tmw_workloads.proofs.Rules.{transaction_is}
+use Rattle.tmw_workloads.proofs.Values.{array_same}
+
+-- one text is one call, and so with lists of them
+calls_same : (xs ys : List Kind) → All FitsKind xs → All FitsKind ys → map call_data xs ≡ map call_data ys → xs ≡ ys
+calls_same [] [] fit fits is = refl
+calls_same [] (y ∷ ys) fit fits is = cc
+calls_same (x ∷ xs) [] fit fits is = cc
+calls_same (x ∷ xs) (y ∷ ys) fit fits is =
+    let texts : kind_text x ≡ kind_text y = cc in
+    let more : map call_data xs ≡ map call_data ys = cc in
+    let here = kind_text-injective x y (All-head FitsKind x xs fit) (All-head FitsKind y ys fits) texts in
+    let later = calls_same xs ys (All-tail FitsKind x xs fit) (All-tail FitsKind y ys fits) more in
+    cc
+
+-- as the calls that were read are not those of a transaction, the value is that of none
+pub none_of_calls : (registers : ℕ) (content : Data) (calls : List Kind) → content ≡ transaction_data calls
+    → All FitsKind calls → is_transaction registers calls ≡ false → IsNone transaction_data (IsTransaction registers) content
+none_of_calls registers content calls is fit not_right other right writes =
+    let texts = array_same (map call_data calls) (map call_data other) (sym is ∙ writes) in
+    let same = calls_same calls other fit right.1 texts in
+    both_ways (is_transaction registers calls) not_right
+    (subst (λ xs. is_transaction registers xs ≡ true) (sym same) (transaction_is registers other right))
+
+-- operations, and then a request
+pub is_transaction-push : (registers : ℕ) (calls : List Kind) (last : Kind)
+    → is_transaction registers (calls ++ last ∷ []) ≡ (list_all (is_operation registers) calls && is_request last)
+is_transaction-push registers [] last = refl
+is_transaction-push registers (call ∷ []) last = ap (λ b. b && is_request last) (sym (and-true (is_operation registers call)))
+is_transaction-push registers (call ∷ next ∷ calls) last =
+    ap (λ b. is_operation registers call && b) (is_transaction-push registers (next ∷ calls) last)
+    ∙ sym (and_assoc (is_operation registers call) (list_all (is_operation registers) (next ∷ calls)) (is_request last))

@@ -1,0 +1,8 @@
+use Rattle.std.proofs.Common.{take, ◌<◌}
+use Rattle.tmw_workloads.specs.Json.{number_data}
+use Rattle.tmw_workloads.proofs.Lists.{HasRead}
+use Rattle.tmw_workloads.proofs.numbers.read_order.Given as goal
+
+abbrev pub invariant-loop-value : goal.invariant-loop-value
+invariant-loop-value l =
+    HasRead number_data (λ thread. thread < l.threads) (take l.value-index l.values) l.order.items

@@ -1,0 +1,10 @@
+use Rattle.std.proofs.Common.{take}
+use Rattle.tmw_runs.specs.Scripts.{scripts_of}
+use Rattle.tmw_workloads.specs.Json.{script_data}
+use Rattle.tmw_workloads.specs.Parts.{IsScript}
+use Rattle.tmw_workloads.proofs.Lists.{HasRead}
+use Rattle.tmw_workloads.proofs.scripts.read_scripts.Given as goal
+
+abbrev pub invariant-loop-value : goal.invariant-loop-value
+invariant-loop-value l =
+    HasRead script_data (IsScript l.registers.number) (take l.value-index l.values) (scripts_of l.scripts.items)

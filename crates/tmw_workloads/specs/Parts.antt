@@ -1,0 +1,23 @@
+-- The parts of a workload that are read one by one, each with the values of its calls in 64 bits.
+use Rattle.std.specs.Prelude.{◌≡◌, ℕ, List, IsTrue, All}
+use Rattle.serde_json.specs.Data.{Data}
+use Rattle.tmw_events.specs.Text.{FitsKind}
+use Rattle.tmw_events.specs.declared.event.Kind.{Kind}
+use Rattle.tmw_workloads.specs.Json.{FitScripts}
+use Rattle.tmw_workloads.specs.Workload.{are_scripts, is_order, is_short_script, is_short_transaction}
+
+abbrev pub IsTransaction : ℕ → List Kind → Type 0
+IsTransaction registers calls = IsTrue (is_short_transaction registers calls) × All FitsKind calls
+
+abbrev pub IsScript : ℕ → List (List Kind) → Type 0
+IsScript registers script = IsTrue (is_short_script registers script) × All (All FitsKind) script
+
+abbrev pub AreScripts : ℕ → List (List (List Kind)) → Type 0
+AreScripts registers scripts = IsTrue (are_scripts registers scripts) × FitScripts scripts
+
+abbrev pub IsOrder : ℕ → List ℕ → Type 0
+IsOrder threads order = IsTrue (is_order threads order)
+
+-- No right part is written as this value.
+abbrev pub IsNone : {A : Type 0} → (A → Data) → (A → Type 0) → Data → Type 0
+IsNone {A} written IsRight content = (part : A) → IsRight part → content ≡ written part → ⊥
