@@ -1,0 +1,123 @@
+ghost use Rattle.std.specs.Prelude.{◌≡◌};
+ghost use Rattle.tmw_memories.specs.Calls.{Adds, Begins, Commits, IsEnded, Reads, Writes};
+
+use crate::transaction::{TURNS, begin, end, latest, may_use, write};
+use crate::words::Words;
+use std::sync::atomic::{AtomicU64, Ordering};
+use tmw_events::{Ix, Registers};
+use tmw_tm::{Did, Got, Tm, Tx};
+
+/// A memory with one lock, which a transaction holds from its begin to its end. So one transaction runs at a time, and a begin
+/// aborts where the lock is not free within 64 tries.
+#[derive(Drop)]
+pub struct GlobalLock {
+    registers: Registers,
+    // 1 while a transaction that has begun holds it, else 0.
+    lock: AtomicU64,
+    words: Words,
+}
+
+impl GlobalLock {
+    /// A memory of so many registers, all 0, whose lock is free. It takes no memory beside its own.
+    pub fn new(registers: Registers) -> GlobalLock
+        ensures { result.registers ≡ registers }
+    {
+        GlobalLock {
+            registers,
+            lock: AtomicU64::new(0),
+            words: Words::zeros(),
+        }
+    }
+
+    /// Takes the lock, where it is free at one of 64 looks.
+    fn take_lock(&self) -> bool {
+        for _ in 0..TURNS {
+            if self
+                .lock
+                .compare_exchange(0, 1, Ordering::SeqCst, Ordering::SeqCst)
+                .is_ok()
+            {
+                return true;
+            }
+        }
+        false
+    }
+}
+
+impl Tm for GlobalLock {
+    ghost gives = { λ memory call answer. Unit {0} };
+
+    fn registers(&self) -> Registers
+        ensures { result ≡ self.now.registers }
+    {
+        self.registers
+    }
+
+    fn begin(&self, tx: &mut Tx) -> Did
+        ensures begins { Begins tx.old result tx.new }
+    {
+        if tx.begun || !self.take_lock() {
+            self.abort(tx);
+            return Did::Abort;
+        }
+        begin(tx, 0);
+        Did::Done
+    }
+
+    fn read(&self, tx: &mut Tx, register: Ix) -> Got
+        ensures reads { Reads self.now.registers tx.old register result tx.new }
+    {
+        if !may_use(self.registers, tx, register) {
+            self.abort(tx);
+            return Got::Abort;
+        }
+        match latest(&tx.writes, register) {
+            Some(own) => Got::Value(own),
+            None => Got::Value(self.words.load(register)),
+        }
+    }
+
+    fn write(&self, tx: &mut Tx, register: Ix, value: u64) -> Did
+        ensures writes { Writes self.now.registers tx.old register value result tx.new }
+    {
+        if write(self.registers, tx, register, value) {
+            Did::Done
+        } else {
+            self.abort(tx);
+            Did::Abort
+        }
+    }
+
+    fn add(&self, tx: &mut Tx, register: Ix, addend: u64) -> Got
+        ensures adds { Adds (Reads self.now.registers) (Writes self.now.registers) tx.old register addend result tx.new }
+    {
+        match self.read(tx, register) {
+            Got::Value(value) => match self.write(tx, register, value.wrapping_add(addend)) {
+                Did::Done => Got::Value(value),
+                Did::Abort => Got::Abort,
+            },
+            Got::Abort => Got::Abort,
+        }
+    }
+
+    fn commit(&self, tx: &mut Tx) -> Did
+        ensures commits { Commits tx.old result tx.new }
+    {
+        let done = tx.begun;
+        if done {
+            self.words.store(&tx.writes);
+        }
+        // As after an abort, nothing is left of it.
+        self.abort(tx);
+        if done { Did::Done } else { Did::Abort }
+    }
+
+    fn abort(&self, tx: &mut Tx)
+        ensures { IsEnded tx.new }
+    {
+        if tx.begun {
+            self.lock.store(0, Ordering::SeqCst);
+        }
+        end(tx);
+    }
+}
