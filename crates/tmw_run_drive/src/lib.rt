@@ -1,0 +1,12 @@
+//! The command `drive`: a workload, read from its text and driven on a memory, and the trace and the line that answer it.
+#![tactic(auto)]
+
+mod answer;
+mod driven;
+mod driving;
+mod run;
+#[cfg(test)]
+mod tests;
+
+pub use driven::Driven;
+pub use run::run_drive;
