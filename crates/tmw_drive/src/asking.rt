@@ -3,7 +3,10 @@ ghost use Rattle.std.specs.Prelude.{◌≡◌, IsTrue};
 ghost use Rattle.tmw_defs.specs.History.{answers, ends};
 ghost use Rattle.tmw_drive.specs.Fresh.{IsFresh};
 ghost use Rattle.tmw_events.specs.declared.event.Kind.TheVariants.{A};
-ghost use Rattle.tmw_runs.specs.Standing.{Stands};
+ghost use Rattle.tmw_runs.specs.Standing.{Gives, Stands};
+ghost use Rattle.tmw_tm.specs.Answers.{did_answer};
+ghost use Rattle.tmw_tm.specs.Answers.Call.{Begin};
+ghost use Rattle.tmw_tm.specs.declared.answer.Did.TheVariants.{Abort};
 
 use tmw_events::Kind;
 use tmw_tm::{Did, Got, Tm, Tx};
@@ -17,12 +20,26 @@ pub fn ask(memory: &(dyn Tm + Sync), tx: &mut Tx, first: bool, call: Kind) -> Ki
     ensures fits { IsTrue (answers call result) }
     ensures stands { Stands (gives memory.now) first call result }
 {
-    if first {
-        match memory.begin(tx) {
-            Did::Done => {}
-            Did::Abort => return Kind::A,
-        }
+    match begin_first(memory, tx, first) {
+        Did::Done => make(memory, tx, call),
+        Did::Abort => Kind::A,
     }
+}
+
+/// Begins the transaction before its first call. A later call finds it begun.
+fn begin_first(memory: &(dyn Tm + Sync), tx: &mut Tx, first: bool) -> Did
+    ensures asked { IsTrue first → gives memory.now Begin (did_answer result) }
+    ensures later { result ≡ Abort → IsTrue first }
+{
+    if first { memory.begin(tx) } else { Did::Done }
+}
+
+/// Makes the call and answers the event that answers it.
+fn make(memory: &(dyn Tm + Sync), tx: &mut Tx, call: Kind) -> Kind
+    requires { IsTrue (answers call A) }
+    ensures fits { IsTrue (answers call result) }
+    ensures stands { Gives (gives memory.now) call result }
+{
     match call {
         Kind::R(register) => match memory.read(tx, register) {
             Got::Value(value) => Kind::V(value),

@@ -75,28 +75,40 @@ aborted_then_written-whole = (
   (W zero_ix 3 ∷ K ∷ T ∷ C ∷ [], [], refl, (K, T ∷ C ∷ [], refl, refl, (C, [], refl, refl, refl)), refl),
 )
 
--- A memory that gives 7 to each read, carries each commit out, and may abort at a begin.
+-- A memory that gives 7 to each read, carries each commit out, and may abort at a begin or not.
 abbrev gives_seven : Call → Answer → Type 0
 gives_seven (Read r) (Value v) = v ≡ 7
 gives_seven Commit Done = Unit {0}
+gives_seven Begin Done = Unit {0}
 gives_seven Begin Abort = Unit {0}
 gives_seven _ _ = ⊥
 
+-- A memory that gives any value to each read, and lets no transaction begin.
+abbrev never_begins : Call → Answer → Type 0
+never_begins (Read r) (Value v) = Unit {0}
+never_begins Begin Abort = Unit {0}
+never_begins _ _ = ⊥
+
 -- a read stands with that value alone
 seven_read-stands : AllStand gives_seven true (R zero_ix ∷ V 7 ∷ T ∷ C ∷ [])
-seven_read-stands = (inl refl, (inl tt, tt))
+seven_read-stands = (inl ((λ first. tt), refl), (inl ((λ first. tt), tt), tt))
 
 five_read-falls : AllStand gives_seven true five_read → ⊥
 five_read-falls (stands, rest) =
     elim stands [
-      | inl given ↦ absurd (let seven : 5 ≡ 7 = given in omega arith)
+      | inl given ↦ absurd (let seven : 5 ≡ 7 = given.1 in omega arith)
       | inr late ↦ absurd (let ended : V 5 ≡ A = late.1 in cc)
     ]
 
 -- an abort event stands after the first call of a transaction, and after an abort request anywhere, but after no later call
 begin_aborted-stands : AllStand gives_seven true (R zero_ix ∷ A ∷ R zero_ix ∷ V 7 ∷ X ∷ A ∷ [])
-begin_aborted-stands = (inr (refl, refl, tt), (inl refl, (inl tt, tt)))
+begin_aborted-stands = (inr (refl, refl, tt), (inl ((λ first. tt), refl), (inl ((λ first. tt), tt), tt)))
 
 later_aborted-falls : AllStand gives_seven true (R zero_ix ∷ V 7 ∷ R zero_ix ∷ A ∷ []) → ⊥
 later_aborted-falls (first, (stands, rest)) =
-    elim stands [ inl given ↦ given | inr late ↦ absurd (let first_call : false ≡ true = late.0 in cc) ]
+    elim stands [ inl given ↦ given.1 | inr late ↦ absurd (let first_call : false ≡ true = late.0 in cc) ]
+
+-- no answer but an abort event stands after a first call where no transaction may begin
+unbegun_read-falls : AllStand never_begins true (R zero_ix ∷ V 7 ∷ []) → ⊥
+unbegun_read-falls (stands, rest) =
+    elim stands [ inl given ↦ given.0 refl | inr late ↦ absurd (let ended : V 7 ≡ A = late.1 in cc) ]

@@ -21,10 +21,12 @@ Gives gives T A = gives Commit Abort
 Gives gives X A = Unit {0}
 Gives gives _ _ = ⊥
 
--- An answer stands when the memory gives it to its call. The abort event after a transaction's first call, an abort request
--- too, stands also when the memory gives an abort to the transaction's begin.
+-- An answer stands when the memory gives it to its call and, where the call is the first of its transaction, lets the
+-- transaction begin. The abort event after a first call, an abort request too, stands also when the memory gives an abort to
+-- the transaction's begin.
 abbrev pub Stands : (Call → Answer → Type 0) → Bool → Kind → Kind → Type 0
-Stands gives first call answer = Gives gives call answer ⊎ (IsTrue first × (answer ≡ A) × gives Begin Abort)
+Stands gives first call answer =
+    ((IsTrue first → gives Begin Done) × Gives gives call answer) ⊎ (IsTrue first × (answer ≡ A) × gives Begin Abort)
 
 -- Each answer among a thread's events stands; the next call is, or is not, the first of its transaction. A last call without
 -- an answer asks nothing.

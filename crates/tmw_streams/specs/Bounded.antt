@@ -6,7 +6,7 @@ use Rattle.tmw_streams.specs.declared.bounded_sink.BoundedSink.{BoundedSink}
 abbrev pub bounded_bytes : BoundedSink → List ℕ
 bounded_bytes sink = sink.bytes.items
 
--- the bytes that the sink has taken since it was last emptied may be these: just those that it holds
+-- the bytes that the sink has taken may be these: just those that it holds, as if it had taken no others
 abbrev pub bounded_took : BoundedSink → List ℕ → Type 0
 bounded_took sink bytes = bytes ≡ sink.bytes.items
 

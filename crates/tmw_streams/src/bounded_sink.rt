@@ -80,6 +80,7 @@ impl Sink for BoundedSink {
         // It takes all bytes where they fit, and fails only where they don't.
         ensures whole { IfOk result (λ count. count ≡ length bytes.now) }
         ensures full { OnErr result (4096 < length (bounded_bytes self.old) + length bytes.now) }
+        ensures fits { OnOk result (length (bounded_bytes self.new) ≤ 4096) }
     {
         if self.bytes.try_extend_from_slice(bytes).is_err() {
             self.failures = self.failures.saturating_add(1);

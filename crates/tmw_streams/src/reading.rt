@@ -7,7 +7,8 @@ use crate::source::Source;
 use std::alloc::Global;
 
 /// Reads all the bytes that the source has still to tell, up to its end. `Io` answers a failed read, and `Memory` want of
-/// memory for the bytes; nothing is read after either, and only tests show that a growth was refused.
+/// memory for the bytes, and only tests show that a growth was refused. Nothing is read after either; of a refused growth no
+/// clause says so. After a fault the bytes that were read are dropped.
 pub fn read_all<S: Source>(alloc: Global, source: &mut S) -> Result<Vec<u8>, ReadFault>
     // The bytes are those told, up to the end.
     ensures bytes { IfOk result (λ bytes. Tells S.told S.remaining source.old bytes.items source.new) }

@@ -9,10 +9,10 @@ use tmw_events::{Ix, Registers};
 /// A transactional memory: registers of 64 bits, all 0 at first, which several threads may read and write in transactions.
 ///
 /// A thread begins a transaction by `begin` with a `Tx` of its own, calls `read`, `write` and `add` with it, and ends it by
-/// `commit` or `abort`. An answer `Abort` of any call has ended it. Nothing is assumed of a memory but that each call returns
-/// and that its answers are those that it gives.
+/// `commit` or `abort`. It takes an answer `Abort` of any call as the transaction's end. Nothing is assumed of a memory but that
+/// each call returns and that its answers are those that it gives: whether it is opaque is what a bench is to find out.
 pub trait Tm: Drop {
-    /// The memory may answer this call so. It never changes.
+    /// The memory may answer this call so, at any time.
     ghost gives: { Self → Call → Answer → Type 0 };
 
     /// How many registers it has.

@@ -11,9 +11,9 @@ use crate::header_text::put_header;
 use tmw_events::{Event, put_event};
 use tmw_streams::{BoundedSink, IoFault, Sink, put_all};
 
-/// Writes the text of a trace of which these are the header and the events: a `Trace` is written by its two fields. Lines go
-/// out together, as many as 4,096 bytes hold. It takes no memory. After a failed write a beginning of the text went out, and
-/// not all of it.
+/// Writes the text of a header and of events: a `Trace` is written by its two fields. The text is a trace's where the header's
+/// version has all the events and there are at most 2^40 of them. It takes no memory. After a failed write a beginning of the
+/// text went out, and not all of it.
 pub fn write_trace<K: Sink>(sink: &mut K, header: &Header, events: &[Event]) -> Result<(), IoFault>
     ensures takes { OnOk result (Takes K.took K.holds sink.old (trace_text header.now events.now) sink.new) }
     ensures well { OnOk result (K.failures sink.new ≡ K.failures sink.old) }

@@ -58,6 +58,6 @@ IsNoWorkload content =
 abbrev pub IsOtherText : List ℕ → Type 0
 IsOtherText bytes = (content : Data) × IsTextOf content bytes × IsNoWorkload content
 
--- The bytes are no JSON text: they are not UTF-8, or have no value.
+-- The bytes are no JSON text that `serde_json` reads: they are not UTF-8, or it reads no value from them.
 abbrev pub IsNoText : List ℕ → Type 0
 IsNoText bytes = IsUtf8 bytes → read bytes ≡ None
