@@ -125,3 +125,5 @@ fn two_threads_lose_nothing(rt: HostRuntime) {
     assert!(rt; done > 0);
     assert_eq!(rt; load(&memory, FIRST), Got::Value(done));
 }
+
+mod driven;

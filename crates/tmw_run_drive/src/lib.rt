@@ -7,6 +7,8 @@ mod driving;
 mod run;
 #[cfg(test)]
 mod tests;
+#[cfg(test)]
+mod worked_tests;
 
 pub use driven::Driven;
 pub use run::run_drive;

@@ -1,22 +1,18 @@
 -- A list of parts that is read from an array, value by value.
-use Rattle.std.proofs.Common.{◌≡◌, ◌<◌, ◌≤◌, ◌+◌, ℕ, zero, suc, List, [], ◌∷◌, ◌++◌, length, get_or, take, map, All, refl, sym, ap, ◌∙◌, subst, arith}
+use Rattle.std.proofs.Common.{◌≡◌, ◌<◌, ◌≤◌, ◌+◌, ℕ, zero, suc, List, [], ◌∷◌, ◌++◌, length, get_or, take, map, All, sym, ap, ◌∙◌, subst, arith}
 use Rattle.std.proofs.lemmas.List.{length-map, map_push, take_all, take_more}
-use Rattle.std.proofs.lemmas.List.Elements.{All-nil, All-head, All-tail, All-push}
+use Rattle.std.proofs.lemmas.List.Elements.{All-head, All-tail, All-push}
 use Rattle.serde_json.specs.Data.{Data, array}
 use Rattle.serde_json.specs.View.{view, items_of}
 use Rattle.serde_json.specs.declared.value.Value.{Value}
 use Rattle.tmw_workloads.specs.Json.{list_data}
-use Rattle.tmw_workloads.specs.Parts.{IsNone}
+use Rattle.tmw_workloads.specs.Parts.{IsNoPart}
 use Rattle.tmw_workloads.proofs.Values.{array_same}
 
 -- These values are what right parts are written as.
 pub record HasRead {B : Type 0} (written : B → Data) (IsRight : B → Type 0) (values : List Value) (parts : List B) : Type 0 where
   pub right : All IsRight parts
   pub same : map view values ≡ map written parts
-
-pub read_none : {B : Type 0} (written : B → Data) (IsRight : B → Type 0) (values : List Value)
-    → HasRead written IsRight (take 0 values) []
-read_none written IsRight values = record { right = All-nil IsRight; same = refl }
 
 -- one more part was read
 pub read_one : {B : Type 0} (written : B → Data) (IsRight : B → Type 0) (values : List Value) (i : ℕ) (value : Value)
@@ -35,7 +31,7 @@ read_one written IsRight values i value parts part within is read right writes =
 
 -- a value that is no right part stands in no list of them
 pub read_no : {B : Type 0} (written : B → Data) (IsRight : B → Type 0) (values : List Value) (i : ℕ) (value : Value)
-    (parts : List B) → i < length values → value ≡ get_or values i value → IsNone written IsRight (view value)
+    (parts : List B) → i < length values → value ≡ get_or values i value → IsNoPart written IsRight (view value)
     → HasRead written IsRight values parts → ⊥
 read_no written IsRight [] i value parts within is none read = absurd (omega arith)
 read_no written IsRight (v ∷ vs) i value [] within is none read = let same = read.same in cc
@@ -70,8 +66,8 @@ read_from_list written IsRight content values parts is right writes = record {
 -- as one of its values is no right part, the array is none of such parts
 pub none_at : {B : Type 0} (written : B → Data) (IsRight : B → Type 0) (AreRight : List B → Type 0) (content : Data)
     (values : List Value) (i : ℕ) (value : Value) → content ≡ list_data view values → i < length values
-    → value ≡ get_or values i value → IsNone written IsRight (view value)
-    → ((parts : List B) → AreRight parts → All IsRight parts) → IsNone (list_data written) AreRight content
+    → value ≡ get_or values i value → IsNoPart written IsRight (view value)
+    → ((parts : List B) → AreRight parts → All IsRight parts) → IsNoPart (list_data written) AreRight content
 none_at written IsRight AreRight content values i value at within is none each parts right writes =
     read_no written IsRight values i value parts within is none
     (read_from_list written IsRight content values parts at (each parts right) writes)

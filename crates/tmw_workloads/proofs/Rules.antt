@@ -1,15 +1,14 @@
 -- The rules of a part, by those of its parts.
 use Rattle.std.proofs.Common.{◌≡◌, ◌<◌, ◌≤◌, ℕ, true, List, length, Bool, All, IsTrue, nat_lt}
 use Rattle.std.specs.List.{list_all}
-use Rattle.std.proofs.lemmas.Bool.{and_from, and_parts, le-leb, leb-true, lt-ltb, ltb-true}
+use Rattle.std.proofs.lemmas.Bool.{and_from, and_parts, le-leb, lt-ltb, ltb-true}
 use Rattle.std.proofs.lemmas.List.Elements.{All-weaker}
 use Rattle.std.proofs.lemmas.List.Sums.{AllPass-from_list_all, list_all-from_AllPass}
 use Rattle.tmw_events.specs.Text.{FitsKind}
 use Rattle.tmw_events.specs.declared.event.Kind.{Kind}
 use Rattle.tmw_runs.specs.Scripts.{is_transaction}
-use Rattle.tmw_workloads.specs.Json.{FitScripts}
 use Rattle.tmw_workloads.specs.Parts.{IsTransaction, IsScript, AreScripts, IsOrder}
-use Rattle.tmw_workloads.specs.Workload.{are_scripts, is_order, is_short_script, is_short_transaction, is_workload}
+use Rattle.tmw_workloads.specs.Workload.{is_short_script, is_short_transaction, is_workload}
 
 -- what a test and a fact say of each element
 all_from_each : {A : Type 0} (test : A → Bool) (P : A → Type 0) (xs : List A) → All (λ x. IsTrue (test x) × P x) xs
@@ -23,15 +22,8 @@ each_from_all : {A : Type 0} (test : A → Bool) (P : A → Type 0) (xs : List A
     → All (λ x. IsTrue (test x) × P x) xs
 each_from_all test P xs tests all k d within = (AllPass-from_list_all test xs tests k d within, all k d within)
 
-pub transaction_right : (registers : ℕ) (calls : List Kind) → IsTrue (is_transaction registers calls) → length calls ≤ 64
-    → All FitsKind calls → IsTransaction registers calls
-transaction_right registers calls right short fits = (and_from _ _ (le-leb (length calls) 64 short) right, fits)
-
 pub transaction_is : (registers : ℕ) (calls : List Kind) → IsTransaction registers calls → IsTrue (is_transaction registers calls)
 transaction_is registers calls right = (and_parts _ _ right.0).1
-
-pub transaction_length : (registers : ℕ) (calls : List Kind) → IsTransaction registers calls → length calls ≤ 64
-transaction_length registers calls right = leb-true (length calls) 64 (and_parts _ _ right.0).0
 
 pub script_right : (registers : ℕ) (script : List (List Kind)) → length script ≤ 1000 → All (IsTransaction registers) script
     → IsScript registers script
@@ -42,9 +34,6 @@ script_right registers script short each =
 pub script_each : (registers : ℕ) (script : List (List Kind)) → IsScript registers script → All (IsTransaction registers) script
 script_each registers script right =
     each_from_all (is_short_transaction registers) (All FitsKind) script (and_parts _ _ right.0).1 right.1
-
-pub script_length : (registers : ℕ) (script : List (List Kind)) → IsScript registers script → length script ≤ 1000
-script_length registers script right = leb-true (length script) 1000 (and_parts _ _ right.0).0
 
 pub scripts_right : (registers : ℕ) (scripts : List (List (List Kind))) → 0 < length scripts → length scripts ≤ 8
     → All (IsScript registers) scripts → AreScripts registers scripts
@@ -60,9 +49,6 @@ scripts_each registers scripts right =
 pub scripts_some : (registers : ℕ) (scripts : List (List (List Kind))) → AreScripts registers scripts → 0 < length scripts
 scripts_some registers scripts right = ltb-true 0 (length scripts) (and_parts _ _ (and_parts _ _ right.0).0).0
 
-pub scripts_length : (registers : ℕ) (scripts : List (List (List Kind))) → AreScripts registers scripts → length scripts ≤ 8
-scripts_length registers scripts right = leb-true (length scripts) 8 (and_parts _ _ (and_parts _ _ right.0).0).1
-
 pub order_right : (threads : ℕ) (order : List ℕ) → length order ≤ 100000 → All (λ thread. thread < threads) order
     → IsOrder threads order
 order_right threads order short each =
@@ -72,17 +58,6 @@ order_right threads order short each =
 pub order_each : (threads : ℕ) (order : List ℕ) → IsOrder threads order → All (λ thread. thread < threads) order
 order_each threads order right k d within =
     ltb-true _ threads (AllPass-from_list_all (λ thread. nat_lt thread threads) order (and_parts _ _ right).1 k d within)
-
-pub order_length : (threads : ℕ) (order : List ℕ) → IsOrder threads order → length order ≤ 100000
-order_length threads order right = leb-true (length order) 100000 (and_parts _ _ right).0
-
-pub workload_right : (registers : ℕ) (scripts : List (List (List Kind))) (order : List ℕ) → AreScripts registers scripts
-    → IsOrder (length scripts) order → IsTrue (is_workload registers scripts order)
-workload_right registers scripts order right ordered = and_from _ _ right.0 ordered
-
-pub workload_scripts : (registers : ℕ) (scripts : List (List (List Kind))) (order : List ℕ)
-    → IsTrue (is_workload registers scripts order) → FitScripts scripts → AreScripts registers scripts
-workload_scripts registers scripts order right fits = ((and_parts _ _ right).0, fits)
 
 pub workload_order : (registers : ℕ) (scripts : List (List (List Kind))) (order : List ℕ)
     → IsTrue (is_workload registers scripts order) → IsOrder (length scripts) order

@@ -1,17 +1,16 @@
 -- The calls of a transaction, by their texts and one by one.
-use Rattle.std.proofs.Common.{◌≡◌, ℕ, Bool, true, false, ◌&&◌, List, [], ◌∷◌, ◌++◌, map, All, IsTrue, refl, sym, ap, ◌∙◌, subst}
+use Rattle.std.proofs.Common.{◌≡◌, ℕ, true, false, ◌&&◌, List, [], ◌∷◌, ◌++◌, map, All, refl, sym, ap, ◌∙◌, subst}
 use Rattle.std.specs.List.{list_all}
 use Rattle.std.proofs.Math.Bool.{and-true, and_assoc}
 use Rattle.std.proofs.lemmas.Bool.{both_ways}
 use Rattle.std.proofs.lemmas.List.Elements.{All-head, All-tail}
-use Rattle.serde_json.specs.Data.{Data, string}
+use Rattle.serde_json.specs.Data.{Data}
 use Rattle.tmw_events.specs.Text.{kind_text, FitsKind}
 use Rattle.tmw_events.specs.declared.event.Kind.{Kind}
 use Rattle.tmw_trace.specs.KindTexts.{kind_text-injective}
 use Rattle.tmw_runs.specs.Scripts.{is_operation, is_request, is_transaction}
-use Rattle.tmw_workloads.specs.Json.{call_data, list_data, transaction_data}
-use Rattle.tmw_workloads.specs.Parts.{IsNone, IsTransaction}
-use Rattle.tmw_workloads.proofs.Lists.{HasRead, list_from_read}
+use Rattle.tmw_workloads.specs.Json.{call_data, transaction_data}
+use Rattle.tmw_workloads.specs.Parts.{IsNoPart, IsTransaction}
 use Rattle.tmw_workloads.proofs.Rules.{transaction_is}
 use Rattle.tmw_workloads.proofs.Values.{array_same}
 
@@ -29,7 +28,7 @@ calls_same (x ∷ xs) (y ∷ ys) fit fits is =
 
 -- as the calls that were read are not those of a transaction, the value is that of none
 pub none_of_calls : (registers : ℕ) (content : Data) (calls : List Kind) → content ≡ transaction_data calls
-    → All FitsKind calls → is_transaction registers calls ≡ false → IsNone transaction_data (IsTransaction registers) content
+    → All FitsKind calls → is_transaction registers calls ≡ false → IsNoPart transaction_data (IsTransaction registers) content
 none_of_calls registers content calls is fit not_right other right writes =
     let texts = array_same (map call_data calls) (map call_data other) (sym is ∙ writes) in
     let same = calls_same calls other fit right.1 texts in

@@ -11,6 +11,7 @@ use Rattle.tmw_workloads.specs.Workload.{is_workload}
 abbrev pub list_data : {A : Type 0} → (A → Data) → List A → Data
 list_data written elements = array (items_of (map written elements))
 
+-- A whole number is written without a sign, a fraction or an exponent.
 abbrev pub number_data : ℕ → Data
 number_data n = number (unsigned n)
 
@@ -18,11 +19,11 @@ number_data n = number (unsigned n)
 abbrev pub call_data : Kind → Data
 call_data call = string (kind_text call)
 
--- A transaction is the array of its calls,
+-- A transaction is the array of its calls.
 abbrev pub transaction_data : List Kind → Data
 transaction_data calls = list_data call_data calls
 
--- and a script that of its transactions.
+-- A script is the array of its transactions.
 abbrev pub script_data : List (List Kind) → Data
 script_data script = list_data transaction_data script
 
@@ -31,7 +32,7 @@ abbrev pub fields_data : Data → Data → Data → Data
 fields_data order registers scripts =
     object (member (codes "order") order (member (codes "registers") registers (member (codes "scripts") scripts no_members)))
 
--- A workload is such an object.
+-- A workload is the object of its order, its number of registers and its scripts.
 abbrev pub workload_data : ℕ → List (List (List Kind)) → List ℕ → Data
 workload_data registers scripts order =
     fields_data (list_data number_data order) (number_data registers) (list_data script_data scripts)

@@ -4,7 +4,7 @@ ghost use Rattle.serde_json.specs.View.{view};
 ghost use Rattle.tmw_events.specs.Text.{FitsKind};
 ghost use Rattle.tmw_runs.specs.Scripts.{is_operation, is_request, is_transaction};
 ghost use Rattle.tmw_workloads.specs.Json.{call_data};
-ghost use Rattle.tmw_workloads.specs.Parts.{IsNone};
+ghost use Rattle.tmw_workloads.specs.Parts.{IsNoPart};
 
 use serde_json::Value;
 use tmw_events::{Kind, Registers, kind_of};
@@ -13,7 +13,7 @@ use tmw_events::{Kind, Registers, kind_of};
 pub(crate) fn read_kind(content: &Value) -> Option<Kind>
     ensures some { IfSome result (λ kind. view content.now ≡ call_data kind) }
     ensures fits { IfSome result FitsKind }
-    ensures none { IfNone result (IsNone call_data FitsKind (view content.now)) }
+    ensures none { IfNone result (IsNoPart call_data FitsKind (view content.now)) }
 {
     let Some(text) = content.as_str() else {
         return None;

@@ -6,8 +6,9 @@ mod array;
 mod calls;
 mod fault;
 mod fields;
-mod numbers;
+mod order;
 mod read;
+mod registers;
 mod scripts;
 #[cfg(test)]
 mod tests;

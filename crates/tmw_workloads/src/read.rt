@@ -6,7 +6,8 @@ ghost use Rattle.tmw_workloads.specs.declared.fault.WorkloadFault.TheVariants.{J
 
 use crate::fault::WorkloadFault;
 use crate::fields::fields_of;
-use crate::numbers::{read_order, read_registers};
+use crate::order::read_order;
+use crate::registers::read_registers;
 use crate::scripts::read_scripts;
 use crate::workload::Workload;
 use serde_json::Value;

@@ -2,7 +2,7 @@ ghost use Rattle.std.specs.Prelude.{◌≡◌, IfOk, IfErr};
 ghost use Rattle.serde_json.specs.View.{view};
 ghost use Rattle.tmw_runs.specs.Scripts.{script_of, scripts_of};
 ghost use Rattle.tmw_workloads.specs.Json.{list_data, script_data};
-ghost use Rattle.tmw_workloads.specs.Parts.{AreScripts, IsNone, IsScript};
+ghost use Rattle.tmw_workloads.specs.Parts.{AreScripts, IsNoPart, IsScript};
 ghost use Rattle.tmw_workloads.specs.declared.fault.WorkloadFault.TheVariants.{Json, Shape};
 
 use crate::array::values_of;
@@ -27,7 +27,7 @@ pub(crate) fn read_scripts(
     ensures right { IfOk result (λ scripts. AreScripts registers.number (scripts_of scripts.items)) }
     ensures ok { IfOk result (λ scripts. view content.now ≡ list_data script_data (scripts_of scripts.items)) }
     ensures shape { IfErr result (λ fault. fault ≡ Shape
-        → IsNone (list_data script_data) (AreScripts registers.number) (view content.now)) }
+        → IsNoPart (list_data script_data) (AreScripts registers.number) (view content.now)) }
     ensures json { IfErr result (λ fault. fault ≡ Json → ⊥) }
 {
     let Some(values) = values_of(content, MOST_SCRIPTS) else {
@@ -55,7 +55,7 @@ fn read_script(
     ensures right { IfOk result (λ script. IsScript registers.number (script_of script)) }
     ensures ok { IfOk result (λ script. view content.now ≡ script_data (script_of script)) }
     ensures shape { IfErr result (λ fault. fault ≡ Shape
-        → IsNone script_data (IsScript registers.number) (view content.now)) }
+        → IsNoPart script_data (IsScript registers.number) (view content.now)) }
     ensures json { IfErr result (λ fault. fault ≡ Json → ⊥) }
 {
     let Some(values) = values_of(content, MOST_TRANSACTIONS) else {

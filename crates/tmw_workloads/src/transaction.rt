@@ -1,7 +1,7 @@
 ghost use Rattle.std.specs.Prelude.{◌≡◌, IfOk, IfErr};
 ghost use Rattle.serde_json.specs.View.{view};
 ghost use Rattle.tmw_workloads.specs.Json.{transaction_data};
-ghost use Rattle.tmw_workloads.specs.Parts.{IsTransaction, IsNone};
+ghost use Rattle.tmw_workloads.specs.Parts.{IsTransaction, IsNoPart};
 ghost use Rattle.tmw_workloads.specs.declared.fault.WorkloadFault.TheVariants.{Json, Shape};
 
 use crate::array::values_of;
@@ -23,7 +23,7 @@ pub(crate) fn read_transaction(
     ensures right { IfOk result (λ calls. IsTransaction registers.number calls.items) }
     ensures ok { IfOk result (λ calls. view content.now ≡ transaction_data calls.items) }
     ensures shape { IfErr result (λ fault. fault ≡ Shape
-        → IsNone transaction_data (IsTransaction registers.number) (view content.now)) }
+        → IsNoPart transaction_data (IsTransaction registers.number) (view content.now)) }
     ensures json { IfErr result (λ fault. fault ≡ Json → ⊥) }
 {
     let Some(values) = values_of(content, MOST_CALLS) else {

@@ -1,5 +1,5 @@
 -- An array without scripts, a script that could not be read, one more that was, and the scripts that were read whole.
-use Rattle.std.proofs.Common.{◌≡◌, ◌<◌, ◌+◌, length, map, take, sym, ap, subst, ◌∙◌, arith}
+use Rattle.std.proofs.Common.{◌<◌, ◌+◌, length, take, sym, ap, subst, ◌∙◌, arith}
 use Rattle.std.proofs.lemmas.Bool.{eqb-true}
 use Rattle.std.proofs.lemmas.Bool.Decides.{nat_tests}
 use Rattle.std.proofs.lemmas.List.{map_push}

@@ -1,5 +1,5 @@
 -- A string that is no kind's text, and calls that are not those of a transaction.
-use Rattle.std.proofs.Common.{◌≡◌, false, ap, sym, ◌∙◌}
+use Rattle.std.proofs.Common.{ap, sym, ◌∙◌}
 use Rattle.serde_json.specs.View.{view}
 use Rattle.tmw_events.specs.Text.{FitsKind}
 use Rattle.tmw_runs.specs.Scripts.{is_transaction}

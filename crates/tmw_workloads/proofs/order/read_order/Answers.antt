@@ -5,7 +5,7 @@ use Rattle.tmw_workloads.specs.Json.{number_data}
 use Rattle.tmw_workloads.specs.Parts.{IsOrder}
 use Rattle.tmw_workloads.proofs.Lists.{length-read, none_at, read_all}
 use Rattle.tmw_workloads.proofs.Rules.{order_each, order_right}
-use Rattle.tmw_workloads.proofs.numbers.read_order.Goals as goal
+use Rattle.tmw_workloads.proofs.order.read_order.Goals as goal
 
 pub returns-in_default-read_thread-clause-shape : goal.returns-in_default-read_thread-clause-shape
 returns-in_default-read_thread-clause-shape c shape =

@@ -1,31 +1,16 @@
-ghost use Rattle.std.specs.Prelude.{◌≡◌, ℕ, ◌<◌, ◌≤◌, IfOk, IfErr, IfSome, IfNone};
+ghost use Rattle.std.specs.Prelude.{◌≡◌, ◌<◌, IfOk, IfErr, IfSome, IfNone};
 ghost use Rattle.serde_json.specs.View.{view};
 ghost use Rattle.tmw_workloads.specs.Json.{list_data, number_data};
-ghost use Rattle.tmw_workloads.specs.Parts.{IsNone, IsOrder};
+ghost use Rattle.tmw_workloads.specs.Parts.{IsNoPart, IsOrder};
 ghost use Rattle.tmw_workloads.specs.declared.fault.WorkloadFault.TheVariants.{Json, Shape};
 
 use crate::array::values_of;
 use crate::fault::WorkloadFault;
 use serde_json::Value;
 use std::alloc::Global;
-use tmw_events::Registers;
 
 /// The most entries that an order may have.
 const MOST_ENTRIES: usize = 100_000;
-
-/// The number of registers, 1 to 8, that this value is.
-pub(crate) fn read_registers(content: &Value) -> Option<Registers>
-    ensures some { IfSome result (λ registers. view content.now ≡ number_data registers.number) }
-    ensures none { IfNone result (IsNone number_data (λ registers. (0 < registers) × (registers ≤ 8)) (view content.now)) }
-{
-    let Some(number) = content.as_u64() else {
-        return None;
-    };
-    if number > 8 {
-        return None;
-    }
-    Registers::new(number as u8)
-}
 
 /// The order of so many threads that this value is. Never `Json`.
 pub(crate) fn read_order(
@@ -35,7 +20,7 @@ pub(crate) fn read_order(
 ) -> Result<Vec<u8>, WorkloadFault>
     ensures right { IfOk result (λ order. IsOrder threads order.items) }
     ensures ok { IfOk result (λ order. view content.now ≡ list_data number_data order.items) }
-    ensures shape { IfErr result (λ fault. fault ≡ Shape → IsNone (list_data number_data) (IsOrder threads) (view content.now)) }
+    ensures shape { IfErr result (λ fault. fault ≡ Shape → IsNoPart (list_data number_data) (IsOrder threads) (view content.now)) }
     ensures json { IfErr result (λ fault. fault ≡ Json → ⊥) }
 {
     let Some(values) = values_of(content, MOST_ENTRIES) else {
@@ -57,7 +42,7 @@ pub(crate) fn read_order(
 fn read_thread(threads: u8, content: &Value) -> Option<u8>
     ensures some { IfSome result (λ thread. view content.now ≡ number_data thread) }
     ensures below { IfSome result (λ thread. thread < threads) }
-    ensures none { IfNone result (IsNone number_data (λ thread. thread < threads) (view content.now)) }
+    ensures none { IfNone result (IsNoPart number_data (λ thread. thread < threads) (view content.now)) }
 {
     let Some(number) = content.as_u64() else {
         return None;

@@ -1,7 +1,7 @@
 use Rattle.std.proofs.Common.{take, ◌<◌}
 use Rattle.tmw_workloads.specs.Json.{number_data}
 use Rattle.tmw_workloads.proofs.Lists.{HasRead}
-use Rattle.tmw_workloads.proofs.numbers.read_order.Given as goal
+use Rattle.tmw_workloads.proofs.order.read_order.Given as goal
 
 abbrev pub invariant-loop-value : goal.invariant-loop-value
 invariant-loop-value l =
