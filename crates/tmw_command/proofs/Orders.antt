@@ -1,5 +1,5 @@
 -- Which orders the matches of a command stand for.
-use Rattle.std.proofs.Common.{◌≡◌, ◌∙◌, Bool, Option, Some, List, [], codes, ap, sym, subst, get_or, arith}
+use Rattle.std.proofs.Common.{◌≡◌, ◌∙◌, Bool, Option, Some, List, codes, ap, sym, subst, get_or, arith}
 use Rattle.std.specs.Prelude.{unwrap_or}
 use Rattle.clap.specs.Words.{Row, Text}
 use Rattle.tmw_monitor.specs.declared.bounds.Bounds.{Bounds}

@@ -9,7 +9,7 @@ use Rattle.clap.specs.Faults.{built_fault, fault_of, is_free_app, is_simple_and_
 use Rattle.clap.specs.Kinds.{value_kinds}
 use Rattle.clap.specs.Simple.{App, built, is_simple, entered, names_of, subcommand_of}
 use Rattle.clap.specs.Values.{reading_of, same_text}
-use Rattle.clap.specs.Walk.{Names, Text, nothing_held, stop_after, texts}
+use Rattle.clap.specs.Walk.{Text, nothing_held, stop_after, texts}
 use Rattle.clap.specs.declared.builder.value_parser.ValueParser.{ValueParser}
 use Rattle.clap.specs.declared.builder.value_parser.ValueParser.TheVariants as parser
 use Rattle.clap.specs.declared.error.kind.ErrorKind.TheVariants.{InvalidValue}

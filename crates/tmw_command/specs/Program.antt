@@ -65,6 +65,7 @@ steps = new_app (codes "steps")
 abbrev pub wanting : App → App
 wanting app = record app { top = record app.top { subcommand_required = true; disable_help_subcommand = true } }
 
+-- with its commands, `drive` over one of these memories
 abbrev pub program_among : ValueParser → App
 program_among memories =
     with_subcommand (with_subcommand (with_subcommand (wanting (new_app (codes "tmwatch"))) judge.top) (drive_among memories).top) steps.top

@@ -1,6 +1,7 @@
 //! The command line: which order its words ask for, and its run from a source to a sink.
 #![tactic(auto)]
 
+mod memories;
 mod order;
 mod parse;
 mod program;
@@ -9,6 +10,7 @@ mod run;
 mod which;
 mod words;
 
+pub use memories::Memories;
 pub use order::Order;
 pub use refusal::Refusal;
 pub use run::run_command;

@@ -1,5 +1,5 @@
 -- The program is a simple command, so clap says by which kinds a parse of any words fails.
-use Rattle.std.proofs.Common.{◌≡◌, ◌∙◌, List, Option, ap, subst, sym, map, inl, inr, []}
+use Rattle.std.proofs.Common.{◌≡◌, ◌∙◌, List, Option, ap, subst, sym, map, inl, inr}
 use Rattle.clap.specs.Walk.{texts}
 use Rattle.clap.specs.Words.{HasKind, Kinds, Row, Text, app_of, kind_of, subcommand_of, subcommand_rows_of}
 use Rattle.clap.specs.declared.error.Error.{Error}
