@@ -60,32 +60,44 @@ expect examples/stopped_writer.steps 4 '{"fault":"bad header"}' judge
 expect examples/stopped_writer.steps 0 "$(printf '%s\n' 'saw 0' cleared 'place 0' stopped 'not now' 'saw 0' cleared 'place 1' \
     filled 'published 1' 'not ready' 'not now' 'log 2 taken 0')" steps
 expect examples/dirty_read.trace 4 '{"fault":"bad header"}' steps
+expect examples/write_skew.json 0 '{"events":16,"verdict":"opaque so far"}' drive
+expect examples/write_skew.json 0 '{"events":10,"verdict":"opaque so far"}' drive --memory lock
+expect examples/write_skew.json 1 '{"at":16,"events":16,"verdict":"violated"}' drive --memory=torn
+expect examples/adds_that_collide.json 1 "$(printf '%s\n' 'opacity-trace 2 1 0' '0 N 0 1' '0 V 0' '1 N 0 1' '1 V 0' '0 T' '0 C' \
+    '1 T' '1 C' '0 N 0 1' '0 V 1' '0 T' '0 C' '1 N 0 1' '1 V 2' '1 T' '1 C' '{"at":8,"events":16,"verdict":"violated"}')" drive --memory torn --trace
+expect examples/dirty_read.trace 4 '{"fault":"json"}' drive
 
 expect_help 'Usage: tmwatch <COMMAND>' --help
 expect_help 'Usage: tmwatch <COMMAND>' help
 expect_help 'Usage: tmwatch judge [OPTIONS]' judge --help
 expect_help 'Usage: tmwatch judge [OPTIONS]' help judge
+expect_help 'Usage: tmwatch drive [OPTIONS]' drive --help
+expect_help 'Usage: tmwatch drive [OPTIONS]' help drive
 expect_help 'Usage: tmwatch steps' steps --help
 
 expect_usage "error: 'tmwatch' requires a subcommand but one was not provided"
-expect_usage "error: unrecognized subcommand 'drive'" drive
-expect_usage "error: unrecognized subcommand 'drive'" help drive
+expect_usage "error: unrecognized subcommand 'replay'" replay
+expect_usage "error: unrecognized subcommand 'replay'" help replay
 expect_usage "error: the argument '--window <N>' cannot be used multiple times" judge --window 3 --window 3
 expect_usage "error: invalid value '9' for '--window <N>': 9 is not in 1..=8" judge --window 9
 expect_usage "error: invalid value '65' for '--states <N>': 65 is not in 1..=64" judge --states=65
+expect_usage "error: invalid value 'norec2' for '--memory <MEMORY>'" drive --memory norec2
+expect_usage "error: the argument '--memory <MEMORY>' cannot be used multiple times" drive --memory lock --memory torn
+expect_usage "error: the argument '--trace' cannot be used multiple times" drive --trace --trace
+expect_usage "error: unexpected argument '--trace' found" judge --trace
 expect_usage "error: unexpected argument 'further' found" judge further
 expect_usage "error: unexpected argument '--window' found" steps --window 3
 expect_usage '' judge $'\xff'
 
 # standard output that takes nothing, and standard error that takes nothing
-for words in 'judge' 'steps' '--help' 'drive'; do
+for words in 'judge' 'drive' 'steps' '--help' 'replay'; do
     status=0
     "$top/tmwatch" $words <"$top/examples/dirty_read.trace" >/dev/full 2>/dev/null || status=$?
     count "$words > /dev/full" 4 "$status"
 done
 status=0
-"$top/tmwatch" drive </dev/null >"$folder/output" 2>/dev/full || status=$?
-count 'drive 2> /dev/full' "4 '{\"fault\":\"usage\"}'" "$status '$(cat "$folder/output")'"
+"$top/tmwatch" replay </dev/null >"$folder/output" 2>/dev/full || status=$?
+count 'replay 2> /dev/full' "4 '{\"fault\":\"usage\"}'" "$status '$(cat "$folder/output")'"
 
 echo "$passed passed, $failed failed"
 [ "$failed" -eq 0 ]

@@ -1,8 +1,7 @@
 -- The words with `help` moved behind them, as the code moves it.
-use Rattle.std.proofs.Common.{◌≡◌, ◌<◌, ◌∙◌, Bool, true, false, List, [], ◌∷◌, ◌++◌, length, codes, refl, ap, sym, arith, map}
+use Rattle.std.proofs.Common.{◌≡◌, ◌<◌, ◌∙◌, true, false, List, [], ◌∷◌, ◌++◌, length, codes, refl, ap, arith}
 use Rattle.std.specs.Borrow.{Bor}
 use Rattle.std.specs.List.{remove}
-use Rattle.std.specs.Prelude.{if◌then◌else◌}
 use Rattle.clap.specs.Walk.{Text, texts}
 use Rattle.tmw_command.specs.Words.{help_as_flag, names_help}
 

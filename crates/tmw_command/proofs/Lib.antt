@@ -1,5 +1,9 @@
+mod DriveValues
 mod HelpWords
 mod Numbers
 mod Orders
+mod OtherFaults
+mod OtherParsers
 mod Refusals
+mod Standing
 mod WrittenOut

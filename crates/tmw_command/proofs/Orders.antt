@@ -1,18 +1,45 @@
--- Which orders the matches of `judge` stand for.
-use Rattle.std.proofs.Common.{◌≡◌, ◌∙◌, Option, Some, List, [], codes, ap, sym, subst, get_or, arith}
+-- Which orders the matches of a command stand for.
+use Rattle.std.proofs.Common.{◌≡◌, ◌∙◌, Bool, Option, Some, List, codes, ap, sym, subst, get_or, arith}
 use Rattle.std.specs.Prelude.{unwrap_or}
 use Rattle.clap.specs.Words.{Row, Text}
 use Rattle.tmw_monitor.specs.declared.bounds.Bounds.{Bounds}
-use Rattle.tmw_command.specs.Words.{HasBounds, IsOrder}
+use Rattle.tmw_command.specs.Words.{HasBounds, HasTrace, IsOrder, NamesMemory}
 use Rattle.tmw_command.specs.declared.order.Order.{Order}
-use Rattle.tmw_command.specs.declared.order.Order.TheVariants.{Judge, Steps}
+use Rattle.tmw_command.specs.declared.order.Order.TheVariants.{Judge, Drive, Steps}
+use Rattle.tmw_command.specs.declared.which.Which.{Which}
+
+-- what was found is of one command, and has its rows
+one_name : (found : Option (Text × List Row)) (name other : Text) (rows given : List Row) → found ≡ Some (name, rows) → found ≡ Some (other, given)
+    → get_or name 0 0 ≡ get_or other 0 0
+one_name found name other rows given is same =
+    ap (λ (o : Option (Text × List Row)). get_or (unwrap_or o (name, rows)).0 0 0) (sym is ∙ same)
+
+own_rows : (found : Option (Text × List Row)) (name : Text) (rows given : List Row) → found ≡ Some (name, rows) → found ≡ Some (name, given) → given ≡ rows
+own_rows found name rows given is same = ap (λ (o : Option (Text × List Row)). (unwrap_or o (name, rows)).1) (sym same ∙ is)
 
 -- without bounds `judge` is no order
 pub judge-unbounded : (found : Option (Text × List Row)) (rows : List Row) → found ≡ Some (codes "judge", rows)
     → ((bounds : Bounds) → HasBounds rows bounds → ⊥) → (order : Order) → IsOrder found order → ⊥
 judge-unbounded found rows is none (Judge bounds) (given, same, has) =
-    let own : given ≡ rows = ap (λ (o : Option (Text × List Row)). (unwrap_or o (codes "judge", rows)).1) (sym same ∙ is) in
-    none bounds (subst (λ (r : List Row). HasBounds r bounds) own has)
+    none bounds (subst (λ (r : List Row). HasBounds r bounds) (own_rows found (codes "judge") rows given is same) has)
+judge-unbounded found rows is none (Drive memory trace bounds) (given, same, named, traced, has) =
+    let first = one_name found (codes "judge") (codes "drive") rows given is same in
+    absurd (omega (arith, first))
 judge-unbounded found rows is none Steps (given, same) =
-    let first = ap (λ (o : Option (Text × List Row)). get_or (unwrap_or o (codes "judge", rows)).0 0 0) (sym same ∙ is) in
+    let first = one_name found (codes "judge") (codes "steps") rows given is same in
+    absurd (omega (arith, first))
+
+-- without a memory, a flag or bounds `drive` is no order
+pub drive-lacking : (found : Option (Text × List Row)) (rows : List Row) → found ≡ Some (codes "drive", rows)
+    → ((memory : Which) (trace : Bool) (bounds : Bounds) → NamesMemory rows memory → HasTrace rows trace → HasBounds rows bounds → ⊥)
+    → (order : Order) → IsOrder found order → ⊥
+drive-lacking found rows is none (Drive memory trace bounds) (given, same, named, traced, has) =
+    let own = own_rows found (codes "drive") rows given is same in
+    none memory trace bounds (subst (λ (r : List Row). NamesMemory r memory) own named) (subst (λ (r : List Row). HasTrace r trace) own traced)
+    (subst (λ (r : List Row). HasBounds r bounds) own has)
+drive-lacking found rows is none (Judge bounds) (given, same, has) =
+    let first = one_name found (codes "drive") (codes "judge") rows given is same in
+    absurd (omega (arith, first))
+drive-lacking found rows is none Steps (given, same) =
+    let first = one_name found (codes "drive") (codes "steps") rows given is same in
     absurd (omega (arith, first))

@@ -1,14 +1,10 @@
--- What the definition says of words that are written out, and that the program is simple enough for it to hold of all words.
-use Rattle.std.proofs.Common.{◌≡◌, List, [], ◌∷◌, Option, Some, codes, option_map, true, refl}
-use Rattle.clap.specs.Words.{Text, is_simple_and_free, one_of, subcommand_of}
-use Rattle.clap.specs.declared.error.kind.ErrorKind.TheVariants.{ArgumentConflict, DisplayHelp, InvalidSubcommand, MissingSubcommand, UnknownArgument, ValueValidation}
+-- What the definition says of words that are written out.
+use Rattle.std.proofs.Common.{◌≡◌, List, [], ◌∷◌, Option, Some, codes, option_map, refl}
+use Rattle.clap.specs.Words.{Text, first_of, one_of, subcommand_of}
+use Rattle.clap.specs.declared.error.kind.ErrorKind.TheVariants.{ArgumentConflict, DisplayHelp, InvalidSubcommand, InvalidValue, MissingSubcommand, TooManyValues, UnknownArgument, ValueValidation}
 use Rattle.clap.proofs.OnLiterals.{clap_on_literals}
 use Rattle.tmw_command.specs.Program.{program}
 use Rattle.tmw_command.specs.Words.{help_as_flag, kinds_of}
-
-pub is_free : is_simple_and_free program ≡ true
-unfolding clap_on_literals
-is_free = refl
 
 abbrev said : List Text → List Text
 said words = codes "tmwatch" ∷ words
@@ -40,9 +36,92 @@ no_command : kinds_of (said []) ≡ MissingSubcommand ∷ []
 unfolding clap_on_literals
 no_command = refl
 
-another_command : kinds_of (said (codes "drive" ∷ [])) ≡ UnknownArgument ∷ InvalidSubcommand ∷ []
+another_command : kinds_of (said (codes "replay" ∷ [])) ≡ UnknownArgument ∷ InvalidSubcommand ∷ []
 unfolding clap_on_literals
 another_command = refl
+
+trace_of_judge : kinds_of (said (codes "judge" ∷ codes "--trace" ∷ [])) ≡ UnknownArgument ∷ []
+unfolding clap_on_literals
+trace_of_judge = refl
+
+-- `drive` has four rows: its memory's, its flag's, and those of its bounds
+abbrev option_of : Text → List Text → Option (Option Text)
+option_of name words = option_map (λ p. one_of name p.1) (subcommand_of program (help_as_flag (said (codes "drive" ∷ words))))
+
+abbrev the_memory : List Text → Option (Option Text)
+the_memory words = option_map (λ p. first_of (codes "memory") p.1) (subcommand_of program (help_as_flag (said (codes "drive" ∷ words))))
+
+drive_taken : kinds_of (said (codes "drive" ∷ [])) ≡ []
+unfolding clap_on_literals
+drive_taken = refl
+
+default_memory : the_memory [] ≡ Some (Some (codes "norec"))
+unfolding clap_on_literals
+default_memory = refl
+
+default_trace : option_of (codes "trace") [] ≡ Some (Some (codes "false"))
+unfolding clap_on_literals
+default_trace = refl
+
+default_window : option_of (codes "window") [] ≡ Some (Some (codes "8"))
+unfolding clap_on_literals
+default_window = refl
+
+default_states : option_of (codes "states") [] ≡ Some (Some (codes "64"))
+unfolding clap_on_literals
+default_states = refl
+
+memory_norec : the_memory (codes "--memory" ∷ codes "norec" ∷ []) ≡ Some (Some (codes "norec"))
+unfolding clap_on_literals
+memory_norec = refl
+
+memory_lock : the_memory (codes "--memory=lock" ∷ []) ≡ Some (Some (codes "lock"))
+unfolding clap_on_literals
+memory_lock = refl
+
+memory_torn : the_memory (codes "--trace" ∷ codes "--memory" ∷ codes "torn" ∷ []) ≡ Some (Some (codes "torn"))
+unfolding clap_on_literals
+memory_torn = refl
+
+memory_taken : kinds_of (said (codes "drive" ∷ codes "--memory=torn" ∷ [])) ≡ []
+unfolding clap_on_literals
+memory_taken = refl
+
+other_memory : kinds_of (said (codes "drive" ∷ codes "--memory" ∷ codes "norec2" ∷ [])) ≡ InvalidValue ∷ []
+unfolding clap_on_literals
+other_memory = refl
+
+memory_twice : kinds_of (said (codes "drive" ∷ codes "--memory=lock" ∷ codes "--memory=lock" ∷ [])) ≡ ArgumentConflict ∷ []
+unfolding clap_on_literals
+memory_twice = refl
+
+trace_given : option_of (codes "trace") (codes "--trace" ∷ []) ≡ Some (Some (codes "true"))
+unfolding clap_on_literals
+trace_given = refl
+
+trace_taken : kinds_of (said (codes "drive" ∷ codes "--trace" ∷ [])) ≡ []
+unfolding clap_on_literals
+trace_taken = refl
+
+trace_twice : kinds_of (said (codes "drive" ∷ codes "--trace" ∷ codes "--trace" ∷ [])) ≡ ArgumentConflict ∷ []
+unfolding clap_on_literals
+trace_twice = refl
+
+trace_with_value : kinds_of (said (codes "drive" ∷ codes "--trace=true" ∷ [])) ≡ TooManyValues ∷ []
+unfolding clap_on_literals
+trace_with_value = refl
+
+both_bounds : kinds_of (said (codes "drive" ∷ codes "--states=2" ∷ codes "--window" ∷ codes "3" ∷ [])) ≡ []
+unfolding clap_on_literals
+both_bounds = refl
+
+window_of_drive : option_of (codes "window") (codes "--states=2" ∷ codes "--window" ∷ codes "3" ∷ []) ≡ Some (Some (codes "3"))
+unfolding clap_on_literals
+window_of_drive = refl
+
+states_of_drive : option_of (codes "states") (codes "--states=2" ∷ codes "--window" ∷ codes "3" ∷ []) ≡ Some (Some (codes "2"))
+unfolding clap_on_literals
+states_of_drive = refl
 
 -- `steps` has no row, and takes no word
 by_itself : subcommand_of program (help_as_flag (said (codes "steps" ∷ []))) ≡ Some (codes "steps", [])
@@ -74,6 +153,10 @@ help_of_judge : kinds_of (said (codes "help" ∷ codes "judge" ∷ [])) ≡ Disp
 unfolding clap_on_literals
 help_of_judge = refl
 
-help_of_no_command : kinds_of (said (codes "help" ∷ codes "drive" ∷ [])) ≡ UnknownArgument ∷ InvalidSubcommand ∷ []
+help_of_drive : kinds_of (said (codes "help" ∷ codes "drive" ∷ [])) ≡ DisplayHelp ∷ []
+unfolding clap_on_literals
+help_of_drive = refl
+
+help_of_no_command : kinds_of (said (codes "help" ∷ codes "replay" ∷ [])) ≡ UnknownArgument ∷ InvalidSubcommand ∷ []
 unfolding clap_on_literals
 help_of_no_command = refl

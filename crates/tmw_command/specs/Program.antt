@@ -1,12 +1,26 @@
 -- The program's commands and options, as the parser of command lines sees them.
-use Rattle.std.specs.Prelude.{ℕ, [], ◌∷◌, Some, codes, true, pos}
+use Rattle.std.specs.Prelude.{◌≡◌, ℕ, List, [], ◌∷◌, Some, codes, map, true, pos}
+use Rattle.std.specs.Borrow.{Bor}
+use Rattle.clap.specs.Walk.{texts}
 use Rattle.clap.specs.Words.{App, Rule, Text, new_app, new_rule, with_rule, with_subcommand}
+use Rattle.clap.specs.declared.builder.action.ArgAction.TheVariants.{SetTrue}
 use Rattle.clap.specs.declared.builder.value_parser.ValueParser.{ValueParser}
-use Rattle.clap.specs.declared.builder.value_parser.ValueParser.TheVariants.{Signed}
+use Rattle.clap.specs.declared.builder.value_parser.ValueParser.TheVariants.{Names, Signed}
+use Rattle.tmw_command.specs.declared.which.Which.{Which}
+use Rattle.tmw_command.specs.declared.which.Which.TheVariants.{NoRec, Lock, Torn}
 
--- an option that takes one number, one of these values, and has this default
-abbrev pub number_rule : Text → ValueParser → Text → Rule
-number_rule name values default = record (new_rule name) {
+-- the name of a memory
+abbrev pub memory_name : Which → Text
+memory_name NoRec = codes "norec"
+memory_name Lock = codes "lock"
+memory_name Torn = codes "torn"
+
+abbrev pub memory_names : List Text
+memory_names = memory_name NoRec ∷ memory_name Lock ∷ memory_name Torn ∷ []
+
+-- an option that takes one value, one of these, and has this default
+abbrev pub value_rule : Text → ValueParser → Text → Rule
+value_rule name values default = record (new_rule name) {
   long = Some name;
   value_names = 1;
   defaults = default ∷ [];
@@ -17,10 +31,31 @@ number_rule name values default = record (new_rule name) {
 abbrev pub one_to : ℕ → ValueParser
 one_to most = Signed (pos 1) (pos most)
 
--- `judge`, with its two bounds
+-- a value at the address 0: names are handed to the parser by their addresses, and it reads the names alone
+abbrev pub lent : {X : Type 0} → X → Bor X
+lent value = record { ref_ptr = (0, 0); now = value }
+
+-- one of these names
+abbrev pub one_of_names : List Text → ValueParser
+one_of_names names = Names (lent (map lent names))
+
+-- with the two bounds
+abbrev pub with_bounds : App → App
+with_bounds app = with_rule (with_rule app (value_rule (codes "window") (one_to 8) (codes "8")))
+    (value_rule (codes "states") (one_to 64) (codes "64"))
+
+-- `--trace`, which takes no value
+abbrev pub trace_rule : Rule
+trace_rule = record (new_rule (codes "trace")) { long = Some (codes "trace"); action = Some SetTrue }
+
+-- `judge`
 abbrev pub judge : App
-judge = with_rule (with_rule (new_app (codes "judge")) (number_rule (codes "window") (one_to 8) (codes "8")))
-    (number_rule (codes "states") (one_to 64) (codes "64"))
+judge = with_bounds (new_app (codes "judge"))
+
+-- `drive`, over one of these memories
+abbrev pub drive_among : ValueParser → App
+drive_among memories =
+    with_bounds (with_rule (with_rule (new_app (codes "drive")) (value_rule (codes "memory") memories (memory_name NoRec))) trace_rule)
 
 -- `steps`, which has no option
 abbrev pub steps : App
@@ -30,5 +65,14 @@ steps = new_app (codes "steps")
 abbrev pub wanting : App → App
 wanting app = record app { top = record app.top { subcommand_required = true; disable_help_subcommand = true } }
 
+-- with its commands, `drive` over one of these memories
+abbrev pub program_among : ValueParser → App
+program_among memories =
+    with_subcommand (with_subcommand (with_subcommand (wanting (new_app (codes "tmwatch"))) judge.top) (drive_among memories).top) steps.top
+
 abbrev pub program : App
-program = with_subcommand (with_subcommand (wanting (new_app (codes "tmwatch"))) judge.top) steps.top
+program = program_among (one_of_names memory_names)
+
+-- the program, whatever the addresses of the memories' names are
+abbrev pub IsProgram : App → Type 0
+IsProgram app = (names : Bor (List (Bor Text))) × (texts names.now ≡ memory_names) × (app ≡ program_among (Names names))

@@ -8,17 +8,32 @@ use Rattle.tmw_report.specs.Streams.{FromSource, ToSink}
 use Rattle.tmw_report.specs.declared.fault.Fault.{Fault}
 use Rattle.tmw_report.specs.declared.fault.Fault.TheVariants.{Memory as WantsMemory, Usage as IsUsage}
 use Rattle.tmw_judge.specs.Judging.{JudgesBytes}
+use Rattle.tmw_run_drive.specs.Running.{DrivesBytes}
 use Rattle.tmw_steps.specs.Running.{RunsSteps}
+use Rattle.tmw_tm.specs.Answers.{Call, Answer}
 use Rattle.tmw_command.specs.Reading.{IsReading}
 use Rattle.tmw_command.specs.declared.order.Order.{Order}
-use Rattle.tmw_command.specs.declared.order.Order.TheVariants.{Judge, Steps}
+use Rattle.tmw_command.specs.declared.order.Order.TheVariants.{Judge, Drive, Steps}
 use Rattle.tmw_command.specs.declared.refusal.Refusal.{Refusal}
 use Rattle.tmw_command.specs.declared.refusal.Refusal.TheVariants.{Help, Usage, Memory}
+use Rattle.tmw_command.specs.declared.which.Which.{Which}
+use Rattle.tmw_command.specs.declared.which.Which.TheVariants.{NoRec, Lock, Torn}
+
+-- What each memory may answer to a call.
+abbrev pub MemoryAnswers : Type 1
+MemoryAnswers = Which → Call → Answer → Type 0
+
+-- The answers of the memory of this name.
+abbrev pub by_name : (Call → Answer → Type 0) → (Call → Answer → Type 0) → (Call → Answer → Type 0) → MemoryAnswers
+by_name norec lock torn NoRec = norec
+by_name norec lock torn Lock = lock
+by_name norec lock torn Torn = torn
 
 -- What the order's command does.
-abbrev pub RunsOrder : {S K : Type 0} → FromSource S → ToSink K → Order → S → S → K → K → ℕ → Type 0
-RunsOrder From To (Judge bounds) = JudgesBytes From To bounds
-RunsOrder From To Steps = RunsSteps From To
+abbrev pub RunsOrder : {S K : Type 0} → FromSource S → ToSink K → MemoryAnswers → Order → S → S → K → K → ℕ → Type 0
+RunsOrder From To memories (Judge bounds) = JudgesBytes From To bounds
+RunsOrder From To memories (Drive memory trace bounds) = DrivesBytes From To (memories memory) trace bounds
+RunsOrder From To memories Steps = RunsSteps From To
 
 -- What is answered to words that give no order. Help is put to the sink. The line of a wrong command line is put to it whatever
 -- becomes of the text that tells what is wrong, which is sent to the sink for errors.
@@ -31,24 +46,24 @@ AnswersRefusal To Errors Memory sink sink_after errors errors_after status =
     IsPut To sink sink_after (fault_line WantsMemory) 4 status × (errors_after ≡ errors)
 
 -- What words do that were read so. Without an order nothing is read from the source.
-abbrev pub RunsReading : {S K E : Type 0} → FromSource S → ToSink K → ToSink E → Result Order Refusal → S → S → K → K → E → E → ℕ
-    → Type 0
-RunsReading From To Errors (Ok order) source source_after sink sink_after errors errors_after status =
-    RunsOrder From To order source source_after sink sink_after status × (errors_after ≡ errors)
-RunsReading From To Errors (Err refusal) source source_after sink sink_after errors errors_after status =
+abbrev pub RunsReading : {S K E : Type 0} → FromSource S → ToSink K → ToSink E → MemoryAnswers → Result Order Refusal → S → S → K → K → E → E
+    → ℕ → Type 0
+RunsReading From To Errors memories (Ok order) source source_after sink sink_after errors errors_after status =
+    RunsOrder From To memories order source source_after sink sink_after status × (errors_after ≡ errors)
+RunsReading From To Errors memories (Err refusal) source source_after sink sink_after errors errors_after status =
     AnswersRefusal To Errors refusal sink sink_after errors errors_after status × (source_after ≡ source)
 
 -- What the words do, by a reading of them.
-pub record RunsWords {S K E : Type 0} (From : FromSource S) (To : ToSink K) (Errors : ToSink E) (words : List Text)
-    (source source_after : S) (sink sink_after : K) (errors errors_after : E) (status : ℕ) : Type 0 where
+pub record RunsWords {S K E : Type 0} (From : FromSource S) (To : ToSink K) (Errors : ToSink E) (memories : MemoryAnswers)
+    (words : List Text) (source source_after : S) (sink sink_after : K) (errors errors_after : E) (status : ℕ) : Type 0 where
   pub reading : Result Order Refusal
   pub read : IsReading words reading
-  pub run : RunsReading From To Errors reading source source_after sink sink_after errors errors_after status
+  pub run : RunsReading From To Errors memories reading source source_after sink sink_after errors errors_after status
 
 -- What a command line does, of which the words may not be had: then the fault's line is put to the sink, and no more is done.
-abbrev pub RunsCommand : {S K E : Type 0} → FromSource S → ToSink K → ToSink E → Result (List Text) Fault → S → S → K → K → E → E
-    → ℕ → Type 0
-RunsCommand From To Errors (Ok words) source source_after sink sink_after errors errors_after status =
-    RunsWords From To Errors words source source_after sink sink_after errors errors_after status
-RunsCommand From To Errors (Err fault) source source_after sink sink_after errors errors_after status =
+abbrev pub RunsCommand : {S K E : Type 0} → FromSource S → ToSink K → ToSink E → MemoryAnswers → Result (List Text) Fault → S → S → K → K → E
+    → E → ℕ → Type 0
+RunsCommand From To Errors memories (Ok words) source source_after sink sink_after errors errors_after status =
+    RunsWords From To Errors memories words source source_after sink sink_after errors errors_after status
+RunsCommand From To Errors memories (Err fault) source source_after sink sink_after errors errors_after status =
     IsPut To sink sink_after (fault_line fault) 4 status × (source_after ≡ source) × (errors_after ≡ errors)

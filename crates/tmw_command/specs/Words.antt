@@ -3,13 +3,15 @@ use Rattle.std.specs.Prelude.{◌≡◌, ◌≢◌, ◌⊎◌, ℕ, Bool, false,
 use Rattle.std.specs.List.{remove}
 use Rattle.std.specs.Str.{bytes_eq}
 use Rattle.std.specs.Str.Parse.{IsNumeral, digits_value, without_leading_plus}
-use Rattle.clap.specs.Words.{IsAmong, Kinds, Row, Text, fault_of, one_of, subcommand_of}
+use Rattle.clap.specs.Values.{bool_text}
+use Rattle.clap.specs.Words.{IsAmong, Kinds, Row, Text, fault_of, first_of, one_of, subcommand_of}
 use Rattle.clap.specs.declared.error.kind.ErrorKind.{ErrorKind}
 use Rattle.clap.specs.declared.error.kind.ErrorKind.TheVariants.{DisplayHelp}
 use Rattle.tmw_monitor.specs.declared.bounds.Bounds.{Bounds}
-use Rattle.tmw_command.specs.Program.{program}
+use Rattle.tmw_command.specs.Program.{memory_name, program}
 use Rattle.tmw_command.specs.declared.order.Order.{Order}
-use Rattle.tmw_command.specs.declared.order.Order.TheVariants.{Judge, Steps}
+use Rattle.tmw_command.specs.declared.order.Order.TheVariants.{Judge, Drive, Steps}
+use Rattle.tmw_command.specs.declared.which.Which.{Which}
 
 -- `help` stands in place of a command, behind the program's name.
 abbrev pub names_help : List Text → Bool
@@ -36,9 +38,19 @@ pub record Gives (name : Text) (rows : List Row) (number : ℕ) : Type 0 where
 abbrev pub HasBounds : List Row → Bounds → Type 0
 HasBounds rows bounds = Gives (codes "window") rows bounds.window × Gives (codes "states") rows bounds.states
 
+-- The words name this memory, or the option's default does where they name none.
+abbrev pub NamesMemory : List Row → Which → Type 0
+NamesMemory rows memory = first_of (codes "memory") rows ≡ Some (memory_name memory)
+
+-- The words have the flag `--trace`, or have it not: its text is `true` where they have it, and else its default, `false`.
+abbrev pub HasTrace : List Row → Bool → Type 0
+HasTrace rows trace = one_of (codes "trace") rows ≡ Some (bool_text trace)
+
 -- This is the order of a command and of what was found for its options.
 abbrev pub IsOrder : Option (Text × List Row) → Order → Type 0
 IsOrder found (Judge bounds) = (rows : List Row) × (found ≡ Some (codes "judge", rows)) × HasBounds rows bounds
+IsOrder found (Drive memory trace bounds) =
+    (rows : List Row) × (found ≡ Some (codes "drive", rows)) × NamesMemory rows memory × HasTrace rows trace × HasBounds rows bounds
 IsOrder found Steps = (rows : List Row) × (found ≡ Some (codes "steps", rows))
 
 -- The words are right, and ask for this order.

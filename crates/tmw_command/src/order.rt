@@ -1,10 +1,20 @@
+use crate::which::Which;
 use tmw_monitor::Bounds;
 
 /// What the command line asks the program to do.
 #[derive(Clone, Copy, PartialEq, Eq, Debug)]
 pub enum Order {
     /// To judge the trace on standard input within these bounds.
-    Judge { bounds: Bounds },
+    Judge {
+        bounds: Bounds,
+    },
+    /// To run the workload on standard input over this memory, and to judge the run within these bounds. Its trace is written
+    /// before the report where that is asked for.
+    Drive {
+        memory: Which,
+        trace: bool,
+        bounds: Bounds,
+    },
     /// To take the ring's steps that standard input lists.
     Steps,
 }

@@ -1,4 +1,4 @@
-ghost use Rattle.std.specs.Prelude.{◌≡◌, IfErr, IfNone, IfOk, IfSome, map};
+ghost use Rattle.std.specs.Prelude.{◌≡◌, IfErr, IfNone, IfOk, IfSome, Some, codes, map};
 ghost use Rattle.clap.specs.Walk.{texts};
 ghost use Rattle.clap.specs.Words.{found_of, kind_of, rows_of, subcommand_rows_of};
 ghost use Rattle.tmw_command.specs.Reading.{FailsAs};
@@ -8,6 +8,7 @@ ghost use Rattle.tmw_monitor.specs.declared.bounds.Bounds.{Bounds};
 
 use crate::order::Order;
 use crate::program::new_program;
+use crate::which::Which;
 use clap::error::ErrorKind;
 use clap::{ArgMatches, Error};
 use std::alloc::{AllocError, Global};
@@ -72,20 +73,45 @@ fn order_of(matches: &ArgMatches<'_>) -> Option<Order>
             Some(bounds) => Some(Order::Judge { bounds }),
             None => None,
         },
+        Some(("drive", drive)) => drive_of(drive),
         Some(("steps", _)) => Some(Order::Steps),
         _ => None,
     }
 }
 
-/// The bounds that the matches of `judge` hold.
-fn bounds_of(judge: &ArgMatches<'_>) -> Option<Bounds>
-    ensures some { IfSome result (HasBounds (rows_of (found_of judge.now))) }
-    ensures none { IfNone result ((bounds : Bounds) → HasBounds (rows_of (found_of judge.now)) bounds → ⊥) }
+/// The order that the matches of `drive` hold. There is none where they lack one of its values.
+fn drive_of(drive: &ArgMatches<'_>) -> Option<Order>
+    ensures some { IfSome result (IsOrder (Some (codes "drive", rows_of (found_of drive.now)))) }
+    ensures none { IfNone result ((order : Order) → IsOrder (Some (codes "drive", rows_of (found_of drive.now))) order → ⊥) }
 {
-    let Some(window) = judge.get_one::<u8>("window") else {
+    let Some(name) = drive.get_str("memory") else {
         return None;
     };
-    let Some(states) = judge.get_one::<u8>("states") else {
+    let Some(memory) = Which::named(name) else {
+        return None;
+    };
+    let Some(trace) = drive.get_one::<bool>("trace") else {
+        return None;
+    };
+    let Some(bounds) = bounds_of(drive) else {
+        return None;
+    };
+    Some(Order::Drive {
+        memory,
+        trace,
+        bounds,
+    })
+}
+
+/// The bounds that the matches of a command hold.
+fn bounds_of(matches: &ArgMatches<'_>) -> Option<Bounds>
+    ensures some { IfSome result (HasBounds (rows_of (found_of matches.now))) }
+    ensures none { IfNone result ((bounds : Bounds) → HasBounds (rows_of (found_of matches.now)) bounds → ⊥) }
+{
+    let Some(window) = matches.get_one::<u8>("window") else {
+        return None;
+    };
+    let Some(states) = matches.get_one::<u8>("states") else {
         return None;
     };
     match Bounds::new(window, states) {

@@ -1,9 +1,18 @@
 ghost use Rattle.std.specs.Prelude.{◌≡◌, IfOk, false};
 ghost use Rattle.clap.specs.Words.{app_of, rule_of};
-ghost use Rattle.tmw_command.specs.Program.{judge, number_rule, one_to, program, steps};
+ghost use Rattle.clap.specs.declared.builder.value_parser.ValueParser.TheVariants.{Names};
+ghost use Rattle.tmw_command.specs.Program.{IsProgram, drive_among, judge, one_to, steps, value_rule, with_bounds};
 
-use clap::{Arg, Command, value_parser};
+use clap::builder::ValueParser;
+use clap::{Arg, ArgAction, Command, value_parser};
 use std::alloc::{AllocError, Global};
+
+/// The names of the memories.
+static MEMORIES: [&str; 3] = ["norec", "lock", "torn"];
+
+const MEMORY_HELP: &str = "The memory that is driven";
+
+const TRACE_HELP: &str = "Write the trace of the run before the report";
 
 const WINDOW_HELP: &str =
     "The most transactions that a window may have, 1 to 8: past it the verdict is `undecided`";
@@ -13,7 +22,7 @@ const STATES_HELP: &str =
 
 /// The program's commands, with their options and help.
 pub fn new_program<'a>(alloc: Global) -> Result<Command<'a>, AllocError>
-    ensures { IfOk result (λ command. app_of command ≡ program) }
+    ensures { IfOk result (λ command. IsProgram (app_of command)) }
 {
     Command::new(alloc, "tmwatch")
         .about(
@@ -22,6 +31,7 @@ pub fn new_program<'a>(alloc: Global) -> Result<Command<'a>, AllocError>
         .subcommand_required(true)
         .disable_help_subcommand(true)
         .subcommand(new_judge(alloc)?)?
+        .subcommand(new_drive(alloc, MEMORIES.as_slice())?)?
         .subcommand(new_steps(alloc))
 }
 
@@ -29,14 +39,33 @@ pub fn new_program<'a>(alloc: Global) -> Result<Command<'a>, AllocError>
 fn new_judge<'a>(alloc: Global) -> Result<Command<'a>, AllocError>
     ensures { IfOk result (λ command. app_of command ≡ judge) }
 {
-    let window = number_option(alloc, "window", 8, "8", WINDOW_HELP);
-    let states = number_option(alloc, "states", 64, "64", STATES_HELP);
-    Command::new(alloc, "judge")
-        .about(
-            "Judge the trace on standard input: opaque so far, or which of its prefixes is the first that is not",
-        )
-        .arg(window)?
-        .arg(states)
+    let judge = Command::new(alloc, "judge").about(
+        "Judge the trace on standard input: opaque so far, or which of its prefixes is the first that is not",
+    );
+    with_bounds(alloc, judge)
+}
+
+/// The command `drive`, over memories of these names.
+fn new_drive<'a>(alloc: Global, memories: &'a [&'a str]) -> Result<Command<'a>, AllocError>
+    ensures { IfOk result (λ command. app_of command ≡ drive_among (Names memories.entry)) }
+{
+    let memory = value_option(
+        alloc,
+        "memory",
+        "MEMORY",
+        ValueParser::Names(memories),
+        "norec",
+        MEMORY_HELP,
+    );
+    let trace = Arg::new(alloc, "trace")
+        .long("trace")
+        .help(TRACE_HELP)
+        .action(ArgAction::SetTrue);
+    let drive = Command::new(alloc, "drive")
+        .about("Run the workload on standard input over a transactional memory, and judge the run")
+        .arg(memory)?
+        .arg(trace)?;
+    with_bounds(alloc, drive)
 }
 
 /// The command `steps`.
@@ -48,6 +77,15 @@ fn new_steps<'a>(alloc: Global) -> Command<'a>
     )
 }
 
+/// The command with the two bounds of judging as options.
+fn with_bounds<'a>(alloc: Global, command: Command<'a>) -> Result<Command<'a>, AllocError>
+    ensures { IfOk result (λ bounded. app_of bounded ≡ with_bounds (app_of command.entry)) }
+{
+    let window = number_option(alloc, "window", 8, "8", WINDOW_HELP);
+    let states = number_option(alloc, "states", 64, "64", STATES_HELP);
+    command.arg(window)?.arg(states)
+}
+
 /// An option that takes one number, from 1 to `most`.
 fn number_option<'a>(
     alloc: Global,
@@ -56,13 +94,29 @@ fn number_option<'a>(
     default: &'a str,
     help: &'a str,
 ) -> Arg<'a>
-    ensures rule { rule_of result ≡ number_rule name.entry.now (one_to most) default.entry.now }
+    ensures rule { rule_of result ≡ value_rule name.entry.now (one_to most) default.entry.now }
+    ensures local { result.global ≡ false }
+{
+    let values = value_parser!(u8).range(1..=i64::from(most));
+    value_option(alloc, name, "N", values, default, help)
+}
+
+/// An option that takes one of these values.
+fn value_option<'a>(
+    alloc: Global,
+    name: &'a str,
+    value_name: &'a str,
+    values: ValueParser<'a>,
+    default: &'a str,
+    help: &'a str,
+) -> Arg<'a>
+    ensures rule { rule_of result ≡ value_rule name.entry.now values.entry default.entry.now }
     ensures local { result.global ≡ false }
 {
     Arg::new(alloc, name)
         .long(name)
-        .value_name("N")
+        .value_name(value_name)
         .help(help)
         .default_value(default)
-        .value_parser(value_parser!(u8).range(1..=i64::from(most)))
+        .value_parser(values)
 }

@@ -2,35 +2,42 @@ ghost use Rattle.std.specs.Prelude.{map, string_bytes};
 ghost use Rattle.std.specs.Result.{result_map_both};
 ghost use Rattle.tmw_report.specs.Putting.{IsPut, IsSent};
 ghost use Rattle.tmw_report.specs.Streams.{from_source, to_sink};
-ghost use Rattle.tmw_command.specs.Running.{AnswersRefusal, RunsCommand, RunsOrder, RunsWords};
+ghost use Rattle.tmw_command.specs.Running.{AnswersRefusal, RunsCommand, RunsOrder, RunsWords, by_name};
 
+use crate::memories::Memories;
 use crate::order::Order;
 use crate::refusal::Refusal;
+use crate::which::Which;
 use crate::words::read_words;
 use std::alloc::Global;
 use std::convert::AsStr;
 use tmw_judge::run_judge;
 use tmw_report::{FAULT_STATUS, Fault, answer_fault};
+use tmw_run_drive::run_drive;
 use tmw_steps::run_steps;
 use tmw_streams::{Sink, Source, put_all};
+use tmw_tm::Tm;
 
 /// Runs the command line of these words, of which the first is the program's name, from the source to the sink: the order that
 /// they ask for, or the text of help. For words that are no command line of the program the fault's line goes to the
-/// sink, and the text that tells what is wrong to the sink for errors; for words that can't be had, the fault's line alone. The result is the exit status: that of the
-/// order, 0 for help, or 4 for any fault and for help that was cut short.
+/// sink, and the text that tells what is wrong to the sink for errors; for words that can't be had, the fault's line alone. An
+/// order to drive takes the memory that it names of these, each of which should be fresh. The result is the exit status: that
+/// of the order, 0 for help, or 4 for any fault and for help that was cut short.
 pub fn run_command<S: Source, K: Sink, E: Sink>(
     alloc: Global,
     words: Result<Vec<String>, Fault>,
     source: &mut S,
     sink: &mut K,
     errors: &mut E,
+    memories: Memories<&(dyn Tm + Sync)>,
 ) -> u8
     ensures { RunsCommand (from_source S.told S.remaining S.ended S.failures) (to_sink K.took K.holds K.failures)
-        (to_sink E.took E.holds E.failures) (result_map_both (λ given. map string_bytes given.items) (λ fault. fault) words)
+        (to_sink E.took E.holds E.failures) (by_name (gives memories.entry.norec.now) (gives memories.entry.lock.now) (gives memories.entry.torn.now))
+        (result_map_both (λ given. map string_bytes given.items) (λ fault. fault) words)
         source.old source.new sink.old sink.new errors.old errors.new result }
 {
     match words {
-        Ok(words) => run_words(alloc, &words, source, sink, errors),
+        Ok(words) => run_words(alloc, &words, source, sink, errors, memories),
         Err(fault) => answer_fault(sink, fault),
     }
 }
@@ -42,24 +49,45 @@ fn run_words<W: AsStr, S: Source, K: Sink, E: Sink>(
     source: &mut S,
     sink: &mut K,
     errors: &mut E,
+    memories: Memories<&(dyn Tm + Sync)>,
 ) -> u8
     ensures { RunsWords (from_source S.told S.remaining S.ended S.failures) (to_sink K.took K.holds K.failures)
-        (to_sink E.took E.holds E.failures) (map W.text words.now)
+        (to_sink E.took E.holds E.failures) (by_name (gives memories.entry.norec.now) (gives memories.entry.lock.now) (gives memories.entry.torn.now))
+        (map W.text words.now)
         source.old source.new sink.old sink.new errors.old errors.new result }
 {
     match read_words(alloc, words) {
-        Ok(order) => run_order(alloc, order, source, sink),
+        Ok(order) => run_order(alloc, order, source, sink, memories),
         Err(refusal) => answer_refusal(refusal, sink, errors),
     }
 }
 
-/// Runs an order's command.
-fn run_order<S: Source, K: Sink>(alloc: Global, order: Order, source: &mut S, sink: &mut K) -> u8
-    ensures { RunsOrder (from_source S.told S.remaining S.ended S.failures) (to_sink K.took K.holds K.failures) order
+/// Runs an order's command, over the memory that it names.
+fn run_order<S: Source, K: Sink>(
+    alloc: Global,
+    order: Order,
+    source: &mut S,
+    sink: &mut K,
+    memories: Memories<&(dyn Tm + Sync)>,
+) -> u8
+    ensures { RunsOrder (from_source S.told S.remaining S.ended S.failures) (to_sink K.took K.holds K.failures)
+        (by_name (gives memories.entry.norec.now) (gives memories.entry.lock.now) (gives memories.entry.torn.now)) order
         source.old source.new sink.old sink.new result }
 {
     match order {
         Order::Judge { bounds } => run_judge(alloc, source, sink, bounds),
+        Order::Drive {
+            memory,
+            trace,
+            bounds,
+        } => {
+            let memory = match memory {
+                Which::NoRec => memories.norec,
+                Which::Lock => memories.lock,
+                Which::Torn => memories.torn,
+            };
+            run_drive(alloc, source, sink, memory, trace, bounds)
+        }
         Order::Steps => run_steps(alloc, source, sink),
     }
 }

@@ -1,6 +1,7 @@
 //! What the contracts leave open: which words are refused, by which kind of error, and that there is memory for the parse.
 use crate::order::Order;
 use crate::parse::parse;
+use crate::which::Which;
 use clap::error::ErrorKind;
 use std::alloc::{AllocError, Global};
 use std::process::Abort;
@@ -31,6 +32,89 @@ fn bounds_of_judge(rt: HostRuntime) {
     ] {
         match parse(rt.alloc(), words) {
             Ok(Order::Judge { bounds }) => {
+                assert_eq!(rt; bounds.window, window, "of {words:?}");
+                assert_eq!(rt; bounds.states, states, "of {words:?}");
+            }
+            Ok(order) => assert!(rt; false, "{words:?} was read as {order:?}"),
+            Err(error) => assert!(rt; false, "{words:?} was refused: {error}"),
+        }
+    }
+}
+
+#[test]
+fn orders_of_drive(rt: HostRuntime) {
+    for (words, memory, trace, window, states) in [
+        (["tmwatch", "drive"].as_slice(), Which::NoRec, false, 8, 64),
+        (
+            ["tmwatch", "drive", "--memory", "norec"].as_slice(),
+            Which::NoRec,
+            false,
+            8,
+            64,
+        ),
+        (
+            ["tmwatch", "drive", "--memory=lock"].as_slice(),
+            Which::Lock,
+            false,
+            8,
+            64,
+        ),
+        (
+            ["tmwatch", "drive", "--memory", "torn"].as_slice(),
+            Which::Torn,
+            false,
+            8,
+            64,
+        ),
+        (
+            ["tmwatch", "drive", "--trace"].as_slice(),
+            Which::NoRec,
+            true,
+            8,
+            64,
+        ),
+        (
+            ["tmwatch", "drive", "--window", "1", "--states=1"].as_slice(),
+            Which::NoRec,
+            false,
+            1,
+            1,
+        ),
+        (
+            [
+                "tmwatch",
+                "drive",
+                "--states",
+                "2",
+                "--trace",
+                "--memory=torn",
+                "--window=3",
+            ]
+            .as_slice(),
+            Which::Torn,
+            true,
+            3,
+            2,
+        ),
+        // The program's name is any word.
+        (
+            ["judge", "drive", "--window=+5"].as_slice(),
+            Which::NoRec,
+            false,
+            5,
+            64,
+        ),
+    ] {
+        match parse(rt.alloc(), words) {
+            Ok(
+                Order::Drive {
+                    memory: read,
+                    trace: traced,
+                    bounds,
+                },
+            ) => {
+                assert_eq!(rt; read, memory, "of {words:?}");
+                assert_eq!(rt; traced, trace, "of {words:?}");
                 assert_eq!(rt; bounds.window, window, "of {words:?}");
                 assert_eq!(rt; bounds.states, states, "of {words:?}");
             }
@@ -89,20 +173,42 @@ fn words_that_are_refused(rt: HostRuntime) -> Result<(), Fail> {
                 "tmwatch judge --window=-1",
                 "tmwatch judge --window=257",
                 "tmwatch judge --window=",
+                "tmwatch drive --window 0",
+                "tmwatch drive --window 9",
+                "tmwatch drive --states 0",
+                "tmwatch drive --states 65",
             ]
             .as_slice(),
         ),
         (
             ErrorKind::InvalidValue,
-            ["tmwatch judge --window"].as_slice(),
+            [
+                "tmwatch judge --window",
+                "tmwatch drive --memory",
+                "tmwatch drive --memory norec2",
+                "tmwatch drive --memory NoRec",
+                "tmwatch drive --memory=",
+                "tmwatch drive --memory nore",
+            ]
+            .as_slice(),
         ),
         (
             ErrorKind::ArgumentConflict,
-            ["tmwatch judge --window 3 --window 3"].as_slice(),
+            [
+                "tmwatch judge --window 3 --window 3",
+                "tmwatch drive --memory lock --memory lock",
+                "tmwatch drive --trace --trace",
+                "tmwatch drive --states 1 --states=2",
+            ]
+            .as_slice(),
+        ),
+        (
+            ErrorKind::TooManyValues,
+            ["tmwatch drive --trace=true"].as_slice(),
         ),
         (
             ErrorKind::InvalidSubcommand,
-            ["tmwatch judges", "tmwatch drive", "tmwatch step"].as_slice(),
+            ["tmwatch judges", "tmwatch replay", "tmwatch step"].as_slice(),
         ),
         (
             ErrorKind::UnknownArgument,
@@ -114,6 +220,11 @@ fn words_that_are_refused(rt: HostRuntime) -> Result<(), Fail> {
                 "tmwatch steps x",
                 "tmwatch steps judge",
                 "tmwatch judge help",
+                "tmwatch judge --trace",
+                "tmwatch judge --memory norec",
+                "tmwatch drive norec",
+                "tmwatch drive --trace true",
+                "tmwatch steps --trace",
                 "tmwatch help judge steps",
             ]
             .as_slice(),
@@ -135,6 +246,8 @@ fn words_that_ask_for_help(rt: HostRuntime) {
         ["tmwatch", "help", "judge"].as_slice(),
         ["tmwatch", "judge", "--help"].as_slice(),
         ["tmwatch", "judge", "--window", "3", "--help"].as_slice(),
+        ["tmwatch", "help", "drive"].as_slice(),
+        ["tmwatch", "drive", "--help"].as_slice(),
         ["tmwatch", "help", "steps"].as_slice(),
         ["help", "help", "judge", "--window", "3"].as_slice(),
         ["tmwatch", "steps", "--help"].as_slice(),

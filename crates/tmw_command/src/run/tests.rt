@@ -1,11 +1,15 @@
 //! What the contracts leave open: that command lines are answered as their users expect, and that there is memory for it.
+use crate::memories::Memories;
 use crate::run::run_command;
 use std::alloc::{AllocError, Global};
 use std::process::Abort;
 use std::str::from_utf8;
 use std::test::Fail;
+use tmw_events::Registers;
+use tmw_memories::{GlobalLock, NoRec, Torn};
 use tmw_report::Fault;
 use tmw_streams::{MemorySink, MemorySource};
+use tmw_tm::Tm;
 
 /// A transaction reads what another, not yet commit-pending, has written.
 const TRACE: &[u8] = b"opacity-trace 1 1\n0 W 0 1\n0 K\n1 R 0\n1 V 1\n0 T\n0 C\n1 T\n1 C\n";
@@ -17,6 +21,16 @@ const STEPS: &[u8] = b"ring-steps 1 4 2 100\nfront 0 T\ntail 0\nclaim 0\n";
 
 const REPLIES: &str = "saw 0\ncleared\nplace 0\nlog 1 taken 0\n";
 
+/// A transaction reads one register before another commits to both, and the other register after.
+const WORKLOAD: &[u8] =
+    b"{\"registers\":2,\"scripts\":[[[\"R 0\",\"R 1\",\"T\"]],[[\"W 0 1\",\"W 1 1\",\"T\"]]],\"order\":[0,1,1,1,0,0]}";
+
+/// A transaction adds to a register.
+const ADDS: &[u8] = b"{\"registers\":1,\"scripts\":[[[\"N 0 7\",\"T\"]]],\"order\":[0,0]}";
+
+const ADDED: &str =
+    "opacity-trace 2 1 0\n0 N 0 7\n0 V 0\n0 T\n0 C\n{\"events\":4,\"verdict\":\"opaque so far\"}\n";
+
 const USAGE: &str = "{\"fault\":\"usage\"}\n";
 
 /// The words that spaces part.
@@ -26,6 +40,28 @@ fn parted(alloc: Global, line: &str) -> Result<Vec<String>, AllocError> {
         words.push(String::from_str(alloc, word)?)?;
     }
     Ok(words)
+}
+
+/// Runs the command line of these words with memories of eight registers, and answers its exit status.
+fn run(
+    alloc: Global,
+    words: Result<Vec<String>, Fault>,
+    source: &mut MemorySource<'_>,
+    sink: &mut MemorySink,
+    errors: &mut MemorySink,
+) -> u8 {
+    let registers = Registers { number: 8 };
+    let (norec, lock, torn) = (
+        NoRec::new(registers),
+        GlobalLock::new(registers),
+        Torn::new(registers),
+    );
+    let memories: Memories<&(dyn Tm + Sync)> = Memories {
+        norec: &norec,
+        lock: &lock,
+        torn: &torn,
+    };
+    run_command(alloc, words, source, sink, errors, memories)
 }
 
 /// Runs a command line that gives an order, and compares what went out.
@@ -40,7 +76,7 @@ fn expect(
     let mut sink = MemorySink::new(rt.alloc());
     let mut errors = MemorySink::new(rt.alloc());
     let words = parted(rt.alloc(), line)?;
-    let exit = run_command(rt.alloc(), Ok(words), &mut source, &mut sink, &mut errors);
+    let exit = run(rt.alloc(), Ok(words), &mut source, &mut sink, &mut errors);
     assert_eq!(rt; sink.bytes(), output.as_bytes(), "of {line}");
     assert_eq!(rt; errors.bytes(), b"".as_slice(), "of {line}");
     assert_eq!(rt; exit, status, "of {line}");
@@ -81,11 +117,52 @@ fn expect_usage(rt: &(impl Abort + AllocGlobal), line: &str, error: &str) -> Res
     let mut sink = MemorySink::new(rt.alloc());
     let mut errors = MemorySink::new(rt.alloc());
     let words = parted(rt.alloc(), line)?;
-    let exit = run_command(rt.alloc(), Ok(words), &mut source, &mut sink, &mut errors);
+    let exit = run(rt.alloc(), Ok(words), &mut source, &mut sink, &mut errors);
     assert_eq!(rt; sink.bytes(), USAGE.as_bytes(), "of {line}");
     assert_eq!(rt; exit, 4, "of {line}");
     let text = from_utf8(errors.bytes()).unwrap_or("");
     assert!(rt; text.starts_with(error), "of {line}: {text}");
+    Ok(())
+}
+
+#[test]
+fn orders_to_drive(rt: HostRuntime) -> Result<(), Fail> {
+    for (line, input, output, status) in [
+        (
+            "tmwatch drive",
+            WORKLOAD,
+            "{\"events\":10,\"verdict\":\"opaque so far\"}\n",
+            0,
+        ),
+        (
+            "tmwatch drive --memory lock",
+            WORKLOAD,
+            "{\"events\":8,\"verdict\":\"opaque so far\"}\n",
+            0,
+        ),
+        (
+            "tmwatch drive --memory=torn",
+            WORKLOAD,
+            "{\"at\":10,\"events\":12,\"verdict\":\"violated\"}\n",
+            1,
+        ),
+        (
+            "tmwatch drive --memory=torn --window 1",
+            WORKLOAD,
+            "{\"at\":3,\"events\":12,\"verdict\":\"undecided\",\"why\":\"transactions\"}\n",
+            2,
+        ),
+        ("tmwatch drive --trace", ADDS, ADDED, 0),
+        ("tmwatch drive", TRACE, "{\"fault\":\"json\"}\n", 4),
+        (
+            "tmwatch drive --trace",
+            b"[]".as_slice(),
+            "{\"fault\":\"shape\"}\n",
+            4,
+        ),
+    ] {
+        expect(&rt, line, input, output, status)?;
+    }
     Ok(())
 }
 
@@ -112,10 +189,18 @@ fn wrong_command_lines(rt: HostRuntime) -> Result<(), Fail> {
             "tmwatch steps --window 3",
             "error: unexpected argument '--window' found",
         ),
-        ("tmwatch drive", "error: unrecognized subcommand 'drive'"),
         (
-            "tmwatch help drive",
-            "error: unrecognized subcommand 'drive'",
+            "tmwatch drive --memory norec2",
+            "error: invalid value 'norec2' for '--memory <MEMORY>'",
+        ),
+        (
+            "tmwatch judge --trace",
+            "error: unexpected argument '--trace' found",
+        ),
+        ("tmwatch replay", "error: unrecognized subcommand 'replay'"),
+        (
+            "tmwatch help replay",
+            "error: unrecognized subcommand 'replay'",
         ),
         ("tmwatch", "error: 'tmwatch' requires a subcommand"),
     ] {
@@ -131,13 +216,18 @@ fn requests_for_help(rt: HostRuntime) -> Result<(), Fail> {
         ("tmwatch help", "Usage: tmwatch <COMMAND>\n"),
         ("tmwatch judge --help", "Usage: tmwatch judge [OPTIONS]\n"),
         ("tmwatch help judge", "Usage: tmwatch judge [OPTIONS]\n"),
+        ("tmwatch drive --help", "Usage: tmwatch drive [OPTIONS]\n"),
+        (
+            "tmwatch drive --help",
+            "[possible values: norec, lock, torn]",
+        ),
         ("tmwatch steps --help", "Usage: tmwatch steps\n"),
     ] {
         let mut source = MemorySource::new(TRACE);
         let mut sink = MemorySink::limited(rt.alloc(), 1, None);
         let mut errors = MemorySink::new(rt.alloc());
         let words = parted(rt.alloc(), line)?;
-        let exit = run_command(rt.alloc(), Ok(words), &mut source, &mut sink, &mut errors);
+        let exit = run(rt.alloc(), Ok(words), &mut source, &mut sink, &mut errors);
         let text = from_utf8(sink.bytes()).unwrap_or("");
         assert!(rt; text.contains(usage), "of {line}: {text}");
         assert_eq!(rt; errors.bytes(), b"".as_slice(), "of {line}");
@@ -155,7 +245,7 @@ fn words_that_cannot_be_had(rt: HostRuntime) {
         let mut source = MemorySource::new(TRACE);
         let mut sink = MemorySink::new(rt.alloc());
         let mut errors = MemorySink::new(rt.alloc());
-        let exit = run_command(rt.alloc(), Err(fault), &mut source, &mut sink, &mut errors);
+        let exit = run(rt.alloc(), Err(fault), &mut source, &mut sink, &mut errors);
         assert_eq!(rt; sink.bytes(), line.as_bytes());
         assert_eq!(rt; errors.bytes(), b"".as_slice());
         assert_eq!(rt; exit, 4);
@@ -166,15 +256,16 @@ fn words_that_cannot_be_had(rt: HostRuntime) {
 fn writes_that_fail(rt: HostRuntime) -> Result<(), Fail> {
     for (line, output) in [
         ("tmwatch judge", VIOLATED),
+        ("tmwatch drive", "{\"fault\":\"json\"}\n"),
         ("tmwatch steps", "{\"fault\":\"bad header\"}\n"),
-        ("tmwatch drive", USAGE),
+        ("tmwatch replay", USAGE),
     ] {
         for sent in 0..output.len() {
             let mut source = MemorySource::new(TRACE);
             let mut sink = MemorySink::limited(rt.alloc(), 1, Some(sent as u64 + 1));
             let mut errors = MemorySink::new(rt.alloc());
             let words = parted(rt.alloc(), line)?;
-            let exit = run_command(rt.alloc(), Ok(words), &mut source, &mut sink, &mut errors);
+            let exit = run(rt.alloc(), Ok(words), &mut source, &mut sink, &mut errors);
             assert_eq!(rt;
                 sink.bytes(),
                 &output.as_bytes()[..sent],
@@ -193,7 +284,7 @@ fn help_that_is_cut_short(rt: HostRuntime) -> Result<(), Fail> {
         let mut sink = MemorySink::limited(rt.alloc(), 1, Some(call));
         let mut errors = MemorySink::new(rt.alloc());
         let words = parted(rt.alloc(), "tmwatch --help")?;
-        let exit = run_command(rt.alloc(), Ok(words), &mut source, &mut sink, &mut errors);
+        let exit = run(rt.alloc(), Ok(words), &mut source, &mut sink, &mut errors);
         assert_eq!(rt; sink.bytes().len() as u64 + 1, call);
         assert_eq!(rt; exit, 4, "at {call}");
     }
@@ -206,8 +297,8 @@ fn a_failing_sink_for_errors_keeps_no_line(rt: HostRuntime) -> Result<(), Fail> 
         let mut source = MemorySource::new(TRACE);
         let mut sink = MemorySink::new(rt.alloc());
         let mut errors = MemorySink::limited(rt.alloc(), 5, Some(call));
-        let words = parted(rt.alloc(), "tmwatch drive")?;
-        let exit = run_command(rt.alloc(), Ok(words), &mut source, &mut sink, &mut errors);
+        let words = parted(rt.alloc(), "tmwatch replay")?;
+        let exit = run(rt.alloc(), Ok(words), &mut source, &mut sink, &mut errors);
         assert_eq!(rt; sink.bytes(), USAGE.as_bytes(), "at {call}");
         assert_eq!(rt; errors.bytes().len() as u64, 5 * (call - 1));
         assert_eq!(rt; exit, 4, "at {call}");

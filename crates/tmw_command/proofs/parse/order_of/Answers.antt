@@ -1,4 +1,4 @@
--- Where `judge` has no bounds there is no order.
+-- Where `judge` has no bounds there is no order, and `drive` has that of its values.
 use Rattle.std.proofs.Common.{◌≡◌, Some, codes, rules}
 use Rattle.clap.specs.Words.{found_of, rows_of, subcommand_rows_of}
 use Rattle.tmw_command.proofs.Orders.{judge-unbounded}

@@ -1,10 +1,11 @@
 -- Each builder says which part of the command it changes.
-use Rattle.std.proofs.Common.{◌≡◌, ◌∙◌, ap, ap₂, codes, true}
+use Rattle.std.proofs.Common.{◌≡◌, ◌∙◌, ap, ap₂, codes, rules, true}
 use Rattle.std.proofs.lemmas.Result.{IfOk-weaker}
 use Rattle.clap.specs.Simple.{app_of_fields}
+use Rattle.clap.specs.Walk.{texts}
 use Rattle.clap.specs.Words.{App, app_of, new_app, with_subcommand}
 use Rattle.clap.proofs.SimpleLemmas.{plain_fields}
-use Rattle.tmw_command.specs.Program.{wanting}
+use Rattle.tmw_command.specs.Program.{memory_names, wanting}
 use Rattle.tmw_command.proofs.program.new_program.Goals as goal
 
 abbrev needing : App → App
@@ -19,9 +20,14 @@ returns c =
     ap app_of_fields c.disable_help_subcommand.ensures
     ∙ ap without_help (ap app_of_fields c.subcommand_required.ensures ∙ ap needing (ap app_of_fields c.about.ensures ∙ c.new.ensures.app)) in
     let judges = c.in_ok-new_judge.ensures in
+    let drives = c.in_ok-new_drive.ensures in
     let takes_steps = c.new_steps.ensures in
     let judge_local = plain_fields c.in_ok-new_judge.field-0 (ap (λ (app : App). app.top.is_plain) judges) in
+    let drive_local = plain_fields c.in_ok-new_drive.field-0 (ap (λ (app : App). app.top.is_plain) drives) in
     let steps_local = plain_fields c.new_steps.result (ap (λ (app : App). app.top.is_plain) takes_steps) in
     let first = c.in_ok-subcommand.ensures.shape judge_local.globals ∙ ap₂ with_subcommand top (ap (λ (app : App). app.top) judges) in
-    IfOk-weaker c.subcommand-2.result _ _
-    (λ command added. added.shape steps_local.globals ∙ ap₂ with_subcommand first (ap (λ (app : App). app.top) takes_steps)) c.subcommand-2.ensures
+    let second = c.in_ok-subcommand-2.ensures.shape drive_local.globals ∙ ap₂ with_subcommand first (ap (λ (app : App). app.top) drives) in
+    let names : texts c.as_slice.result.now ≡ memory_names = search rules in
+    IfOk-weaker c.subcommand-3.result _ _
+    (λ command added. (c.as_slice.result, names, added.shape steps_local.globals ∙ ap₂ with_subcommand second (ap (λ (app : App). app.top) takes_steps)))
+    c.subcommand-3.ensures

@@ -1,0 +1,87 @@
+-- A parse reads the names that an option takes, and not the addresses at which they stand. So the program's parse is told by
+-- the definition, which has them at the address 0.
+use Rattle.std.proofs.Common.{◌≡◌, ◌∙◌, ◌||◌, Bool, cond, true, refl, sym, ap, List, [], ◌∷◌, map, drop, Option, Some, None}
+use Rattle.std.specs.Borrow.{Bor}
+use Rattle.std.specs.List.{list_any}
+use Rattle.std.specs.Option.{option_map}
+use Rattle.clap.specs.Facts.{parser_of_value}
+use Rattle.clap.specs.Faults.{built_fault, fault_of, is_free_app, is_simple_and_free}
+use Rattle.clap.specs.Kinds.{value_kinds}
+use Rattle.clap.specs.Simple.{App, built, is_simple, entered, names_of, subcommand_of}
+use Rattle.clap.specs.Values.{reading_of, same_text}
+use Rattle.clap.specs.Walk.{Text, nothing_held, stop_after, texts}
+use Rattle.clap.specs.declared.builder.value_parser.ValueParser.{ValueParser}
+use Rattle.clap.specs.declared.builder.value_parser.ValueParser.TheVariants as parser
+use Rattle.clap.specs.declared.error.kind.ErrorKind.TheVariants.{InvalidValue}
+use Rattle.clap.proofs.OnLiterals.{clap_on_literals}
+use Rattle.clap.proofs.WalkLemmas.{both}
+use Rattle.tmw_command.specs.Program.{IsProgram, lent, memory_names, one_of_names, program, program_among}
+use Rattle.tmw_command.proofs.OtherFaults.{fault-other}
+use Rattle.tmw_command.proofs.OtherParsers.{app, subcommand-other}
+
+-- ---- names at the address 0
+
+abbrev placed : ValueParser → ValueParser
+placed (parser.Names names) = one_of_names (texts names.now)
+placed p = p
+
+same_names : (ignore_case : Bool) (names : List (Bor Text)) (text : Text)
+    → list_any (λ name. same_text ignore_case name.now text) (map lent (texts names)) ≡ list_any (λ name. same_text ignore_case name.now text) names
+same_names ignore_case [] text = refl
+same_names ignore_case (name ∷ names) text = ap (λ (b : Bool). same_text ignore_case name.now text || b) (same_names ignore_case names text)
+
+abbrev placed_if : Option ValueParser → Option ValueParser
+placed_if = option_map placed
+
+placed-reads : (p : Option ValueParser) → reading_of (parser_of_value (placed_if p)) ≡ reading_of (parser_of_value p)
+placed-reads None = refl
+placed-reads (Some (parser.Names names)) = refl
+placed-reads (Some p) = refl
+
+placed-takes : (ignore_case : Bool) (p : Option ValueParser) (text : Text)
+    → value_kinds ignore_case (parser_of_value (placed_if p)) text ≡ value_kinds ignore_case (parser_of_value p) text
+placed-takes ignore_case None text = refl
+placed-takes ignore_case (Some (parser.Names names)) text =
+    ap (λ (b : Bool). cond b [] (InvalidValue ∷ [])) (same_names ignore_case names.now text)
+placed-takes ignore_case (Some p) text = refl
+
+-- ---- the program
+
+-- whatever the memories are, it is simple
+free_among : (memories : ValueParser) → is_simple_and_free (program_among memories) ≡ true
+unfolding clap_on_literals
+free_among memories = refl
+
+module _ (names : Bor (List (Bor Text))) (are : texts names.now ≡ memory_names) where
+  built-placed : built (program_among (one_of_names (texts names.now))) ≡ app placed_if (built (program_among (parser.Names names)))
+  built-placed = refl
+
+  -- wherever the names stand, the faults of the words are the same
+  pub fault-anywhere : (words : List Text) → fault_of (program_among (parser.Names names)) words ≡ fault_of program words
+  fault-anywhere words =
+      sym (fault-other placed_if placed-reads placed-takes (built (program_among (parser.Names names))) (drop 1 words))
+      ∙ sym (ap (λ (a : App). built_fault a nothing_held (drop 1 words)) built-placed)
+      ∙ ap (λ (ts : List Text). fault_of (program_among (one_of_names ts)) words) are
+
+  -- and so is what is read of a command's words
+  pub subcommand-anywhere : (words : List Text) → subcommand_of (program_among (parser.Names names)) words ≡ subcommand_of program words
+  subcommand-anywhere words =
+      sym (subcommand-other placed_if placed-reads (built (program_among (parser.Names names))) (drop 1 words))
+      ∙ sym (ap (λ (a : App). entered a (stop_after a.top.rules (names_of a) (drop 1 words))) built-placed)
+      ∙ ap (λ (ts : List Text). subcommand_of (program_among (one_of_names ts)) words) are
+
+-- ---- the same of a command that is the program
+
+pub is_free : (app : App) → IsProgram app → is_simple_and_free app ≡ true
+is_free app (names, are, is) = ap is_simple_and_free is ∙ free_among (parser.Names names)
+
+pub is_plain : (app : App) → IsProgram app → is_simple app ≡ true
+is_plain app program_is = (both (is_simple app) (is_free_app (built app)) (is_free app program_is)).0
+
+pub fault-program : (app : App) (given words : List Text) → IsProgram app → given ≡ words → fault_of app given ≡ fault_of program words
+fault-program app given words (names, are, is) same =
+    ap (λ (a : App). fault_of a given) is ∙ fault-anywhere names are given ∙ ap (λ (ws : List Text). fault_of program ws) same
+
+pub subcommand-program : (app : App) (given words : List Text) → IsProgram app → given ≡ words → subcommand_of app given ≡ subcommand_of program words
+subcommand-program app given words (names, are, is) same =
+    ap (λ (a : App). subcommand_of a given) is ∙ subcommand-anywhere names are given ∙ ap (λ (ws : List Text). subcommand_of program ws) same

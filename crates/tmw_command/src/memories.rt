@@ -1,0 +1,7 @@
+/// One of each of the program's memories.
+#[derive(Clone, Copy)]
+pub struct Memories<M> {
+    pub norec: M,
+    pub lock: M,
+    pub torn: M,
+}
