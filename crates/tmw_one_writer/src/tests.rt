@@ -14,17 +14,25 @@ const TWO: Registers = Registers { number: 2 };
 const EACH: u64 = 20_000;
 
 /// A transaction that has begun.
-fn start(memory: &OneWriter) -> Tx {
+fn start(memory: &(dyn Tm + Sync)) -> Tx {
     let mut tx = Tx::new();
     memory.begin(&mut tx);
     tx
+}
+
+/// Commits the transaction. What the memory gives leaves a commit no other answer, so this is proved.
+fn commit(memory: &OneWriter, tx: &mut Tx) {
+    match memory.commit(tx) {
+        Did::Done => {}
+        Did::Abort => unreachable!(),
+    }
 }
 
 /// What a transaction of this one read is answered.
 fn load(memory: &OneWriter, register: Ix) -> Got {
     let mut tx = start(memory);
     let got = memory.read(&mut tx, register);
-    memory.commit(&mut tx);
+    commit(memory, &mut tx);
     got
 }
 
@@ -100,7 +108,8 @@ fn add_often(memory: &OneWriter) -> u64 {
     let mut done = 0u64;
     for _ in 0..EACH {
         let mut tx = start(memory);
-        if memory.add(&mut tx, FIRST, 1) != Got::Abort && memory.commit(&mut tx) == Did::Done {
+        if memory.add(&mut tx, FIRST, 1) != Got::Abort {
+            commit(memory, &mut tx);
             done = done.saturating_add(1);
         }
     }
