@@ -35,6 +35,18 @@ expect() {
     count "$* < $input" "$wanted '$output' ''" "$status '$(cat "$folder/output")' '$(cat "$folder/errors")'"
 }
 
+# A workload of the examples on a memory that makes so many events of it, opaque so far.
+expect_events() {
+    expect "examples/$1.json" 0 "{\"events\":$3,\"verdict\":\"opaque so far\"}" drive --memory "$2"
+}
+
+# A workload of ten megabytes that goes on with this byte, and the fault's line.
+expect_hostile() {
+    { printf '%s' "$1" && head -c 10000000 /dev/zero | tr '\0' "$2" && printf '%s' "$3"; } >"$folder/hostile"
+    run drive --trace <"$folder/hostile"
+    count "$1$2..$3" "4 '$4' ''" "$status '$(cat "$folder/output")' '$(cat "$folder/errors")'"
+}
+
 # A command line that asks for help: a line of its text, on standard output alone.
 expect_help() {
     local line=$1
@@ -61,7 +73,13 @@ expect examples/stopped_writer.steps 0 "$(printf '%s\n' 'saw 0' cleared 'place 0
     filled 'published 1' 'not ready' 'not now' 'log 2 taken 0')" steps
 expect examples/dirty_read.trace 4 '{"fault":"bad header"}' steps
 expect examples/write_skew.json 0 '{"events":16,"verdict":"opaque so far"}' drive
-expect examples/write_skew.json 0 '{"events":10,"verdict":"opaque so far"}' drive --memory lock
+for row in 'no_conflict 12 8 12' 'write_skew 16 10' 'reader_among_writers 22 16' 'seventeenth_write 38 38 38' 'adds_that_collide 16 12'; do
+    read -r name norec lock torn <<<"$row"
+    expect_events "$name" norec "$norec"
+    expect_events "$name" lock "$lock"
+    [ -z "$torn" ] || expect_events "$name" torn "$torn"
+done
+expect examples/reader_among_writers.json 1 '{"at":10,"events":24,"verdict":"violated"}' drive --memory torn
 expect examples/write_skew.json 1 '{"at":16,"events":16,"verdict":"violated"}' drive --memory=torn
 expect examples/adds_that_collide.json 1 "$(printf '%s\n' 'opacity-trace 2 1 0' '0 N 0 1' '0 V 0' '1 N 0 1' '1 V 0' '0 T' '0 C' \
     '1 T' '1 C' '0 N 0 1' '0 V 1' '0 T' '0 C' '1 N 0 1' '1 V 2' '1 T' '1 C' '{"at":8,"events":16,"verdict":"violated"}')" drive --memory torn --trace
@@ -88,6 +106,12 @@ expect_usage "error: unexpected argument '--trace' found" judge --trace
 expect_usage "error: unexpected argument 'further' found" judge further
 expect_usage "error: unexpected argument '--window' found" steps --window 3
 expect_usage '' judge $'\xff'
+
+expect_hostile '[' '[' '' '{"fault":"json"}'
+expect_hostile '{"registers":1,"scripts":[[]],"order":[]}' ' ' x '{"fault":"json"}'
+expect_hostile '{"registers":1,"scripts":[[]],"order":[' 0 ']}' '{"fault":"json"}'
+expect_hostile '{"registers":1,"scripts":[[]],"order":["' a '"]}' '{"fault":"shape"}'
+expect_hostile '{"registers":1,"scripts":[[]],"order":[1' 1 ']}' '{"fault":"json"}'
 
 # standard output that takes nothing, and standard error that takes nothing
 for words in 'judge' 'drive' 'steps' '--help' 'replay'; do
