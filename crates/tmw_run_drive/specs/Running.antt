@@ -41,7 +41,8 @@ pub record IsDrivenFrom (gives : Call → Answer → Type 0) (bounds : Bounds) (
 abbrev pub IsRightFault : Type 0 → List ℕ → Fault → Type 0
 IsRightFault Ended bytes Json = Ended × IsNoText bytes
 IsRightFault Ended bytes Shape = Ended × IsOtherText bytes
-IsRightFault Ended bytes TooManyRegisters = Ended × (registers : ℕ) × (1 < registers) × IsTextOver registers bytes
+IsRightFault Ended bytes TooManyRegisters =
+    Ended × (registers : Registers) × (1 < registers.number) × IsTextOver registers.number bytes
 IsRightFault Ended bytes Io = Ended → ⊥
 IsRightFault Ended bytes Memory = Unit {0}
 IsRightFault Ended bytes _ = ⊥
