@@ -1,5 +1,5 @@
 -- The workload that was read was driven, and its log has the header.
-use Rattle.std.proofs.Common.{List, subst}
+use Rattle.std.proofs.Common.{List, subst, refl}
 use Rattle.tmw_events.specs.declared.event.Event.{Event}
 use Rattle.tmw_run_drive.specs.Driven.{IsHeaderOf}
 use Rattle.tmw_runs.specs.Scripts.{scripts_of}
@@ -21,5 +21,19 @@ returns-in-Ok-drive g c =
         made = c.in-Ok-drive.ensures.driven;
         judged = c.in-Ok-drive.ensures.verdict;
         formed = c.in-Ok-drive.ensures.formed;
+      },
+    )
+
+pub returns-in-Err-Registers : goal.returns-in-Err-Registers
+returns-in-Err-Registers g c =
+    let workload = c.in-Ok.workload in (
+      tt,
+      workload.registers,
+      c.in-Err-Registers.ensures.registers refl,
+      record {
+        scripts = scripts_of workload.scripts.items;
+        order = workload.order.items;
+        is = workload.is;
+        text = c.in-Ok.ensures.ok;
       },
     )
