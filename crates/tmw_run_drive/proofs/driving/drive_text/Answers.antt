@@ -1,5 +1,5 @@
 -- The workload that was read was driven, and its log has the header.
-use Rattle.std.proofs.Common.{List, subst, refl}
+use Rattle.std.proofs.Common.{List, subst}
 use Rattle.tmw_events.specs.declared.event.Event.{Event}
 use Rattle.tmw_run_drive.specs.Driven.{IsHeaderOf}
 use Rattle.tmw_runs.specs.Scripts.{scripts_of}
@@ -29,7 +29,7 @@ returns-in-Err-Registers g c =
     let workload = c.in-Ok.workload in (
       tt,
       workload.registers,
-      c.in-Err-Registers.ensures.registers refl,
+      c.in-Err-Registers.ensures.registers c.in-Err-Registers.field-0-is,
       record {
         scripts = scripts_of workload.scripts.items;
         order = workload.order.items;
