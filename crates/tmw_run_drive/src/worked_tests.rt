@@ -18,7 +18,8 @@ const ONE: Registers = Registers { number: 1 };
 const EIGHT: Registers = Registers { number: 8 };
 
 /// A thread reads two registers, before and after another thread commits to both.
-const READ_ACROSS: &[u8] = b"{\"registers\":2,\"scripts\":[[[\"R 0\",\"R 1\",\"T\"]],[[\"W 0 1\",\"W 1 1\",\"T\"]]],\"order\":[0,1,1,1,0,0]}";
+const READ_ACROSS: &[u8] =
+    b"{\"registers\":2,\"scripts\":[[[\"R 0\",\"R 1\",\"T\"]],[[\"W 0 1\",\"W 1 1\",\"T\"]]],\"order\":[0,1,1,1,0,0]}";
 
 /// Drives a workload, and compares what went out and the exit status.
 fn expect_on(
@@ -85,7 +86,8 @@ fn a_reader_across_a_commit(rt: HostRuntime) {
 
 #[test]
 fn the_seventeenth_write_aborts(rt: HostRuntime) {
-    let text = b"{\"registers\":1,\"scripts\":[[[\"W 0 1\",\"W 0 1\",\"W 0 1\",\"W 0 1\",\"W 0 1\",\"W 0 1\",\"W 0 1\",\"W 0 1\",\"W 0 1\",\"W 0 1\",\"W 0 1\",\"W 0 1\",\"W 0 1\",\"W 0 1\",\"W 0 1\",\"W 0 1\",\"W 0 1\",\"T\"]]],\"order\":[0,0,0,0,0,0,0,0,0,0,0,0,0,0,0,0,0,0]}";
+    let text =
+        b"{\"registers\":1,\"scripts\":[[[\"W 0 1\",\"W 0 1\",\"W 0 1\",\"W 0 1\",\"W 0 1\",\"W 0 1\",\"W 0 1\",\"W 0 1\",\"W 0 1\",\"W 0 1\",\"W 0 1\",\"W 0 1\",\"W 0 1\",\"W 0 1\",\"W 0 1\",\"W 0 1\",\"W 0 1\",\"T\"]]],\"order\":[0,0,0,0,0,0,0,0,0,0,0,0,0,0,0,0,0,0]}";
     let line = b"{\"events\":34,\"verdict\":\"opaque so far\"}\n";
     expect_opaque(&rt, text, line, line);
     expect_torn(&rt, text, line, OPAQUE);
@@ -93,7 +95,8 @@ fn the_seventeenth_write_aborts(rt: HostRuntime) {
 
 #[test]
 fn adds_that_collide(rt: HostRuntime) {
-    let text = b"{\"registers\":1,\"scripts\":[[[\"N 0 1\",\"T\"]],[[\"N 0 1\",\"T\"]]],\"order\":[0,1,0,1]}";
+    let text =
+        b"{\"registers\":1,\"scripts\":[[[\"N 0 1\",\"T\"]],[[\"N 0 1\",\"T\"]]],\"order\":[0,1,0,1]}";
     expect_opaque(
         &rt,
         text,

@@ -25,7 +25,10 @@ fn a_reader_across_a_commit_aborts(rt: HostRuntime) -> Result<(), Fail> {
     )?;
     assert_eq!(rt; outcome.log.len(), 10);
     assert_eq!(rt; outcome.verdict, Verdict::OpaqueSoFar);
-    assert_eq!(rt; outcome.ends.as_slice(), [Ending::Done, Ending::Done].as_slice());
+    assert_eq!(rt;
+        outcome.ends.as_slice(),
+        [Ending::Done, Ending::Done].as_slice()
+    );
     Ok(())
 }
 
@@ -38,6 +41,9 @@ fn one_of_two_adds_aborts(rt: HostRuntime) -> Result<(), Fail> {
     // The second thread's add is answered by an abort event, and its commit request is dropped.
     assert_eq!(rt; outcome.log.len(), 6);
     assert_eq!(rt; outcome.verdict, Verdict::OpaqueSoFar);
-    assert_eq!(rt; outcome.ends.as_slice(), [Ending::Done, Ending::Done].as_slice());
+    assert_eq!(rt;
+        outcome.ends.as_slice(),
+        [Ending::Done, Ending::Done].as_slice()
+    );
     Ok(())
 }
