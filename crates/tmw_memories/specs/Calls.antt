@@ -9,7 +9,7 @@ use Rattle.tmw_tm.specs.declared.answer.Got.TheVariants.{Value, Abort as GotAbor
 use Rattle.tmw_tm.specs.declared.tx.Entry.{Entry}
 use Rattle.tmw_tm.specs.declared.tx.Tx.{Tx}
 
--- The transaction is over, and nothing is left of it.
+-- The transaction is over, and none of its reads and writes is left.
 abbrev pub IsEnded : Tx → Type 0
 IsEnded tx = (tx.begun ≡ false) × (tx.reads.items ≡ []) × (tx.writes.items ≡ [])
 

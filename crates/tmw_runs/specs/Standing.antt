@@ -21,8 +21,8 @@ Gives gives T A = gives Commit Abort
 Gives gives X A = Unit {0}
 Gives gives _ _ = ⊥
 
--- An answer stands when the memory gives it to its call and, where the call is the first of its transaction, lets the
--- transaction begin. The abort event after a first call, an abort request too, stands also when the memory gives an abort to
+-- An answer stands when the memory gives it to its call and, where the call is the first of its transaction, gives a done
+-- begin. The abort event after a first call, an abort request too, stands also when the memory gives an abort to
 -- the transaction's begin.
 abbrev pub Stands : (Call → Answer → Type 0) → Bool → Kind → Kind → Type 0
 Stands gives first call answer =
