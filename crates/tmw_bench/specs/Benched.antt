@@ -1,0 +1,104 @@
+-- The headline of a bench: threads carry scripts out on a memory, round after round, all of it is recorded in one ring, and judged.
+use Rattle.std.specs.Prelude.{◌≡◌, ◌≢◌, ◌<◌, ◌≤◌, ◌+◌, ◌++◌, ◌⊎◌, ℕ, zero, suc, true, List, [], length, get_or, All}
+use Rattle.tmw_bench.specs.declared.benched.Benched.{Benched}
+use Rattle.tmw_bench.specs.declared.fault.BenchFault.{BenchFault}
+use Rattle.tmw_bench.specs.declared.fault.BenchFault.TheVariants.{Registers as TooManyRegisters, Ring, Memory, Spawn}
+use Rattle.tmw_bench.specs.declared.settings.Settings.{Settings}
+use Rattle.tmw_defs.specs.Opaque.{zeros}
+use Rattle.tmw_defs.specs.Texts.{kinds_of}
+use Rattle.tmw_defs.specs.Verdict.{Rules, IsVerdict}
+use Rattle.tmw_defs.specs.declared.verdict.Verdict.TheVariants.{OpaqueSoFar, Malformed}
+use Rattle.tmw_drive.specs.Driving.{script_at}
+use Rattle.tmw_drive.specs.declared.ending.Ending.{Ending}
+use Rattle.tmw_drive.specs.declared.ending.Ending.TheVariants.{Done, Left, Stopped}
+use Rattle.tmw_events.specs.declared.event.Event.{Event}
+use Rattle.tmw_events.specs.declared.event.Kind.{Kind}
+use Rattle.tmw_events.specs.declared.registers.Registers.{Registers}
+use Rattle.tmw_monitor.specs.Fitting.{rules_of}
+use Rattle.tmw_pump.specs.Headline.{Headline}
+use Rattle.tmw_ring.specs.Ends.{RingIs, WriterIs, WriterOf}
+use Rattle.tmw_ring.specs.Settling.{AreInOrder}
+use Rattle.tmw_ring.specs.declared.refused.Refused.{Refused}
+use Rattle.tmw_ring.specs.declared.refused.Refused.TheVariants.{Full, Spent}
+use Rattle.tmw_ring_defs.specs.Runs.{Gone, IsRunTo, writer_actor}
+use Rattle.tmw_ring_defs.specs.Sizes.{HasNumbers, HasRoom, HasLimit, IsWrongSize}
+use Rattle.tmw_ring_defs.specs.declared.ring_step.Answered.{Answered}
+use Rattle.tmw_runs.specs.Runs.{IsWholeRun}
+use Rattle.tmw_runs.specs.Standing.{AllStand}
+use Rattle.tmw_tm.specs.Answers.{Call, Answer}
+use Rattle.tmw_work.specs.Working.{StopsBefore}
+
+-- A round to its end: each thread has recorded a whole run of its script, and each answer there is one that the memory gives.
+pub record IsWholeRound (gives : Call → Answer → Type 0) (scripts : List (List (List Kind))) (round : List Event) : Type 0 where
+  pub runs : (thread : ℕ) → thread < length scripts → IsWholeRun (script_at scripts thread) (kinds_of thread round)
+  pub stands : (thread : ℕ) → AllStand gives true (kinds_of thread round)
+
+-- So many rounds to their ends, one after another. After each of them the verdict was opaque so far.
+abbrev pub AreWholeRounds : Rules → (Call → Answer → Type 0) → List (List (List Kind)) → ℕ → List Event → Type 0
+AreWholeRounds rules gives scripts zero log = log ≡ []
+AreWholeRounds rules gives scripts (suc count) log =
+    (before : List Event) × (round : List Event) × (log ≡ before ++ round) × AreWholeRounds rules gives scripts count before
+    × IsWholeRound gives scripts round × IsVerdict rules log OpaqueSoFar
+
+-- the number of places that the refused call found to be claimed
+abbrev pub tail_of : Refused → ℕ
+tail_of (Full front tail) = tail
+tail_of (Spent tail) = tail
+
+-- A thread is done when its run of the script is whole. Else it was stopped before the run's next event, and the refusal has found
+-- no more places claimed than the log has events. No thread is left.
+abbrev pub EndsRound : List (List Kind) → List Kind → (places : ℕ) → Ending → WriterIs → Type 0
+EndsRound script kinds places Done writer = IsWholeRun script kinds
+EndsRound script kinds places Left writer = ⊥
+EndsRound script kinds places (Stopped refused) writer = StopsBefore script kinds refused writer × (tail_of refused ≤ places)
+
+-- Some thread was stopped.
+pub record SomeStopped (ends : List Ending) : Type 0 where
+  pub thread : ℕ
+  pub low : thread < length ends
+  pub refused : Refused
+  pub stopped : (fallback : Ending) → get_or ends thread fallback ≡ Stopped refused
+
+-- The log is the one log of a ring with a writer for each script, to which one run of the ring's machine leads, and the verdict is
+-- the headline's on all of it, and never malformed. The log is one round after another, the last of them to its end or up to
+-- where threads were stopped. No round is left out but behind one after which the verdict is not opaque so far, or in which a
+-- thread was stopped.
+pub record IsBenched (gives : Call → Answer → Type 0) (registers : Registers) (scripts : List (List (List Kind))) (settings : Settings) (benched : Benched) : Type 0 where
+  pub ring : RingIs
+  pub sized : HasNumbers settings.cells (length scripts) settings.limit ring.size
+  pub writers : List WriterIs
+  pub of_ring : All (WriterOf ring) writers
+  pub order : AreInOrder writers
+  pub count : length writers ≡ length scripts
+  pub end_count : length benched.outcome.ends.items ≡ length scripts
+  pub headline : Headline (rules_of registers zeros settings.bounds) benched.outcome.log.items writers benched.outcome.log.items benched.outcome.verdict
+  pub formed : (events : ℕ) → benched.outcome.verdict ≢ Malformed events
+  pub run : List Answered
+  pub run_to : IsRunTo ring.size run benched.outcome.log.items
+  pub gone : All (λ writer. Gone (writer_actor writer.number) writer.run [] run) writers
+  pub own : All (λ event. event.thread.number < length scripts) benched.outcome.log.items
+  pub earlier : ℕ
+  pub rounds : benched.rounds ≡ earlier + 1
+  pub within : benched.rounds ≤ settings.rounds
+  pub before : List Event
+  pub round : List Event
+  pub parts : benched.outcome.log.items ≡ before ++ round
+  pub whole : AreWholeRounds (rules_of registers zeros settings.bounds) gives scripts earlier before
+  pub stands : (thread : ℕ) → AllStand gives true (kinds_of thread round)
+  pub ended : (thread : ℕ) (fallback : Ending) (writer : WriterIs) → thread < length scripts
+      → EndsRound (script_at scripts thread) (kinds_of thread round) (length benched.outcome.log.items)
+      (get_or benched.outcome.ends.items thread fallback) (get_or writers thread writer)
+  pub over : benched.rounds < settings.rounds → (benched.outcome.verdict ≢ OpaqueSoFar) ⊎ SomeStopped benched.outcome.ends.items
+
+-- A ring may have the settings' numbers of cells and of places, and a writer for each of so many threads.
+pub record CanBench (threads : ℕ) (settings : Settings) : Type 0 where
+  pub room : HasRoom settings.cells threads
+  pub limit : HasLimit threads settings.limit
+
+-- Nothing was judged to its end: the memory has too few registers, of which none has fewer than one; or there is no ring of this
+-- size; or there can be one, and memory or a thread was refused.
+abbrev pub IsNoBench : (registers : ℕ) → (threads : ℕ) → Settings → BenchFault → Type 0
+IsNoBench registers threads settings TooManyRegisters = 1 < registers
+IsNoBench registers threads settings (Ring fault) = IsWrongSize settings.cells threads settings.limit fault
+IsNoBench registers threads settings Memory = CanBench threads settings
+IsNoBench registers threads settings Spawn = CanBench threads settings

@@ -1,0 +1,10 @@
+use tmw_drive::Outcome;
+
+/// What threads have made of a memory.
+#[derive(Debug, Drop)]
+pub struct Benched {
+    /// The log of all rounds, the verdict on it, and how each thread has ended.
+    pub outcome: Outcome,
+    /// So many rounds were begun.
+    pub rounds: u64,
+}

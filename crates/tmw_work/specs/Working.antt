@@ -1,0 +1,33 @@
+-- What a thread records that carries its script out, and how far it comes.
+use Rattle.std.specs.Prelude.{◌≡◌, ◌≤◌, ◌<◌, ◌++◌, true, List, [], ◌∷◌, Option, Some, None, All}
+use Rattle.tmw_events.specs.declared.event.Kind.{Kind}
+use Rattle.tmw_recorded.specs.Recording.{kinds_made, WasRefused}
+use Rattle.tmw_ring.specs.Ends.{WriterIs}
+use Rattle.tmw_ring.specs.declared.part.Made.{Made}
+use Rattle.tmw_ring.specs.declared.refused.Refused.{Refused}
+use Rattle.tmw_runs.specs.Runs.{IsWholeRun, IsBeginning}
+use Rattle.tmw_runs.specs.Standing.{AllStand}
+use Rattle.tmw_tm.specs.Answers.{Call, Answer}
+
+-- These events are the run of the script up to the next one, the record of which was refused so. They are no whole run, since no
+-- whole run is a proper beginning of another.
+pub record StopsBefore (script : List (List Kind)) (kinds : List Kind) (refused : Refused) (writer : WriterIs) : Type 0 where
+  pub next : Kind
+  pub begins : IsBeginning script (kinds ++ next ∷ [])
+  pub refusal : WasRefused next refused writer
+
+-- A thread that was not stopped has recorded a whole run of its script.
+abbrev pub EndsWork : List (List Kind) → List Kind → Option Refused → WriterIs → Type 0
+EndsWork script kinds None writer = IsWholeRun script kinds
+EndsWork script kinds (Some refused) writer = StopsBefore script kinds refused writer
+
+-- The writer has claimed places more, behind all that it had seen, for a run of the script, or for a beginning of one. Each answer
+-- there is one that the memory gives.
+pub record HasWorked (gives : Call → Answer → Type 0) (script : List (List Kind)) (old : WriterIs) (stop : Option Refused) (new : WriterIs) : Type 0 where
+  pub fresh : List Made
+  pub made : new.made ≡ old.made ++ fresh
+  pub later : All (λ made. old.seen ≤ made.place) fresh
+  pub earlier : All (λ made. made.place < new.seen) fresh
+  pub seen : old.seen ≤ new.seen
+  pub stands : AllStand gives true (kinds_made fresh)
+  pub ended : EndsWork script (kinds_made fresh) stop new
