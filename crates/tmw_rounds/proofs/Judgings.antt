@@ -1,5 +1,5 @@
 -- Judging that goes on by one more call has gone on.
-use Rattle.std.proofs.Common.{◌≡◌, ◌++◌, ℕ, List, [], refl, sym, ap, ◌∙◌, append_assoc}
+use Rattle.std.proofs.Common.{◌++◌, ℕ, List, [], sym, ap, ◌∙◌, append_assoc}
 use Rattle.std.proofs.lemmas.List.{append-nil}
 use Rattle.tmw_events.specs.declared.event.Event.{Event}
 use Rattle.tmw_pump.specs.Fronts.{HasJudged}
