@@ -70,11 +70,11 @@ pub record HaveAllPlayedLast (gives : Call → Answer → Type 0) (scripts : Lis
   pub each : (thread : ℕ) (fallback : WriterIs) → thread < length scripts
       → HasPlayedLast gives (script_at scripts thread) bounds (get_or writers thread fallback).made (get_or stops thread None) (get_or writers thread fallback)
 
--- At each of these bounds the verdict on the log up to there was opaque so far.
+-- The bounds rise, and at each of them the verdict on the log up to there was opaque so far.
 abbrev pub AllOpaque : Rules → List ℕ → List Event → Type 0
 AllOpaque rules [] log = Unit {0}
 AllOpaque rules (bound ∷ earlier) log =
-    (bound ≤ length log) × IsVerdict rules (take bound log) OpaqueSoFar × AllOpaque rules earlier log
+    (last_bound earlier ≤ bound) × (bound ≤ length log) × IsVerdict rules (take bound log) OpaqueSoFar × AllOpaque rules earlier log
 
 -- Each thread's events of the log stand at the places that its writer has claimed, the log has no others, and it is as long as
 -- each writer has seen.
