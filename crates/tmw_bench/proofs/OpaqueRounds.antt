@@ -1,5 +1,5 @@
 -- That the verdict was opaque so far at each bound, as the log goes on and when it is cut.
-use Rattle.std.proofs.Common.{◌≡◌, ◌≤◌, ◌++◌, ℕ, List, [], ◌∷◌, length, take, refl, sym, ap, ◌∙◌, subst, arith}
+use Rattle.std.proofs.Common.{◌≡◌, ◌≤◌, ◌++◌, ℕ, List, [], ◌∷◌, length, take, sym, subst, arith}
 use Rattle.std.proofs.lemmas.List.{length-append, length-take-le, take-append-le, take-take, take_all}
 use Rattle.tmw_bench.specs.Rounds.{last_bound, AllOpaque}
 use Rattle.tmw_defs.specs.Verdict.{Rules, IsVerdict}

@@ -1,5 +1,5 @@
 -- What a writer has claimed in whole rounds, one round after another, and where writers meet in between.
-use Rattle.std.proofs.Common.{◌≡◌, ◌≤◌, ◌<◌, ◌++◌, ℕ, List, [], ◌∷◌, Option, None, length, get_or, sym, ap, ◌∙◌, subst, arith}
+use Rattle.std.proofs.Common.{◌≡◌, ◌<◌, ℕ, List, [], ◌∷◌, Option, None, length, get_or, sym, ◌∙◌, subst, arith}
 use Rattle.std.specs.Prelude.{All}
 use Rattle.std.proofs.lemmas.List.Elements.{All-append, All-nil}
 use Rattle.tmw_bench.specs.Rounds.{last_bound, AreAllReady, HasPlayed, HasPlayedLast, HaveAllPlayedLast, IsReady}

@@ -1,5 +1,5 @@
 -- Runs of a script that is carried out again and again.
-use Rattle.std.proofs.Common.{◌≡◌, ◌++◌, ◌&&◌, ℕ, zero, suc, List, [], ◌∷◌, IsTrue, refl, sym, ap, ◌∙◌, subst, append_assoc}
+use Rattle.std.proofs.Common.{◌≡◌, ◌++◌, ℕ, zero, suc, List, [], ◌∷◌, IsTrue, refl, sym, ap, ◌∙◌, subst, append_assoc}
 use Rattle.std.proofs.lemmas.Bool.{and_from}
 use Rattle.std.proofs.lemmas.List.{append-nil}
 use Rattle.std.proofs.lemmas.List.Folds.{list_all-append}
@@ -17,14 +17,13 @@ pub whole_run-append : (script more : List (List Kind)) (kinds later : List Kind
     → IsWholeRun (script ++ more) (kinds ++ later)
 whole_run-append [] more kinds later none_run run =
     subst (λ (k : List Kind). IsWholeRun more (k ++ later)) (sym none_run) run
-whole_run-append (calls ∷ script) more kinds later (text, rest, split, whole, run) next =
-    (
-      text,
-      rest ++ later,
-      ap (λ (k : List Kind). k ++ later) split ∙ append_assoc text rest later,
-      whole,
-      whole_run-append script more rest later run next,
-    )
+whole_run-append (calls ∷ script) more kinds later (text, rest, split, whole, run) next = (
+  text,
+  rest ++ later,
+  ap (λ (k : List Kind). k ++ later) split ∙ append_assoc text rest later,
+  whole,
+  whole_run-append script more rest later run next,
+)
 
 -- a beginning of a run after a whole one
 pub beginning-append : (script more : List (List Kind)) (kinds later : List Kind) → IsWholeRun script kinds → IsBeginning more later

@@ -1,5 +1,5 @@
 -- From writers that have claimed whole rounds to the log of these rounds.
-use Rattle.std.proofs.Common.{◌≡◌, ◌==◌, ◌≤◌, ◌<◌, ◌++◌, ℕ, true, List, [], ◌∷◌, length, take, drop, inl, inr, refl, sym, ap, ◌∙◌, subst, arith}
+use Rattle.std.proofs.Common.{◌≡◌, ◌≤◌, ◌<◌, ℕ, true, List, [], ◌∷◌, length, take, drop, inl, inr, refl, sym, subst, arith}
 use Rattle.std.specs.Prelude.{All}
 use Rattle.std.proofs.lemmas.Bool.{cases_lt, ne_eqb}
 use Rattle.std.proofs.lemmas.List.{length-take-le, nil_from_length, take-append-drop}
@@ -8,14 +8,13 @@ use Rattle.tmw_bench.proofs.Cutting.{cutting}
 use Rattle.tmw_bench.proofs.OpaqueRounds.{all_opaque-take, last_bound-within, opaque_at_last}
 use Rattle.tmw_bench.proofs.PlayedRounds.{earlier_played}
 use Rattle.tmw_bench.specs.Benched.{AreWholeRounds, IsWholeRound}
-use Rattle.tmw_bench.specs.Rounds.{last_bound, AllOpaque, HasPlayed, HasPlayedRound}
+use Rattle.tmw_bench.specs.Rounds.{last_bound, AllOpaque, HasPlayed}
 use Rattle.tmw_defs.specs.Texts.{kinds_of}
 use Rattle.tmw_defs.specs.Verdict.{Rules}
 use Rattle.tmw_drive.specs.Driving.{script_at}
 use Rattle.tmw_events.specs.declared.event.Event.{Event}
 use Rattle.tmw_events.specs.declared.event.Kind.{Kind}
 use Rattle.tmw_ring.specs.Parts.{made_from}
-use Rattle.tmw_ring.specs.declared.part.Made.{Made}
 use Rattle.tmw_runs.specs.Runs.{IsWholeRun}
 use Rattle.tmw_runs.specs.Standing.{AllStand}
 use Rattle.tmw_tm.specs.Answers.{Call, Answer}
@@ -76,8 +75,7 @@ are_whole_rounds rules gives scripts (bound ∷ earlier) log own played over opa
     (All-take (λ (event : Event). event.thread.number < length scripts) start log own)
     (λ thread low. (round_at gives (script_at scripts thread) bound earlier thread log (played thread low) within).before)
     (sym (length-take-le start log within))
-    (all_opaque-take rules earlier log start told (omega arith) within) in
-    (
+    (all_opaque-take rules earlier log start told (omega arith) within) in (
       take start log,
       drop start log,
       sym (take-append-drop start log),

@@ -1,5 +1,5 @@
 -- What the writers have claimed, round by round, and the log that it makes: one round after another.
-use Rattle.std.specs.Prelude.{◌≡◌, ◌≤◌, ◌<◌, ◌++◌, ℕ, zero, suc, true, List, [], ◌∷◌, Option, Some, None, length, get_or, take, All}
+use Rattle.std.specs.Prelude.{◌≡◌, ◌≤◌, ◌<◌, ◌++◌, ℕ, true, List, [], ◌∷◌, Option, Some, None, length, get_or, take, All}
 use Rattle.tmw_bench.specs.Benched.{AreWholeRounds, EndsRound}
 use Rattle.tmw_defs.specs.Texts.{kinds_of}
 use Rattle.tmw_defs.specs.Verdict.{Rules, IsVerdict}
