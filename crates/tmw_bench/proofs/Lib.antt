@@ -6,3 +6,4 @@ pub mod OpaqueRounds
 pub mod PlayedRounds
 pub mod RepeatedRuns
 pub mod WholeRounds
+pub mod Whole
