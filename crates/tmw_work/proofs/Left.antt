@@ -1,5 +1,5 @@
 -- The calls that a script has left become fewer with each answer.
-use Rattle.std.proofs.Common.{◌≡◌, ◌+◌, ◌<◌, ℕ, List, [], ◌∷◌, Some, length, sym, ap, subst, ◌∙◌, inl, inr, arith}
+use Rattle.std.proofs.Common.{◌≡◌, ◌+◌, ◌<◌, ℕ, List, [], ◌∷◌, Some, length, ap, inl, inr, arith}
 use Rattle.std.proofs.lemmas.Bool.{cases_Bool}
 use Rattle.tmw_defs.specs.History.{ends}
 use Rattle.tmw_drive.proofs.Going.{next_left, next_of-some, left_of-goes_on}

@@ -1,5 +1,5 @@
 -- From one call to the next, and to the end of the script or to a refusal.
-use Rattle.std.proofs.Common.{◌≡◌, ◌++◌, ℕ, true, List, [], ◌∷◌, Option, Some, None, IsTrue, sym, ap, subst, ◌∙◌, inl, inr, append_assoc}
+use Rattle.std.proofs.Common.{◌≡◌, ◌++◌, ℕ, true, List, [], ◌∷◌, Option, Some, None, IsTrue, sym, subst, inl, inr, append_assoc}
 use Rattle.std.proofs.lemmas.List.{append-nil}
 use Rattle.tmw_defs.specs.History.{answers}
 use Rattle.tmw_drive.proofs.Going.{next_left, next_of-some, leaves-next_left, are_transactions-next_left}
@@ -7,7 +7,6 @@ use Rattle.tmw_drive.proofs.Players.{plays-new, plays-goes_on, whole-plays}
 use Rattle.tmw_drive.specs.Playing.{left_of, next_of, IsNew, Plays}
 use Rattle.tmw_drive.specs.declared.player.Player.{Player}
 use Rattle.tmw_events.specs.declared.event.Kind.{Kind}
-use Rattle.tmw_recorded.specs.Recording.{kinds_made}
 use Rattle.tmw_ring.specs.Ends.{WriterIs}
 use Rattle.tmw_ring.specs.declared.refused.Refused.{Refused}
 use Rattle.tmw_runs.proofs.Calls.{are_calls-transactions}
