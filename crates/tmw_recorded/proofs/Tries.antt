@@ -1,5 +1,5 @@
 -- The writer tries, waits, and tries again.
-use Rattle.std.proofs.Common.{◌≡◌, ◌<◌, ◌+◌, ◌++◌, ℕ, List, [], ◌∷◌, Result, Ok, Err, IfOk, IfErr, length, get_or, take, drop, refl, sym, ap, ◌∙◌, arith}
+use Rattle.std.proofs.Common.{◌≡◌, ◌<◌, ◌+◌, ◌++◌, ℕ, List, [], ◌∷◌, Result, Ok, Err, IfOk, IfErr, length, get_or, take, drop, sym, ap, ◌∙◌}
 use Rattle.std.proofs.lemmas.List.{take-append-drop, drop_more, take_more}
 use Rattle.tmw_events.specs.declared.event.Kind.{Kind}
 use Rattle.tmw_recorded.proofs.KindsMade.{kinds_made-append}
@@ -10,9 +10,6 @@ use Rattle.tmw_ring.specs.declared.part.Made.{Made}
 use Rattle.tmw_ring.specs.declared.refused.Refused.{Refused}
 use Rattle.tmw_ring.specs.declared.refused.Refused.TheVariants.{Full, Spent}
 
-pub has_waited-none : (writer : WriterIs) → HasWaited writer writer
-has_waited-none writer = record { table = refl; sized = refl; number = refl; made = refl; seen = omega arith }
-
 -- A refused call has recorded nothing, and has looked at tail.
 pub has_looked-refused : (kind : Kind) (old : WriterIs) (refused : Refused) (new : WriterIs) → IsRefusal kind old refused new
     → (tail : ℕ) × HasLooked tail old new
@@ -21,19 +18,6 @@ has_looked-refused kind old (Spent tail) new is = (tail, is.1)
 
 pub kinds_made-refused : (kind : Kind) (old : WriterIs) (refused : Refused) (new : WriterIs) → IsRefusal kind old refused new → kinds_made new.made ≡ kinds_made old.made
 kinds_made-refused kind old refused new is = ap kinds_made (has_looked-refused kind old refused new is).1.made
-
--- Whoever was refused has waited.
-pub has_waited-refused : (ring : RingIs) (kind : Kind) (start old : WriterIs) (refused : Refused) (new : WriterIs) → HasWaited start old
-    → WriterOf ring old → WriterOf ring new → new.number ≡ old.number → IsRefusal kind old refused new → HasWaited start new
-has_waited-refused ring kind start old refused new waited old_of new_of number is =
-    let looked = (has_looked-refused kind old refused new is).1 in
-    record {
-      table = new_of.0 ∙ sym old_of.0 ∙ waited.table;
-      sized = new_of.1 ∙ sym old_of.1 ∙ waited.sized;
-      number = number ∙ waited.number;
-      made = looked.made ∙ waited.made;
-      seen = let before = waited.seen in let later = looked.later in let seen = looked.seen in omega arith;
-    }
 
 -- A writer that has waited tries once more.
 pub tried : (kind : Kind) (start old : WriterIs) (result : Result ℕ Refused) (new : WriterIs) → HasWaited start old

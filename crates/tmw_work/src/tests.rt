@@ -139,3 +139,29 @@ fn a_transaction_that_the_memory_has_ended_is_not_aborted(rt: HostRuntime) -> Re
     assert_eq!(rt; memory.counts(), [1, 0, 1, 0, 1, 0]);
     Ok(())
 }
+
+#[test]
+fn a_transaction_that_has_not_begun_is_not_aborted(rt: HostRuntime) -> Result<(), Fail> {
+    let alloc = rt.alloc();
+    let (ring, mut writers, _reader) = ring(alloc, 4, 1, 4)?;
+    let writing = vec![in alloc; Kind::W(FIRST, 5), Kind::T]?;
+    let reading = vec![in alloc; Kind::R(FIRST), Kind::T]?;
+    let script = vec![in alloc; writing, reading]?;
+    let memory = Counting::new(Did::Done);
+    let stop = work(&memory, &ring, &mut writers[0], &script, 1, &Signals::new());
+    assert_eq!(rt; stop, Some(Refused::Spent { tail: 4 }));
+    assert_eq!(rt; memory.counts(), [1, 0, 1, 0, 1, 0]);
+    Ok(())
+}
+
+#[test]
+fn a_transaction_is_aborted_once(rt: HostRuntime) -> Result<(), Fail> {
+    let alloc = rt.alloc();
+    let (ring, mut writers, _reader) = ring(alloc, 4, 1, 3)?;
+    let script = vec![in alloc; vec![in alloc; Kind::W(FIRST, 5), Kind::X]?]?;
+    let memory = Counting::new(Did::Done);
+    let stop = work(&memory, &ring, &mut writers[0], &script, 1, &Signals::new());
+    assert_eq!(rt; stop, Some(Refused::Spent { tail: 3 }));
+    assert_eq!(rt; memory.counts(), [1, 0, 1, 0, 0, 1]);
+    Ok(())
+}
