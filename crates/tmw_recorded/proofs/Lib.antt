@@ -1,3 +1,0 @@
-mod Returns
-mod Tries
-mod Whole
