@@ -3,8 +3,12 @@
 
 mod bench;
 mod benched;
+mod ends;
 mod fault;
+mod round;
+mod rounds;
 mod settings;
+mod threads;
 
 pub use bench::run_bench;
 pub use benched::Benched;
