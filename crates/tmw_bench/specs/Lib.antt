@@ -1,1 +1,2 @@
 pub mod Benched
+pub mod Rounds

@@ -1,0 +1,115 @@
+-- From a settled ring, whose writers have claimed whole rounds and a last one, to the log of these rounds.
+use Rattle.std.proofs.Common.{◌≡◌, ◌≤◌, ◌<◌, ◌++◌, ℕ, true, List, [], ◌∷◌, Option, Some, None, length, get_or, take, drop, inl, inr, sym, ap, ◌∙◌, subst, arith}
+use Rattle.std.specs.Prelude.{All}
+use Rattle.std.proofs.lemmas.Bool.{cases_lt}
+use Rattle.std.proofs.lemmas.List.{length-take-le, take-append-drop}
+use Rattle.std.proofs.lemmas.List.Elements.{All-drop, All-take}
+use Rattle.tmw_bench.proofs.Cutting.{cutting}
+use Rattle.tmw_bench.proofs.OpaqueRounds.{all_opaque-take, last_bound-within}
+use Rattle.tmw_bench.proofs.PlayedRounds.{earlier_played}
+use Rattle.tmw_bench.proofs.WholeRounds.{are_whole_rounds, no_kinds}
+use Rattle.tmw_bench.specs.Benched.{EndsRound}
+use Rattle.tmw_bench.specs.Rounds.{last_bound, ending_of, AllOpaque, AreEndings, HasPlayed, HasPlayedLast, HaveAllPlayedLast, IsInRounds, IsLogOfAll}
+use Rattle.tmw_defs.specs.Texts.{kinds_of}
+use Rattle.tmw_defs.specs.Verdict.{Rules}
+use Rattle.tmw_drive.specs.Driving.{script_at}
+use Rattle.tmw_drive.specs.declared.ending.Ending.{Ending}
+use Rattle.tmw_events.specs.declared.event.Event.{Event}
+use Rattle.tmw_events.specs.declared.event.Kind.{Kind}
+use Rattle.tmw_ring.specs.Ends.{WriterIs, ReaderIs}
+use Rattle.tmw_ring.specs.Parts.{made_from}
+use Rattle.tmw_ring.specs.Settling.{IsSettled}
+use Rattle.tmw_ring.specs.declared.refused.Refused.{Refused}
+use Rattle.tmw_ring.specs.declared.refused.Refused.TheVariants.{Full, Spent}
+use Rattle.tmw_runs.specs.Standing.{AllStand}
+use Rattle.tmw_tm.specs.Answers.{Call, Answer}
+use Rattle.tmw_work.specs.Working.{EndsWork}
+
+-- the log of a settled ring
+pub log_of_all-settled : (scripts : List (List (List Kind))) (reader : ReaderIs) (writers : List WriterIs) (left log : List Event)
+    → length writers ≡ length scripts → IsSettled reader writers left → log ≡ reader.taken ++ left → IsLogOfAll scripts log writers
+log_of_all-settled scripts reader writers left log counted settled whole =
+    let is : settled.log ≡ log = settled.rest ∙ sym whole in
+    record {
+      own = subst (All (λ (event : Event). event.thread.number < length scripts)) is
+          (subst (λ (n : ℕ). All (λ (event : Event). event.thread.number < n) settled.log) counted settled.own);
+      made = λ thread fallback low.
+          settled.made thread fallback (subst (λ (n : ℕ). thread < n) (sym counted) low) ∙ ap (made_from thread 0) is;
+      seen = λ thread fallback low.
+          subst (λ (l : List Event). (get_or writers thread fallback).seen ≤ length l) is
+          (settled.seen thread fallback (subst (λ (n : ℕ). thread < n) (sym counted) low));
+    }
+
+-- how the thread has ended, where its writer has seen no further than the log is long
+ends_round : (script : List (List Kind)) (kinds : List Kind) (stop : Option Refused) (writer : WriterIs) (places : ℕ)
+    → EndsWork script kinds stop writer → writer.seen ≤ places → EndsRound script kinds places (ending_of stop) writer
+ends_round script kinds None writer places ended seen = ended
+ends_round script kinds (Some (Full front tail)) writer places ended seen = (ended, omega (arith, seen, ended.refusal.refusal.0.seen))
+ends_round script kinds (Some (Spent tail)) writer places ended seen = (ended, omega (arith, seen, ended.refusal.refusal.1.seen))
+
+-- What a thread has done in a log whose last round begins at this length, whether it ended there or not.
+record LastAt (gives : Call → Answer → Type 0) (script : List (List Kind)) (bounds : List ℕ) (thread : ℕ) (log : List Event) (stop : Option Refused) (writer : WriterIs) : Type 0 where
+  before : HasPlayed gives script bounds (made_from thread 0 (take (last_bound bounds) log))
+  stands : AllStand gives true (kinds_of thread (drop (last_bound bounds) log))
+  ended : EndsWork script (kinds_of thread (drop (last_bound bounds) log)) stop writer
+
+last_at : (gives : Call → Answer → Type 0) (script : List (List Kind)) (bounds : List ℕ) (thread : ℕ) (log : List Event) (stop : Option Refused)
+    (writer : WriterIs) → last_bound bounds ≤ length log → writer.made ≡ made_from thread 0 log
+    → HasPlayedLast gives script bounds writer.made stop writer → LastAt gives script bounds thread log stop writer
+last_at gives script bounds thread log stop writer within made last =
+    let cut = cutting thread (last_bound bounds) log last.old last.fresh within (sym made ∙ last.split)
+    (earlier_played gives script bounds last.old last.played) last.later in
+    record {
+      before = subst (HasPlayed gives script bounds) cut.0 last.played;
+      stands = subst (AllStand gives true) cut.1 last.stands;
+      ended = subst (λ (kinds : List Kind). EndsWork script kinds stop writer) cut.1 last.ended;
+    }
+
+pub some_writer : (writers : List WriterIs) (place : ℕ) → place < length writers → WriterIs
+some_writer [] place low = absurd (omega (arith, low))
+some_writer (writer ∷ writers) place low = writer
+
+-- the log, in rounds
+pub in_rounds : (rules : Rules) (gives : Call → Answer → Type 0) (scripts : List (List (List Kind))) (bounds : List ℕ) (log : List Event)
+    (stops : List (Option Refused)) (ends : List Ending) (writers : List WriterIs) → IsLogOfAll scripts log writers → AllOpaque rules bounds log
+    → HaveAllPlayedLast gives scripts bounds stops writers → AreEndings scripts stops ends
+    → IsInRounds rules gives scripts (length bounds) log ends writers
+in_rounds rules gives scripts bounds log stops ends writers is opaque last endings = record {
+  before = take start log;
+  round = drop start log;
+  parts = sym (take-append-drop start log);
+  whole = are_whole_rounds rules gives scripts bounds (take start log)
+      (All-take (λ (event : Event). event.thread.number < length scripts) start log is.own)
+      (λ thread low. (at thread (some_writer writers thread (below thread low)) low).before)
+      (sym (length-take-le start log within)) (all_opaque-take rules bounds log start opaque (omega arith) within);
+  stands = λ thread. stands_at thread;
+  ended = λ thread fallback writer low.
+      subst (λ (ending : Ending). EndsRound (script_at scripts thread) (kinds_of thread (drop start log)) (length log) ending (get_or writers thread writer))
+      (sym (endings.each thread fallback low))
+      (ends_round (script_at scripts thread) (kinds_of thread (drop start log)) (get_or stops thread None) (get_or writers thread writer) (length log)
+      (at thread writer low).ended (is.seen thread writer low));
+}
+  where
+    start : ℕ
+    start = last_bound bounds
+
+    within : last_bound bounds ≤ length log
+    within = last_bound-within rules bounds log opaque
+
+    below : (thread : ℕ) → thread < length scripts → thread < length writers
+    below thread low = subst (λ (n : ℕ). thread < n) (sym last.counted) low
+
+    at : (thread : ℕ) (fallback : WriterIs) → thread < length scripts
+        → LastAt gives (script_at scripts thread) bounds thread log (get_or stops thread None) (get_or writers thread fallback)
+    at thread fallback low =
+        last_at gives (script_at scripts thread) bounds thread log (get_or stops thread None) (get_or writers thread fallback) within
+        (is.made thread fallback low) (last.each thread fallback low)
+
+    stands_at : (thread : ℕ) → AllStand gives true (kinds_of thread (drop (last_bound bounds) log))
+    stands_at thread =
+        elim (cases_lt thread (length scripts)) [
+          | inl low ↦ (at thread (some_writer writers thread (below thread low)) low).stands
+          | inr past ↦
+              subst (AllStand gives true) (sym (no_kinds (length scripts) thread (drop (last_bound bounds) log)
+              (All-drop (λ (event : Event). event.thread.number < length scripts) (last_bound bounds) log is.own) past)) tt
+        ]

@@ -1,0 +1,55 @@
+-- The places that a writer has claimed in a log: of a log in two parts, between which lengths they lie, and the kinds there.
+use Rattle.std.proofs.Common.{◌≡◌, ◌==◌, ◌≤◌, ◌<◌, ◌+◌, ◌++◌, ℕ, List, [], ◌∷◌, length, inl, inr, refl, ap, ◌∙◌, arith}
+use Rattle.std.specs.Prelude.{All}
+use Rattle.std.proofs.lemmas.Bool.{cases_Bool}
+use Rattle.std.proofs.lemmas.List.Elements.{All-cons, All-nil}
+use Rattle.tmw_defs.specs.Texts.{kinds_of}
+use Rattle.tmw_events.specs.declared.event.Event.{Event}
+use Rattle.tmw_events.specs.declared.event.Kind.{Kind}
+use Rattle.tmw_recorded.specs.Recording.{kinds_made}
+use Rattle.tmw_ring.specs.Parts.{made_from}
+use Rattle.tmw_ring.specs.declared.part.Made.{Made}
+
+-- the kinds of a writer's items of a log are those of its thread's events there, from whatever place they are counted
+pub kinds_made-made_from : (writer place : ℕ) (log : List Event) → kinds_made (made_from writer place log) ≡ kinds_of writer log
+kinds_made-made_from writer place [] = refl
+kinds_made-made_from writer place (event ∷ log) =
+    let rest = kinds_made-made_from writer (place + 1) log in
+    elim (cases_Bool (event.thread.number == writer)) [
+      | inl own ↦ rw own (ap (λ (kinds : List Kind). event.kind ∷ kinds) rest)
+      | inr other ↦ rw other rest
+    ]
+
+pub made_from-append : (writer place : ℕ) (front back : List Event)
+    → made_from writer place (front ++ back) ≡ made_from writer place front ++ made_from writer (place + length front) back
+made_from-append writer place [] back = ap (λ (from : ℕ). made_from writer from back) (omega arith)
+made_from-append writer place (event ∷ front) back =
+    let rest : made_from writer (place + 1) (front ++ back) ≡ made_from writer (place + 1) front ++ made_from writer (place + length (event ∷ front)) back
+    = made_from-append writer (place + 1) front back
+    ∙ ap (λ (from : ℕ). made_from writer (place + 1) front ++ made_from writer from back) (omega arith) in
+    elim (cases_Bool (event.thread.number == writer)) [
+      | inl own ↦ rw own (ap (λ (more : List Made). record { place = place; event = event } ∷ more) rest)
+      | inr other ↦ rw other rest
+    ]
+
+-- none stands before the place from which they are counted
+pub later_made : (writer start place : ℕ) (log : List Event) → start ≤ place → All (λ made. start ≤ made.place) (made_from writer place log)
+later_made writer start place [] from = All-nil (λ (made : Made). start ≤ made.place)
+later_made writer start place (event ∷ log) from =
+    let rest = later_made writer start (place + 1) log (omega (arith, from)) in
+    elim (cases_Bool (event.thread.number == writer)) [
+      | inl own ↦ rw own (All-cons (λ (made : Made). start ≤ made.place) (record { place = place; event = event }) (made_from writer (place + 1) log) from rest)
+      | inr other ↦ rw other rest
+    ]
+
+-- and all stand before the log's end
+pub earlier_made : (writer place bound : ℕ) (log : List Event) → place + length log ≤ bound
+    → All (λ made. made.place < bound) (made_from writer place log)
+earlier_made writer place bound [] upto = All-nil (λ (made : Made). made.place < bound)
+earlier_made writer place bound (event ∷ log) upto =
+    let here : place < bound = omega (arith, upto) in
+    let rest = earlier_made writer (place + 1) bound log (omega (arith, upto)) in
+    elim (cases_Bool (event.thread.number == writer)) [
+      | inl own ↦ rw own (All-cons (λ (made : Made). made.place < bound) (record { place = place; event = event }) (made_from writer (place + 1) log) here rest)
+      | inr other ↦ rw other rest
+    ]

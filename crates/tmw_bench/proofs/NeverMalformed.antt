@@ -1,0 +1,94 @@
+-- A log of rounds is never malformed: each thread's events begin a run of its script, repeated.
+use Rattle.std.proofs.Common.{◌≡◌, ◌<◌, ℕ, zero, suc, List, [], ◌∷◌, length, get_or, take, IsTrue, inl, inr, refl, sym, ap, ◌∙◌, subst, append_assoc}
+use Rattle.std.specs.Prelude.{◌≢◌, All}
+use Rattle.std.proofs.lemmas.Bool.{both_ways, cases_lt}
+use Rattle.std.proofs.lemmas.List.{append-nil, get_or_past}
+use Rattle.tmw_bench.proofs.InRounds.{some_writer}
+use Rattle.tmw_bench.proofs.RepeatedRuns.{repeated, are_transactions-repeated, beginning-append, repeated-nil, whole_run-append}
+use Rattle.tmw_bench.proofs.WholeRounds.{no_kinds}
+use Rattle.tmw_bench.specs.Benched.{AreWholeRounds, EndsRound}
+use Rattle.tmw_bench.specs.Rounds.{IsInRounds}
+use Rattle.tmw_defs.specs.History.{is_well_formed}
+use Rattle.tmw_defs.specs.Texts.{kinds_of}
+use Rattle.tmw_defs.specs.Verdict.{Rules, IsFirst, IsMalformed}
+use Rattle.tmw_defs.specs.declared.verdict.Verdict.{Verdict}
+use Rattle.tmw_defs.specs.declared.verdict.Verdict.TheVariants.{Malformed}
+use Rattle.tmw_drive.specs.Driving.{script_at}
+use Rattle.tmw_drive.specs.declared.ending.Ending.{Ending}
+use Rattle.tmw_drive.specs.declared.ending.Ending.TheVariants.{Done, Left, Stopped}
+use Rattle.tmw_events.specs.declared.event.Event.{Event}
+use Rattle.tmw_events.specs.declared.event.Kind.{Kind}
+use Rattle.tmw_pump.specs.Headline.{Headline}
+use Rattle.tmw_ring.specs.Ends.{WriterIs}
+use Rattle.tmw_runs.proofs.NeverMalformed.{formed_law}
+use Rattle.tmw_runs.proofs.WellFormed.{kinds_of-append}
+use Rattle.tmw_runs.specs.Runs.{IsWholeRun, IsBeginning}
+use Rattle.tmw_runs.specs.Scripts.{are_transactions}
+use Rattle.tmw_tm.specs.Answers.{Call, Answer}
+
+-- a thread's events of whole rounds are a whole run of its script, repeated
+whole_run-rounds : (rules : Rules) (gives : Call → Answer → Type 0) (scripts : List (List (List Kind))) (count : ℕ) (log : List Event)
+    → AreWholeRounds rules gives scripts count log → (thread : ℕ) → thread < length scripts
+    → IsWholeRun (repeated count (script_at scripts thread)) (kinds_of thread log)
+whole_run-rounds rules gives scripts zero log none_done thread low = ap (kinds_of thread) none_done
+whole_run-rounds rules gives scripts (suc count) log (before, round, parts, whole, last, told) thread low =
+    let script = script_at scripts thread in
+    subst (IsWholeRun (repeated (suc count) script)) (sym (ap (kinds_of thread) parts ∙ kinds_of-append thread before round))
+    (whole_run-append (repeated count script) script (kinds_of thread before) (kinds_of thread round)
+    (whole_run-rounds rules gives scripts count before whole thread low) (last.runs thread low))
+
+begins-ends_round : (script : List (List Kind)) (kinds : List Kind) (places : ℕ) (ending : Ending) (writer : WriterIs)
+    → EndsRound script kinds places ending writer → IsBeginning script kinds
+begins-ends_round script kinds places Done writer whole = ([], subst (IsWholeRun script) (sym (append-nil kinds)) whole)
+begins-ends_round script kinds places Left writer never = absurd never
+begins-ends_round script kinds places (Stopped refused) writer (stops, few) =
+    let (more, run) = stops.begins in
+    (stops.next ∷ more, subst (IsWholeRun script) (append_assoc kinds (stops.next ∷ []) more) run)
+
+-- each thread's events begin a run of its script, repeated
+begins-in_rounds : (rules : Rules) (gives : Call → Answer → Type 0) (scripts : List (List (List Kind))) (earlier : ℕ) (log : List Event)
+    (ends : List Ending) (writers : List WriterIs) → length writers ≡ length scripts
+    → All (λ event. event.thread.number < length scripts) log → IsInRounds rules gives scripts earlier log ends writers
+    → (thread : ℕ) → IsBeginning (repeated (suc earlier) (script_at scripts thread)) (kinds_of thread log)
+begins-in_rounds rules gives scripts earlier log ends writers counted own rounds thread =
+    elim (cases_lt thread (length scripts)) [
+      | inl low ↦
+          let script = script_at scripts thread in
+          let writer = some_writer writers thread (subst (λ (n : ℕ). thread < n) (sym counted) low) in
+          let last : IsBeginning script (kinds_of thread rounds.round) =
+          begins-ends_round script (kinds_of thread rounds.round) (length log) (get_or ends thread Done) (get_or writers thread writer)
+          (rounds.ended thread Done writer low) in
+          subst (IsBeginning (repeated (suc earlier) script))
+          (sym (ap (kinds_of thread) rounds.parts ∙ kinds_of-append thread rounds.before rounds.round))
+          (beginning-append (repeated earlier script) script (kinds_of thread rounds.before) (kinds_of thread rounds.round)
+          (whole_run-rounds rules gives scripts earlier rounds.before rounds.whole thread low) last)
+      | inr past ↦
+          let script : repeated (suc earlier) (script_at scripts thread) ≡ []
+          = ap (repeated (suc earlier)) (get_or_past scripts thread [] past) ∙ repeated-nil (suc earlier) in
+          let none_done : kinds_of thread log ≡ [] = no_kinds (length scripts) thread log own past in
+          subst (λ (s : List (List Kind)). IsBeginning s (kinds_of thread log)) (sym script)
+          (subst (λ (k : List Kind). IsBeginning [] k) (sym none_done) ([], refl))
+    ]
+
+-- each prefix of the log is well-formed
+pub well_formed-in_rounds : (rules : Rules) (gives : Call → Answer → Type 0) (scripts : List (List (List Kind))) (earlier : ℕ) (log : List Event)
+    (ends : List Ending) (writers : List WriterIs) → ((thread : ℕ) → IsTrue (are_transactions rules.registers (script_at scripts thread)))
+    → length writers ≡ length scripts → All (λ event. event.thread.number < length scripts) log
+    → IsInRounds rules gives scripts earlier log ends writers
+    → (m : ℕ) → IsTrue (is_well_formed rules.registers (take m log))
+well_formed-in_rounds rules gives scripts earlier log ends writers asks counted own rounds =
+    formed_law rules.registers (λ thread. repeated (suc earlier) (script_at scripts thread)) log
+    (λ thread. are_transactions-repeated rules.registers (suc earlier) (script_at scripts thread) (asks thread))
+    (begins-in_rounds rules gives scripts earlier log ends writers counted own rounds)
+
+-- so the verdict on it does not say that it is malformed
+pub formed-in_rounds : (rules : Rules) (gives : Call → Answer → Type 0) (scripts : List (List (List Kind))) (earlier : ℕ) (log : List Event)
+    (ends : List Ending) (writers : List WriterIs) (verdict : Verdict)
+    → ((thread : ℕ) → IsTrue (are_transactions rules.registers (script_at scripts thread)))
+    → length writers ≡ length scripts → All (λ event. event.thread.number < length scripts) log
+    → IsInRounds rules gives scripts earlier log ends writers → Headline rules log writers log verdict
+    → (events : ℕ) → verdict ≢ Malformed events
+formed-in_rounds rules gives scripts earlier log ends writers verdict asks counted own rounds headline events malformed =
+    let first : IsFirst IsMalformed rules log events = (headline.malformed events).0 malformed in
+    both_ways (is_well_formed rules.registers (take events log)) first.here.ill_formed
+    (well_formed-in_rounds rules gives scripts earlier log ends writers asks counted own rounds events)

@@ -1,0 +1,43 @@
+-- Runs of a script that is carried out again and again.
+use Rattle.std.proofs.Common.{◌≡◌, ◌++◌, ℕ, zero, suc, List, [], ◌∷◌, IsTrue, refl, sym, ap, ◌∙◌, subst, append_assoc}
+use Rattle.std.proofs.lemmas.Bool.{and_from}
+use Rattle.std.proofs.lemmas.List.{append-nil}
+use Rattle.std.proofs.lemmas.List.Folds.{list_all-append}
+use Rattle.tmw_events.specs.declared.event.Kind.{Kind}
+use Rattle.tmw_runs.specs.Runs.{IsWholeRun, IsBeginning}
+use Rattle.tmw_runs.specs.Scripts.{is_transaction, are_transactions}
+
+-- the script, so many times
+abbrev pub repeated : ℕ → List (List Kind) → List (List Kind)
+repeated zero script = []
+repeated (suc count) script = repeated count script ++ script
+
+-- one whole run after another
+pub whole_run-append : (script more : List (List Kind)) (kinds later : List Kind) → IsWholeRun script kinds → IsWholeRun more later
+    → IsWholeRun (script ++ more) (kinds ++ later)
+whole_run-append [] more kinds later none_run run =
+    subst (λ (k : List Kind). IsWholeRun more (k ++ later)) (sym none_run) run
+whole_run-append (calls ∷ script) more kinds later (text, rest, split, whole, run) next = (
+  text,
+  rest ++ later,
+  ap (λ (k : List Kind). k ++ later) split ∙ append_assoc text rest later,
+  whole,
+  whole_run-append script more rest later run next,
+)
+
+-- a beginning of a run after a whole one
+pub beginning-append : (script more : List (List Kind)) (kinds later : List Kind) → IsWholeRun script kinds → IsBeginning more later
+    → IsBeginning (script ++ more) (kinds ++ later)
+beginning-append script more kinds later whole (rest, run) =
+    (rest, subst (IsWholeRun (script ++ more)) (sym (append_assoc kinds later rest)) (whole_run-append script more kinds (later ++ rest) whole run))
+
+pub repeated-nil : (count : ℕ) → repeated count [] ≡ []
+repeated-nil zero = refl
+repeated-nil (suc count) = append-nil (repeated count []) ∙ repeated-nil count
+
+pub are_transactions-repeated : (registers count : ℕ) (script : List (List Kind)) → IsTrue (are_transactions registers script)
+    → IsTrue (are_transactions registers (repeated count script))
+are_transactions-repeated registers zero script asks = refl
+are_transactions-repeated registers (suc count) script asks =
+    list_all-append (is_transaction registers) (repeated count script) script
+    ∙ and_from _ _ (are_transactions-repeated registers count script asks) asks

@@ -1,0 +1,85 @@
+-- From writers that have claimed whole rounds to the log of these rounds.
+use Rattle.std.proofs.Common.{◌≡◌, ◌≤◌, ◌<◌, ℕ, true, List, [], ◌∷◌, length, take, drop, inl, inr, refl, sym, subst, arith}
+use Rattle.std.specs.Prelude.{All}
+use Rattle.std.proofs.lemmas.Bool.{cases_lt, ne_eqb}
+use Rattle.std.proofs.lemmas.List.{length-take-le, nil_from_length, take-append-drop}
+use Rattle.std.proofs.lemmas.List.Elements.{All-drop, All-head, All-tail, All-take}
+use Rattle.tmw_bench.proofs.Cutting.{cutting}
+use Rattle.tmw_bench.proofs.OpaqueRounds.{all_opaque-take, last_bound-within, opaque_at_last}
+use Rattle.tmw_bench.proofs.PlayedRounds.{earlier_played}
+use Rattle.tmw_bench.specs.Benched.{AreWholeRounds, IsWholeRound}
+use Rattle.tmw_bench.specs.Rounds.{last_bound, AllOpaque, HasPlayed}
+use Rattle.tmw_defs.specs.Texts.{kinds_of}
+use Rattle.tmw_defs.specs.Verdict.{Rules}
+use Rattle.tmw_drive.specs.Driving.{script_at}
+use Rattle.tmw_events.specs.declared.event.Event.{Event}
+use Rattle.tmw_events.specs.declared.event.Kind.{Kind}
+use Rattle.tmw_ring.specs.Parts.{made_from}
+use Rattle.tmw_runs.specs.Runs.{IsWholeRun}
+use Rattle.tmw_runs.specs.Standing.{AllStand}
+use Rattle.tmw_tm.specs.Answers.{Call, Answer}
+
+-- a thread without a script has no events
+pub no_kinds : (threads thread : ℕ) (log : List Event) → All (λ event. event.thread.number < threads) log → threads ≤ thread
+    → kinds_of thread log ≡ []
+no_kinds threads thread [] own past = refl
+no_kinds threads thread (event ∷ log) own past =
+    let low : event.thread.number < threads = All-head (λ (e : Event). e.thread.number < threads) event log own in
+    rw (ne_eqb event.thread.number thread (λ same. absurd (omega (arith, low, past, same))))
+    (no_kinds threads thread log (All-tail (λ (e : Event). e.thread.number < threads) event log own) past)
+
+-- What a thread has done in a log whose last round begins at this length.
+pub record RoundAt (gives : Call → Answer → Type 0) (script : List (List Kind)) (earlier : List ℕ) (thread : ℕ) (log : List Event) : Type 0 where
+  pub before : HasPlayed gives script earlier (made_from thread 0 (take (last_bound earlier) log))
+  pub stands : AllStand gives true (kinds_of thread (drop (last_bound earlier) log))
+  pub whole : IsWholeRun script (kinds_of thread (drop (last_bound earlier) log))
+
+round_at : (gives : Call → Answer → Type 0) (script : List (List Kind)) (bound : ℕ) (earlier : List ℕ) (thread : ℕ) (log : List Event)
+    → HasPlayed gives script (bound ∷ earlier) (made_from thread 0 log) → last_bound earlier ≤ length log
+    → RoundAt gives script earlier thread log
+round_at gives script bound earlier thread log (old, fresh, split, played, round) within =
+    let cut = cutting thread (last_bound earlier) log old fresh within split (earlier_played gives script earlier old played) round.later in
+    record {
+      before = subst (HasPlayed gives script earlier) cut.0 played;
+      stands = subst (AllStand gives true) cut.1 round.stands;
+      whole = subst (IsWholeRun script) cut.1 round.whole;
+    }
+
+-- the round behind all earlier ones
+is_whole_round : (gives : Call → Answer → Type 0) (scripts : List (List (List Kind))) (bound : ℕ) (earlier : List ℕ) (log : List Event)
+    → All (λ event. event.thread.number < length scripts) log → last_bound earlier ≤ length log
+    → ((thread : ℕ) → thread < length scripts → HasPlayed gives (script_at scripts thread) (bound ∷ earlier) (made_from thread 0 log))
+    → IsWholeRound gives scripts (drop (last_bound earlier) log)
+is_whole_round gives scripts bound earlier log own within played = record {
+  runs = λ thread low. (round_at gives (script_at scripts thread) bound earlier thread log (played thread low) within).whole;
+  stands = λ thread.
+      elim (cases_lt thread (length scripts)) [
+        | inl low ↦ (round_at gives (script_at scripts thread) bound earlier thread log (played thread low) within).stands
+        | inr past ↦
+            subst (AllStand gives true) (sym (no_kinds (length scripts) thread (drop (last_bound earlier) log)
+            (All-drop (λ (event : Event). event.thread.number < length scripts) (last_bound earlier) log own) past)) tt
+      ];
+}
+
+-- where each writer has claimed whole rounds, and the log ends with the last of them, the log is these rounds
+pub are_whole_rounds : (rules : Rules) (gives : Call → Answer → Type 0) (scripts : List (List (List Kind))) (bounds : List ℕ) (log : List Event)
+    → All (λ event. event.thread.number < length scripts) log
+    → ((thread : ℕ) → thread < length scripts → HasPlayed gives (script_at scripts thread) bounds (made_from thread 0 log))
+    → last_bound bounds ≡ length log → AllOpaque rules bounds log → AreWholeRounds rules gives scripts (length bounds) log
+are_whole_rounds rules gives scripts [] log own played over opaque = nil_from_length log (sym over)
+are_whole_rounds rules gives scripts (bound ∷ earlier) log own played over opaque =
+    let start = last_bound earlier in
+    let told : AllOpaque rules earlier log = opaque.3 in
+    let within = last_bound-within rules earlier log told in
+    let before = are_whole_rounds rules gives scripts earlier (take start log)
+    (All-take (λ (event : Event). event.thread.number < length scripts) start log own)
+    (λ thread low. (round_at gives (script_at scripts thread) bound earlier thread log (played thread low) within).before)
+    (sym (length-take-le start log within))
+    (all_opaque-take rules earlier log start told (omega arith) within) in (
+      take start log,
+      drop start log,
+      sym (take-append-drop start log),
+      before,
+      is_whole_round gives scripts bound earlier log own within played,
+      opaque_at_last rules bound earlier log opaque over,
+    )
