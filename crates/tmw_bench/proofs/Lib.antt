@@ -6,3 +6,5 @@ pub mod OpaqueRounds
 pub mod PlayedRounds
 pub mod RepeatedRuns
 pub mod WholeRounds
+pub mod Returns
+pub mod Standing
