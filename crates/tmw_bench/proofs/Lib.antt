@@ -8,3 +8,4 @@ pub mod RepeatedRuns
 pub mod WholeRounds
 pub mod Returns
 pub mod Standing
+pub mod RoundsBegun

@@ -1,4 +1,4 @@
-use Rattle.std.proofs.Common.{◌≡◌, ◌<◌, ◌+◌, ◌++◌, ℕ, List, [], ◌∷◌, length, get_or, sym, ap, ◌∙◌, subst, append_assoc, arith}
+use Rattle.std.proofs.Common.{◌≡◌, ◌<◌, ◌+◌, ◌++◌, ℕ, List, [], ◌∷◌, length, get_or, IsTrue, sym, ap, ◌∙◌, subst, append_assoc, arith}
 use Rattle.std.proofs.lemmas.List.{length_push, get_or-map}
 use Rattle.std.specs.Global.{Vec}
 use Rattle.std.specs.Vec.Iter.{into_iter_items}
@@ -7,8 +7,8 @@ use Rattle.tmw_bench.specs.Playing.{IsPromise}
 use Rattle.tmw_drive.specs.Driving.{script_at}
 use Rattle.tmw_drive.specs.Playing.{calls_of}
 use Rattle.tmw_events.specs.declared.event.Kind.{Kind}
-use Rattle.tmw_ring.specs.Ends.{WriterIs}
-use Rattle.tmw_runs.specs.Scripts.{script_of, scripts_of}
+use Rattle.tmw_ring.specs.Ends.{WriterIs, WriterOf}
+use Rattle.tmw_runs.specs.Scripts.{are_transactions, script_of, scripts_of}
 use Rattle.tmw_bench.proofs.threads.start_all.Goals as goal
 
 pub loop-writer-preserved : goal.loop-writer-preserved
@@ -55,4 +55,25 @@ loop-writer-preserved g c =
           (sym {A = List (Handle g.row.J.Denot)} items)
           (one_more (λ place handle. IsPromise ring scripts all place handle.promise.ring.now (calls_of handle.promise.script.now)
           handle.promise.before.value) at.handles.items c.in-Ok.handle at.invariant.4 here),
+    )
+
+pub spawn_with-requires-clause-runs : goal.spawn_with-requires-clause-runs
+spawn_with-requires-clause-runs g c κs within =
+    let at = c.loop-writer in
+    let steps = c.in-Some.ensures.steps in
+    let rest = into_iter_items c.next.new.self in
+    let all = c.args.writers.items in
+    let writer = c.in-Some.writer in
+    let scripts = scripts_of c.args.scripts.now in
+    let writers : at.yielded ++ writer ∷ rest ≡ all = ap (λ (l : List WriterIs). at.yielded ++ l) (sym steps.0) ∙ at.invariant.1 in
+    let low : length at.yielded < length all =
+    subst (λ (l : List WriterIs). length at.yielded < length l) writers (shorter at.yielded writer rest) in
+    let registers = c.requires.scripts.0 in
+    let listed : script_at scripts at.place ≡ calls_of c.as_slice-script.result.now =
+    get_or-map script_of c.args.scripts.now at.place c.index-scripts-place.result []
+    (let a = at.invariant.3 in let b = c.requires.count in omega (arith, low, a, b))
+    ∙ ap script_of (sym c.index-scripts-place.is) ∙ ap calls_of (sym c.as_slice-script.ensures.value) in (
+      c.requires.gives,
+      subst (WriterOf c.args.ring.now) (at_seam all at.yielded rest writer writers writer) (c.requires.of_ring (length at.yielded) writer low),
+      (registers, subst (λ (s : List (List Kind)). IsTrue (are_transactions registers s)) listed (c.requires.scripts.1 at.place)),
     )
