@@ -5,7 +5,9 @@ pub mod NeverMalformed
 pub mod OpaqueRounds
 pub mod PlayedRounds
 pub mod RepeatedRuns
-pub mod WholeRounds
 pub mod Returns
-pub mod Standing
 pub mod RoundsBegun
+pub mod RoundsOver
+pub mod Standing
+pub mod Whole
+pub mod WholeRounds
