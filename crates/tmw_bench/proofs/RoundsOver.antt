@@ -36,8 +36,8 @@ opaque-front rules front more log verdict is told opaque =
     let whole : IsVerdict rules (front ++ more) OpaqueSoFar = subst (λ (l : List Event). IsVerdict rules l OpaqueSoFar) is opaque in
     let part : IsVerdict rules front OpaqueSoFar =
     λ k within.
-        subst (IsFine rules) (take-append-le k front more within)
-        (whole k (let longer = length-append front more in omega (arith, within, longer))) in
+    subst (IsFine rules) (take-append-le k front more within)
+    (whole k (let longer = length-append front more in omega (arith, within, longer))) in
     verdict-one rules front verdict OpaqueSoFar told part
 
 -- No further round could begin.

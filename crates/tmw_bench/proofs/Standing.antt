@@ -7,6 +7,7 @@ use Rattle.tmw_tm.specs.Answers.{Call, Answer}
 use Rattle.tmw_tm.specs.Answers.Call.{Begin, Read, Write, Add, Commit}
 use Rattle.tmw_tm.specs.Answers.Answer.{Value, Done, Abort}
 use Rattle.tmw_runs.specs.Standing.{Gives, Stands, AllStand, StandsSoFar}
+
 -- what a memory gives, one that gives more gives too
 pub gives-more : (gives more : Call → Answer → Type 0) → ((call : Call) (answer : Answer) → gives call answer → more call answer)
     → (call answer : Kind) → Gives gives call answer → Gives more call answer

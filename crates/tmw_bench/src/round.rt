@@ -71,8 +71,8 @@ pub fn play_round<R: Threads + Wait + Sync, J: Giving + Send>(
 }
 
 /// The same, by threads of this scope. Where it fails, threads that find the ring full stop.
-fn play_within<'s, E, R: Threads + Wait + Sync, J: Giving + Send + 's>(
-    rt: &'s R,
+fn play_within<'s, E, R: Threads + Wait, J: Giving + Send + 's>(
+    rt: &R,
     scope: &Scope<'s, E>,
     alloc: Global,
     memory: &'s (dyn Tm + Sync),
@@ -93,8 +93,8 @@ fn play_within<'s, E, R: Threads + Wait + Sync, J: Giving + Send + 's>(
     ensures back { IfOk result (λ left. HaveComeBack J.gave ring.now (scripts_of scripts.now) writers.items left.writers.items left.stops.items) }
     ensures err { IfErr result IsOfThreads }
 {
-    let handles = match start_all::<E, R, J>(
-        rt, scope, alloc, memory, ring, writers, scripts, patience, signals,
+    let handles = match start_all::<E, J>(
+        scope, alloc, memory, ring, writers, scripts, patience, signals,
     ) {
         Ok(handles) => handles,
         Err(fault) => {

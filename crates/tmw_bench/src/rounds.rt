@@ -117,6 +117,6 @@ fn judge_round<R: Wait>(rt: &R, ring: &Ring, left: &mut Left) -> Result<(), Allo
     ensures met { OnOk result (HaveMetAll left.old.pump.front left.old.writers.items left.new.pump.front left.new.writers.items) }
     ensures stops { OnOk result (left.new.stops ≡ left.old.stops) }
 {
-    let tail = meet_all(rt, ring, &mut left.writers);
+    let tail = meet_all(ring, &mut left.writers);
     judge_up_to(rt, ring, &mut left.pump, tail)
 }

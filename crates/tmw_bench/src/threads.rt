@@ -9,7 +9,6 @@ use crate::fault::BenchFault;
 use std::alloc::Global;
 use std::marker::{Brand, PhantomData};
 use std::snapshot::Snapshot;
-use std::sync::Wait;
 use std::thread::{Promise, PromisedHandle, Scope};
 use std::{hint, thread};
 use tmw_events::Kind;
@@ -67,8 +66,7 @@ fn wait_for_all(signals: &Signals, threads: u64) {
 
 /// Carries the script out once all threads have begun, and gives the writer back with the refusal at which it stopped, if any.
 /// One more thread has then ended.
-fn play<R: Wait, J: Giving>(
-    rt: &R,
+fn play<J: Giving>(
     memory: &(dyn Tm + Sync),
     ring: &Ring,
     mut writer: Writer,
@@ -84,14 +82,13 @@ fn play<R: Wait, J: Giving>(
 {
     signals.begin();
     wait_for_all(signals, threads);
-    let stop = work(rt, memory, ring, &mut writer, script, patience, signals);
+    let stop = work(memory, ring, &mut writer, script, patience, signals);
     signals.end();
     (writer, stop)
 }
 
 /// Gives each writer a thread in which the script at its place is carried out, if there are threads for all.
-pub fn start_all<'s, E, R: Wait + Sync, J: Giving + Send + 's>(
-    rt: &'s R,
+pub fn start_all<'s, E, J: Giving + Send + 's>(
     scope: &Scope<'s, E>,
     alloc: Global,
     memory: &'s (dyn Tm + Sync),
@@ -130,7 +127,7 @@ pub fn start_all<'s, E, R: Wait + Sync, J: Giving + Send + 's>(
                 requires of_ring { WriterOf ring.now writer }
                 requires script { (registers : ℕ) × IsTrue (are_transactions registers (calls_of script.now)) }
                 ensures { ComesBack J.gave ring.entry.now (calls_of script.entry.now) writer result.0 result.1 }
-            { play::<R, J>(rt, memory, ring, writer, script, patience, threads, signals) },
+            { play::<J>(memory, ring, writer, script, patience, threads, signals) },
         ) else {
             return Err(BenchFault::Spawn);
         };

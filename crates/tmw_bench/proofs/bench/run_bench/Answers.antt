@@ -1,4 +1,4 @@
-use Rattle.std.proofs.Common.{◌≡◌, ◌++◌, ℕ, List, Option, [], length, map, sym, ap, ◌∙◌, subst, append_assoc}
+use Rattle.std.proofs.Common.{◌≡◌, ◌++◌, ℕ, List, Option, [], length, map, sym, ap, ◌∙◌, subst, append_assoc, arith}
 use Rattle.std.proofs.lemmas.List.{length-map}
 use Rattle.tmw_bench.proofs.OpaqueRounds.{all_opaque-append}
 use Rattle.tmw_bench.proofs.RoundsOver.{are_endings-map, over-log}
@@ -45,6 +45,8 @@ returns-clause-ok g c =
     let verdict = c.in-Ok-judge_rest.verdict in
     let benched : Benched = record { outcome = record { log = log; verdict = verdict; ends = ends }; rounds = c.in_ok-left.rounds } in
     let threads : length workload.scripts.items ≡ length scripts = sym (length-map workload.scripts.items script_of) in
+    let sized : c.len-threads.result ≡ length workload.scripts.items =
+    (let one = c.len-threads.ensures in let two = workload.scripts.ok.0 in omega (arith, one, two)) in
     let all : all_of rest ≡ came front ++ rest.settled = ap (λ (f : Front). came f ++ rest.settled) settled.front in
     let whole : log.items ≡ reader.taken ++ rest.settled =
     judged.all ∙ all ∙ ap (λ (l : List Event). l ++ rest.settled) left.pump.all in
@@ -67,9 +69,9 @@ returns-clause-ok g c =
     } in
     is_benched gives workload.registers scripts settings benched ring reader writers rest.settled begun.bounds stops
     (are_transactions-workload workload.registers.number scripts workload.order.items workload.is)
-    (subst (λ (n : ℕ). HasNumbers settings.cells n settings.limit ring.size) threads c.in-Ok.ensures.ok.sized) come whole after.played
+    (subst (λ (n : ℕ). HasNumbers settings.cells n settings.limit ring.size) (sized ∙ threads) c.in-Ok.ensures.ok.sized) come whole after.played
     (subst (AllOpaque rules begun.bounds) (sym begins)
     (all_opaque-append rules begun.bounds front.judged.items (listed front.held ++ rest.settled) after.opaque))
     endings headline begun.counted played.within
     (λ fewer. over-log rules scripts stops ends.items front (listed front.held ++ rest.settled) log.items writers verdict after.stop_count endings
-        begins after.fits.judged headline (played.over fewer))
+    begins after.fits.judged headline (played.over fewer))

@@ -74,6 +74,8 @@ spawn_with-requires-clause-runs g c κs within =
     (let a = at.invariant.3 in let b = c.requires.count in omega (arith, low, a, b))
     ∙ ap script_of (sym c.index-scripts-place.is) ∙ ap calls_of (sym c.as_slice-script.ensures.value) in (
       c.requires.gives,
-      (subst (WriterOf c.args.ring.now) (at_seam all at.yielded rest writer writers writer) (c.requires.of_ring (length at.yielded) writer low),
-          (registers, subst (λ (s : List (List Kind)). IsTrue (are_transactions registers s)) listed (c.requires.scripts.1 at.place))),
+      (
+        subst (WriterOf c.args.ring.now) (at_seam all at.yielded rest writer writers writer) (c.requires.of_ring (length at.yielded) writer low),
+        (registers, subst (λ (s : List (List Kind)). IsTrue (are_transactions registers s)) listed (c.requires.scripts.1 at.place)),
+      ),
     )
