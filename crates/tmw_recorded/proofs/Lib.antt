@@ -1,0 +1,3 @@
+mod Returns
+mod Tries
+mod Whole

@@ -5,12 +5,15 @@ mod back;
 mod fault;
 mod plan;
 mod pumping;
+mod record;
 mod recorded;
+mod run;
 mod signals;
+#[cfg(test)]
+mod tests;
+mod threads;
 
-pub use back::sort_back;
 pub use fault::RecordFault;
 pub use plan::Plan;
-pub use pumping::{judge_rest, pump_running};
 pub use recorded::Recorded;
-pub use signals::Signals;
+pub use run::record_and_judge;

@@ -1,6 +1,6 @@
 //! One thread carries its script out on a memory, and records each call and each answer in a ring.
 #![tactic(auto)]
 
-mod working;
+mod work;
 
-pub use working::work;
+pub use work::work;

@@ -4,7 +4,6 @@ ghost use Rattle.tmw_ring.specs.Ends.{WriterOf};
 ghost use Rattle.tmw_runs.specs.Scripts.{are_transactions};
 ghost use Rattle.tmw_work.specs.Working.{HasWorked};
 
-use std::sync::Wait;
 use tmw_events::Kind;
 use tmw_recorded::Signals;
 use tmw_ring::{Refused, Ring, Writer};
@@ -16,8 +15,7 @@ use tmw_tm::Tm;
 /// A record for which the ring lacks room is tried `patience` times in all, where 0 counts as 1, unless nobody pumps any more. One
 /// for which the ring's places are spent is tried once. A transaction that has begun in the memory and has not ended there when
 /// the thread stops is aborted in the memory; in the record it stays live.
-pub fn work<R: Wait>(
-    rt: &R,
+pub fn work(
     memory: &(dyn Tm + Sync),
     ring: &Ring,
     writer: &mut Writer,
@@ -31,6 +29,5 @@ pub fn work<R: Wait>(
     ensures number { writer.new.number ≡ writer.old.number }
     ensures worked { HasWorked (gives memory.now) (calls_of script.now) writer.old result writer.new }
 {
-    for _ in rt.forever() {}
-    unreachable!()
+    todo
 }

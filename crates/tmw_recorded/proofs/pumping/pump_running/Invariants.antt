@@ -1,0 +1,6 @@
+use Rattle.tmw_pump.specs.Fronts.{KeepsFit}
+use Rattle.tmw_ring.specs.Ends.{ReaderOf}
+use Rattle.tmw_recorded.proofs.pumping.pump_running.Given as goal
+
+abbrev pub invariant-loop : goal.invariant-loop
+invariant-loop g l = ReaderOf l.ring l.pump.reader × KeepsFit l.fn.pump.front l.pump.front
