@@ -1,3 +1,5 @@
-mod Returns
-mod Tries
-mod Whole
+pub mod Fronts
+pub mod KindsMade
+pub mod Returns
+pub mod Tries
+pub mod Whole

@@ -22,7 +22,7 @@ use Rattle.tmw_ring_defs.specs.declared.ring_size.RingSize.{RingSize}
 use Rattle.tmw_ring_defs.specs.declared.ring_step.Answered.{Answered}
 
 -- The kinds of a writer's items of a log are those of its thread's events there.
-kinds_made-made_from : (writer place : ℕ) (log : List Event) → kinds_made (made_from writer place log) ≡ kinds_of writer log
+pub kinds_made-made_from : (writer place : ℕ) (log : List Event) → kinds_made (made_from writer place log) ≡ kinds_of writer log
 kinds_made-made_from writer place [] = refl
 kinds_made-made_from writer place (event ∷ log) =
     let rest = kinds_made-made_from writer (place + 1) log in

@@ -13,7 +13,11 @@ mod signals;
 mod tests;
 mod threads;
 
+pub use back::sort_back;
 pub use fault::RecordFault;
 pub use plan::Plan;
+pub use pumping::{judge_rest, pump_running};
+pub use record::record_soon;
 pub use recorded::Recorded;
 pub use run::record_and_judge;
+pub use signals::Signals;

@@ -1,8 +1,8 @@
 //! The pump of a ring: while its writers record, and after them.
 ghost use Rattle.std.specs.Prelude.{◌≡◌, IfOk, OnOk};
-ghost use Rattle.tmw_pump.specs.Fronts.{KeepsFit};
 ghost use Rattle.tmw_pump.specs.Headline.{GivesHeadline};
 ghost use Rattle.tmw_pump.specs.Resting.{all_of};
+ghost use Rattle.tmw_recorded.specs.Pumping.{GoesOn};
 ghost use Rattle.tmw_ring.specs.Ends.{ReaderOf};
 
 use crate::signals::Signals;
@@ -27,7 +27,7 @@ pub fn pump_running<R: Wait>(
 ) -> Result<(), AllocError>
     requires { ReaderOf ring.now pump.old.reader }
     ensures of_ring { OnOk result (ReaderOf ring.now pump.new.reader) }
-    ensures fits { OnOk result (KeepsFit pump.old.front pump.new.front) }
+    ensures goes_on { OnOk result (GoesOn pump.old.front pump.new.front) }
 {
     for _ in rt.forever() {
         if signals.ended() == threads {

@@ -9,7 +9,7 @@ use tmw_events::Kind;
 use tmw_ring::{Refused, Ring, Writer};
 
 /// Records an event. Where the ring lacks room it tries so often more, unless nobody pumps any more, and then answers so.
-fn record_soon(
+pub fn record_soon(
     ring: &Ring,
     writer: &mut Writer,
     kind: Kind,

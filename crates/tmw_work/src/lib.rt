@@ -1,6 +1,8 @@
 //! One thread carries its script out on a memory, and records each call and each answer in a ring.
 #![tactic(auto)]
 
-mod work;
+#[cfg(test)]
+mod tests;
+mod working;
 
-pub use work::work;
+pub use working::work;

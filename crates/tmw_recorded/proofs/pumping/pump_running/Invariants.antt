@@ -1,6 +1,7 @@
-use Rattle.tmw_pump.specs.Fronts.{KeepsFit}
+-- The front goes on.
+use Rattle.tmw_recorded.specs.Pumping.{GoesOn}
 use Rattle.tmw_ring.specs.Ends.{ReaderOf}
 use Rattle.tmw_recorded.proofs.pumping.pump_running.Given as goal
 
 abbrev pub invariant-loop : goal.invariant-loop
-invariant-loop g l = ReaderOf l.ring l.pump.reader × KeepsFit l.fn.pump.front l.pump.front
+invariant-loop g l = ReaderOf l.ring l.pump.reader × GoesOn l.fn.pump.front l.pump.front
