@@ -1,4 +1,5 @@
--- What two seats with one part each know once they have met, as their writers and their reader see it.
+-- What two seats with one part each know once they have met, and what a seat knows once it has found tail, as their writers and
+-- their reader see it.
 use Rattle.std.proofs.Common.{◌≡◌, ℕ, List, [], ◌∷◌, ◌++◌, length, refl, sym, ap, ◌∙◌, subst, arith}
 use Rattle.atomic_table.specs.Seated.{TableId}
 use Rattle.atomic_table.specs.Table.{Me, Step}
@@ -39,6 +40,20 @@ module _ {S : Type 0} where
             right ∙ ap (λ (m : Me S Parts). let n : Me S Parts = (second_alone m.0, []) in n) after
             ∙ ap (λ (t : ℕ). let n : Me S Parts = (with_tail t run second ∷ [], []) in n) is;
       }
+
+  -- A seat with one part has found tail.
+  pub found_alone : (step : Step S) (tail : ℕ) (part : Part) (before after : Me S Parts) → before ≡ (part ∷ [], [])
+      → HasFoundTail step before tail after
+      → (run : List Answered) × (log : List Event) × (tail ≡ length log) × IsOf run log part
+      × (after ≡ (with_tail (length log) run part ∷ [], []))
+  found_alone step tail part before after alone has =
+      let (run, log, left, is, each) = subst (λ (m : Me S Parts). HasFoundTail step m tail after) alone has in (
+        run,
+        log,
+        is,
+        each 0 part refl,
+        left ∙ ap (λ (t : ℕ). let n : Me S Parts = (with_tail t run part ∷ [], []) in n) is,
+      )
 
   -- A writer is idle still.
   pub idle_still : (number : Ix) (tail : ℕ) (run : List Answered) (before after : Me S Parts) → IsIdleWriter number before

@@ -81,3 +81,10 @@ pub record WritersHaveMet (one one_after other other_after : WriterIs) : Type 0 
   pub log : List Event
   pub one_meets : WriterMeets run log one one_after
   pub other_meets : WriterMeets run log other other_after
+
+-- The writer has found this tail: there are a run and its log of so many events, which it has met as in a meeting.
+pub record FindsTail (tail : ℕ) (before after : WriterIs) : Type 0 where
+  pub run : List Answered
+  pub log : List Event
+  pub counted : tail ≡ length log
+  pub meets : WriterMeets run log before after

@@ -1,7 +1,7 @@
 //! Two ends of a ring meet: each then knows that the other's places and its own are of one log.
 ghost use Rattle.std.specs.Prelude.{◌≡◌, [], ◌∷◌};
 ghost use Rattle.tmw_ring.specs.Ends.{WriterOf, ReaderOf};
-ghost use Rattle.tmw_ring.specs.Meeting.{HasFoundTail, SeatsHaveMet, HaveMet, WritersHaveMet};
+ghost use Rattle.tmw_ring.specs.Meeting.{HasFoundTail, FindsTail, SeatsHaveMet, HaveMet, WritersHaveMet};
 
 use crate::cuts::{AllParts, BothParts, SecondPart};
 use crate::ends::{Reader, Ring, Writer};
@@ -27,6 +27,14 @@ impl Ring {
         ensures { WritersHaveMet one.old one.new other.old other.new }
     {
         self.meet_seats(&mut one.seat, &mut other.seat);
+    }
+
+    /// How many places have been claimed, as the writer finds it. Its next event comes behind them.
+    pub fn find_tail(&self, writer: &mut Writer) -> u64
+        requires { WriterOf self.now writer.old }
+        ensures { FindsTail result writer.old writer.new }
+    {
+        self.table.shared.load::<FoundTail>(&mut writer.seat, 0)
     }
 
     /// One seat takes in the other's parts, finds tail for both, and gives them back.

@@ -1,6 +1,7 @@
 //! Meetings of a new ring's ends.
 use super::*;
 use std::test::Fail;
+use tmw_events::Kind;
 
 #[test]
 fn meetings_of_new_ends(rt: HostRuntime) -> Result<(), Fail> {
@@ -14,5 +15,21 @@ fn meetings_of_new_ends(rt: HostRuntime) -> Result<(), Fail> {
     ring.meet_writers(&mut last, &mut first);
     assert_eq!(rt; first.number().get(), 0);
     assert_eq!(rt; last.number().get(), 1);
+    Ok(())
+}
+
+#[test]
+fn writers_find_how_many_places_are_claimed(rt: HostRuntime) -> Result<(), Fail> {
+    let (ring, mut writers, _reader) = ring(rt.alloc(), 8, 2, 100)?;
+    let (Some(mut last), Some(mut first)) = (writers.pop(), writers.pop()) else {
+        panic!(rt; "fewer than two writers");
+    };
+    assert_eq!(rt; ring.find_tail(&mut first), 0);
+    assert_eq!(rt; ring.record(&mut first, Kind::T), Ok(0));
+    assert_eq!(rt; ring.record(&mut last, Kind::T), Ok(1));
+    assert_eq!(rt; ring.record(&mut last, Kind::C), Ok(2));
+    assert_eq!(rt; ring.find_tail(&mut first), 3);
+    assert_eq!(rt; ring.find_tail(&mut last), 3);
+    assert_eq!(rt; ring.record(&mut first, Kind::C), Ok(3));
     Ok(())
 }

@@ -1,3 +1,4 @@
+//! Judging a ring up to a length of its log.
 ghost use Rattle.std.specs.Prelude.{◌≡◌, length, OnOk};
 ghost use Rattle.tmw_recorded.specs.Pumping.{GoesOn};
 ghost use Rattle.tmw_ring.specs.Ends.{ReaderOf};
@@ -8,13 +9,31 @@ use std::thread;
 use tmw_pump::Pump;
 use tmw_ring::Ring;
 
+/// So many events are judged by one call of the pump at most.
+const TURN: u64 = 64;
+
 /// Judges the events of the ring until so many are judged in all. It waits for those that are not published yet, and so for ever
-/// where no more come.
-pub fn judge_up_to<R: Wait>(rt: &R, ring: &Ring, pump: &mut Pump, count: u64) -> Result<(), AllocError>
+/// where no more come, or where more are judged already.
+pub fn judge_up_to<R: Wait>(
+    rt: &R,
+    ring: &Ring,
+    pump: &mut Pump,
+    count: u64,
+) -> Result<(), AllocError>
     requires { ReaderOf ring.now pump.old.reader }
     ensures of_ring { OnOk result (ReaderOf ring.now pump.new.reader) }
     ensures goes_on { OnOk result (GoesOn pump.old.front pump.new.front) }
     ensures judged { OnOk result (length pump.new.front.judged.items ≡ count) }
 {
-    todo
+    for _ in rt.forever() {
+        let judged = pump.judged().len() as u64;
+        if judged == count {
+            break;
+        }
+        let pumped = pump.pump(ring, TURN.min(count.saturating_sub(judged)))?;
+        if pumped.judged == 0 {
+            thread::yield_now();
+        }
+    }
+    Ok(())
 }

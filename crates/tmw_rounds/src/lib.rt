@@ -3,6 +3,8 @@
 
 mod judging;
 mod meeting;
+#[cfg(test)]
+mod tests;
 
 pub use judging::judge_up_to;
 pub use meeting::meet_all;
