@@ -8,6 +8,5 @@ pub mod RepeatedRuns
 pub mod Returns
 pub mod RoundsBegun
 pub mod RoundsOver
-pub mod Standing
 pub mod Whole
 pub mod WholeRounds

@@ -3,7 +3,7 @@ use Rattle.std.proofs.Common.{◌≡◌, ◌<◌, ◌++◌, ℕ, zero, suc, true
 use Rattle.std.proofs.Math.Seq.{get_or-append_seam}
 use Rattle.std.proofs.lemmas.List.{get_or-map}
 use Rattle.std.specs.declared.thread.PromisedHandle.{PromisedHandle}
-use Rattle.tmw_bench.proofs.Standing.{all_stand-more}
+use Rattle.tmw_runs.proofs.StandingSteps.{all_stand-more}
 use Rattle.tmw_bench.specs.Playing.{ComesBack, GivesWithin, IsPromise}
 use Rattle.tmw_bench.specs.declared.threads.Playing.{Playing}
 use Rattle.tmw_drive.specs.Driving.{script_at}
