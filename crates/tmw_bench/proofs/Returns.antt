@@ -40,7 +40,7 @@ comes_back-more gives more ring script before writer stop larger of_ring number 
 }
 
 -- What holds of each item at its place still does when one more is put behind them.
-pub one_more : {A : Type 0} (P : ℕ → A → Type 0) (items : List A) (item : A)
+one_more : {A : Type 0} (P : ℕ → A → Type 0) (items : List A) (item : A)
     → ((place : ℕ) (fallback : A) → place < length items → P place (get_or items place fallback)) → P (length items) item
     → (place : ℕ) (fallback : A) → place < length (items ++ item ∷ []) → P place (get_or (items ++ item ∷ []) place fallback)
 one_more P [] item each last zero fallback low = last
@@ -48,6 +48,13 @@ one_more P [] item each last (suc place) fallback low = absurd (omega (arith, lo
 one_more P (first ∷ items) item each last zero fallback low = each zero fallback (omega arith)
 one_more P (first ∷ items) item each last (suc place) fallback low =
     one_more (λ n. P (suc n)) items item (λ n d below. each (suc n) d (omega (arith, below))) last place fallback (omega (arith, low))
+
+pub pushed : {A : Type 0} (P : ℕ → A → Type 0) (items : List A) (item : A) (new : List A) → new ≡ items ++ item ∷ []
+    → ((place : ℕ) (fallback : A) → place < length items → P place (get_or items place fallback)) → P (length items) item
+    → (place : ℕ) (fallback : A) → place < length new → P place (get_or new place fallback)
+pushed {A = A} P items item new is each last =
+    subst (λ (l : List A). (place : ℕ) (fallback : A) → place < length l → P place (get_or l place fallback)) (sym is)
+    (one_more P items item each last)
 
 -- An item has a place, and is the one there.
 pub shorter : {A : Type 0} (before : List A) (item : A) (after : List A) → length before < length (before ++ item ∷ after)

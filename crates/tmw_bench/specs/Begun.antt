@@ -12,8 +12,8 @@ use Rattle.tmw_ring.specs.Settling.{AreInOrder}
 use Rattle.tmw_ring.specs.declared.refused.Refused.{Refused}
 use Rattle.tmw_tm.specs.Answers.{Call, Answer}
 
--- The reader and the writers of one ring are back, and what was recorded are whole rounds, and a last one. The last ones end at
--- these bounds, and at each of them all was judged, and the verdict was opaque so far.
+-- After a round: the reader and the writers of one ring are back, and what was recorded are whole rounds, which ended at these
+-- bounds, and one more, to its end or up to where threads were stopped. At each bound the verdict was opaque so far.
 pub record IsAfter (rules : Rules) (gives : Call → Answer → Type 0) (ring : RingIs) (scripts : List (List (List Kind))) (bounds : List ℕ) (reader : ReaderIs) (front : Front) (writers : List WriterIs) (stops : List (Option Refused)) : Type 0 where
   pub reader_of : ReaderOf ring reader
   pub of_ring : All (WriterOf ring) writers
@@ -23,7 +23,7 @@ pub record IsAfter (rules : Rules) (gives : Call → Answer → Type 0) (ring : 
   pub fits : Fits rules front.judged.items front.monitor
   pub opaque : AllOpaque rules bounds front.judged.items
 
--- So many rounds were begun. The last may have been stopped.
+-- So many rounds were begun, all but the last of which are whole.
 pub record HaveBegun (rules : Rules) (gives : Call → Answer → Type 0) (ring : RingIs) (scripts : List (List (List Kind))) (rounds : ℕ) (reader : ReaderIs) (front : Front) (writers : List WriterIs) (stops : List (Option Refused)) : Type 0 where
   pub bounds : List ℕ
   pub counted : rounds ≡ length bounds + 1

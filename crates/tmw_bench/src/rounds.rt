@@ -47,16 +47,9 @@ pub fn play_rounds<R: Threads + Wait + Sync, J: Giving + Send>(
     ensures over { IfOk result (λ played. played.1 < settings.rounds → IsOver played.0.stops.items played.0.pump.front) }
     ensures err { IfErr result IsOfThreads }
 {
-    let mut left = play_round::<R, J>(
-        rt,
-        alloc,
-        memory,
-        ring,
-        pump,
-        writers,
-        &workload.scripts,
-        settings.patience,
-    )?;
+    let scripts = workload.scripts.as_slice();
+    let patience = settings.patience;
+    let mut left = play_round::<R, J>(rt, alloc, memory, ring, pump, writers, scripts, patience)?;
     for round in 1..settings.rounds {
         if some_stop(&left.stops) {
             return Ok((left, round));
@@ -72,16 +65,7 @@ pub fn play_rounds<R: Threads + Wait + Sync, J: Giving + Send>(
             writers,
             stops: _,
         } = left;
-        left = play_round::<R, J>(
-            rt,
-            alloc,
-            memory,
-            ring,
-            pump,
-            writers,
-            &workload.scripts,
-            settings.patience,
-        )?;
+        left = play_round::<R, J>(rt, alloc, memory, ring, pump, writers, scripts, patience)?;
     }
     Ok((left, settings.rounds))
 }

@@ -17,7 +17,7 @@ pub play_round-requires-clause-scripts : goal.play_round-requires-clause-scripts
 play_round-requires-clause-scripts g c κs within =
     let workload = c.args.workload.now in
     let scripts = scripts_of workload.scripts.items in
-    subst (λ (l : List (Vec (Vec Kind))). AreTransactions (scripts_of l)) (sym c.deref.ensures.value)
+    subst (λ (l : List (Vec (Vec Kind))). AreTransactions (scripts_of l)) (sym c.as_slice-scripts.ensures.value)
     (workload.registers.number, are_transactions-workload workload.registers.number scripts workload.order.items workload.is)
 
 pub loop-round-init : goal.loop-round-init
@@ -32,7 +32,7 @@ loop-round-init g c =
     let counted : length before ≡ length scripts = c.requires.count ∙ sym (length-map workload.scripts.items script_of) in
     let back : HaveComeBack gave ring scripts before left.writers.items left.stops.items =
     subst (λ (l : List (Vec (Vec Kind))). HaveComeBack gave ring (scripts_of l) before left.writers.items left.stops.items)
-    c.deref.ensures.value c.in_ok-left.ensures.back in
+    c.as_slice-scripts.ensures.value c.in_ok-left.ensures.back in
     record {
       bounds = [];
       counted = refl;
@@ -52,7 +52,7 @@ returns-then-not-is_opaque_so_far-clause-begun g c =
     let old = c.loop-round.left in
     let left = c.judge_round.new.left in
     let not_stopped : All (λ stop. stop ≡ None) old.stops.items =
-    subst (All (λ (stop : Option Refused). stop ≡ None)) c.deref-in-loop-round.ensures.value c.if-some_stop.ensures in
+    subst (All (λ (stop : Option Refused). stop ≡ None)) c.deref.ensures.value c.if-some_stop.ensures in
     record {
       bounds = was.bounds;
       counted = was.counted;
@@ -66,7 +66,7 @@ pub play_round-requires-in-loop-round-clause-scripts : goal.play_round-requires-
 play_round-requires-in-loop-round-clause-scripts g c κs within =
     let workload = c.args.workload.now in
     let scripts = scripts_of workload.scripts.items in
-    subst (λ (l : List (Vec (Vec Kind))). AreTransactions (scripts_of l)) (sym c.deref-in-loop-round-2.ensures.value)
+    subst (λ (l : List (Vec (Vec Kind))). AreTransactions (scripts_of l)) (sym c.as_slice-scripts.ensures.value)
     (workload.registers.number, are_transactions-workload workload.registers.number scripts workload.order.items workload.is)
 
 pub loop-round-preserved : goal.loop-round-preserved
@@ -82,11 +82,11 @@ loop-round-preserved g c =
     let left = c.in_ok-left-2.left in
     let met = c.in-Ok.ensures.met in
     let not_stopped : All (λ stop. stop ≡ None) old.stops.items =
-    subst (All (λ (stop : Option Refused). stop ≡ None)) c.deref-in-loop-round.ensures.value c.if-some_stop.ensures in
+    subst (All (λ (stop : Option Refused). stop ≡ None)) c.deref.ensures.value c.if-some_stop.ensures in
     let opaque = sym c.verdict.ensures.shown ∙ c.if-not-is_opaque_so_far.ensures in
     let back : HaveComeBack gave ring scripts judged.writers.items left.writers.items left.stops.items =
     subst (λ (l : List (Vec (Vec Kind))). HaveComeBack gave ring (scripts_of l) judged.writers.items left.writers.items left.stops.items)
-    c.deref-in-loop-round-2.ensures.value c.in_ok-left-2.ensures.back in
+    c.as_slice-scripts.ensures.value c.in_ok-left-2.ensures.back in
     record {
       bounds = met.tail ∷ was.bounds;
       counted = let before = was.counted in omega (arith, before);

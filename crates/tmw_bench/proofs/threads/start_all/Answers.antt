@@ -1,8 +1,7 @@
 use Rattle.std.proofs.Common.{◌≡◌, ◌<◌, ◌+◌, ◌++◌, ℕ, List, [], ◌∷◌, length, get_or, IsTrue, sym, ap, ◌∙◌, subst, append_assoc, arith}
 use Rattle.std.proofs.lemmas.List.{length_push, get_or-map}
-use Rattle.std.specs.Global.{Vec}
 use Rattle.std.specs.Vec.Iter.{into_iter_items}
-use Rattle.tmw_bench.proofs.Returns.{Handle, one_more, shorter, at_seam}
+use Rattle.tmw_bench.proofs.Returns.{Handle, pushed, shorter, at_seam}
 use Rattle.tmw_bench.specs.Playing.{IsPromise}
 use Rattle.tmw_drive.specs.Driving.{script_at}
 use Rattle.tmw_drive.specs.Playing.{calls_of}
@@ -49,12 +48,8 @@ loop-writer-preserved g c =
           let short = ap (λ (l : List WriterIs). length l) steps.0 in
           omega arith,
       ap (λ (n : ℕ). n + 1) at.invariant.3 ∙ sym {A = ℕ} (length_push at.yielded c.in-Some.writer),
-      subst (λ (handles : List (Handle g.row.J.Denot)). (place : ℕ) (fallback : Handle g.row.J.Denot) → place < length handles
-          → IsPromise ring scripts all place (get_or handles place fallback).promise.ring.now
-          (calls_of (get_or handles place fallback).promise.script.now) (get_or handles place fallback).promise.before.value)
-          (sym {A = List (Handle g.row.J.Denot)} items)
-          (one_more (λ place handle. IsPromise ring scripts all place handle.promise.ring.now (calls_of handle.promise.script.now)
-          handle.promise.before.value) at.handles.items c.in-Ok.handle at.invariant.4 here),
+      pushed (λ place handle. IsPromise ring scripts all place handle.promise.ring.now (calls_of handle.promise.script.now)
+          handle.promise.before.value) at.handles.items c.in-Ok.handle c.push.new.self.items items at.invariant.4 here,
     )
 
 pub spawn_with-requires-clause-runs : goal.spawn_with-requires-clause-runs
