@@ -1,20 +1,18 @@
 -- From what a round has left to what the next one leaves.
-use Rattle.std.proofs.Common.{◌≡◌, ◌<◌, ◌≤◌, ◌+◌, ◌++◌, ℕ, List, [], ◌∷◌, Option, None, length, get_or, refl, sym, ap, ◌∙◌, subst, arith}
+use Rattle.std.proofs.Common.{◌≡◌, ◌<◌, ℕ, List, [], ◌∷◌, Option, None, length, get_or, sym, ap, ◌∙◌, subst, arith}
 use Rattle.std.specs.Prelude.{All}
 use Rattle.tmw_bench.proofs.OpaqueRounds.{all_opaque-append, all_opaque-round}
 use Rattle.tmw_bench.proofs.PlayedRounds.{all_ready-new, all_played_last-worked, all_ready-met}
-use Rattle.tmw_bench.specs.Begun.{IsAfter, HaveBegun}
+use Rattle.tmw_bench.specs.Begun.{IsAfter}
 use Rattle.tmw_bench.specs.Playing.{HaveComeBack, HaveMetAll}
-use Rattle.tmw_bench.specs.Rounds.{AllOpaque, AreAllReady, HasPlayedLast, HaveAllPlayedLast}
+use Rattle.tmw_bench.specs.Rounds.{AllOpaque, AreAllReady, HasPlayedLast}
 use Rattle.tmw_defs.specs.Verdict.{Rules, IsVerdict}
-use Rattle.tmw_defs.specs.declared.verdict.Verdict.{Verdict}
 use Rattle.tmw_defs.specs.declared.verdict.Verdict.TheVariants.{OpaqueSoFar}
 use Rattle.tmw_drive.specs.Driving.{script_at}
 use Rattle.tmw_events.specs.declared.event.Event.{Event}
 use Rattle.tmw_events.specs.declared.event.Kind.{Kind}
 use Rattle.tmw_events.specs.declared.ix.Ix.{Ix}
 use Rattle.tmw_monitor.specs.Fitting.{Fits}
-use Rattle.tmw_monitor.specs.declared.monitor.Monitor.{Monitor}
 use Rattle.tmw_pump.specs.declared.front.Front.{Front}
 use Rattle.tmw_recorded.specs.Pumping.{GoesOn}
 use Rattle.tmw_recorded.specs.Recording.{kinds_made}

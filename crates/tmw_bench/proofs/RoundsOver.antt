@@ -1,7 +1,7 @@
 -- Where no further round was begun, and how the threads have ended.
-use Rattle.std.proofs.Common.{◌≡◌, ◌≤◌, ◌<◌, ◌++◌, ℕ, List, Option, None, length, get_or, map, inl, inr, sym, ap, ◌∙◌, subst, arith}
+use Rattle.std.proofs.Common.{◌≡◌, ◌<◌, ◌++◌, ℕ, List, Option, None, length, get_or, map, inl, inr, sym, ap, ◌∙◌, subst, arith}
 use Rattle.std.proofs.lemmas.List.{length-append, length-map, get_or-map, take-append-le}
-use Rattle.std.specs.Prelude.{◌≢◌, ◌⊎◌, take}
+use Rattle.std.specs.Prelude.{◌≢◌, ◌⊎◌}
 use Rattle.tmw_bench.proofs.Whole.{some_stopped-endings}
 use Rattle.tmw_bench.specs.Begun.{IsOver}
 use Rattle.tmw_bench.specs.Benched.{SomeStopped}

@@ -1,4 +1,4 @@
-use Rattle.std.proofs.Common.{◌≡◌, ◌++◌, ℕ, List, Option, [], length, map, sym, ap, ◌∙◌, subst, append_assoc, arith}
+use Rattle.std.proofs.Common.{◌≡◌, ◌++◌, ℕ, List, Option, length, map, sym, ap, ◌∙◌, subst, append_assoc, arith}
 use Rattle.std.proofs.lemmas.List.{length-map}
 use Rattle.tmw_bench.proofs.OpaqueRounds.{all_opaque-append}
 use Rattle.tmw_bench.proofs.RoundsOver.{are_endings-map, over-log}
@@ -7,7 +7,6 @@ use Rattle.tmw_bench.specs.Rounds.{ending_of, AllOpaque, AreEndings}
 use Rattle.tmw_bench.specs.declared.benched.Benched.{Benched}
 use Rattle.tmw_defs.specs.Opaque.{zeros}
 use Rattle.tmw_drive.proofs.Workloads.{are_transactions-workload}
-use Rattle.tmw_drive.specs.declared.ending.Ending.{Ending}
 use Rattle.tmw_events.specs.declared.event.Event.{Event}
 use Rattle.tmw_monitor.specs.Fitting.{Fits, rules_of}
 use Rattle.tmw_pump.specs.Fronts.{came}
@@ -15,7 +14,6 @@ use Rattle.tmw_pump.specs.Held.{listed}
 use Rattle.tmw_pump.specs.Headline.{Headline}
 use Rattle.tmw_pump.specs.Resting.{all_of}
 use Rattle.tmw_pump.specs.declared.front.Front.{Front}
-use Rattle.tmw_ring.specs.Ends.{WriterIs}
 use Rattle.tmw_ring.specs.declared.refused.Refused.{Refused}
 use Rattle.tmw_ring_defs.specs.Sizes.{HasNumbers}
 use Rattle.tmw_runs.specs.Scripts.{script_of, scripts_of}
