@@ -5,5 +5,8 @@ pub mod NeverMalformed
 pub mod OpaqueRounds
 pub mod PlayedRounds
 pub mod RepeatedRuns
-pub mod WholeRounds
+pub mod Returns
+pub mod RoundsBegun
+pub mod RoundsOver
 pub mod Whole
+pub mod WholeRounds

@@ -1,2 +1,4 @@
+pub mod Begun
 pub mod Benched
+pub mod Playing
 pub mod Rounds

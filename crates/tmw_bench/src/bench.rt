@@ -3,12 +3,20 @@ ghost use Rattle.tmw_bench.specs.Benched.{IsBenched, IsNoBench};
 ghost use Rattle.tmw_runs.specs.Scripts.{scripts_of};
 
 use crate::benched::Benched;
+use crate::ends::ends_of;
 use crate::fault::BenchFault;
+use crate::round::Left;
+use crate::rounds::play_rounds;
 use crate::settings::Settings;
 use std::alloc::Global;
+use std::marker::Brand;
 use std::sync::Wait;
 use std::thread::Threads;
-use tmw_ring::{RingFault, RingSize};
+use tmw_drive::Outcome;
+use tmw_monitor::Monitor;
+use tmw_pump::Pump;
+use tmw_recorded::judge_rest;
+use tmw_ring::{RingFault, ring};
 use tmw_tm::Tm;
 use tmw_workloads::Workload;
 
@@ -24,8 +32,8 @@ use tmw_workloads::Workload;
 ///
 /// It returns if each call of the memory does.
 pub fn run_bench<R: Threads + Wait + Sync>(
-    _rt: &R,
-    _alloc: Global,
+    rt: &R,
+    alloc: Global,
     memory: &(dyn Tm + Sync),
     workload: &Workload,
     settings: Settings,
@@ -33,8 +41,36 @@ pub fn run_bench<R: Threads + Wait + Sync>(
     ensures ok { IfOk result (IsBenched (gives memory.now) workload.now.registers (scripts_of workload.now.scripts.items) settings) }
     ensures err { IfErr result (IsNoBench workload.now.registers.number (length workload.now.scripts.items) settings) }
 {
-    match RingSize::new(settings.cells, workload.scripts.len() as u64, settings.limit) {
-        Ok(_size) => Err(BenchFault::Memory),
-        Err(fault) => Err(BenchFault::Ring(fault)),
+    if memory.registers().number < workload.registers.number {
+        return Err(BenchFault::Registers);
     }
+    let threads = workload.scripts.len() as u64;
+    let (ring, writers, reader) = match ring(alloc, settings.cells, threads, settings.limit) {
+        Ok(made) => made,
+        Err(RingFault::Memory) => return Err(BenchFault::Memory),
+        Err(RingFault::BadSize) => return Err(BenchFault::Ring(RingFault::BadSize)),
+        Err(RingFault::BadLimit) => return Err(BenchFault::Ring(RingFault::BadLimit)),
+    };
+    let Ok(monitor) = Monitor::new(alloc, workload.registers, settings.bounds) else {
+        return Err(BenchFault::Memory);
+    };
+    let pump = Pump::new(alloc, reader, monitor);
+    let (left, rounds) = play_rounds::<R, Brand>(
+        rt, alloc, memory, &ring, pump, writers, workload, settings,
+    )?;
+    let Left {
+        pump,
+        writers,
+        stops,
+    } = left;
+    let Ok((log, verdict)) = judge_rest(pump.settle(ring, writers)) else {
+        return Err(BenchFault::Memory);
+    };
+    let Ok(ends) = ends_of(alloc, &stops) else {
+        return Err(BenchFault::Memory);
+    };
+    Ok(Benched {
+        outcome: Outcome { log, verdict, ends },
+        rounds,
+    })
 }

@@ -3,8 +3,14 @@
 
 mod bench;
 mod benched;
+mod ends;
 mod fault;
+mod round;
+mod rounds;
 mod settings;
+#[cfg(test)]
+mod tests;
+mod threads;
 
 pub use bench::run_bench;
 pub use benched::Benched;

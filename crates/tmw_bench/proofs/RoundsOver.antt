@@ -1,0 +1,56 @@
+-- Where no further round was begun, and how the threads have ended.
+use Rattle.std.proofs.Common.{◌≡◌, ◌<◌, ◌++◌, ℕ, List, Option, None, length, get_or, map, inl, inr, sym, ap, ◌∙◌, subst, arith}
+use Rattle.std.proofs.lemmas.List.{length-append, length-map, get_or-map, take-append-le}
+use Rattle.std.specs.Prelude.{◌≢◌, ◌⊎◌}
+use Rattle.tmw_bench.proofs.Whole.{some_stopped-endings}
+use Rattle.tmw_bench.specs.Begun.{IsOver}
+use Rattle.tmw_bench.specs.Benched.{SomeStopped}
+use Rattle.tmw_bench.specs.Rounds.{ending_of, AreEndings}
+use Rattle.tmw_defs.proofs.VerdictProof.{verdict-one}
+use Rattle.tmw_defs.specs.Verdict.{Rules, IsFine, IsVerdict}
+use Rattle.tmw_defs.specs.declared.verdict.Verdict.{Verdict}
+use Rattle.tmw_defs.specs.declared.verdict.Verdict.TheVariants.{OpaqueSoFar}
+use Rattle.tmw_drive.specs.declared.ending.Ending.{Ending}
+use Rattle.tmw_events.specs.declared.event.Event.{Event}
+use Rattle.tmw_events.specs.declared.event.Kind.{Kind}
+use Rattle.tmw_pump.proofs.Verdicts.{fine-opaque}
+use Rattle.tmw_pump.specs.Headline.{Headline}
+use Rattle.tmw_pump.specs.declared.front.Front.{Front}
+use Rattle.tmw_ring.specs.Ends.{WriterIs}
+use Rattle.tmw_ring.specs.declared.refused.Refused.{Refused}
+
+-- Each ending is that of its thread's refusal, if any.
+pub are_endings-map : (scripts : List (List (List Kind))) (stops : List (Option Refused)) (ends : List Ending) → length stops ≡ length scripts
+    → ends ≡ map ending_of stops → AreEndings scripts stops ends
+are_endings-map scripts stops ends counted are = record {
+  counted = ap (λ (l : List Ending). length l) are ∙ length-map stops ending_of ∙ counted;
+  each = λ thread fallback low.
+      ap (λ (l : List Ending). get_or l thread fallback) are
+      ∙ get_or-map ending_of stops thread None fallback (subst (λ (n : ℕ). thread < n) (sym counted) low);
+}
+
+-- A log that is opaque so far begins with nothing that is not.
+opaque-front : (rules : Rules) (front more log : List Event) (verdict : Verdict) → log ≡ front ++ more → IsVerdict rules front verdict
+    → IsVerdict rules log OpaqueSoFar → verdict ≡ OpaqueSoFar
+opaque-front rules front more log verdict is told opaque =
+    let whole : IsVerdict rules (front ++ more) OpaqueSoFar = subst (λ (l : List Event). IsVerdict rules l OpaqueSoFar) is opaque in
+    let part : IsVerdict rules front OpaqueSoFar =
+    λ k within.
+    subst (IsFine rules) (take-append-le k front more within)
+    (whole k (let longer = length-append front more in omega (arith, within, longer))) in
+    verdict-one rules front verdict OpaqueSoFar told part
+
+-- No further round could begin.
+pub over-log : (rules : Rules) (scripts : List (List (List Kind))) (stops : List (Option Refused)) (ends : List Ending) (front : Front)
+    (more log : List Event) (writers : List WriterIs) (verdict : Verdict) → length stops ≡ length scripts → AreEndings scripts stops ends
+    → log ≡ front.judged.items ++ more → IsVerdict rules front.judged.items front.monitor.verdict → Headline rules log writers log verdict
+    → IsOver stops front → (verdict ≢ OpaqueSoFar) ⊎ SomeStopped ends
+over-log rules scripts stops ends front more log writers verdict counted endings is told headline over =
+    elim over [
+      | inl stop ↦
+          inr (some_stopped-endings scripts stops ends stop.thread stop.refused (subst (λ (n : ℕ). stop.thread < n) counted stop.low)
+          (stop.stopped None) endings)
+      | inr wrong ↦
+          inl (λ opaque. wrong (opaque-front rules front.judged.items more log front.monitor.verdict is told
+          (fine-opaque rules log (headline.opaque.0 opaque))))
+    ]

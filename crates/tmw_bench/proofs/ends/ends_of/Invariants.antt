@@ -1,0 +1,7 @@
+-- The endings so far.
+use Rattle.std.proofs.Common.{◌≡◌, map, take}
+use Rattle.tmw_bench.specs.Rounds.{ending_of}
+use Rattle.tmw_bench.proofs.ends.ends_of.Given as goal
+
+abbrev pub invariant-loop-stop : goal.invariant-loop-stop
+invariant-loop-stop l = l.ends.items ≡ map ending_of (take l.stop-index l.stops)
