@@ -1,7 +1,7 @@
 mod AllPlaying
 mod Driven
 mod Entries
-pub mod Going
-pub mod Players
+mod Going
+mod Players
 mod Positions
-pub mod Workloads
+mod Workloads

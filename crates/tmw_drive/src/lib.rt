@@ -11,9 +11,7 @@ mod playing;
 #[cfg(test)]
 mod tests;
 
-pub use asking::ends;
 pub use driving::drive;
 pub use ending::Ending;
 pub use fault::DriveFault;
 pub use outcome::Outcome;
-pub use player::Player;

@@ -1,3 +1,2 @@
-pub mod Pumping
 pub mod Recorded
 pub mod Recording
