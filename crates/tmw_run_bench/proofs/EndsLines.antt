@@ -1,6 +1,5 @@
 -- The compact text of the object of the ends, and a line feed after it, are the line of the ends.
-use Rattle.std.proofs.Common.{◌≡◌, ◌++◌, ℕ, List, [], ◌∷◌, append_assoc, codes, refl, false, true, ap, map, ◌∙◌}
-use Rattle.json.specs.Print.{quoted}
+use Rattle.std.proofs.Common.{◌≡◌, ◌++◌, ℕ, List, [], ◌∷◌, append_assoc, codes, refl, false, true, ap, ap₂, map, ◌∙◌}
 use Rattle.serde_json.specs.Data.{Data}
 use Rattle.serde_json.specs.View.{items_of}
 use Rattle.serde_json.specs.Written.{compact_text, has_float, items_have_float, items_text}
@@ -8,7 +7,7 @@ use Rattle.serde_json.proofs.OnLiterals.{serde_json_on_literals}
 use Rattle.tmw_drive.specs.declared.ending.Ending.{Ending}
 use Rattle.tmw_drive.specs.declared.ending.Ending.TheVariants.{Done, Left, Stopped}
 use Rattle.tmw_ring.specs.declared.refused.Refused.TheVariants.{Full, Spent}
-use Rattle.tmw_run_bench.specs.Ends.{end_text, end_word, ends_line, more_ends}
+use Rattle.tmw_run_bench.specs.Ends.{end_text, ends_line, more_ends}
 use Rattle.tmw_run_bench.specs.EndsObject.{end_data, ends_object}
 
 items_have_float-end_data : (ends : List Ending) → items_have_float (items_of (map end_data ends)) ≡ false
@@ -18,23 +17,25 @@ items_have_float-end_data (end ∷ ends) = items_have_float-end_data ends
 has_float-ends_object : (ends : List Ending) → has_float (ends_object ends) ≡ false
 has_float-ends_object ends = rw (items_have_float-end_data ends) refl
 
-quoted-end_word : (end : Ending) → quoted (end_word end) ≡ end_text end
+compact_text-end_data : (end : Ending) → compact_text (end_data end) ≡ end_text end
 unfolding serde_json_on_literals
-quoted-end_word Done = refl
-quoted-end_word Left = refl
-quoted-end_word (Stopped (Full front tail)) = refl
-quoted-end_word (Stopped (Spent tail)) = refl
+compact_text-end_data Done = refl
+compact_text-end_data Left = refl
+compact_text-end_data (Stopped (Full front tail)) = refl
+compact_text-end_data (Stopped (Spent tail)) = refl
 
 items_text-more : (ends : List Ending) → items_text true (items_of (map end_data ends)) ≡ more_ends ends ++ 93 ∷ []
 items_text-more [] = refl
 items_text-more (end ∷ ends) =
-    rw (quoted-end_word end, items_text-more ends) (simp append_assoc refl)
+    ap₂ (λ (text rest : List ℕ). codes "," ++ (text ++ rest)) (compact_text-end_data end) (items_text-more ends)
+    ∙ simp append_assoc refl
 
 compact_text-ends_object : (ends : List Ending) → compact_text (ends_object ends) ++ 10 ∷ [] ≡ ends_line ends
 unfolding serde_json_on_literals
 compact_text-ends_object [] = refl
 compact_text-ends_object (end ∷ ends) =
-    rw (quoted-end_word end, items_text-more ends) (simp append_assoc refl)
+    ap₂ (λ (text rest : List ℕ). codes "{\"ends\":[" ++ (((text ++ rest) ++ codes "}") ++ codes "\n")) (compact_text-end_data end) (items_text-more ends)
+    ∙ simp append_assoc refl
 
 -- a value that is this object, and its text
 pub ends_object-line : (ends : List Ending) (value : Data) (text : List ℕ) → value ≡ ends_object ends

@@ -63,7 +63,7 @@ fn bench_bytes<R: Threads + Wait + Sync>(
 
 /// What threads have made of a workload over so many registers, with the header of its log.
 fn with_header(registers: Registers, benched: Benched) -> BenchRun
-    ensures header { IsHeaderOf registers benched.outcome.log.items result.driven.header }
+    ensures header { IsHeaderOf registers result.driven.outcome.log.items result.driven.header }
     ensures same { benched_of result ≡ benched }
 {
     BenchRun {

@@ -30,7 +30,7 @@ pub fn run_bench_cmd<S: Source, K: Sink, R: Threads + Wait + Sync>(
         trace settings source.old source.new sink.old sink.new result }
 {
     match bench_source(rt, alloc, source, memory, settings) {
-        Ok(run) => answer_run(alloc, sink, &run, trace),
+        Ok(found) => answer_run(alloc, sink, &found, trace),
         Err(fault) => answer_fault(sink, fault),
     }
 }

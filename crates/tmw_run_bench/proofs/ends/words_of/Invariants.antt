@@ -5,4 +5,4 @@ use Rattle.tmw_run_bench.specs.EndsObject.{end_data}
 use Rattle.tmw_run_bench.proofs.ends.words_of.Given as goal
 
 abbrev pub invariant-loop-end : goal.invariant-loop-end
-invariant-loop-end l = map view l.words.items ≡ map end_data (take l.end-index l.ends.now)
+invariant-loop-end l = map view l.words.items ≡ map end_data (take l.end-index l.ends)

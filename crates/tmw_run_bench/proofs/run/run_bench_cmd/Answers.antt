@@ -7,6 +7,6 @@ pub returns-in-Ok : goal.returns-in-Ok
 returns-in-Ok g c =
     let told = c.in-Ok.ensures.right in
     elim c.answer_run.ensures [
-      | inl put ↦ record { bytes = told.0; answer = Ok c.in-Ok.run; told = told.1; right = told.2; failures = c.in-Ok.ensures.failures; put = put }
+      | inl put ↦ record { bytes = told.0; answer = Ok c.in-Ok.found; told = told.1; right = told.2; failures = c.in-Ok.ensures.failures; put = put }
       | inr put ↦ record { bytes = told.0; answer = Err Memory; told = told.1; right = tt; failures = c.in-Ok.ensures.failures; put = put }
     ]
