@@ -1,5 +1,5 @@
 -- The workload that was read was carried out, and its log has the header; or it was not, by the fault that is answered.
-use Rattle.std.proofs.Common.{◌≡◌, subst, sym}
+use Rattle.std.proofs.Common.{subst, sym}
 use Rattle.tmw_bench.specs.Benched.{IsBenched}
 use Rattle.tmw_bench.specs.declared.benched.Benched.{Benched}
 use Rattle.tmw_bench.specs.declared.fault.BenchFault.TheVariants.{Registers, Ring, Spawn}
