@@ -88,10 +88,7 @@ fn drive_of(drive: &ArgMatches<'_>) -> Option<Order>
     ensures some { IfSome result (IsOrder (Some (codes "drive", rows_of (found_of drive.now)))) }
     ensures none { IfNone result ((order : Order) → IsOrder (Some (codes "drive", rows_of (found_of drive.now))) order → ⊥) }
 {
-    let Some(memory) = memory_of(drive) else {
-        return None;
-    };
-    let Some(trace) = trace_of(drive) else {
+    let Some((memory, trace)) = memory_and_trace_of(drive) else {
         return None;
     };
     let Some(bounds) = bounds_of(drive) else {
@@ -109,10 +106,7 @@ fn bench_of(bench: &ArgMatches<'_>) -> Option<Order>
     ensures some { IfSome result (IsOrder (Some (codes "bench", rows_of (found_of bench.now)))) }
     ensures none { IfNone result ((order : Order) → IsOrder (Some (codes "bench", rows_of (found_of bench.now))) order → ⊥) }
 {
-    let Some(memory) = memory_of(bench) else {
-        return None;
-    };
-    let Some(trace) = trace_of(bench) else {
+    let Some((memory, trace)) = memory_and_trace_of(bench) else {
         return None;
     };
     let Some(options) = options_of(bench) else {
@@ -125,23 +119,22 @@ fn bench_of(bench: &ArgMatches<'_>) -> Option<Order>
     })
 }
 
-/// The memory that the matches of a command name.
-fn memory_of(matches: &ArgMatches<'_>) -> Option<Which>
-    ensures some { IfSome result (NamesMemory (rows_of (found_of matches.now))) }
-    ensures none { IfNone result ((memory : Which) → NamesMemory (rows_of (found_of matches.now)) memory → ⊥) }
+/// The memory that the matches of a command name, and whether they have the flag `--trace`.
+fn memory_and_trace_of(matches: &ArgMatches<'_>) -> Option<(Which, bool)>
+    ensures some { IfSome result (λ found. NamesMemory (rows_of (found_of matches.now)) found.0 × HasTrace (rows_of (found_of matches.now)) found.1) }
+    ensures none { IfNone result ((memory : Which) (trace : Bool) → NamesMemory (rows_of (found_of matches.now)) memory
+        → HasTrace (rows_of (found_of matches.now)) trace → ⊥) }
 {
     let Some(name) = matches.get_str("memory") else {
         return None;
     };
-    Which::named(name)
-}
-
-/// Whether the matches of a command have the flag `--trace`.
-fn trace_of(matches: &ArgMatches<'_>) -> Option<bool>
-    ensures some { IfSome result (HasTrace (rows_of (found_of matches.now))) }
-    ensures none { IfNone result ((trace : Bool) → HasTrace (rows_of (found_of matches.now)) trace → ⊥) }
-{
-    matches.get_one::<bool>("trace")
+    let Some(memory) = Which::named(name) else {
+        return None;
+    };
+    let Some(trace) = matches.get_one::<bool>("trace") else {
+        return None;
+    };
+    Some((memory, trace))
 }
 
 /// The numbers and bounds that the matches of `bench` hold.
