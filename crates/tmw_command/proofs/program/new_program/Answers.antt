@@ -30,7 +30,7 @@ returns c =
     let first = c.in_ok-subcommand.ensures.shape judge_local.globals ∙ ap₂ with_subcommand top (ap (λ (app : App). app.top) judges) in
     let second = c.in_ok-subcommand-2.ensures.shape drive_local.globals ∙ ap₂ with_subcommand first (ap (λ (app : App). app.top) drives) in
     let third = c.in_ok-subcommand-3.ensures.shape bench_local.globals ∙ ap₂ with_subcommand second (ap (λ (app : App). app.top) benches) in
-    let names : texts c.as_slice.result.now ≡ memory_names = search rules in
+    let names : texts c.as_slice-memories.result.now ≡ memory_names = search rules in
     IfOk-weaker c.subcommand-4.result _ _
-    (λ command added. (c.as_slice.result, names, added.shape steps_local.globals ∙ ap₂ with_subcommand third (ap (λ (app : App). app.top) takes_steps)))
+    (λ command added. (c.as_slice-memories.result, names, added.shape steps_local.globals ∙ ap₂ with_subcommand third (ap (λ (app : App). app.top) takes_steps)))
     c.subcommand-4.ensures
