@@ -40,6 +40,14 @@ expect_events() {
     expect "examples/$1.json" 0 "{\"events\":$3,\"verdict\":\"opaque so far\"}" drive --memory "$2"
 }
 
+# A workload on standard input, the status and the output that it has to have, and nothing on standard error.
+expect_of() {
+    local workload=$1 wanted=$2 output=$3
+    shift 3
+    run "$@" <<<"$workload"
+    count "$* of $workload" "$wanted '$output' ''" "$status '$(cat "$folder/output")' '$(cat "$folder/errors")'"
+}
+
 # A workload of ten megabytes that goes on with this byte, and the fault's line.
 expect_hostile() {
     { printf '%s' "$1" && head -c 10000000 /dev/zero | tr '\0' "$2" && printf '%s' "$3"; } >"$folder/hostile"
@@ -85,12 +93,26 @@ expect examples/adds_that_collide.json 1 "$(printf '%s\n' 'opacity-trace 2 1 0' 
     '1 T' '1 C' '0 N 0 1' '0 V 1' '0 T' '0 C' '1 N 0 1' '1 V 2' '1 T' '1 C' '{"at":8,"events":16,"verdict":"violated"}')" drive --memory torn --trace
 expect examples/dirty_read.trace 4 '{"fault":"json"}' drive
 
+write='{"registers":1,"scripts":[[["W 0 5","T"]]],"order":[]}'
+expect_of "$write" 0 "$(printf '%s\n' 'opacity-trace 1 1' '0 W 0 5' '0 K' '0 T' '0 C' '{"events":4,"verdict":"opaque so far"}' \
+    '{"ends":["done"]}')" bench --trace
+for memory in norec lock torn; do
+    expect_of "$write" 0 "$(printf '%s\n' '{"events":400,"verdict":"opaque so far"}' '{"ends":["done"]}')" bench --memory "$memory" --rounds 100
+done
+expect_of "$write" 0 "$(printf '%s\n' '{"events":4,"verdict":"opaque so far"}' '{"ends":["done"]}')" bench --ring=1 --patience 1000000000
+expect_of '{"registers":1,"scripts":[[],[]],"order":[]}' 0 "$(printf '%s\n' '{"events":0,"verdict":"opaque so far"}' '{"ends":["done","done"]}')" bench
+expect_of '{"registers":1,"scripts":[[],[]],"order":[]}' 4 '{"fault":"ring"}' bench --ring 1
+expect_of '{' 4 '{"fault":"json"}' bench
+expect_of '[]' 4 '{"fault":"shape"}' bench --trace
+
 expect_help 'Usage: tmwatch <COMMAND>' --help
 expect_help 'Usage: tmwatch <COMMAND>' help
 expect_help 'Usage: tmwatch judge [OPTIONS]' judge --help
 expect_help 'Usage: tmwatch judge [OPTIONS]' help judge
 expect_help 'Usage: tmwatch drive [OPTIONS]' drive --help
 expect_help 'Usage: tmwatch drive [OPTIONS]' help drive
+expect_help 'Usage: tmwatch bench [OPTIONS]' bench --help
+expect_help 'Usage: tmwatch bench [OPTIONS]' help bench
 expect_help 'Usage: tmwatch steps' steps --help
 
 expect_usage "error: 'tmwatch' requires a subcommand but one was not provided"
@@ -102,6 +124,13 @@ expect_usage "error: invalid value '65' for '--states <N>': 65 is not in 1..=64"
 expect_usage "error: invalid value 'norec2' for '--memory <MEMORY>'" drive --memory norec2
 expect_usage "error: the argument '--memory <MEMORY>' cannot be used multiple times" drive --memory lock --memory torn
 expect_usage "error: the argument '--trace' cannot be used multiple times" drive --trace --trace
+expect_usage "error: invalid value '0' for '--ring <N>': 0 is not in 1..=4096" bench --ring 0
+expect_usage "error: invalid value '4097' for '--ring <N>': 4097 is not in 1..=4096" bench --ring=4097
+expect_usage "error: invalid value '0' for '--patience <N>': 0 is not in 1..=1000000000" bench --patience 0
+expect_usage "error: invalid value '0' for '--rounds <N>': 0 is not in 1..=1000000" bench --rounds 0
+expect_usage "error: invalid value '1000001' for '--rounds <N>': 1000001 is not in 1..=1000000" bench --rounds 1000001
+expect_usage "error: the argument '--rounds <N>' cannot be used multiple times" bench --rounds 1 --rounds 2
+expect_usage "error: unexpected argument '--rounds' found" drive --rounds 1
 expect_usage "error: unexpected argument '--trace' found" judge --trace
 expect_usage "error: unexpected argument 'further' found" judge further
 expect_usage "error: unexpected argument '--window' found" steps --window 3
@@ -114,7 +143,7 @@ expect_hostile '{"registers":1,"scripts":[[]],"order":["' a '"]}' '{"fault":"sha
 expect_hostile '{"registers":1,"scripts":[[]],"order":[1' 1 ']}' '{"fault":"json"}'
 
 # standard output that takes nothing, and standard error that takes nothing
-for words in 'judge' 'drive' 'steps' '--help' 'replay'; do
+for words in 'judge' 'drive' 'bench' 'steps' '--help' 'replay'; do
     status=0
     "$top/tmwatch" $words <"$top/examples/dirty_read.trace" >/dev/full 2>/dev/null || status=$?
     count "$words > /dev/full" 4 "$status"

@@ -1,4 +1,4 @@
--- The memory and the flag of `drive`: read from their texts, and no other ones.
+-- The memory and the flag of a command: read from their texts, and no other ones.
 use Rattle.std.proofs.Common.{◌≡◌, ◌∙◌, Bool, true, false, Option, Some, None, codes, ap, sym, refl}
 use Rattle.std.specs.Borrow.{Bor}
 use Rattle.std.specs.Prelude.{◌≢◌, option_map, unwrap_or}

@@ -4,6 +4,7 @@ mod Numbers
 mod Orders
 mod OtherFaults
 mod OtherParsers
+mod Picked
 mod Refusals
 mod Standing
 mod WrittenOut

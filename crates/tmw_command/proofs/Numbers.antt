@@ -11,15 +11,15 @@ use Rattle.tmw_monitor.specs.declared.bounds.BadBounds.TheVariants.{Window, Stat
 use Rattle.tmw_monitor.specs.declared.bounds.Bounds.{Bounds}
 use Rattle.tmw_command.specs.Words.{Gives}
 
--- what an option's text must be for its number to be read
-abbrev pub IsByte : Text → Type 0
-IsByte text = IsNumeral 10 (without_leading_plus text) × (digits_value 10 (without_leading_plus text) < 2 ^ 8)
+-- what an option's text must be for its number of so many bits to be read
+abbrev pub IsNumber : (bits : ℕ) → Text → Type 0
+IsNumber bits text = IsNumeral 10 (without_leading_plus text) × (digits_value 10 (without_leading_plus text) < 2 ^ bits)
 
 -- a number that was read is its option's
-pub read-Gives : (f : Found) (name : Text) (read number : ℕ) → number ≡ read → (one_text f name ≡ None → Some read ≡ None)
-    → ((text : Text) → one_text f name ≡ Some text → IsByte text × (read ≡ digits_value 10 (without_leading_plus text)))
+pub read-Gives : (bits : ℕ) (f : Found) (name : Text) (read number : ℕ) → number ≡ read → (one_text f name ≡ None → Some read ≡ None)
+    → ((text : Text) → one_text f name ≡ Some text → IsNumber bits text × (read ≡ digits_value 10 (without_leading_plus text)))
     → Gives name (rows_of f) number
-read-Gives f name read number same absent value = go (one_text f name) refl
+read-Gives bits f name read number same absent value = go (one_text f name) refl
   where
     go : (o : Option Text) → one_text f name ≡ o → Gives name (rows_of f) number
     go None none =
@@ -29,10 +29,11 @@ read-Gives f name read number same absent value = go (one_text f name) refl
         let parsed = value t some in
         record { text = t; found = sym (one_text-rows f name) ∙ some; numeral = parsed.0.0; reads = same ∙ parsed.1 }
 
--- an option of which none was read has no number of eight bits
-pub unread-Gives : (f : Found) (name : Text) (number : ℕ) → number < 2 ^ 8 → ((text : Text) → one_text f name ≡ Some text → IsByte text → ⊥)
+-- an option of which none was read has no number of so many bits
+pub unread-Gives : (bits : ℕ) (f : Found) (name : Text) (number : ℕ) → number < 2 ^ bits
+    → ((text : Text) → one_text f name ≡ Some text → IsNumber bits text → ⊥)
     → Gives name (rows_of f) number → ⊥
-unread-Gives f name number few unread given =
+unread-Gives bits f name number few unread given =
     unread given.text (one_text-rows f name ∙ given.found) (given.numeral, rw (← given.reads) few)
 
 -- an option has one number

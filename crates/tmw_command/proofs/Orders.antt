@@ -3,9 +3,10 @@ use Rattle.std.proofs.Common.{◌≡◌, ◌∙◌, Bool, Option, Some, List, co
 use Rattle.std.specs.Prelude.{unwrap_or}
 use Rattle.clap.specs.Words.{Row, Text}
 use Rattle.tmw_monitor.specs.declared.bounds.Bounds.{Bounds}
-use Rattle.tmw_command.specs.Words.{HasBounds, HasTrace, IsOrder, NamesMemory}
+use Rattle.tmw_command.specs.Words.{HasBounds, HasOptions, HasTrace, IsOrder, NamesMemory}
+use Rattle.tmw_command.specs.declared.bench_options.BenchOptions.{BenchOptions}
 use Rattle.tmw_command.specs.declared.order.Order.{Order}
-use Rattle.tmw_command.specs.declared.order.Order.TheVariants.{Judge, Drive, Steps}
+use Rattle.tmw_command.specs.declared.order.Order.TheVariants.{Judge, Drive, Bench, Steps}
 use Rattle.tmw_command.specs.declared.which.Which.{Which}
 
 -- what was found is of one command, and has its rows
@@ -25,6 +26,9 @@ judge-unbounded found rows is none (Judge bounds) (given, same, has) =
 judge-unbounded found rows is none (Drive memory trace bounds) (given, same, named, traced, has) =
     let first = one_name found (codes "judge") (codes "drive") rows given is same in
     absurd (omega (arith, first))
+judge-unbounded found rows is none (Bench memory trace options) (given, same, named, traced, has) =
+    let first = one_name found (codes "judge") (codes "bench") rows given is same in
+    absurd (omega (arith, first))
 judge-unbounded found rows is none Steps (given, same) =
     let first = one_name found (codes "judge") (codes "steps") rows given is same in
     absurd (omega (arith, first))
@@ -40,6 +44,27 @@ drive-lacking found rows is none (Drive memory trace bounds) (given, same, named
 drive-lacking found rows is none (Judge bounds) (given, same, has) =
     let first = one_name found (codes "drive") (codes "judge") rows given is same in
     absurd (omega (arith, first))
+drive-lacking found rows is none (Bench memory trace options) (given, same, named, traced, has) =
+    let first = one_name found (codes "drive") (codes "bench") rows given is same in
+    absurd (omega (arith, first))
 drive-lacking found rows is none Steps (given, same) =
     let first = one_name found (codes "drive") (codes "steps") rows given is same in
+    absurd (omega (arith, first))
+
+-- without a memory, a flag or options `bench` is no order
+pub bench-lacking : (found : Option (Text × List Row)) (rows : List Row) → found ≡ Some (codes "bench", rows)
+    → ((memory : Which) (trace : Bool) (options : BenchOptions) → NamesMemory rows memory → HasTrace rows trace → HasOptions rows options → ⊥)
+    → (order : Order) → IsOrder found order → ⊥
+bench-lacking found rows is none (Bench memory trace options) (given, same, named, traced, has) =
+    let own = own_rows found (codes "bench") rows given is same in
+    none memory trace options (subst (λ (r : List Row). NamesMemory r memory) own named) (subst (λ (r : List Row). HasTrace r trace) own traced)
+    (subst (λ (r : List Row). HasOptions r options) own has)
+bench-lacking found rows is none (Judge bounds) (given, same, has) =
+    let first = one_name found (codes "bench") (codes "judge") rows given is same in
+    absurd (omega (arith, first))
+bench-lacking found rows is none (Drive memory trace bounds) (given, same, named, traced, has) =
+    let first = one_name found (codes "bench") (codes "drive") rows given is same in
+    absurd (omega (arith, first))
+bench-lacking found rows is none Steps (given, same) =
+    let first = one_name found (codes "bench") (codes "steps") rows given is same in
     absurd (omega (arith, first))

@@ -123,6 +123,58 @@ states_of_drive : option_of (codes "states") (codes "--states=2" ∷ codes "--wi
 unfolding clap_on_literals
 states_of_drive = refl
 
+-- `bench` has seven rows: those of `drive`, and those of its counts
+abbrev option_of_bench : Text → List Text → Option (Option Text)
+option_of_bench name words = option_map (λ p. one_of name p.1) (subcommand_of program (help_as_flag (said (codes "bench" ∷ words))))
+
+bench_taken : kinds_of (said (codes "bench" ∷ [])) ≡ []
+unfolding clap_on_literals
+bench_taken = refl
+
+default_ring : option_of_bench (codes "ring") [] ≡ Some (Some (codes "256"))
+unfolding clap_on_literals
+default_ring = refl
+
+default_patience : option_of_bench (codes "patience") [] ≡ Some (Some (codes "1000000"))
+unfolding clap_on_literals
+default_patience = refl
+
+default_rounds : option_of_bench (codes "rounds") [] ≡ Some (Some (codes "1"))
+unfolding clap_on_literals
+default_rounds = refl
+
+rounds_given : option_of_bench (codes "rounds") (codes "--ring=4096" ∷ codes "--rounds" ∷ codes "1000000" ∷ []) ≡ Some (Some (codes "1000000"))
+unfolding clap_on_literals
+rounds_given = refl
+
+rounds_taken : kinds_of (said (codes "bench" ∷ codes "--rounds" ∷ codes "1000000" ∷ codes "--trace" ∷ [])) ≡ []
+unfolding clap_on_literals
+rounds_taken = refl
+
+no_round : kinds_of (said (codes "bench" ∷ codes "--rounds" ∷ codes "0" ∷ [])) ≡ ValueValidation ∷ []
+unfolding clap_on_literals
+no_round = refl
+
+too_many_rounds : kinds_of (said (codes "bench" ∷ codes "--rounds=1000001" ∷ [])) ≡ ValueValidation ∷ []
+unfolding clap_on_literals
+too_many_rounds = refl
+
+no_cell : kinds_of (said (codes "bench" ∷ codes "--ring" ∷ codes "0" ∷ [])) ≡ ValueValidation ∷ []
+unfolding clap_on_literals
+no_cell = refl
+
+too_many_cells : kinds_of (said (codes "bench" ∷ codes "--ring" ∷ codes "4097" ∷ [])) ≡ ValueValidation ∷ []
+unfolding clap_on_literals
+too_many_cells = refl
+
+too_much_patience : kinds_of (said (codes "bench" ∷ codes "--patience=1000000001" ∷ [])) ≡ ValueValidation ∷ []
+unfolding clap_on_literals
+too_much_patience = refl
+
+rounds_of_drive : kinds_of (said (codes "drive" ∷ codes "--rounds" ∷ codes "1" ∷ [])) ≡ UnknownArgument ∷ []
+unfolding clap_on_literals
+rounds_of_drive = refl
+
 -- `steps` has no row, and takes no word
 by_itself : subcommand_of program (help_as_flag (said (codes "steps" ∷ []))) ≡ Some (codes "steps", [])
 unfolding clap_on_literals
@@ -156,6 +208,10 @@ help_of_judge = refl
 help_of_drive : kinds_of (said (codes "help" ∷ codes "drive" ∷ [])) ≡ DisplayHelp ∷ []
 unfolding clap_on_literals
 help_of_drive = refl
+
+help_of_bench : kinds_of (said (codes "help" ∷ codes "bench" ∷ [])) ≡ DisplayHelp ∷ []
+unfolding clap_on_literals
+help_of_bench = refl
 
 help_of_no_command : kinds_of (said (codes "help" ∷ codes "replay" ∷ [])) ≡ UnknownArgument ∷ InvalidSubcommand ∷ []
 unfolding clap_on_literals

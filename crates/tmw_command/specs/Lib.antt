@@ -1,3 +1,5 @@
+pub mod Memories
+pub mod Options
 pub mod Program
 pub mod Reading
 pub mod Running

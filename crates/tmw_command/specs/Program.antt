@@ -5,7 +5,7 @@ use Rattle.clap.specs.Walk.{texts}
 use Rattle.clap.specs.Words.{App, Rule, Text, new_app, new_rule, with_rule, with_subcommand}
 use Rattle.clap.specs.declared.builder.action.ArgAction.TheVariants.{SetTrue}
 use Rattle.clap.specs.declared.builder.value_parser.ValueParser.{ValueParser}
-use Rattle.clap.specs.declared.builder.value_parser.ValueParser.TheVariants.{Names, Signed}
+use Rattle.clap.specs.declared.builder.value_parser.ValueParser.TheVariants.{Names, Signed, Unsigned}
 use Rattle.tmw_command.specs.declared.which.Which.{Which}
 use Rattle.tmw_command.specs.declared.which.Which.TheVariants.{NoRec, Lock, Torn}
 
@@ -31,6 +31,10 @@ value_rule name values default = record (new_rule name) {
 abbrev pub one_to : ℕ → ValueParser
 one_to most = Signed (pos 1) (pos most)
 
+-- a large number from 1 to `most`
+abbrev pub count_to : ℕ → ValueParser
+count_to most = Unsigned 1 most
+
 -- a value at the address 0: names are handed to the parser by their addresses, and it reads the names alone
 abbrev pub lent : {X : Type 0} → X → Bor X
 lent value = record { ref_ptr = (0, 0); now = value }
@@ -48,14 +52,27 @@ with_bounds app = with_rule (with_rule app (value_rule (codes "window") (one_to 
 abbrev pub trace_rule : Rule
 trace_rule = record (new_rule (codes "trace")) { long = Some (codes "trace"); action = Some SetTrue }
 
+-- with a memory, one of these, and with `--trace`
+abbrev pub with_memory : ValueParser → App → App
+with_memory memories app = with_rule (with_rule app (value_rule (codes "memory") memories (memory_name NoRec))) trace_rule
+
+-- with the three counts of a bench
+abbrev pub with_counts : App → App
+with_counts app = with_rule (with_rule (with_rule app (value_rule (codes "ring") (count_to 4096) (codes "256")))
+    (value_rule (codes "patience") (count_to 1000000000) (codes "1000000")))
+    (value_rule (codes "rounds") (count_to 1000000) (codes "1"))
+
 -- `judge`
 abbrev pub judge : App
 judge = with_bounds (new_app (codes "judge"))
 
 -- `drive`, over one of these memories
 abbrev pub drive_among : ValueParser → App
-drive_among memories =
-    with_bounds (with_rule (with_rule (new_app (codes "drive")) (value_rule (codes "memory") memories (memory_name NoRec))) trace_rule)
+drive_among memories = with_bounds (with_memory memories (new_app (codes "drive")))
+
+-- `bench`, over one of these memories
+abbrev pub bench_among : ValueParser → App
+bench_among memories = with_bounds (with_counts (with_memory memories (new_app (codes "bench"))))
 
 -- `steps`, which has no option
 abbrev pub steps : App
@@ -65,10 +82,11 @@ steps = new_app (codes "steps")
 abbrev pub wanting : App → App
 wanting app = record app { top = record app.top { subcommand_required = true; disable_help_subcommand = true } }
 
--- with its commands, `drive` over one of these memories
+-- with its commands, `drive` and `bench` over one of these memories
 abbrev pub program_among : ValueParser → App
 program_among memories =
-    with_subcommand (with_subcommand (with_subcommand (wanting (new_app (codes "tmwatch"))) judge.top) (drive_among memories).top) steps.top
+    with_subcommand (with_subcommand (with_subcommand (with_subcommand (wanting (new_app (codes "tmwatch"))) judge.top)
+    (drive_among memories).top) (bench_among memories).top) steps.top
 
 abbrev pub program : App
 program = program_among (one_of_names memory_names)

@@ -8,12 +8,14 @@ use Rattle.tmw_report.specs.Streams.{FromSource, ToSink}
 use Rattle.tmw_report.specs.declared.fault.Fault.{Fault}
 use Rattle.tmw_report.specs.declared.fault.Fault.TheVariants.{Memory as WantsMemory, Usage as IsUsage}
 use Rattle.tmw_judge.specs.Judging.{JudgesBytes}
+use Rattle.tmw_run_bench.specs.Running.{BenchesBytes}
 use Rattle.tmw_run_drive.specs.Running.{DrivesBytes}
 use Rattle.tmw_steps.specs.Running.{RunsSteps}
 use Rattle.tmw_tm.specs.Answers.{Call, Answer}
+use Rattle.tmw_command.specs.Options.{settings_of}
 use Rattle.tmw_command.specs.Reading.{IsReading}
 use Rattle.tmw_command.specs.declared.order.Order.{Order}
-use Rattle.tmw_command.specs.declared.order.Order.TheVariants.{Judge, Drive, Steps}
+use Rattle.tmw_command.specs.declared.order.Order.TheVariants.{Judge, Drive, Bench, Steps}
 use Rattle.tmw_command.specs.declared.refusal.Refusal.{Refusal}
 use Rattle.tmw_command.specs.declared.refusal.Refusal.TheVariants.{Help, Usage, Memory}
 use Rattle.tmw_command.specs.declared.which.Which.{Which}
@@ -33,6 +35,7 @@ by_name norec lock torn Torn = torn
 abbrev pub RunsOrder : {S K : Type 0} → FromSource S → ToSink K → MemoryAnswers → Order → S → S → K → K → ℕ → Type 0
 RunsOrder From To memories (Judge bounds) = JudgesBytes From To bounds
 RunsOrder From To memories (Drive memory trace bounds) = DrivesBytes From To (memories memory) trace bounds
+RunsOrder From To memories (Bench memory trace options) = BenchesBytes From To (memories memory) trace (settings_of options)
 RunsOrder From To memories Steps = RunsSteps From To
 
 -- What is answered to words that give no order. Help is put to the sink. The line of a wrong command line is put to it whatever

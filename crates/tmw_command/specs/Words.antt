@@ -9,8 +9,9 @@ use Rattle.clap.specs.declared.error.kind.ErrorKind.{ErrorKind}
 use Rattle.clap.specs.declared.error.kind.ErrorKind.TheVariants.{DisplayHelp}
 use Rattle.tmw_monitor.specs.declared.bounds.Bounds.{Bounds}
 use Rattle.tmw_command.specs.Program.{memory_name, program}
+use Rattle.tmw_command.specs.declared.bench_options.BenchOptions.{BenchOptions}
 use Rattle.tmw_command.specs.declared.order.Order.{Order}
-use Rattle.tmw_command.specs.declared.order.Order.TheVariants.{Judge, Drive, Steps}
+use Rattle.tmw_command.specs.declared.order.Order.TheVariants.{Judge, Drive, Bench, Steps}
 use Rattle.tmw_command.specs.declared.which.Which.{Which}
 
 -- `help` stands in place of a command, behind the program's name.
@@ -46,11 +47,20 @@ NamesMemory rows memory = first_of (codes "memory") rows ≡ Some (memory_name m
 abbrev pub HasTrace : List Row → Bool → Type 0
 HasTrace rows trace = one_of (codes "trace") rows ≡ Some (bool_text trace)
 
+-- The words give these numbers of cells, of tries and of rounds, and these bounds.
+pub record HasOptions (rows : List Row) (options : BenchOptions) : Type 0 where
+  pub cells : Gives (codes "ring") rows options.cells
+  pub patience : Gives (codes "patience") rows options.patience
+  pub rounds : Gives (codes "rounds") rows options.rounds
+  pub bounds : HasBounds rows options.bounds
+
 -- This is the order of a command and of what was found for its options.
 abbrev pub IsOrder : Option (Text × List Row) → Order → Type 0
 IsOrder found (Judge bounds) = (rows : List Row) × (found ≡ Some (codes "judge", rows)) × HasBounds rows bounds
 IsOrder found (Drive memory trace bounds) =
     (rows : List Row) × (found ≡ Some (codes "drive", rows)) × NamesMemory rows memory × HasTrace rows trace × HasBounds rows bounds
+IsOrder found (Bench memory trace options) =
+    (rows : List Row) × (found ≡ Some (codes "bench", rows)) × NamesMemory rows memory × HasTrace rows trace × HasOptions rows options
 IsOrder found Steps = (rows : List Row) × (found ≡ Some (codes "steps", rows))
 
 -- The words are right, and ask for this order.

@@ -1,6 +1,7 @@
 //! The command line: which order its words ask for, and its run from a source to a sink.
 #![tactic(auto)]
 
+mod bench_options;
 mod memories;
 mod order;
 mod parse;
@@ -10,6 +11,7 @@ mod run;
 mod which;
 mod words;
 
+pub use bench_options::BenchOptions;
 pub use memories::Memories;
 pub use order::Order;
 pub use refusal::Refusal;

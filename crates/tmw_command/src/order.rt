@@ -1,3 +1,4 @@
+use crate::bench_options::BenchOptions;
 use crate::which::Which;
 use tmw_monitor::Bounds;
 
@@ -14,6 +15,13 @@ pub enum Order {
         memory: Which,
         trace: bool,
         bounds: Bounds,
+    },
+    /// To carry the workload on standard input out by threads over this memory, as these options say, and to judge what they
+    /// record. Its trace is written before the report where that is asked for.
+    Bench {
+        memory: Which,
+        trace: bool,
+        options: BenchOptions,
     },
     /// To take the ring's steps that standard input lists.
     Steps,

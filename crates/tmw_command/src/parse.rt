@@ -1,11 +1,14 @@
-ghost use Rattle.std.specs.Prelude.{◌≡◌, IfErr, IfNone, IfOk, IfSome, Some, codes, map};
+ghost use Rattle.std.specs.Prelude.{◌≡◌, ◌≤◌, ℕ, Bool, IfErr, IfNone, IfOk, IfSome, Some, codes, map};
 ghost use Rattle.clap.specs.Walk.{texts};
 ghost use Rattle.clap.specs.Words.{found_of, kind_of, rows_of, subcommand_rows_of};
 ghost use Rattle.tmw_command.specs.Reading.{FailsAs};
-ghost use Rattle.tmw_command.specs.Words.{Asks, HasBounds, IsOrder, help_as_flag, names_help};
+ghost use Rattle.tmw_command.specs.Words.{Asks, Gives, HasBounds, HasOptions, HasTrace, IsOrder, NamesMemory, help_as_flag, names_help};
+ghost use Rattle.tmw_command.specs.declared.bench_options.BenchOptions.{BenchOptions};
 ghost use Rattle.tmw_command.specs.declared.order.Order.{Order};
+ghost use Rattle.tmw_command.specs.declared.which.Which.{Which};
 ghost use Rattle.tmw_monitor.specs.declared.bounds.Bounds.{Bounds};
 
+use crate::bench_options::BenchOptions;
 use crate::order::Order;
 use crate::program::new_program;
 use crate::which::Which;
@@ -74,6 +77,7 @@ fn order_of(matches: &ArgMatches<'_>) -> Option<Order>
             None => None,
         },
         Some(("drive", drive)) => drive_of(drive),
+        Some(("bench", bench)) => bench_of(bench),
         Some(("steps", _)) => Some(Order::Steps),
         _ => None,
     }
@@ -84,13 +88,7 @@ fn drive_of(drive: &ArgMatches<'_>) -> Option<Order>
     ensures some { IfSome result (IsOrder (Some (codes "drive", rows_of (found_of drive.now)))) }
     ensures none { IfNone result ((order : Order) → IsOrder (Some (codes "drive", rows_of (found_of drive.now))) order → ⊥) }
 {
-    let Some(name) = drive.get_str("memory") else {
-        return None;
-    };
-    let Some(memory) = Which::named(name) else {
-        return None;
-    };
-    let Some(trace) = drive.get_one::<bool>("trace") else {
+    let Some((memory, trace)) = memory_and_trace_of(drive) else {
         return None;
     };
     let Some(bounds) = bounds_of(drive) else {
@@ -101,6 +99,82 @@ fn drive_of(drive: &ArgMatches<'_>) -> Option<Order>
         trace,
         bounds,
     })
+}
+
+/// The order that the matches of `bench` hold. There is none where they lack one of its values.
+fn bench_of(bench: &ArgMatches<'_>) -> Option<Order>
+    ensures some { IfSome result (IsOrder (Some (codes "bench", rows_of (found_of bench.now)))) }
+    ensures none { IfNone result ((order : Order) → IsOrder (Some (codes "bench", rows_of (found_of bench.now))) order → ⊥) }
+{
+    let Some((memory, trace)) = memory_and_trace_of(bench) else {
+        return None;
+    };
+    let Some(options) = options_of(bench) else {
+        return None;
+    };
+    Some(Order::Bench {
+        memory,
+        trace,
+        options,
+    })
+}
+
+/// The memory that the matches of a command name, and whether they have the flag `--trace`.
+fn memory_and_trace_of(matches: &ArgMatches<'_>) -> Option<(Which, bool)>
+    ensures some { IfSome result (λ found. NamesMemory (rows_of (found_of matches.now)) found.0 × HasTrace (rows_of (found_of matches.now)) found.1) }
+    ensures none { IfNone result ((memory : Which) (trace : Bool) → NamesMemory (rows_of (found_of matches.now)) memory
+        → HasTrace (rows_of (found_of matches.now)) trace → ⊥) }
+{
+    let Some(name) = matches.get_str("memory") else {
+        return None;
+    };
+    let Some(memory) = Which::named(name) else {
+        return None;
+    };
+    let Some(trace) = matches.get_one::<bool>("trace") else {
+        return None;
+    };
+    Some((memory, trace))
+}
+
+/// The numbers and bounds that the matches of `bench` hold.
+fn options_of(matches: &ArgMatches<'_>) -> Option<BenchOptions>
+    ensures some { IfSome result (HasOptions (rows_of (found_of matches.now))) }
+    ensures none { IfNone result ((options : BenchOptions) → HasOptions (rows_of (found_of matches.now)) options → ⊥) }
+{
+    let Some(cells) = count_of(matches, "ring", 4096) else {
+        return None;
+    };
+    let Some(patience) = count_of(matches, "patience", 1_000_000_000) else {
+        return None;
+    };
+    let Some(rounds) = count_of(matches, "rounds", 1_000_000) else {
+        return None;
+    };
+    let Some(bounds) = bounds_of(matches) else {
+        return None;
+    };
+    Some(BenchOptions {
+        cells,
+        patience,
+        rounds,
+        bounds,
+    })
+}
+
+/// The number from 1 to `most` that the matches of a command hold for this option.
+fn count_of(matches: &ArgMatches<'_>, name: &str, most: u64) -> Option<u64>
+    ensures some { IfSome result (λ number. Gives name.now (rows_of (found_of matches.now)) number) }
+    ensures range { IfSome result (λ number. (1 ≤ number) × (number ≤ most)) }
+    ensures none { IfNone result ((number : ℕ) → 1 ≤ number → number ≤ most → Gives name.now (rows_of (found_of matches.now)) number → ⊥) }
+{
+    let Some(number) = matches.get_one::<u64>(name) else {
+        return None;
+    };
+    if number < 1 || number > most {
+        return None;
+    }
+    Some(number)
 }
 
 /// The bounds that the matches of a command hold.

@@ -1,7 +1,7 @@
 ghost use Rattle.std.specs.Prelude.{◌≡◌, IfOk, false};
 ghost use Rattle.clap.specs.Words.{app_of, rule_of};
 ghost use Rattle.clap.specs.declared.builder.value_parser.ValueParser.TheVariants.{Names};
-ghost use Rattle.tmw_command.specs.Program.{IsProgram, drive_among, judge, one_to, steps, value_rule, with_bounds};
+ghost use Rattle.tmw_command.specs.Program.{IsProgram, bench_among, count_to, drive_among, judge, one_to, steps, value_rule, with_bounds, with_counts, with_memory};
 
 use clap::builder::ValueParser;
 use clap::{Arg, ArgAction, Command, value_parser};
@@ -10,9 +10,18 @@ use std::alloc::{AllocError, Global};
 /// The names of the memories.
 static MEMORIES: [&str; 3] = ["norec", "lock", "torn"];
 
-const MEMORY_HELP: &str = "The memory that is driven";
+const MEMORY_HELP: &str = "The memory that the workload is run over";
 
 const TRACE_HELP: &str = "Write the trace of the run before the report";
+
+const RING_HELP: &str =
+    "The cells of the ring that the threads record in, 1 to 4096: no fewer than the workload has scripts";
+
+const PATIENCE_HELP: &str =
+    "How often in all a thread tries a record for which the ring lacks room, 1 to 1000000000, before it stops";
+
+const ROUNDS_HELP: &str =
+    "How often the workload is run over the memory, one run after another, 1 to 1000000";
 
 const WINDOW_HELP: &str =
     "The most transactions that a window may have, 1 to 8: past it the verdict is `undecided`";
@@ -24,6 +33,7 @@ const STATES_HELP: &str =
 pub fn new_program<'a>(alloc: Global) -> Result<Command<'a>, AllocError>
     ensures { IfOk result (λ command. IsProgram (app_of command)) }
 {
+    let memories = MEMORIES.as_slice();
     Command::new(alloc, "tmwatch")
         .about(
             "A monitor of opacity for transactional memories, and the ring that events reach it by",
@@ -31,7 +41,8 @@ pub fn new_program<'a>(alloc: Global) -> Result<Command<'a>, AllocError>
         .subcommand_required(true)
         .disable_help_subcommand(true)
         .subcommand(new_judge(alloc)?)?
-        .subcommand(new_drive(alloc, MEMORIES.as_slice())?)?
+        .subcommand(new_drive(alloc, memories)?)?
+        .subcommand(new_bench(alloc, memories)?)?
         .subcommand(new_steps(alloc))
 }
 
@@ -49,6 +60,40 @@ fn new_judge<'a>(alloc: Global) -> Result<Command<'a>, AllocError>
 fn new_drive<'a>(alloc: Global, memories: &'a [&'a str]) -> Result<Command<'a>, AllocError>
     ensures { IfOk result (λ command. app_of command ≡ drive_among (Names memories.entry)) }
 {
+    let drive = Command::new(alloc, "drive").about(
+        "Run the workload on standard input over a transactional memory, and judge the run",
+    );
+    with_bounds(alloc, with_memory(alloc, drive, memories)?)
+}
+
+/// The command `bench`, over memories of these names.
+fn new_bench<'a>(alloc: Global, memories: &'a [&'a str]) -> Result<Command<'a>, AllocError>
+    ensures { IfOk result (λ command. app_of command ≡ bench_among (Names memories.entry)) }
+{
+    let bench = Command::new(alloc, "bench").about(
+        "Run the workload on standard input over a transactional memory, with a thread for each of its scripts, and judge what they record",
+    );
+    let counted = with_counts(alloc, with_memory(alloc, bench, memories)?)?;
+    with_bounds(alloc, counted)
+}
+
+/// The command `steps`.
+fn new_steps<'a>(alloc: Global) -> Command<'a>
+    ensures { app_of result ≡ steps }
+{
+    Command::new(alloc, "steps").about(
+        "Take the ring's steps that standard input lists, one by one, and write what each of them answers",
+    )
+}
+
+/// The command with a memory, one of these names, and with the flag `--trace` as options.
+fn with_memory<'a>(
+    alloc: Global,
+    command: Command<'a>,
+    memories: &'a [&'a str],
+) -> Result<Command<'a>, AllocError>
+    ensures { IfOk result (λ given. app_of given ≡ with_memory (Names memories.entry) (app_of command.entry)) }
+{
     let memory = value_option(
         alloc,
         "memory",
@@ -61,20 +106,17 @@ fn new_drive<'a>(alloc: Global, memories: &'a [&'a str]) -> Result<Command<'a>, 
         .long("trace")
         .help(TRACE_HELP)
         .action(ArgAction::SetTrue);
-    let drive = Command::new(alloc, "drive")
-        .about("Run the workload on standard input over a transactional memory, and judge the run")
-        .arg(memory)?
-        .arg(trace)?;
-    with_bounds(alloc, drive)
+    command.arg(memory)?.arg(trace)
 }
 
-/// The command `steps`.
-fn new_steps<'a>(alloc: Global) -> Command<'a>
-    ensures { app_of result ≡ steps }
+/// The command with the three counts of a bench as options.
+fn with_counts<'a>(alloc: Global, command: Command<'a>) -> Result<Command<'a>, AllocError>
+    ensures { IfOk result (λ counted. app_of counted ≡ with_counts (app_of command.entry)) }
 {
-    Command::new(alloc, "steps").about(
-        "Take the ring's steps that standard input lists, one by one, and write what each of them answers",
-    )
+    let ring = count_option(alloc, "ring", 4096, "256", RING_HELP);
+    let patience = count_option(alloc, "patience", 1_000_000_000, "1000000", PATIENCE_HELP);
+    let rounds = count_option(alloc, "rounds", 1_000_000, "1", ROUNDS_HELP);
+    command.arg(ring)?.arg(patience)?.arg(rounds)
 }
 
 /// The command with the two bounds of judging as options.
@@ -99,6 +141,27 @@ fn number_option<'a>(
 {
     let values = value_parser!(u8).range(1..=i64::from(most));
     value_option(alloc, name, "N", values, default, help)
+}
+
+/// An option that takes one large number, from 1 to `most`.
+fn count_option<'a>(
+    alloc: Global,
+    name: &'a str,
+    most: u64,
+    default: &'a str,
+    help: &'a str,
+) -> Arg<'a>
+    ensures rule { rule_of result ≡ value_rule name.entry.now (count_to most) default.entry.now }
+    ensures local { result.global ≡ false }
+{
+    value_option(
+        alloc,
+        name,
+        "N",
+        ValueParser::unsigned(1, most),
+        default,
+        help,
+    )
 }
 
 /// An option that takes one of these values.

@@ -7,12 +7,14 @@ ghost use Rattle.tmw_command.specs.Running.{AnswersRefusal, RunsCommand, RunsOrd
 use crate::memories::Memories;
 use crate::order::Order;
 use crate::refusal::Refusal;
-use crate::which::Which;
 use crate::words::read_words;
 use std::alloc::Global;
 use std::convert::AsStr;
+use std::sync::Wait;
+use std::thread::Threads;
 use tmw_judge::run_judge;
 use tmw_report::{FAULT_STATUS, Fault, answer_fault};
+use tmw_run_bench::run_bench_cmd;
 use tmw_run_drive::run_drive;
 use tmw_steps::run_steps;
 use tmw_streams::{Sink, Source, put_all};
@@ -21,9 +23,12 @@ use tmw_tm::Tm;
 /// Runs the command line of these words, of which the first is the program's name, from the source to the sink: the order that
 /// they ask for, or the text of help. For words that are no command line of the program the fault's line goes to the
 /// sink, and the text that tells what is wrong to the sink for errors; for words that can't be had, the fault's line alone. An
-/// order to drive takes the memory that it names of these, each of which should be fresh. The result is the exit status: that
-/// of the order, 0 for help, or 4 for any fault and for help that was cut short.
-pub fn run_command<S: Source, K: Sink, E: Sink>(
+/// order to drive, or to bench, takes the memory that it names of these, each of which should be fresh. The result is the exit
+/// status: that of the order, 0 for help, or 4 for any fault and for help that was cut short.
+///
+/// It waits in a bench alone, for the threads that this starts.
+pub fn run_command<S: Source, K: Sink, E: Sink, R: Threads + Wait + Sync>(
+    rt: &R,
     alloc: Global,
     words: Result<Vec<String>, Fault>,
     source: &mut S,
@@ -37,13 +42,14 @@ pub fn run_command<S: Source, K: Sink, E: Sink>(
         source.old source.new sink.old sink.new errors.old errors.new result }
 {
     match words {
-        Ok(words) => run_words(alloc, &words, source, sink, errors, memories),
+        Ok(words) => run_words(rt, alloc, &words, source, sink, errors, memories),
         Err(fault) => answer_fault(sink, fault),
     }
 }
 
 /// Reads the words, and runs their order or answers why there is none.
-fn run_words<W: AsStr, S: Source, K: Sink, E: Sink>(
+fn run_words<W: AsStr, S: Source, K: Sink, E: Sink, R: Threads + Wait + Sync>(
+    rt: &R,
     alloc: Global,
     words: &[W],
     source: &mut S,
@@ -57,13 +63,14 @@ fn run_words<W: AsStr, S: Source, K: Sink, E: Sink>(
         source.old source.new sink.old sink.new errors.old errors.new result }
 {
     match read_words(alloc, words) {
-        Ok(order) => run_order(alloc, order, source, sink, memories),
+        Ok(order) => run_order(rt, alloc, order, source, sink, memories),
         Err(refusal) => answer_refusal(refusal, sink, errors),
     }
 }
 
 /// Runs an order's command, over the memory that it names.
-fn run_order<S: Source, K: Sink>(
+fn run_order<S: Source, K: Sink, R: Threads + Wait + Sync>(
+    rt: &R,
     alloc: Global,
     order: Order,
     source: &mut S,
@@ -81,12 +88,16 @@ fn run_order<S: Source, K: Sink>(
             trace,
             bounds,
         } => {
-            let memory = match memory {
-                Which::NoRec => memories.norec,
-                Which::Lock => memories.lock,
-                Which::Torn => memories.torn,
-            };
-            run_drive(alloc, source, sink, memory, trace, bounds)
+            let picked = memories.named(memory);
+            run_drive(alloc, source, sink, picked, trace, bounds)
+        }
+        Order::Bench {
+            memory,
+            trace,
+            options,
+        } => {
+            let picked = memories.named(memory);
+            run_bench_cmd(rt, alloc, source, sink, picked, trace, options.settings())
         }
         Order::Steps => run_steps(alloc, source, sink),
     }

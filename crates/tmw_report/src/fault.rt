@@ -30,11 +30,11 @@ pub enum Fault {
     /// The number of registers is out of its range.
     #[error("the number of registers is out of its range")]
     Registers,
-    /// The ring that events are recorded in is out of use.
-    #[error("the ring of events is out of use")]
+    /// No ring has the numbers of cells and of places that are asked for, and a writer for each thread.
+    #[error("there is no ring of this size for so many threads")]
     Ring,
-    /// A thread was not started.
-    #[error("a thread was not started")]
+    /// A thread could not be started.
+    #[error("a thread could not be started")]
     Spawn,
     /// The size of a ring is out of its range.
     #[error("the size of a ring is out of its range")]

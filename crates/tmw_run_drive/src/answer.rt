@@ -28,8 +28,9 @@ pub fn answer_driven<K: Sink>(alloc: Global, sink: &mut K, driven: &Driven, trac
     }
 }
 
-/// Writes the log's trace, where it is asked for, and then this line.
-fn put_driven<K: Sink>(
+/// Writes the log's trace, where it is asked for, and then this line. After a failed write a beginning of these went out, and not
+/// all.
+pub fn put_driven<K: Sink>(
     sink: &mut K,
     driven: &Driven,
     trace: bool,

@@ -10,5 +10,6 @@ mod tests;
 #[cfg(test)]
 mod worked_tests;
 
-pub use driven::Driven;
+pub use answer::put_driven;
+pub use driven::{Driven, header_of};
 pub use run::run_drive;

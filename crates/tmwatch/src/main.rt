@@ -1,26 +1,31 @@
 //! `tmwatch judge`: reads a recorded run of a transactional memory from standard input, and writes one line on standard
 //! output: whether it is opaque, or which of its prefixes is the first that is not. `tmwatch drive`: runs a workload over a
-//! transactional memory, and judges the run. `tmwatch steps`: reads a list of a ring's steps, and writes what each of them
-//! answers.
+//! transactional memory, and judges the run. `tmwatch bench`: runs a workload by threads, and judges what they record.
+//! `tmwatch steps`: reads a list of a ring's steps, and writes what each of them answers.
 #![tactic(auto)]
 
 use std::alloc::AllocError;
 use std::io::ErrorKind;
 use std::process::ExitCode;
+use std::sync::Wait;
+use std::thread::Threads;
 use std::{env, io};
 use tmw_command::{Memories, run_command};
 use tmw_events::Registers;
 use tmw_memories::{GlobalLock, NoRec, Torn};
 use tmw_report::{Fault, answer_fault};
-use tmw_streams::{Sink, StdSink, StdSource};
+use tmw_streams::{Sink, Source, StdSink, StdSource};
 use tmw_tm::Tm;
 
 /// How many registers each memory has: as many as a workload may have.
 const REGISTERS: Registers = Registers { number: 8 };
 
 fn main(rt: HostRuntime) -> ExitCode {
+    let mut source = StdSource::new(rt.stdin());
     let mut sink = StdSink::new(rt.stdout());
-    let status = match run(&rt, &mut sink) {
+    let mut errors = StdSink::new(rt.stderr());
+    let words = words_of(&rt);
+    let status = match run(&rt, words, &mut source, &mut sink, &mut errors) {
         Ok(status) => status,
         Err(_) => answer_fault(&mut sink, Fault::Memory),
     };
@@ -28,7 +33,13 @@ fn main(rt: HostRuntime) -> ExitCode {
 }
 
 /// Makes the memories, and runs the command line with them.
-fn run<K: Sink>(rt: &HostRuntime, sink: &mut K) -> Result<u8, AllocError> {
+fn run<R: AllocGlobal + Threads + Wait + Sync, S: Source, K: Sink, E: Sink>(
+    rt: &R,
+    words: Result<Vec<String>, Fault>,
+    source: &mut S,
+    sink: &mut K,
+    errors: &mut E,
+) -> Result<u8, AllocError> {
     let norec: Box<dyn Tm + Sync> = Box::new(rt.alloc(), NoRec::new(REGISTERS))?;
     let lock: Box<dyn Tm + Sync> = Box::new(rt.alloc(), GlobalLock::new(REGISTERS))?;
     let torn: Box<dyn Tm + Sync> = Box::new(rt.alloc(), Torn::new(REGISTERS))?;
@@ -37,10 +48,7 @@ fn run<K: Sink>(rt: &HostRuntime, sink: &mut K) -> Result<u8, AllocError> {
         lock: &*lock,
         torn: &*torn,
     };
-    let mut source = StdSource::new(rt.stdin());
-    let mut errors = StdSink::new(rt.stderr());
-    let words = words_of(rt);
-    Ok(run_command(rt.alloc(), words, &mut source, sink, &mut errors, memories))
+    Ok(run_command(rt, rt.alloc(), words, source, sink, errors, memories))
 }
 
 /// The words of the command line, of which the first is the program's name.

@@ -1,4 +1,5 @@
 //! What the contracts leave open: which words are refused, by which kind of error, and that there is memory for the parse.
+use crate::bench_options::BenchOptions;
 use crate::order::Order;
 use crate::parse::parse;
 use crate::which::Which;
@@ -6,6 +7,7 @@ use clap::error::ErrorKind;
 use std::alloc::{AllocError, Global};
 use std::process::Abort;
 use std::test::Fail;
+use tmw_monitor::Bounds;
 
 #[test]
 fn bounds_of_judge(rt: HostRuntime) {
@@ -125,6 +127,80 @@ fn orders_of_drive(rt: HostRuntime) {
 }
 
 #[test]
+fn orders_of_bench(rt: HostRuntime) {
+    let usual = BenchOptions {
+        cells: 256,
+        patience: 1_000_000,
+        rounds: 1,
+        bounds: Bounds {
+            window: 8,
+            states: 64,
+        },
+    };
+    let other = BenchOptions {
+        cells: 4096,
+        patience: 1_000_000_000,
+        rounds: 1_000_000,
+        bounds: Bounds {
+            window: 3,
+            states: 2,
+        },
+    };
+    let least = BenchOptions {
+        cells: 1,
+        patience: 1,
+        rounds: 1,
+        bounds: Bounds {
+            window: 1,
+            states: 1,
+        },
+    };
+    for (line, memory, trace, options) in [
+        ("tmwatch bench", Which::NoRec, false, usual),
+        ("tmwatch bench --memory=lock", Which::Lock, false, usual),
+        (
+            "tmwatch bench --trace --memory torn",
+            Which::Torn,
+            true,
+            usual,
+        ),
+        (
+            "tmwatch bench --ring 4096 --patience=1000000000 --rounds 1000000 --states=2 --window 3",
+            Which::NoRec,
+            false,
+            other,
+        ),
+        (
+            "tmwatch bench --window=1 --states=1 --rounds=+1 --patience 01 --ring 1 --memory norec",
+            Which::NoRec,
+            false,
+            least,
+        ),
+    ] {
+        match words_of(rt.alloc(), line) {
+            Ok(order) => {
+                assert_eq!(rt;
+                    order,
+                    Order::Bench {
+                        memory,
+                        trace,
+                        options
+                    },
+                    "of {line}"
+                );
+            }
+            Err(error) => assert!(rt; false, "{line} was refused: {error}"),
+        }
+    }
+}
+
+/// Reads the words that spaces part.
+fn words_of(alloc: Global, line: &str) -> Result<Order, clap::Error> {
+    let words = parted(alloc, line)?;
+    parse(alloc, words.as_slice())
+}
+
+#[test]
 fn order_of_steps(rt: HostRuntime) {
     for words in [
         ["tmwatch", "steps"].as_slice(),
@@ -177,6 +253,15 @@ fn words_that_are_refused(rt: HostRuntime) -> Result<(), Fail> {
                 "tmwatch drive --window 9",
                 "tmwatch drive --states 0",
                 "tmwatch drive --states 65",
+                "tmwatch bench --ring 0",
+                "tmwatch bench --ring 4097",
+                "tmwatch bench --patience 0",
+                "tmwatch bench --patience 1000000001",
+                "tmwatch bench --rounds 0",
+                "tmwatch bench --rounds 1000001",
+                "tmwatch bench --rounds 18446744073709551617",
+                "tmwatch bench --ring=-1",
+                "tmwatch bench --window 9",
             ]
             .as_slice(),
         ),
@@ -199,6 +284,7 @@ fn words_that_are_refused(rt: HostRuntime) -> Result<(), Fail> {
                 "tmwatch drive --memory lock --memory lock",
                 "tmwatch drive --trace --trace",
                 "tmwatch drive --states 1 --states=2",
+                "tmwatch bench --rounds 1 --rounds 1",
             ]
             .as_slice(),
         ),
@@ -223,6 +309,9 @@ fn words_that_are_refused(rt: HostRuntime) -> Result<(), Fail> {
                 "tmwatch judge --trace",
                 "tmwatch judge --memory norec",
                 "tmwatch drive norec",
+                "tmwatch drive --rounds 1",
+                "tmwatch judge --ring 1",
+                "tmwatch bench torn",
                 "tmwatch drive --trace true",
                 "tmwatch steps --trace",
                 "tmwatch help judge steps",
@@ -248,6 +337,8 @@ fn words_that_ask_for_help(rt: HostRuntime) {
         ["tmwatch", "judge", "--window", "3", "--help"].as_slice(),
         ["tmwatch", "help", "drive"].as_slice(),
         ["tmwatch", "drive", "--help"].as_slice(),
+        ["tmwatch", "help", "bench"].as_slice(),
+        ["tmwatch", "bench", "--ring", "1", "--help"].as_slice(),
         ["tmwatch", "help", "steps"].as_slice(),
         ["help", "help", "judge", "--window", "3"].as_slice(),
         ["tmwatch", "steps", "--help"].as_slice(),

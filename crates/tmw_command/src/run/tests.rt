@@ -4,7 +4,9 @@ use crate::run::run_command;
 use std::alloc::{AllocError, Global};
 use std::process::Abort;
 use std::str::from_utf8;
+use std::sync::Wait;
 use std::test::Fail;
+use std::thread::Threads;
 use tmw_events::Registers;
 use tmw_memories::{GlobalLock, NoRec, Torn};
 use tmw_report::Fault;
@@ -31,6 +33,9 @@ const ADDS: &[u8] = b"{\"registers\":1,\"scripts\":[[[\"N 0 7\",\"T\"]]],\"order
 const ADDED: &str =
     "opacity-trace 2 1 0\n0 N 0 7\n0 V 0\n0 T\n0 C\n{\"events\":4,\"verdict\":\"opaque so far\"}\n";
 
+/// A transaction writes to a register.
+const WRITE: &[u8] = b"{\"registers\":1,\"scripts\":[[[\"W 0 5\",\"T\"]]],\"order\":[]}";
+
 const USAGE: &str = "{\"fault\":\"usage\"}\n";
 
 /// The words that spaces part.
@@ -43,8 +48,8 @@ fn parted(alloc: Global, line: &str) -> Result<Vec<String>, AllocError> {
 }
 
 /// Runs the command line of these words with memories of eight registers, and answers its exit status.
-fn run(
-    alloc: Global,
+fn run<R: AllocGlobal + Threads + Wait + Sync>(
+    rt: &R,
     words: Result<Vec<String>, Fault>,
     source: &mut MemorySource<'_>,
     sink: &mut MemorySink,
@@ -61,12 +66,12 @@ fn run(
         lock: &lock,
         torn: &torn,
     };
-    run_command(alloc, words, source, sink, errors, memories)
+    run_command(rt, rt.alloc(), words, source, sink, errors, memories)
 }
 
 /// Runs a command line that gives an order, and compares what went out.
-fn expect(
-    rt: &(impl Abort + AllocGlobal),
+fn expect<R: Abort + AllocGlobal + Threads + Wait + Sync>(
+    rt: &R,
     line: &str,
     input: &[u8],
     output: &str,
@@ -76,7 +81,7 @@ fn expect(
     let mut sink = MemorySink::new(rt.alloc());
     let mut errors = MemorySink::new(rt.alloc());
     let words = parted(rt.alloc(), line)?;
-    let exit = run(rt.alloc(), Ok(words), &mut source, &mut sink, &mut errors);
+    let exit = run(rt, Ok(words), &mut source, &mut sink, &mut errors);
     assert_eq!(rt; sink.bytes(), output.as_bytes(), "of {line}");
     assert_eq!(rt; errors.bytes(), b"".as_slice(), "of {line}");
     assert_eq!(rt; exit, status, "of {line}");
@@ -112,12 +117,16 @@ fn orders(rt: HostRuntime) -> Result<(), Fail> {
 }
 
 /// Runs a command line, and compares its line and status, and what the text for errors begins with.
-fn expect_usage(rt: &(impl Abort + AllocGlobal), line: &str, error: &str) -> Result<(), Fail> {
+fn expect_usage<R: Abort + AllocGlobal + Threads + Wait + Sync>(
+    rt: &R,
+    line: &str,
+    error: &str,
+) -> Result<(), Fail> {
     let mut source = MemorySource::new(TRACE);
     let mut sink = MemorySink::new(rt.alloc());
     let mut errors = MemorySink::new(rt.alloc());
     let words = parted(rt.alloc(), line)?;
-    let exit = run(rt.alloc(), Ok(words), &mut source, &mut sink, &mut errors);
+    let exit = run(rt, Ok(words), &mut source, &mut sink, &mut errors);
     assert_eq!(rt; sink.bytes(), USAGE.as_bytes(), "of {line}");
     assert_eq!(rt; exit, 4, "of {line}");
     let text = from_utf8(errors.bytes()).unwrap_or("");
@@ -167,6 +176,49 @@ fn orders_to_drive(rt: HostRuntime) -> Result<(), Fail> {
 }
 
 #[test]
+fn orders_to_bench(rt: HostRuntime) -> Result<(), Fail> {
+    for (line, input, output, status) in [
+        (
+            "tmwatch bench --trace",
+            WRITE,
+            "opacity-trace 1 1\n0 W 0 5\n0 K\n0 T\n0 C\n{\"events\":4,\"verdict\":\"opaque so far\"}\n{\"ends\":[\"done\"]}\n",
+            0,
+        ),
+        (
+            "tmwatch bench --memory torn --rounds=25 --ring 1 --patience=1000000000",
+            WRITE,
+            "{\"events\":100,\"verdict\":\"opaque so far\"}\n{\"ends\":[\"done\"]}\n",
+            0,
+        ),
+        (
+            "tmwatch bench --memory=lock --rounds 2",
+            WRITE,
+            "{\"events\":8,\"verdict\":\"opaque so far\"}\n{\"ends\":[\"done\"]}\n",
+            0,
+        ),
+    ] {
+        expect(&rt, line, input, output, status)?;
+    }
+    Ok(())
+}
+
+#[test]
+fn orders_to_bench_that_are_refused(rt: HostRuntime) -> Result<(), Fail> {
+    for (line, input, output) in [
+        ("tmwatch bench --ring 1", WORKLOAD, "{\"fault\":\"ring\"}\n"),
+        ("tmwatch bench", TRACE, "{\"fault\":\"json\"}\n"),
+        (
+            "tmwatch bench --trace",
+            b"[]".as_slice(),
+            "{\"fault\":\"shape\"}\n",
+        ),
+    ] {
+        expect(&rt, line, input, output, 4)?;
+    }
+    Ok(())
+}
+
+#[test]
 fn wrong_command_lines(rt: HostRuntime) -> Result<(), Fail> {
     for (line, error) in [
         (
@@ -197,6 +249,18 @@ fn wrong_command_lines(rt: HostRuntime) -> Result<(), Fail> {
             "tmwatch judge --trace",
             "error: unexpected argument '--trace' found",
         ),
+        (
+            "tmwatch bench --ring 0",
+            "error: invalid value '0' for '--ring <N>': 0 is not in 1..=4096",
+        ),
+        (
+            "tmwatch bench --rounds 1000001",
+            "error: invalid value '1000001' for '--rounds <N>': 1000001 is not in 1..=1000000",
+        ),
+        (
+            "tmwatch drive --rounds 1",
+            "error: unexpected argument '--rounds' found",
+        ),
         ("tmwatch replay", "error: unrecognized subcommand 'replay'"),
         (
             "tmwatch help replay",
@@ -221,13 +285,15 @@ fn requests_for_help(rt: HostRuntime) -> Result<(), Fail> {
             "tmwatch drive --help",
             "[possible values: norec, lock, torn]",
         ),
+        ("tmwatch bench --help", "Usage: tmwatch bench [OPTIONS]\n"),
+        ("tmwatch help bench", "--ring <N>"),
         ("tmwatch steps --help", "Usage: tmwatch steps\n"),
     ] {
         let mut source = MemorySource::new(TRACE);
         let mut sink = MemorySink::limited(rt.alloc(), 1, None);
         let mut errors = MemorySink::new(rt.alloc());
         let words = parted(rt.alloc(), line)?;
-        let exit = run(rt.alloc(), Ok(words), &mut source, &mut sink, &mut errors);
+        let exit = run(&rt, Ok(words), &mut source, &mut sink, &mut errors);
         let text = from_utf8(sink.bytes()).unwrap_or("");
         assert!(rt; text.contains(usage), "of {line}: {text}");
         assert_eq!(rt; errors.bytes(), b"".as_slice(), "of {line}");
@@ -245,7 +311,7 @@ fn words_that_cannot_be_had(rt: HostRuntime) {
         let mut source = MemorySource::new(TRACE);
         let mut sink = MemorySink::new(rt.alloc());
         let mut errors = MemorySink::new(rt.alloc());
-        let exit = run(rt.alloc(), Err(fault), &mut source, &mut sink, &mut errors);
+        let exit = run(&rt, Err(fault), &mut source, &mut sink, &mut errors);
         assert_eq!(rt; sink.bytes(), line.as_bytes());
         assert_eq!(rt; errors.bytes(), b"".as_slice());
         assert_eq!(rt; exit, 4);
@@ -257,6 +323,7 @@ fn writes_that_fail(rt: HostRuntime) -> Result<(), Fail> {
     for (line, output) in [
         ("tmwatch judge", VIOLATED),
         ("tmwatch drive", "{\"fault\":\"json\"}\n"),
+        ("tmwatch bench", "{\"fault\":\"json\"}\n"),
         ("tmwatch steps", "{\"fault\":\"bad header\"}\n"),
         ("tmwatch replay", USAGE),
     ] {
@@ -265,7 +332,7 @@ fn writes_that_fail(rt: HostRuntime) -> Result<(), Fail> {
             let mut sink = MemorySink::limited(rt.alloc(), 1, Some(sent as u64 + 1));
             let mut errors = MemorySink::new(rt.alloc());
             let words = parted(rt.alloc(), line)?;
-            let exit = run(rt.alloc(), Ok(words), &mut source, &mut sink, &mut errors);
+            let exit = run(&rt, Ok(words), &mut source, &mut sink, &mut errors);
             assert_eq!(rt;
                 sink.bytes(),
                 &output.as_bytes()[..sent],
@@ -284,7 +351,7 @@ fn help_that_is_cut_short(rt: HostRuntime) -> Result<(), Fail> {
         let mut sink = MemorySink::limited(rt.alloc(), 1, Some(call));
         let mut errors = MemorySink::new(rt.alloc());
         let words = parted(rt.alloc(), "tmwatch --help")?;
-        let exit = run(rt.alloc(), Ok(words), &mut source, &mut sink, &mut errors);
+        let exit = run(&rt, Ok(words), &mut source, &mut sink, &mut errors);
         assert_eq!(rt; sink.bytes().len() as u64 + 1, call);
         assert_eq!(rt; exit, 4, "at {call}");
     }
@@ -298,7 +365,7 @@ fn a_failing_sink_for_errors_keeps_no_line(rt: HostRuntime) -> Result<(), Fail> 
         let mut sink = MemorySink::new(rt.alloc());
         let mut errors = MemorySink::limited(rt.alloc(), 5, Some(call));
         let words = parted(rt.alloc(), "tmwatch replay")?;
-        let exit = run(rt.alloc(), Ok(words), &mut source, &mut sink, &mut errors);
+        let exit = run(&rt, Ok(words), &mut source, &mut sink, &mut errors);
         assert_eq!(rt; sink.bytes(), USAGE.as_bytes(), "at {call}");
         assert_eq!(rt; errors.bytes().len() as u64, 5 * (call - 1));
         assert_eq!(rt; exit, 4, "at {call}");

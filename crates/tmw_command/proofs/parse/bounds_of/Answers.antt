@@ -7,30 +7,30 @@ use Rattle.tmw_command.proofs.parse.bounds_of.Goals as goal
 pub returns-in_default-clause-none : goal.returns-in_default-clause-none
 returns-in_default-clause-none c =
     λ bounds given.
-    unread-Gives (found_of c.args.matches.now) (codes "window") bounds.window (omega (arith, bounds.most_transactions))
+    unread-Gives 8 (found_of c.args.matches.now) (codes "window") bounds.window (omega (arith, bounds.most_transactions))
     (λ t e. (c.in_default.ensures.value t e).1.0) given.0
 
 pub returns-in_default-get_one-clause-none : goal.returns-in_default-get_one-clause-none
 returns-in_default-get_one-clause-none c =
     λ bounds given.
-    unread-Gives (found_of c.args.matches.now) (codes "states") bounds.states (omega (arith, bounds.most_states))
+    unread-Gives 8 (found_of c.args.matches.now) (codes "states") bounds.states (omega (arith, bounds.most_states))
     (λ t e. (c.in_default-get_one.ensures.value t e).1.0) given.1
 
 pub returns-in-Ok-clause-some : goal.returns-in-Ok-clause-some
 returns-in-Ok-clause-some c =
     let found = found_of c.args.matches.now in (
-      read-Gives found (codes "window") c.in-Some.window c.in-Ok.bounds.window c.in-Ok.ensures.ok.0 c.in-Some.ensures.none
+      read-Gives 8 found (codes "window") c.in-Some.window c.in-Ok.bounds.window c.in-Ok.ensures.ok.0 c.in-Some.ensures.none
           (λ t e. (c.in-Some.ensures.value t e).0),
-      read-Gives found (codes "states") c.in-Some-get_one.states c.in-Ok.bounds.states c.in-Ok.ensures.ok.1 c.in-Some-get_one.ensures.none
+      read-Gives 8 found (codes "states") c.in-Some-get_one.states c.in-Ok.bounds.states c.in-Ok.ensures.ok.1 c.in-Some-get_one.ensures.none
           (λ t e. (c.in-Some-get_one.ensures.value t e).0),
     )
 
 pub returns-in-Err-clause-none : goal.returns-in-Err-clause-none
 returns-in-Err-clause-none c =
     let found = found_of c.args.matches.now in
-    let window = read-Gives found (codes "window") c.in-Some.window c.in-Some.window refl c.in-Some.ensures.none
+    let window = read-Gives 8 found (codes "window") c.in-Some.window c.in-Some.window refl c.in-Some.ensures.none
     (λ t e. (c.in-Some.ensures.value t e).0) in
-    let states = read-Gives found (codes "states") c.in-Some-get_one.states c.in-Some-get_one.states refl c.in-Some-get_one.ensures.none
+    let states = read-Gives 8 found (codes "states") c.in-Some-get_one.states c.in-Some-get_one.states refl c.in-Some-get_one.ensures.none
     (λ t e. (c.in-Some-get_one.ensures.value t e).0) in
     λ bounds given.
     no_bad_bounds c.in-Some.window c.in-Some-get_one.states bounds c.in-Err.field-0

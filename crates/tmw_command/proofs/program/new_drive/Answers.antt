@@ -1,29 +1,14 @@
--- Each builder says which part of the command it changes.
-use Rattle.std.proofs.Common.{◌≡◌, ◌∙◌, Some, ap, ap₂, codes, false}
+-- A command's about-text is no part of what a parse reads.
+use Rattle.std.proofs.Common.{◌≡◌, ◌∙◌, ap, codes}
 use Rattle.std.proofs.lemmas.Result.{IfOk-weaker}
 use Rattle.clap.specs.Simple.{app_of_fields}
-use Rattle.clap.specs.Words.{Rule, app_of, new_app, rule_of, with_rule}
-use Rattle.clap.specs.declared.builder.action.ArgAction.TheVariants.{SetTrue}
-use Rattle.clap.specs.declared.builder.arg.Arg.{Arg}
-use Rattle.tmw_command.specs.Program.{trace_rule, with_bounds}
+use Rattle.clap.specs.Words.{App, app_of, new_app}
+use Rattle.clap.specs.declared.builder.value_parser.ValueParser.TheVariants.{Names}
+use Rattle.tmw_command.specs.Program.{with_bounds, with_memory}
 use Rattle.tmw_command.proofs.program.new_drive.Goals as goal
-
-abbrev set_true : Rule → Rule
-set_true rule = record rule { action = Some SetTrue }
-
-abbrev long : Rule → Rule
-long rule = record rule { long = Some (codes "trace") }
-
-abbrev is_global : Arg → Rattle.std.proofs.Common.Bool
-is_global arg = arg.global
 
 pub returns : goal.returns
 returns c =
-    let about : app_of c.about.result ≡ new_app (codes "drive") = ap app_of_fields c.about.ensures ∙ c.new-2.ensures.app in
-    let trace : rule_of c.action-trace.result ≡ trace_rule =
-    ap rule_of c.action-trace.ensures ∙ ap set_true (ap rule_of c.help.ensures ∙ ap rule_of c.long.ensures ∙ ap long c.new.ensures.rule) in
-    let local : c.action-trace.result.global ≡ false =
-    ap is_global c.action-trace.ensures ∙ ap is_global c.help.ensures ∙ ap is_global c.long.ensures ∙ c.new.ensures.optional.1 in
-    let first = c.in_ok-arg.ensures.shape c.value_option-memory.ensures.local ∙ ap₂ with_rule about c.value_option-memory.ensures.rule in
-    let second = c.in_ok-drive.ensures.shape local ∙ ap₂ with_rule first trace in
-    IfOk-weaker c.with_bounds.result _ _ (λ command bounded. bounded ∙ ap with_bounds second) c.with_bounds.ensures
+    let about : app_of c.about-drive.result ≡ new_app (codes "drive") = ap app_of_fields c.about-drive.ensures ∙ c.new.ensures.app in
+    let given = c.in_ok-with_memory.ensures ∙ ap (λ (app : App). with_memory (Names c.args.memories) app) about in
+    IfOk-weaker c.with_bounds.result _ _ (λ command bounded. bounded ∙ ap with_bounds given) c.with_bounds.ensures

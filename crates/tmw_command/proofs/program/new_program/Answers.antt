@@ -21,13 +21,16 @@ returns c =
     ∙ ap without_help (ap app_of_fields c.subcommand_required.ensures ∙ ap needing (ap app_of_fields c.about.ensures ∙ c.new.ensures.app)) in
     let judges = c.in_ok-new_judge.ensures in
     let drives = c.in_ok-new_drive.ensures in
+    let benches = c.in_ok-new_bench.ensures in
     let takes_steps = c.new_steps.ensures in
     let judge_local = plain_fields c.in_ok-new_judge.field-0 (ap (λ (app : App). app.top.is_plain) judges) in
     let drive_local = plain_fields c.in_ok-new_drive.field-0 (ap (λ (app : App). app.top.is_plain) drives) in
+    let bench_local = plain_fields c.in_ok-new_bench.field-0 (ap (λ (app : App). app.top.is_plain) benches) in
     let steps_local = plain_fields c.new_steps.result (ap (λ (app : App). app.top.is_plain) takes_steps) in
     let first = c.in_ok-subcommand.ensures.shape judge_local.globals ∙ ap₂ with_subcommand top (ap (λ (app : App). app.top) judges) in
     let second = c.in_ok-subcommand-2.ensures.shape drive_local.globals ∙ ap₂ with_subcommand first (ap (λ (app : App). app.top) drives) in
-    let names : texts c.as_slice.result.now ≡ memory_names = search rules in
-    IfOk-weaker c.subcommand-3.result _ _
-    (λ command added. (c.as_slice.result, names, added.shape steps_local.globals ∙ ap₂ with_subcommand second (ap (λ (app : App). app.top) takes_steps)))
-    c.subcommand-3.ensures
+    let third = c.in_ok-subcommand-3.ensures.shape bench_local.globals ∙ ap₂ with_subcommand second (ap (λ (app : App). app.top) benches) in
+    let names : texts c.as_slice-memories.result.now ≡ memory_names = search rules in
+    IfOk-weaker c.subcommand-4.result _ _
+    (λ command added. (c.as_slice-memories.result, names, added.shape steps_local.globals ∙ ap₂ with_subcommand third (ap (λ (app : App). app.top) takes_steps)))
+    c.subcommand-4.ensures

@@ -1,0 +1,16 @@
+-- The settings of a bench that a command line asks for.
+use Rattle.std.specs.Prelude.{◌^◌}
+use Rattle.tmw_bench.specs.declared.settings.Settings.{Settings}
+use Rattle.tmw_command.specs.declared.bench_options.BenchOptions.{BenchOptions}
+
+-- Its options, and the most events that any record has.
+abbrev pub settings_of : BenchOptions → Settings
+settings_of options = record {
+  cells = options.cells;
+  limit = 2 ^ 40;
+  patience = options.patience;
+  rounds = options.rounds;
+  bounds = options.bounds;
+  some_round = options.some_round;
+  few_rounds = options.few_rounds;
+}

@@ -1,0 +1,4 @@
+pub mod BenchRun
+pub mod Ends
+pub mod EndsObject
+pub mod Running

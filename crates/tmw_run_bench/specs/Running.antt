@@ -1,0 +1,57 @@
+-- What `bench` promises: from the bytes that its source tells to what its sink takes and the exit status.
+use Rattle.std.specs.Prelude.{ℕ, Bool, List, Result, Ok, Err, length}
+use Rattle.tmw_bench.specs.Benched.{IsBenched, IsNoBench}
+use Rattle.tmw_bench.specs.declared.fault.BenchFault.{BenchFault}
+use Rattle.tmw_bench.specs.declared.fault.BenchFault.TheVariants.{Registers as LacksRegisters, Ring as HasNoRing, Spawn as LacksThreads}
+use Rattle.tmw_bench.specs.declared.settings.Settings.{Settings}
+use Rattle.tmw_events.specs.declared.registers.Registers.{Registers}
+use Rattle.tmw_report.specs.CommandRun.{IsCommandRun}
+use Rattle.tmw_report.specs.Streams.{FromSource, ToSink}
+use Rattle.tmw_report.specs.declared.fault.Fault.{Fault}
+use Rattle.tmw_report.specs.declared.fault.Fault.TheVariants.{Io, Json, Memory, Registers as TooManyRegisters, Ring, Shape, Spawn}
+use Rattle.tmw_ring_defs.specs.declared.ring_fault.RingFault.{RingFault}
+use Rattle.tmw_run_bench.specs.BenchRun.{bench_status, bench_text, benched_of}
+use Rattle.tmw_run_bench.specs.declared.bench_run.BenchRun.{BenchRun}
+use Rattle.tmw_run_drive.specs.Driven.{IsHeaderOf}
+use Rattle.tmw_run_drive.specs.Running.{IsTextOver}
+use Rattle.tmw_tm.specs.Answers.{Call, Answer}
+use Rattle.tmw_workloads.specs.Json.{IsNoText, IsOtherText}
+
+-- The bytes are the text of a workload, and this is what threads have made of it on a memory that gives these answers: its
+-- scripts, round after round, the verdict on the record, from registers that all hold 0, and how each thread has ended.
+pub record IsBenchedFrom (gives : Call → Answer → Type 0) (settings : Settings) (bytes : List ℕ) (run : BenchRun) : Type 0 where
+  pub registers : Registers
+  pub workload : IsTextOver registers.number bytes
+  pub header : IsHeaderOf registers run.driven.outcome.log.items run.driven.header
+  pub benched : IsBenched gives registers workload.scripts settings (benched_of run)
+
+-- The bytes are the text of a workload, of which no run was judged to its end, by this fault.
+pub record IsNoBenchFrom (settings : Settings) (bytes : List ℕ) (fault : BenchFault) : Type 0 where
+  pub registers : Registers
+  pub workload : IsTextOver registers.number bytes
+  pub none : IsNoBench registers.number (length workload.scripts) settings fault
+
+-- The fault is right of these bytes, which are all that the source has where `Ended` holds: they are no JSON text, or the text
+-- of a value that is no workload's; or of a workload over more than one register, which asks for more than the memory has; or of
+-- one for whose scripts no ring has the settings' size; or of one for which there may be a ring, and a thread could not be started.
+-- `Io` answers a failed read, and `Memory` want of memory, of which only tests show that a growth was refused.
+abbrev pub IsRightFault : Type 0 → Settings → List ℕ → Fault → Type 0
+IsRightFault Ended settings bytes Json = Ended × IsNoText bytes
+IsRightFault Ended settings bytes Shape = Ended × IsOtherText bytes
+IsRightFault Ended settings bytes TooManyRegisters = Ended × IsNoBenchFrom settings bytes LacksRegisters
+IsRightFault Ended settings bytes Ring = Ended × (fault : RingFault) × IsNoBenchFrom settings bytes (HasNoRing fault)
+IsRightFault Ended settings bytes Spawn = Ended × IsNoBenchFrom settings bytes LacksThreads
+IsRightFault Ended settings bytes Io = Ended → ⊥
+IsRightFault Ended settings bytes Memory = Unit {0}
+IsRightFault Ended settings bytes _ = ⊥
+
+-- This answers the bytes that a source told: what threads have made of the workload of which they are the text, on a memory that
+-- gives these answers, or a fault that is right of them.
+abbrev pub AnswersBench : (Call → Answer → Type 0) → Settings → Type 0 → List ℕ → Result BenchRun Fault → Type 0
+AnswersBench gives settings Ended bytes (Ok run) = Ended × IsBenchedFrom gives settings bytes run
+AnswersBench gives settings Ended bytes (Err fault) = IsRightFault Ended settings bytes fault
+
+-- What a run of `bench` does: an answer to the bytes that its source tells in it, and the answer's text to its sink.
+abbrev pub BenchesBytes : {S K : Type 0} → FromSource S → ToSink K → (Call → Answer → Type 0) → Bool → Settings → S → S → K → K → ℕ → Type 0
+BenchesBytes From To gives trace settings =
+    IsCommandRun From To (AnswersBench gives settings) (bench_text trace) bench_status

@@ -1,0 +1,292 @@
+//! What the contracts leave open: that workloads are answered as their readers expect, and that there is memory and a thread for it.
+use crate::{ends_text, run_bench_cmd};
+use std::process::Abort;
+use std::sync::Wait;
+use std::test::Fail;
+use std::thread::Threads;
+use tmw_bench::Settings;
+use tmw_drive::Ending;
+use tmw_events::{Ix, Registers};
+use tmw_monitor::Bounds;
+use tmw_ring::Refused;
+use tmw_streams::{MemorySink, MemorySource};
+use tmw_tm::{Did, Got, Tm, Tx};
+
+const OPAQUE: u8 = 0;
+
+const VIOLATED: u8 = 1;
+
+const FAULT: u8 = 4;
+
+/// What `bench` takes where no option is given.
+const USUAL: Settings = Settings {
+    cells: 256,
+    limit: 1 << 40,
+    patience: 1_000_000,
+    rounds: 1,
+    bounds: Bounds {
+        window: 8,
+        states: 64,
+    },
+};
+
+/// So few places that a thread can record two events.
+const TWO_PLACES: Settings = Settings {
+    cells: 256,
+    limit: 2,
+    patience: 1_000_000,
+    rounds: 1,
+    bounds: Bounds {
+        window: 8,
+        states: 64,
+    },
+};
+
+/// A ring of one cell.
+const ONE_CELL: Settings = Settings {
+    cells: 1,
+    limit: 1 << 40,
+    patience: 1_000_000,
+    rounds: 1,
+    bounds: Bounds {
+        window: 8,
+        states: 64,
+    },
+};
+
+/// No place at all.
+const NO_PLACE: Settings = Settings {
+    cells: 256,
+    limit: 0,
+    patience: 1_000_000,
+    rounds: 1,
+    bounds: Bounds {
+        window: 8,
+        states: 64,
+    },
+};
+
+/// The workload is carried out three times.
+const THRICE: Settings = Settings {
+    cells: 256,
+    limit: 1 << 40,
+    patience: 1_000_000,
+    rounds: 3,
+    bounds: Bounds {
+        window: 8,
+        states: 64,
+    },
+};
+
+/// A memory of one register that answers 7 whatever was written, and aborts nothing.
+#[derive(Drop)]
+struct Seven;
+
+impl Tm for Seven {
+    ghost gives = { λ memory call answer. Unit {0} };
+
+    fn registers(&self) -> Registers {
+        Registers { number: 1 }
+    }
+
+    fn begin(&self, _tx: &mut Tx) -> Did {
+        Did::Done
+    }
+
+    fn read(&self, _tx: &mut Tx, _register: Ix) -> Got {
+        Got::Value(7)
+    }
+
+    fn write(&self, _tx: &mut Tx, _register: Ix, _value: u64) -> Did {
+        Did::Done
+    }
+
+    fn add(&self, _tx: &mut Tx, _register: Ix, _addend: u64) -> Got {
+        Got::Value(7)
+    }
+
+    fn commit(&self, _tx: &mut Tx) -> Did {
+        Did::Done
+    }
+
+    fn abort(&self, _tx: &mut Tx) {}
+}
+
+const WRITE: &[u8] = b"{\"registers\":1,\"scripts\":[[[\"W 0 5\",\"T\"]]],\"order\":[]}";
+
+const WRITE_TRACE: &[u8] =
+    b"opacity-trace 1 1\n0 W 0 5\n0 K\n0 T\n0 C\n{\"events\":4,\"verdict\":\"opaque so far\"}\n{\"ends\":[\"done\"]}\n";
+
+/// Two scripts, of which none has a transaction.
+const NOTHING: &[u8] = b"{\"registers\":1,\"scripts\":[[],[]],\"order\":[0,1]}";
+
+/// Carries a workload out, which a source tells a byte a call, and compares what went out, which a sink takes a byte a call.
+fn expect<R: Abort + AllocGlobal + Threads + Wait + Sync>(
+    rt: &R,
+    text: &[u8],
+    trace: bool,
+    settings: Settings,
+    written: &[u8],
+    status: u8,
+) {
+    let mut source = MemorySource::limited(text, 1, None);
+    let mut sink = MemorySink::limited(rt.alloc(), 1, None);
+    let answered = run_bench_cmd(
+        rt,
+        rt.alloc(),
+        &mut source,
+        &mut sink,
+        &Seven,
+        trace,
+        settings,
+    );
+    assert_eq!(rt; sink.bytes(), written, "of {text:?}");
+    assert_eq!(rt; answered, status, "of {text:?}");
+}
+
+#[test]
+fn ends(rt: HostRuntime) -> Result<(), Fail> {
+    let full = Ending::Stopped(Refused::Full { front: 3, tail: 4 });
+    let spent = Ending::Stopped(Refused::Spent { tail: 2 });
+    for (ends, line) in [
+        ([].as_slice(), "{\"ends\":[]}\n"),
+        ([Ending::Done].as_slice(), "{\"ends\":[\"done\"]}\n"),
+        (
+            [Ending::Done, full].as_slice(),
+            "{\"ends\":[\"done\",\"full\"]}\n",
+        ),
+        (
+            [spent, Ending::Left, Ending::Done].as_slice(),
+            "{\"ends\":[\"spent\",\"left\",\"done\"]}\n",
+        ),
+    ] {
+        assert_eq!(rt; ends_text(rt.alloc(), ends)?.as_str(), line);
+    }
+    Ok(())
+}
+
+#[test]
+fn workloads_that_are_carried_out(rt: HostRuntime) {
+    for (text, trace, settings, written, status) in [
+        (WRITE, true, USUAL, WRITE_TRACE, OPAQUE),
+        (
+            WRITE,
+            false,
+            USUAL,
+            b"{\"events\":4,\"verdict\":\"opaque so far\"}\n{\"ends\":[\"done\"]}\n".as_slice(),
+            OPAQUE,
+        ),
+        (
+            WRITE,
+            true,
+            TWO_PLACES,
+            b"opacity-trace 1 1\n0 W 0 5\n0 K\n{\"events\":2,\"verdict\":\"opaque so far\"}\n{\"ends\":[\"spent\"]}\n",
+            OPAQUE,
+        ),
+        (
+            WRITE,
+            false,
+            THRICE,
+            b"{\"events\":12,\"verdict\":\"opaque so far\"}\n{\"ends\":[\"done\"]}\n",
+            OPAQUE,
+        ),
+        (
+            b"{\"registers\":1,\"scripts\":[[[\"R 0\",\"R 0\",\"T\"]]],\"order\":[]}",
+            true,
+            THRICE,
+            b"opacity-trace 1 1\n0 R 0\n0 V 7\n0 R 0\n0 V 7\n0 T\n0 C\n{\"at\":2,\"events\":6,\"verdict\":\"violated\"}\n{\"ends\":[\"done\"]}\n",
+            VIOLATED,
+        ),
+        (
+            b"{\"registers\":1,\"scripts\":[[[\"N 0 1\",\"X\"]]],\"order\":[]}",
+            true,
+            USUAL,
+            b"opacity-trace 2 1 0\n0 N 0 1\n0 V 7\n0 X\n0 A\n{\"at\":2,\"events\":4,\"verdict\":\"violated\"}\n{\"ends\":[\"done\"]}\n",
+            VIOLATED,
+        ),
+        (
+            NOTHING,
+            true,
+            USUAL,
+            b"opacity-trace 1 1\n{\"events\":0,\"verdict\":\"opaque so far\"}\n{\"ends\":[\"done\",\"done\"]}\n",
+            OPAQUE,
+        ),
+    ] {
+        expect(&rt, text, trace, settings, written, status);
+    }
+}
+
+#[test]
+fn texts_and_settings_that_are_refused(rt: HostRuntime) {
+    for (text, settings, line) in [
+        (
+            b"[]".as_slice(),
+            USUAL,
+            b"{\"fault\":\"shape\"}\n".as_slice(),
+        ),
+        (b"{", USUAL, b"{\"fault\":\"json\"}\n"),
+        (b"", USUAL, b"{\"fault\":\"json\"}\n"),
+        (NOTHING, ONE_CELL, b"{\"fault\":\"ring\"}\n"),
+        (WRITE, NO_PLACE, b"{\"fault\":\"ring\"}\n"),
+    ] {
+        expect(&rt, text, true, settings, line, FAULT);
+    }
+}
+
+#[test]
+fn a_workload_of_more_registers_than_the_memory_has(rt: HostRuntime) {
+    expect(
+        &rt,
+        b"{\"registers\":2,\"scripts\":[[]],\"order\":[]}",
+        true,
+        USUAL,
+        b"{\"fault\":\"registers\"}\n",
+        FAULT,
+    );
+}
+
+#[test]
+fn reads_that_fail(rt: HostRuntime) {
+    for call in 1..WRITE.len() as u64 + 2 {
+        let mut source = MemorySource::limited(WRITE, 1, Some(call));
+        let mut sink = MemorySink::new(rt.alloc());
+        let answered = run_bench_cmd(&rt, rt.alloc(), &mut source, &mut sink, &Seven, true, USUAL);
+        assert_eq!(rt; answered, FAULT, "at {call}");
+        assert_eq!(rt;
+            sink.bytes(),
+            b"{\"fault\":\"io\"}\n".as_slice(),
+            "at {call}"
+        );
+    }
+}
+
+#[test]
+fn writes_that_fail(rt: HostRuntime) {
+    for sent in 0..WRITE_TRACE.len() {
+        let mut source = MemorySource::new(WRITE);
+        let mut sink = MemorySink::limited(rt.alloc(), 1, Some(sent as u64 + 1));
+        let answered = run_bench_cmd(&rt, rt.alloc(), &mut source, &mut sink, &Seven, true, USUAL);
+        assert_eq!(rt; answered, FAULT, "after {sent}");
+        assert_eq!(rt; sink.bytes(), &WRITE_TRACE[..sent], "after {sent}");
+    }
+}
+
+#[test]
+fn writes_of_a_fault_that_fail(rt: HostRuntime) {
+    let line = b"{\"fault\":\"ring\"}\n".as_slice();
+    for sent in 0..line.len() {
+        let mut source = MemorySource::new(NOTHING);
+        let mut sink = MemorySink::limited(rt.alloc(), 1, Some(sent as u64 + 1));
+        let answered = run_bench_cmd(
+            &rt,
+            rt.alloc(),
+            &mut source,
+            &mut sink,
+            &Seven,
+            true,
+            ONE_CELL,
+        );
+        assert_eq!(rt; answered, FAULT, "after {sent}");
+        assert_eq!(rt; sink.bytes(), &line[..sent], "after {sent}");
+    }
+}
