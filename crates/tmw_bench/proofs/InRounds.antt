@@ -8,8 +8,8 @@ use Rattle.tmw_bench.proofs.Cutting.{cutting}
 use Rattle.tmw_bench.proofs.OpaqueRounds.{all_opaque-take, last_bound-within}
 use Rattle.tmw_bench.proofs.PlayedRounds.{earlier_played}
 use Rattle.tmw_bench.proofs.WholeRounds.{are_whole_rounds, no_kinds}
-use Rattle.tmw_bench.specs.Benched.{EndsRound}
-use Rattle.tmw_bench.specs.Rounds.{last_bound, ending_of, AllOpaque, AreEndings, HasPlayed, HasPlayedLast, HaveAllPlayedLast, IsInRounds, IsLogOfAll}
+use Rattle.tmw_bench.specs.Benched.{EndsRound, IsInRounds}
+use Rattle.tmw_bench.specs.Rounds.{last_bound, ending_of, AllOpaque, AreEndings, HasPlayed, HasPlayedLast, HaveAllPlayedLast, IsLogOfAll}
 use Rattle.tmw_defs.specs.Texts.{kinds_of}
 use Rattle.tmw_defs.specs.Verdict.{Rules}
 use Rattle.tmw_drive.specs.Driving.{script_at}
@@ -23,7 +23,7 @@ use Rattle.tmw_ring.specs.declared.refused.Refused.{Refused}
 use Rattle.tmw_ring.specs.declared.refused.Refused.TheVariants.{Full, Spent}
 use Rattle.tmw_runs.specs.Standing.{AllStand}
 use Rattle.tmw_tm.specs.Answers.{Call, Answer}
-use Rattle.tmw_work.specs.Working.{EndsWork}
+use Rattle.tmw_work.specs.Working.{EndsWork, FindsFrom}
 
 -- the log of a settled ring
 pub log_of_all-settled : (scripts : List (List (List Kind))) (reader : ReaderIs) (writers : List WriterIs) (left log : List Event)
@@ -41,15 +41,19 @@ log_of_all-settled scripts reader writers left log counted settled whole =
     }
 
 -- how the thread has ended, where its writer has seen no further than the log is long
-ends_round : (script : List (List Kind)) (kinds : List Kind) (stop : Option Refused) (writer : WriterIs) (places : ℕ)
-    → EndsWork script kinds stop writer → writer.seen ≤ places → EndsRound script kinds places (ending_of stop) writer
-ends_round script kinds None writer places ended seen = ended
-ends_round script kinds (Some (Full front tail)) writer places ended seen = (ended, omega (arith, seen, ended.refusal.refusal.0.seen))
-ends_round script kinds (Some (Spent tail)) writer places ended seen = (ended, omega (arith, seen, ended.refusal.refusal.1.seen))
+ends_round : (script : List (List Kind)) (kinds : List Kind) (stop : Option Refused) (writer : WriterIs) (start places : ℕ)
+    → EndsWork script kinds stop writer → FindsFrom start stop → writer.seen ≤ places
+    → EndsRound script kinds start places (ending_of stop) writer
+ends_round script kinds None writer start places ended found seen = ended
+ends_round script kinds (Some (Full front tail)) writer start places ended found seen =
+    (ended, found, omega (arith, seen, ended.refusal.refusal.0.seen))
+ends_round script kinds (Some (Spent tail)) writer start places ended found seen =
+    (ended, found, omega (arith, seen, ended.refusal.refusal.1.seen))
 
 -- What a thread has done in a log whose last round begins at this length, whether it ended there or not.
 record LastAt (gives : Call → Answer → Type 0) (script : List (List Kind)) (bounds : List ℕ) (thread : ℕ) (log : List Event) (stop : Option Refused) (writer : WriterIs) : Type 0 where
   before : HasPlayed gives script bounds (made_from thread 0 (take (last_bound bounds) log))
+  found : FindsFrom (last_bound bounds) stop
   stands : AllStand gives true (kinds_of thread (drop (last_bound bounds) log))
   ended : EndsWork script (kinds_of thread (drop (last_bound bounds) log)) stop writer
 
@@ -61,6 +65,7 @@ last_at gives script bounds thread log stop writer within made last =
     (earlier_played gives script bounds last.old last.played) last.later in
     record {
       before = subst (HasPlayed gives script bounds) cut.0 last.played;
+      found = last.found;
       stands = subst (AllStand gives true) cut.1 last.stands;
       ended = subst (λ (kinds : List Kind). EndsWork script kinds stop writer) cut.1 last.ended;
     }
@@ -84,10 +89,13 @@ in_rounds rules gives scripts bounds log stops ends writers is opaque last endin
       (sym (length-take-le start log within)) (all_opaque-take rules bounds log start opaque (omega arith) within);
   stands = λ thread. stands_at thread;
   ended = λ thread fallback writer low.
-      subst (λ (ending : Ending). EndsRound (script_at scripts thread) (kinds_of thread (drop start log)) (length log) ending (get_or writers thread writer))
-      (sym (endings.each thread fallback low))
-      (ends_round (script_at scripts thread) (kinds_of thread (drop start log)) (get_or stops thread None) (get_or writers thread writer) (length log)
-      (at thread writer low).ended (is.seen thread writer low));
+      let part = at thread writer low in
+      let found : FindsFrom (length (take start log)) (get_or stops thread None)
+      = subst (λ (n : ℕ). FindsFrom n (get_or stops thread None)) (sym (length-take-le start log within)) part.found in
+      subst (λ (ending : Ending). EndsRound (script_at scripts thread) (kinds_of thread (drop start log)) (length (take start log)) (length log)
+      ending (get_or writers thread writer)) (sym (endings.each thread fallback low))
+      (ends_round (script_at scripts thread) (kinds_of thread (drop start log)) (get_or stops thread None) (get_or writers thread writer)
+      (length (take start log)) (length log) part.ended found (is.seen thread writer low));
 }
   where
     start : ℕ

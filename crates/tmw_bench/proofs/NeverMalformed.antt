@@ -6,8 +6,7 @@ use Rattle.std.proofs.lemmas.List.{append-nil, get_or_past}
 use Rattle.tmw_bench.proofs.InRounds.{some_writer}
 use Rattle.tmw_bench.proofs.RepeatedRuns.{repeated, are_transactions-repeated, beginning-append, repeated-nil, whole_run-append}
 use Rattle.tmw_bench.proofs.WholeRounds.{no_kinds}
-use Rattle.tmw_bench.specs.Benched.{AreWholeRounds, EndsRound}
-use Rattle.tmw_bench.specs.Rounds.{IsInRounds}
+use Rattle.tmw_bench.specs.Benched.{AreWholeRounds, EndsRound, IsInRounds}
 use Rattle.tmw_defs.specs.History.{is_well_formed}
 use Rattle.tmw_defs.specs.Texts.{kinds_of}
 use Rattle.tmw_defs.specs.Verdict.{Rules, IsFirst, IsMalformed}
@@ -37,11 +36,11 @@ whole_run-rounds rules gives scripts (suc count) log (before, round, parts, whol
     (whole_run-append (repeated count script) script (kinds_of thread before) (kinds_of thread round)
     (whole_run-rounds rules gives scripts count before whole thread low) (last.runs thread low))
 
-begins-ends_round : (script : List (List Kind)) (kinds : List Kind) (places : ℕ) (ending : Ending) (writer : WriterIs)
-    → EndsRound script kinds places ending writer → IsBeginning script kinds
-begins-ends_round script kinds places Done writer whole = ([], subst (IsWholeRun script) (sym (append-nil kinds)) whole)
-begins-ends_round script kinds places Left writer never = absurd never
-begins-ends_round script kinds places (Stopped refused) writer (stops, few) =
+begins-ends_round : (script : List (List Kind)) (kinds : List Kind) (start places : ℕ) (ending : Ending) (writer : WriterIs)
+    → EndsRound script kinds start places ending writer → IsBeginning script kinds
+begins-ends_round script kinds start places Done writer whole = ([], subst (IsWholeRun script) (sym (append-nil kinds)) whole)
+begins-ends_round script kinds start places Left writer never = absurd never
+begins-ends_round script kinds start places (Stopped refused) writer (stops, late, few) =
     let (more, run) = stops.begins in
     (stops.next ∷ more, subst (IsWholeRun script) (append_assoc kinds (stops.next ∷ []) more) run)
 
@@ -56,7 +55,7 @@ begins-in_rounds rules gives scripts earlier log ends writers counted own rounds
           let script = script_at scripts thread in
           let writer = some_writer writers thread (subst (λ (n : ℕ). thread < n) (sym counted) low) in
           let last : IsBeginning script (kinds_of thread rounds.round) =
-          begins-ends_round script (kinds_of thread rounds.round) (length log) (get_or ends thread Done) (get_or writers thread writer)
+          begins-ends_round script (kinds_of thread rounds.round) (length rounds.before) (length log) (get_or ends thread Done) (get_or writers thread writer)
           (rounds.ended thread Done writer low) in
           subst (IsBeginning (repeated (suc earlier) script))
           (sym (ap (kinds_of thread) rounds.parts ∙ kinds_of-append thread rounds.before rounds.round))

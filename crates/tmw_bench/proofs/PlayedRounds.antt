@@ -1,5 +1,5 @@
 -- What a writer has claimed in whole rounds, one round after another, and where writers meet in between.
-use Rattle.std.proofs.Common.{◌≡◌, ◌<◌, ℕ, List, [], ◌∷◌, Option, None, length, get_or, sym, ◌∙◌, subst, arith}
+use Rattle.std.proofs.Common.{◌≡◌, ◌<◌, ◌≤◌, ℕ, List, [], ◌∷◌, Option, Some, None, length, get_or, sym, ◌∙◌, subst, arith}
 use Rattle.std.specs.Prelude.{All}
 use Rattle.std.proofs.lemmas.List.Elements.{All-append, All-nil}
 use Rattle.tmw_bench.specs.Rounds.{last_bound, AreAllReady, HasPlayed, HasPlayedLast, HaveAllPlayedLast, IsReady}
@@ -11,11 +11,16 @@ use Rattle.tmw_ring.specs.declared.part.Made.{Made}
 use Rattle.tmw_ring.specs.declared.refused.Refused.{Refused}
 use Rattle.tmw_rounds.specs.Meeting.{HasMet, HaveAllMet}
 use Rattle.tmw_tm.specs.Answers.{Call, Answer}
-use Rattle.tmw_work.specs.Working.{EndsWork, HasWorked}
+use Rattle.tmw_work.specs.Working.{EndsWork, FindsFrom, HasWorked}
 
 -- a new writer is ready for the first round
 pub ready-new : (gives : Call → Answer → Type 0) (script : List (List Kind)) (writer : WriterIs) → writer.made ≡ [] → IsReady gives script [] writer
 ready-new gives script writer none_made = record { played = none_made; seen = omega arith }
+
+-- a refusal that has found so many places claimed has found fewer
+finds_from-lower : (start seen : ℕ) (stop : Option Refused) → start ≤ seen → FindsFrom seen stop → FindsFrom start stop
+finds_from-lower start seen None low found = tt
+finds_from-lower start seen (Some refused) low found = omega (arith, low, found)
 
 -- a ready writer's thread has carried its script out, to its end or up to where it was stopped
 pub played_last-worked : (gives : Call → Answer → Type 0) (script : List (List Kind)) (bounds : List ℕ) (old : WriterIs) (stop : Option Refused)
@@ -29,6 +34,7 @@ played_last-worked gives script bounds old stop new ready worked = record {
   later = λ place fallback low. omega (arith, ready.seen, worked.later place fallback low);
   earlier = worked.earlier;
   seen = omega (arith, ready.seen, worked.seen);
+  found = finds_from-lower (last_bound bounds) old.seen stop ready.seen worked.found;
   stands = worked.stands;
   ended = worked.ended;
 }

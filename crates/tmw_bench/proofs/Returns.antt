@@ -8,6 +8,7 @@ use Rattle.tmw_bench.specs.Playing.{ComesBack, GivesWithin, IsPromise}
 use Rattle.tmw_bench.specs.declared.threads.Playing.{Playing}
 use Rattle.tmw_drive.specs.Driving.{script_at}
 use Rattle.tmw_events.specs.declared.event.Kind.{Kind}
+use Rattle.tmw_recorded.proofs.Returns.{one_more}
 use Rattle.tmw_recorded.specs.Recording.{kinds_made}
 use Rattle.tmw_ring.specs.Ends.{RingIs, WriterIs, WriterOf}
 use Rattle.tmw_ring.specs.declared.refused.Refused.{Refused}
@@ -34,20 +35,11 @@ comes_back-more gives more ring script before writer stop larger of_ring number 
     later = worked.later;
     earlier = worked.earlier;
     seen = worked.seen;
+    found = worked.found;
     stands = all_stand-more gives more larger true (kinds_made worked.fresh) worked.stands;
     ended = worked.ended;
   };
 }
-
--- What holds of each item at its place still does when one more is put behind them.
-one_more : {A : Type 0} (P : ℕ → A → Type 0) (items : List A) (item : A)
-    → ((place : ℕ) (fallback : A) → place < length items → P place (get_or items place fallback)) → P (length items) item
-    → (place : ℕ) (fallback : A) → place < length (items ++ item ∷ []) → P place (get_or (items ++ item ∷ []) place fallback)
-one_more P [] item each last zero fallback low = last
-one_more P [] item each last (suc place) fallback low = absurd (omega (arith, low))
-one_more P (first ∷ items) item each last zero fallback low = each zero fallback (omega arith)
-one_more P (first ∷ items) item each last (suc place) fallback low =
-    one_more (λ n. P (suc n)) items item (λ n d below. each (suc n) d (omega (arith, below))) last place fallback (omega (arith, low))
 
 pub pushed : {A : Type 0} (P : ℕ → A → Type 0) (items : List A) (item : A) (new : List A) → new ≡ items ++ item ∷ []
     → ((place : ℕ) (fallback : A) → place < length items → P place (get_or items place fallback)) → P (length items) item

@@ -76,6 +76,7 @@ played_last-met gives script bounds tail old stop new not_stopped last met = rec
   later = last.later;
   earlier = λ place fallback low. omega (arith, last.earlier place fallback low, met.reached, met.seen);
   seen = omega (arith, last.seen, met.reached, met.seen);
+  found = last.found;
   stands = last.stands;
   ended = subst (λ (s : Option Refused). EndsWork script (kinds_made last.fresh) s new) (sym not_stopped)
       (subst (λ (s : Option Refused). EndsWork script (kinds_made last.fresh) s old) not_stopped last.ended);

@@ -3,8 +3,8 @@ use Rattle.std.proofs.Common.{◌≡◌, ◌<◌, ◌≤◌, ◌+◌, ◌++◌, 
 use Rattle.std.specs.Prelude.{◌≢◌, ◌⊎◌, All}
 use Rattle.tmw_bench.proofs.InRounds.{in_rounds, log_of_all-settled}
 use Rattle.tmw_bench.proofs.NeverMalformed.{formed-in_rounds}
-use Rattle.tmw_bench.specs.Benched.{IsBenched, SomeStopped}
-use Rattle.tmw_bench.specs.Rounds.{ending_of, AllOpaque, AreEndings, HaveAllPlayedLast, IsInRounds, IsLogOfAll}
+use Rattle.tmw_bench.specs.Benched.{IsBenched, IsInRounds, SomeStopped}
+use Rattle.tmw_bench.specs.Rounds.{ending_of, AllOpaque, AreEndings, HaveAllPlayedLast, IsLogOfAll}
 use Rattle.tmw_bench.specs.declared.benched.Benched.{Benched}
 use Rattle.tmw_bench.specs.declared.settings.Settings.{Settings}
 use Rattle.tmw_defs.specs.Opaque.{zeros}
@@ -86,11 +86,6 @@ is_benched gives registers scripts settings benched ring reader writers left bou
       earlier = length bounds;
       rounds = rounds;
       within = within;
-      before = parts.before;
-      round = parts.round;
-      parts = parts.parts;
-      whole = parts.whole;
-      stands = parts.stands;
-      ended = parts.ended;
+      in_rounds = parts;
       over = over;
     }

@@ -19,14 +19,13 @@ use Rattle.tmw_pump.specs.Headline.{Headline}
 use Rattle.tmw_ring.specs.Ends.{RingIs, WriterIs, WriterOf}
 use Rattle.tmw_ring.specs.Settling.{AreInOrder}
 use Rattle.tmw_ring.specs.declared.refused.Refused.{Refused}
-use Rattle.tmw_ring.specs.declared.refused.Refused.TheVariants.{Full, Spent}
 use Rattle.tmw_ring_defs.specs.Runs.{Gone, IsRunTo, writer_actor}
 use Rattle.tmw_ring_defs.specs.Sizes.{HasNumbers, HasRoom, HasLimit, IsWrongSize}
 use Rattle.tmw_ring_defs.specs.declared.ring_step.Answered.{Answered}
 use Rattle.tmw_runs.specs.Runs.{IsWholeRun}
 use Rattle.tmw_runs.specs.Standing.{AllStand}
 use Rattle.tmw_tm.specs.Answers.{Call, Answer}
-use Rattle.tmw_work.specs.Working.{StopsBefore}
+use Rattle.tmw_work.specs.Working.{tail_of, StopsBefore}
 
 -- A round to its end: each thread has recorded a whole run of its script, and each answer there is one that the memory gives.
 pub record IsWholeRound (gives : Call → Answer → Type 0) (scripts : List (List (List Kind))) (round : List Event) : Type 0 where
@@ -40,17 +39,24 @@ AreWholeRounds rules gives scripts (suc count) log =
     (before : List Event) × (round : List Event) × (log ≡ before ++ round) × AreWholeRounds rules gives scripts count before
     × IsWholeRound gives scripts round × IsVerdict rules log OpaqueSoFar
 
--- the number of places that the refused call found to be claimed
-abbrev pub tail_of : Refused → ℕ
-tail_of (Full front tail) = tail
-tail_of (Spent tail) = tail
-
 -- A thread is done when its run of the script is whole. Else it was stopped before the run's next event, and the refusal has found
--- no more places claimed than the log has events. No thread is left.
-abbrev pub EndsRound : List (List Kind) → List Kind → (places : ℕ) → Ending → WriterIs → Type 0
-EndsRound script kinds places Done writer = IsWholeRun script kinds
-EndsRound script kinds places Left writer = ⊥
-EndsRound script kinds places (Stopped refused) writer = StopsBefore script kinds refused writer × (tail_of refused ≤ places)
+-- no fewer places claimed than the round began at, and no more than the log has events. No thread is left.
+abbrev pub EndsRound : List (List Kind) → List Kind → (start places : ℕ) → Ending → WriterIs → Type 0
+EndsRound script kinds start places Done writer = IsWholeRun script kinds
+EndsRound script kinds start places Left writer = ⊥
+EndsRound script kinds start places (Stopped refused) writer =
+    StopsBefore script kinds refused writer × (start ≤ tail_of refused) × (tail_of refused ≤ places)
+
+-- The log is so many rounds to their ends, and a last one, to its end or up to where threads were stopped.
+pub record IsInRounds (rules : Rules) (gives : Call → Answer → Type 0) (scripts : List (List (List Kind))) (earlier : ℕ) (log : List Event) (ends : List Ending) (writers : List WriterIs) : Type 0 where
+  pub before : List Event
+  pub round : List Event
+  pub parts : log ≡ before ++ round
+  pub whole : AreWholeRounds rules gives scripts earlier before
+  pub stands : (thread : ℕ) → AllStand gives true (kinds_of thread round)
+  pub ended : (thread : ℕ) (fallback : Ending) (writer : WriterIs) → thread < length scripts
+      → EndsRound (script_at scripts thread) (kinds_of thread round) (length before) (length log) (get_or ends thread fallback)
+      (get_or writers thread writer)
 
 -- Some thread was stopped.
 pub record SomeStopped (ends : List Ending) : Type 0 where
@@ -80,14 +86,8 @@ pub record IsBenched (gives : Call → Answer → Type 0) (registers : Registers
   pub earlier : ℕ
   pub rounds : benched.rounds ≡ earlier + 1
   pub within : benched.rounds ≤ settings.rounds
-  pub before : List Event
-  pub round : List Event
-  pub parts : benched.outcome.log.items ≡ before ++ round
-  pub whole : AreWholeRounds (rules_of registers zeros settings.bounds) gives scripts earlier before
-  pub stands : (thread : ℕ) → AllStand gives true (kinds_of thread round)
-  pub ended : (thread : ℕ) (fallback : Ending) (writer : WriterIs) → thread < length scripts
-      → EndsRound (script_at scripts thread) (kinds_of thread round) (length benched.outcome.log.items)
-      (get_or benched.outcome.ends.items thread fallback) (get_or writers thread writer)
+  pub in_rounds : IsInRounds (rules_of registers zeros settings.bounds) gives scripts earlier benched.outcome.log.items
+      benched.outcome.ends.items writers
   pub over : benched.rounds < settings.rounds → (benched.outcome.verdict ≢ OpaqueSoFar) ⊎ SomeStopped benched.outcome.ends.items
 
 -- A ring may have the settings' numbers of cells and of places, and a writer for each of so many threads.

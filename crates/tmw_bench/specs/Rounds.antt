@@ -1,7 +1,5 @@
 -- What the writers have claimed, round by round, and the log that it makes: one round after another.
 use Rattle.std.specs.Prelude.{◌≡◌, ◌≤◌, ◌<◌, ◌++◌, ℕ, true, List, [], ◌∷◌, Option, Some, None, length, get_or, take, All}
-use Rattle.tmw_bench.specs.Benched.{AreWholeRounds, EndsRound}
-use Rattle.tmw_defs.specs.Texts.{kinds_of}
 use Rattle.tmw_defs.specs.Verdict.{Rules, IsVerdict}
 use Rattle.tmw_defs.specs.declared.verdict.Verdict.TheVariants.{OpaqueSoFar}
 use Rattle.tmw_drive.specs.Driving.{script_at}
@@ -17,7 +15,7 @@ use Rattle.tmw_ring.specs.declared.refused.Refused.{Refused}
 use Rattle.tmw_runs.specs.Runs.{IsWholeRun}
 use Rattle.tmw_runs.specs.Standing.{AllStand}
 use Rattle.tmw_tm.specs.Answers.{Call, Answer}
-use Rattle.tmw_work.specs.Working.{EndsWork}
+use Rattle.tmw_work.specs.Working.{EndsWork, FindsFrom}
 
 -- A bound is the length of the log when a round has ended. Bounds are listed with the last round's first.
 
@@ -50,6 +48,7 @@ pub record HasPlayedLast (gives : Call → Answer → Type 0) (script : List (Li
   pub later : All (λ made. last_bound bounds ≤ made.place) fresh
   pub earlier : All (λ made. made.place < writer.seen) fresh
   pub seen : last_bound bounds ≤ writer.seen
+  pub found : FindsFrom (last_bound bounds) stop
   pub stands : AllStand gives true (kinds_made fresh)
   pub ended : EndsWork script (kinds_made fresh) stop writer
 
@@ -93,13 +92,3 @@ pub record AreEndings (scripts : List (List (List Kind))) (stops : List (Option 
   pub counted : length ends ≡ length scripts
   pub each : (thread : ℕ) (fallback : Ending) → thread < length scripts
       → get_or ends thread fallback ≡ ending_of (get_or stops thread None)
-
--- The log is so many rounds to their ends, and a last one, to its end or up to where threads were stopped.
-pub record IsInRounds (rules : Rules) (gives : Call → Answer → Type 0) (scripts : List (List (List Kind))) (earlier : ℕ) (log : List Event) (ends : List Ending) (writers : List WriterIs) : Type 0 where
-  pub before : List Event
-  pub round : List Event
-  pub parts : log ≡ before ++ round
-  pub whole : AreWholeRounds rules gives scripts earlier before
-  pub stands : (thread : ℕ) → AllStand gives true (kinds_of thread round)
-  pub ended : (thread : ℕ) (fallback : Ending) (writer : WriterIs) → thread < length scripts
-      → EndsRound (script_at scripts thread) (kinds_of thread round) (length log) (get_or ends thread fallback) (get_or writers thread writer)

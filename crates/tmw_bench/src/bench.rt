@@ -31,7 +31,7 @@ use tmw_workloads::Workload;
 /// size; `Memory` where a growth was refused; `Spawn` where a thread could not be started. All threads have ended then.
 ///
 /// It returns if each call of the memory does.
-pub fn run_bench<R: Threads + Wait + Sync>(
+pub fn run_bench<R: Threads + Wait>(
     rt: &R,
     alloc: Global,
     memory: &(dyn Tm + Sync),

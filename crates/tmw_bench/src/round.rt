@@ -27,7 +27,7 @@ pub struct Left {
 
 /// Carries each script out in a thread of its own, by the writer at its place, and judges the events as they come, until all
 /// threads have ended. They have ended too where it fails.
-pub fn play_round<R: Threads + Wait + Sync, J: Giving + Send>(
+pub fn play_round<R: Threads + Wait, J: Giving + Send>(
     rt: &R,
     alloc: Global,
     memory: &(dyn Tm + Sync),

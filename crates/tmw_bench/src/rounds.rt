@@ -25,7 +25,7 @@ use tmw_workloads::Workload;
 
 /// Carries the workload out round after round, and answers what the last round has left, and how many were begun. None is left out
 /// but behind one after which the verdict is not opaque so far, or in which a thread was stopped.
-pub fn play_rounds<R: Threads + Wait + Sync, J: Giving + Send>(
+pub fn play_rounds<R: Threads + Wait, J: Giving + Send>(
     rt: &R,
     alloc: Global,
     memory: &(dyn Tm + Sync),

@@ -1,4 +1,4 @@
-ghost use Rattle.std.specs.Prelude.{◌≡◌, ◌==◌, ◌+◌, ◌<◌, ◌^◌, IsTrue, OnSome};
+ghost use Rattle.std.specs.Prelude.{◌≡◌, ◌==◌, ◌+◌, ◌<◌, ◌^◌, false, IsTrue, OnSome};
 ghost use Rattle.tmw_defs.specs.History.{answers, ends};
 ghost use Rattle.tmw_events.specs.declared.event.Kind.TheVariants.{A};
 ghost use Rattle.tmw_runs.specs.Standing.{Stands};
@@ -78,6 +78,7 @@ impl Player {
         requires later_call { self.old.call + 1 < 2 ^ 64 }
         ensures thread { self.new.thread ≡ self.old.thread }
         ensures left { GoesOn answer self.old self.new }
+        ensures tx { ends answer ≡ false → self.new.tx ≡ self.old.tx }
     {
         if ends(answer) {
             self.tx = Tx::new();

@@ -6,6 +6,7 @@ use Rattle.tmw_ring.specs.Ends.{RingIs, WriterIs, WriterOf}
 use Rattle.tmw_ring.specs.Recording.{HasRecorded, IsRefusal}
 use Rattle.tmw_ring.specs.declared.part.Made.{Made}
 use Rattle.tmw_ring.specs.declared.refused.Refused.{Refused}
+use Rattle.tmw_ring_defs.specs.declared.ring_step.Answered.{Answered}
 
 -- the kinds of the events for which these places were claimed
 abbrev pub kinds_made : List Made → List Kind
@@ -29,13 +30,15 @@ pub record WasRefused (kind : Kind) (refused : Refused) (writer : WriterIs) : Ty
   pub number : before.number ≡ writer.number
   pub refusal : IsRefusal kind before refused writer
 
--- The writer has claimed nothing since, whatever it has seen.
+-- The writer has claimed nothing since, whatever it has seen, and knows no other run than the one that has gone on.
 pub record HasWaited (old now : WriterIs) : Type 0 where
   pub table : now.table ≡ old.table
   pub sized : now.size ≡ old.size
   pub number : now.number ≡ old.number
   pub made : now.made ≡ old.made
   pub seen : old.seen ≤ now.seen
+  pub since : List Answered
+  pub longer : now.run ≡ old.run ++ since
 
 -- After some time the writer has recorded one event of this kind, or its last call was refused so. It has claimed nothing else.
 abbrev pub HasTried : Kind → WriterIs → Result ℕ Refused → WriterIs → Type 0

@@ -11,7 +11,9 @@ use Rattle.tmw_ring.specs.Ends.{RingIs, WriterIs, WriterOf}
 use Rattle.tmw_ring.specs.Recording.{made_at}
 use Rattle.tmw_ring.specs.declared.part.Made.{Made}
 use Rattle.tmw_ring.specs.declared.refused.Refused.{Refused}
+use Rattle.tmw_ring.specs.declared.refused.Refused.TheVariants.{Full, Spent}
 use Rattle.tmw_work.specs.Calling.{HasClaimed, StopsAt}
+use Rattle.tmw_work.specs.Working.{tail_of}
 
 -- nothing was claimed
 pub claimed-none : (writer : WriterIs) → HasClaimed [] writer writer
@@ -77,22 +79,34 @@ claimed-refused kind old refused new (before, waited, is) =
       seen = omega (arith, waited_seen, later, seen);
     }
 
+-- a refusal finds no fewer places claimed than the writer had seen
+later-refused : (kind : Kind) (old : WriterIs) (refused : Refused) (new : WriterIs) → HasTried kind old (Err refused) new
+    → old.seen ≤ tail_of refused
+later-refused kind old (Full front tail) new (before, waited, is) = omega (arith, waited.seen, is.0.later)
+later-refused kind old (Spent tail) new (before, waited, is) = omega (arith, waited.seen, is.1.later)
+
 -- the record of the call was refused
 pub stops_at-call : (ring : RingIs) (call : Kind) (refused : Refused) (before after : WriterIs) → WriterOf ring before → WriterOf ring after
     → after.number ≡ before.number → HasTried call before (Err refused) after → StopsAt call refused before after
 stops_at-call ring call refused before after before_of after_of number tried =
-    inl (claimed-refused call before refused after tried, was_refused-tried ring call before refused after before_of after_of number tried)
+    (
+      later-refused call before refused after tried,
+      inl (claimed-refused call before refused after tried, was_refused-tried ring call before refused after before_of after_of number tried),
+    )
 
 -- the call was recorded, and the record of its answer was refused
 pub stops_at-answer : (ring : RingIs) (call answer : Kind) (place : ℕ) (refused : Refused) (before middle after : WriterIs) → WriterOf ring middle
     → WriterOf ring after → after.number ≡ middle.number → HasTried call before (Ok place) middle → IsTrue (answers call answer)
     → HasTried answer middle (Err refused) after → StopsAt call refused before after
 stops_at-answer ring call answer place refused before middle after middle_of after_of number called fits tried =
-    inr (
-      answer,
-      fits,
-      claimed-more (call ∷ []) [] before middle after (claimed-tried call before place middle called) (claimed-refused answer middle refused after tried),
-      was_refused-tried ring answer middle refused after middle_of after_of number tried,
+    let first = claimed-tried call before place middle called in (
+      omega (arith, first.seen, later-refused answer middle refused after tried),
+      inr (
+        answer,
+        fits,
+        claimed-more (call ∷ []) [] before middle after first (claimed-refused answer middle refused after tried),
+        was_refused-tried ring answer middle refused after middle_of after_of number tried,
+      ),
     )
 
 -- both were recorded

@@ -1,5 +1,5 @@
 -- From one call to the next, and to the end of the script or to a refusal.
-use Rattle.std.proofs.Common.{◌≡◌, ◌++◌, ℕ, true, List, [], ◌∷◌, Option, Some, None, IsTrue, sym, subst, inl, inr, append_assoc}
+use Rattle.std.proofs.Common.{◌≡◌, ◌++◌, ◌≤◌, ℕ, true, List, [], ◌∷◌, Option, Some, None, IsTrue, sym, subst, inl, inr, append_assoc, arith}
 use Rattle.std.proofs.lemmas.List.{append-nil}
 use Rattle.tmw_defs.specs.History.{answers}
 use Rattle.tmw_drive.proofs.Going.{next_left, next_of-some, leaves-next_left, are_transactions-next_left}
@@ -19,7 +19,7 @@ use Rattle.tmw_runs.specs.Standing.{AllStand}
 use Rattle.tmw_tm.specs.Answers.{Call, Answer}
 use Rattle.tmw_work.proofs.Claims.{claimed-none, claimed-more}
 use Rattle.tmw_work.specs.Calling.{HasClaimed, HasCalled, HasPlayed, StopsAt}
-use Rattle.tmw_work.specs.Working.{EndsWork, HasWorked}
+use Rattle.tmw_work.specs.Working.{tail_of, EndsWork, FindsFrom, HasWorked}
 
 -- no call was made
 pub played-new : (gives : Call → Answer → Type 0) (registers : ℕ) (script : List (List Kind)) (thread : ℕ) (player : Player) (writer : WriterIs)
@@ -40,14 +40,16 @@ played-called gives script old new call start before after played is called =
     }
 
 worked : (gives : Call → Answer → Type 0) (script : List (List Kind)) (kinds : List Kind) (old : WriterIs) (stop : Option Refused) (new : WriterIs)
-    → HasClaimed kinds old new → AllStand gives true kinds → EndsWork script kinds stop new → HasWorked gives script old stop new
-worked gives script kinds old stop new claimed stand ended =
+    → HasClaimed kinds old new → FindsFrom old.seen stop → AllStand gives true kinds → EndsWork script kinds stop new
+    → HasWorked gives script old stop new
+worked gives script kinds old stop new claimed found stand ended =
     record {
       fresh = claimed.fresh;
       made = claimed.made;
       later = claimed.later;
       earlier = claimed.earlier;
       seen = claimed.seen;
+      found = found;
       stands = subst (AllStand gives true) (sym claimed.is) stand;
       ended = subst (λ (l : List Kind). EndsWork script l stop new) (sym claimed.is) ended;
     }
@@ -56,7 +58,7 @@ worked gives script kinds old stop new claimed stand ended =
 pub worked-none_left : (gives : Call → Answer → Type 0) (script : List (List Kind)) (player : Player) (old new : WriterIs)
     → HasPlayed gives script player old new → next_of (left_of script player) ≡ None → HasWorked gives script old None new
 worked-none_left gives script player old new played is =
-    worked gives script played.kinds old None new played.claimed (so_far_all gives played.kinds _ played.plays.stands)
+    worked gives script played.kinds old None new played.claimed tt (so_far_all gives played.kinds _ played.plays.stands)
     (whole-plays gives script player played.kinds played.plays is)
 
 -- the next call may come, and after it each answer that fits it
@@ -93,16 +95,17 @@ pub worked-refused : (gives : Call → Answer → Type 0) (script : List (List K
 worked-refused gives script player call refused start before after played is stops =
     let kinds = played.kinds in
     let plays = played.plays in
-    elim stops [
+    let found : start.seen ≤ tail_of refused = omega (arith, played.claimed.seen, stops.0) in
+    elim stops.1 [
       | inl at_call ↦
           let claimed : HasClaimed kinds start after
           = subst (λ (l : List Kind). HasClaimed l start after) (append-nil kinds) (claimed-more kinds [] start before after played.claimed at_call.0)
           in
-          worked gives script kinds start (Some refused) after claimed (so_far_all gives kinds _ plays.stands)
+          worked gives script kinds start (Some refused) after claimed found (so_far_all gives kinds _ plays.stands)
           record { next = call; begins = begins-call gives script player kinds call plays is; refusal = at_call.1 }
       | inr at_answer ↦
           let claimed = claimed-more kinds (call ∷ []) start before after played.claimed at_answer.2 in
-          worked gives script (kinds ++ call ∷ []) start (Some refused) after claimed (so_far_called gives kinds _ call plays.stands)
+          worked gives script (kinds ++ call ∷ []) start (Some refused) after claimed found (so_far_called gives kinds _ call plays.stands)
           record {
             next = at_answer.0;
             begins = begins-answer gives script player kinds call at_answer.0 plays is at_answer.1;

@@ -10,6 +10,7 @@ use Rattle.tmw_ring.specs.declared.part.Made.{Made}
 use Rattle.tmw_ring.specs.declared.refused.Refused.{Refused}
 use Rattle.tmw_runs.specs.Standing.{Stands}
 use Rattle.tmw_tm.specs.Answers.{Call, Answer}
+use Rattle.tmw_work.specs.Working.{tail_of}
 
 -- The writer has claimed places more, behind all that it had seen, for events of just these kinds.
 pub record HasClaimed (kinds : List Kind) (old new : WriterIs) : Type 0 where
@@ -28,11 +29,13 @@ pub record HasCalled (gives : Call → Answer → Type 0) (call : Kind) (old new
   pub goes_on : GoesOn answer old new
   pub claimed : HasClaimed (call ∷ answer ∷ []) before after
 
--- The record of the call was refused, or the call is recorded and the record of an answer to it was refused.
+-- The record of the call was refused, or the call is recorded and the record of an answer to it was refused; and no fewer places
+-- were found claimed than the writer had seen before.
 abbrev pub StopsAt : Kind → Refused → WriterIs → WriterIs → Type 0
 StopsAt call refused before after =
-    (HasClaimed [] before after × WasRefused call refused after)
-    ⊎ ((answer : Kind) × IsTrue (answers call answer) × HasClaimed (call ∷ []) before after × WasRefused answer refused after)
+    (before.seen ≤ tail_of refused)
+    × ((HasClaimed [] before after × WasRefused call refused after)
+    ⊎ ((answer : Kind) × IsTrue (answers call answer) × HasClaimed (call ∷ []) before after × WasRefused answer refused after))
 
 -- The thread has recorded the player's run of the script so far.
 pub record HasPlayed (gives : Call → Answer → Type 0) (script : List (List Kind)) (player : Player) (old new : WriterIs) : Type 0 where
