@@ -1,7 +1,7 @@
 mod AllPlaying
 mod Driven
 mod Entries
-mod Going
-mod Players
+pub mod Going
+pub mod Players
 mod Positions
-mod Workloads
+pub mod Workloads

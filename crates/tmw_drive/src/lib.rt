@@ -11,7 +11,9 @@ mod playing;
 #[cfg(test)]
 mod tests;
 
+pub use asking::ends;
 pub use driving::drive;
 pub use ending::Ending;
 pub use fault::DriveFault;
 pub use outcome::Outcome;
+pub use player::Player;

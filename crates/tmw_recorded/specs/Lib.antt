@@ -1,2 +1,3 @@
+pub mod Pumping
 pub mod Recorded
 pub mod Recording

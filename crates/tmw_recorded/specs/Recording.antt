@@ -1,9 +1,9 @@
 -- What a thread records of the kinds that it was given.
 use Rattle.std.specs.Global.{Vec}
-use Rattle.std.specs.Prelude.{◌≡◌, ◌<◌, ◌++◌, ℕ, List, [], ◌∷◌, Option, Some, None, Result, Ok, Err, length, get_or, slice_get}
+use Rattle.std.specs.Prelude.{◌≡◌, ◌<◌, ◌≤◌, ◌++◌, ℕ, List, [], ◌∷◌, Option, Some, None, Result, Ok, Err, length, get_or, slice_get}
 use Rattle.tmw_events.specs.declared.event.Kind.{Kind}
 use Rattle.tmw_ring.specs.Ends.{RingIs, WriterIs, WriterOf}
-use Rattle.tmw_ring.specs.Recording.{IsRefusal}
+use Rattle.tmw_ring.specs.Recording.{HasRecorded, IsRefusal}
 use Rattle.tmw_ring.specs.declared.part.Made.{Made}
 use Rattle.tmw_ring.specs.declared.refused.Refused.{Refused}
 
@@ -29,10 +29,18 @@ pub record WasRefused (kind : Kind) (refused : Refused) (writer : WriterIs) : Ty
   pub number : before.number ≡ writer.number
   pub refusal : IsRefusal kind before refused writer
 
--- The writer has recorded one event more, of this kind. Or it has recorded none, and its last call was refused so.
+-- The writer has claimed nothing since, whatever it has seen.
+pub record HasWaited (old now : WriterIs) : Type 0 where
+  pub table : now.table ≡ old.table
+  pub sized : now.size ≡ old.size
+  pub number : now.number ≡ old.number
+  pub made : now.made ≡ old.made
+  pub seen : old.seen ≤ now.seen
+
+-- After some time the writer has recorded one event of this kind, or its last call was refused so. It has claimed nothing else.
 abbrev pub HasTried : Kind → WriterIs → Result ℕ Refused → WriterIs → Type 0
-HasTried kind old (Ok place) new = kinds_made new.made ≡ kinds_made old.made ++ kind ∷ []
-HasTried kind old (Err refused) new = (kinds_made new.made ≡ kinds_made old.made) × WasRefused kind refused new
+HasTried kind old (Ok place) new = (before : WriterIs) × HasWaited old before × HasRecorded kind place before new
+HasTried kind old (Err refused) new = (before : WriterIs) × HasWaited old before × IsRefusal kind before refused new
 
 -- What was recorded are the first of these kinds, in their order, and the record of the next was refused so.
 pub record HasStopped (kinds recorded : List Kind) (refused : Refused) (writer : WriterIs) : Type 0 where

@@ -1,2 +1,1 @@
-pub mod Recording
 pub mod Working

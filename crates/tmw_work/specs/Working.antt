@@ -1,7 +1,7 @@
 -- What a thread records that carries its script out, and how far it comes.
 use Rattle.std.specs.Prelude.{◌≡◌, ◌≤◌, ◌<◌, ◌++◌, true, List, [], ◌∷◌, Option, Some, None, All}
 use Rattle.tmw_events.specs.declared.event.Kind.{Kind}
-use Rattle.tmw_work.specs.Recording.{kinds_made, WasRefused}
+use Rattle.tmw_recorded.specs.Recording.{kinds_made, WasRefused}
 use Rattle.tmw_ring.specs.Ends.{WriterIs}
 use Rattle.tmw_ring.specs.declared.part.Made.{Made}
 use Rattle.tmw_ring.specs.declared.refused.Refused.{Refused}

@@ -1,2 +1,6 @@
 //! One thread carries its script out on a memory, and records each call and each answer in a ring.
 #![tactic(auto)]
+
+mod work;
+
+pub use work::work;
