@@ -1,6 +1,5 @@
 -- The memory and the flag that were read are those of the words, and where one was not read the words lack it.
-use Rattle.std.proofs.Common.{Some, codes, refl}
-use Rattle.clap.specs.Words.{found_of, rows_of}
+use Rattle.clap.specs.Words.{found_of}
 use Rattle.tmw_command.proofs.DriveValues.{other-NamesMemory, read-HasTrace, read-NamesMemory, unread-HasTrace, unread-NamesMemory}
 use Rattle.tmw_command.proofs.parse.memory_and_trace_of.Goals as goal
 
