@@ -95,8 +95,8 @@ pub record CanBench (threads : ℕ) (settings : Settings) : Type 0 where
   pub room : HasRoom settings.cells threads
   pub limit : HasLimit threads settings.limit
 
--- Nothing was judged to its end: the memory has too few registers, of which none has fewer than one; or there is no ring of this
--- size; or there can be one, and memory or a thread was refused.
+-- Nothing was judged to its end: the workload is over more than one register, so that a memory can have too few; or there is no
+-- ring of this size; or there can be one, and it may be that memory or a thread was refused.
 abbrev pub IsNoBench : (registers : ℕ) → (threads : ℕ) → Settings → BenchFault → Type 0
 IsNoBench registers threads settings TooManyRegisters = 1 < registers
 IsNoBench registers threads settings (Ring fault) = IsWrongSize settings.cells threads settings.limit fault

@@ -27,7 +27,7 @@ use tmw_tm::Tm;
 /// status: that of the order, 0 for help, or 4 for any fault and for help that was cut short.
 ///
 /// It waits in a bench alone, for the threads that this starts.
-pub fn run_command<S: Source, K: Sink, E: Sink, R: Threads + Wait + Sync>(
+pub fn run_command<S: Source, K: Sink, E: Sink, R: Threads + Wait>(
     rt: &R,
     alloc: Global,
     words: Result<Vec<String>, Fault>,
@@ -48,7 +48,7 @@ pub fn run_command<S: Source, K: Sink, E: Sink, R: Threads + Wait + Sync>(
 }
 
 /// Reads the words, and runs their order or answers why there is none.
-fn run_words<W: AsStr, S: Source, K: Sink, E: Sink, R: Threads + Wait + Sync>(
+fn run_words<W: AsStr, S: Source, K: Sink, E: Sink, R: Threads + Wait>(
     rt: &R,
     alloc: Global,
     words: &[W],
@@ -69,7 +69,7 @@ fn run_words<W: AsStr, S: Source, K: Sink, E: Sink, R: Threads + Wait + Sync>(
 }
 
 /// Runs an order's command, over the memory that it names.
-fn run_order<S: Source, K: Sink, R: Threads + Wait + Sync>(
+fn run_order<S: Source, K: Sink, R: Threads + Wait>(
     rt: &R,
     alloc: Global,
     order: Order,

@@ -27,7 +27,7 @@ type Left = (Pump, Vec<Writer>, Vec<Option<Refused>>);
 
 /// Lets a thread for each list record events of the list's kinds, in their order, and judges meanwhile and to the end all that
 /// they record. Thread i records the list at place i.
-pub fn record_and_judge<R: Threads + Wait + Sync>(
+pub fn record_and_judge<R: Threads + Wait>(
     rt: &R,
     alloc: Global,
     plan: Plan,
@@ -58,7 +58,7 @@ pub fn record_and_judge<R: Threads + Wait + Sync>(
 }
 
 /// Lets each writer record its list in a thread of its own while the events are judged, until all threads have ended.
-fn record_in_threads<R: Threads + Wait + Sync>(
+fn record_in_threads<R: Threads + Wait>(
     rt: &R,
     alloc: Global,
     ring: &Ring,

@@ -11,7 +11,7 @@ pub record HasMet (tail : ℕ) (old new : WriterIs) : Type 0 where
   pub reached : old.seen ≤ tail
   pub seen : tail ≤ new.seen
 
--- All writers have met at this length of the log: what each has claimed stands before it, and what any of them claims next behind.
+-- All writers have met at this length of the log: what each had seen comes before it, and what any of them claims next behind it.
 pub record HaveAllMet (tail : ℕ) (old new : List WriterIs) : Type 0 where
   pub counted : length new ≡ length old
   pub each : (number : ℕ) (fallback : WriterIs) → number < length old → HasMet tail (get_or old number fallback) (get_or new number fallback)

@@ -5,7 +5,8 @@ ghost use Rattle.tmw_rounds.specs.Meeting.{HaveAllMet, HasMetUpTo};
 
 use tmw_ring::{Ring, Writer};
 
-/// Lets all writers meet, and answers how many places had been claimed by then. What any of them claims next comes behind those.
+/// Lets all writers meet, and answers how many places one of them has found claimed, which are no fewer than any had seen. What any
+/// of them claims next comes behind those.
 pub fn meet_all(ring: &Ring, writers: &mut Vec<Writer>) -> u64
     requires some { 0 < length writers.old.items }
     requires of_ring { All (WriterOf ring.now) writers.old.items }

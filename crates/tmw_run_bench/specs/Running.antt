@@ -32,9 +32,9 @@ pub record IsNoBenchFrom (settings : Settings) (bytes : List ℕ) (fault : Bench
   pub none : IsNoBench registers.number (length workload.scripts) settings fault
 
 -- The fault is right of these bytes, which are all that the source has where `Ended` holds: they are no JSON text, or the text
--- of a value that is no workload's; or of a workload over more than one register, which asks for more than the memory has; or of
--- one for whose scripts no ring has the settings' size; or of one for which there may be a ring, and a thread could not be started.
--- `Io` answers a failed read, and `Memory` want of memory, of which only tests show that a growth was refused.
+-- of a value that is no workload's; or of a workload over more than one register; or of one for whose scripts no ring has the
+-- settings' size; or of one for which there may be a ring. Only tests show that the memory had too few registers then, that a
+-- thread could not be started, and that a growth was refused where the fault is `Memory`. `Io` answers a failed read.
 abbrev pub IsRightFault : Type 0 → Settings → List ℕ → Fault → Type 0
 IsRightFault Ended settings bytes Json = Ended × IsNoText bytes
 IsRightFault Ended settings bytes Shape = Ended × IsOtherText bytes

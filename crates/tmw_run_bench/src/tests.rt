@@ -2,6 +2,7 @@
 use crate::{ends_text, run_bench_cmd};
 use std::process::Abort;
 use std::sync::Wait;
+use std::sync::atomic::{AtomicU64, Ordering};
 use std::test::Fail;
 use std::thread::Threads;
 use tmw_bench::Settings;
@@ -112,6 +113,47 @@ impl Tm for Seven {
     fn abort(&self, _tx: &mut Tx) {}
 }
 
+/// The same memory, which counts its begins, its reads and its commits.
+#[derive(Drop)]
+struct Counted {
+    begins: AtomicU64,
+    reads: AtomicU64,
+    commits: AtomicU64,
+}
+
+impl Tm for Counted {
+    ghost gives = { λ memory call answer. Unit {0} };
+
+    fn registers(&self) -> Registers {
+        Registers { number: 1 }
+    }
+
+    fn begin(&self, _tx: &mut Tx) -> Did {
+        self.begins.fetch_add(1, Ordering::SeqCst);
+        Did::Done
+    }
+
+    fn read(&self, _tx: &mut Tx, _register: Ix) -> Got {
+        self.reads.fetch_add(1, Ordering::SeqCst);
+        Got::Value(7)
+    }
+
+    fn write(&self, _tx: &mut Tx, _register: Ix, _value: u64) -> Did {
+        Did::Done
+    }
+
+    fn add(&self, _tx: &mut Tx, _register: Ix, _addend: u64) -> Got {
+        Got::Value(7)
+    }
+
+    fn commit(&self, _tx: &mut Tx) -> Did {
+        self.commits.fetch_add(1, Ordering::SeqCst);
+        Did::Done
+    }
+
+    fn abort(&self, _tx: &mut Tx) {}
+}
+
 const WRITE: &[u8] = b"{\"registers\":1,\"scripts\":[[[\"W 0 5\",\"T\"]]],\"order\":[]}";
 
 const WRITE_TRACE: &[u8] =
@@ -121,7 +163,7 @@ const WRITE_TRACE: &[u8] =
 const NOTHING: &[u8] = b"{\"registers\":1,\"scripts\":[[],[]],\"order\":[0,1]}";
 
 /// Carries a workload out, which a source tells a byte a call, and compares what went out, which a sink takes a byte a call.
-fn expect<R: Abort + AllocGlobal + Threads + Wait + Sync>(
+fn expect<R: Abort + AllocGlobal + Threads + Wait>(
     rt: &R,
     text: &[u8],
     trace: bool,
@@ -214,6 +256,35 @@ fn workloads_that_are_carried_out(rt: HostRuntime) {
     ] {
         expect(&rt, text, trace, settings, written, status);
     }
+}
+
+#[test]
+fn a_workload_is_carried_out_once(rt: HostRuntime) {
+    let text = b"{\"registers\":1,\"scripts\":[[[\"R 0\",\"R 0\",\"T\"]]],\"order\":[]}";
+    let memory = Counted {
+        begins: AtomicU64::new(0),
+        reads: AtomicU64::new(0),
+        commits: AtomicU64::new(0),
+    };
+    let mut source = MemorySource::new(text);
+    let mut sink = MemorySink::new(rt.alloc());
+    let answered = run_bench_cmd(
+        &rt,
+        rt.alloc(),
+        &mut source,
+        &mut sink,
+        &memory,
+        false,
+        THRICE,
+    );
+    assert_eq!(rt;
+        sink.bytes(),
+        b"{\"at\":2,\"events\":6,\"verdict\":\"violated\"}\n{\"ends\":[\"done\"]}\n".as_slice()
+    );
+    assert_eq!(rt; answered, VIOLATED);
+    assert_eq!(rt; memory.begins.load(Ordering::SeqCst), 1);
+    assert_eq!(rt; memory.reads.load(Ordering::SeqCst), 2);
+    assert_eq!(rt; memory.commits.load(Ordering::SeqCst), 1);
 }
 
 #[test]

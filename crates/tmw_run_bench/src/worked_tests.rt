@@ -20,7 +20,7 @@ const ADDED: &[u8] =
     b"opacity-trace 2 2 0 0\n0 N 0 7\n0 V 0\n0 N 0 7\n0 V 7\n0 T\n0 C\n0 W 1 3\n0 K\n0 X\n0 A\n{\"events\":10,\"verdict\":\"opaque so far\"}\n{\"ends\":[\"done\"]}\n";
 
 /// Carries the workload out by one thread on a new memory.
-fn expect_added<R: Abort + AllocGlobal + Threads + Wait + Sync>(
+fn expect_added<R: Abort + AllocGlobal + Threads + Wait>(
     rt: &R,
     memory: &(dyn Tm + Sync),
     name: &str,

@@ -48,7 +48,7 @@ fn parted(alloc: Global, line: &str) -> Result<Vec<String>, AllocError> {
 }
 
 /// Runs the command line of these words with memories of eight registers, and answers its exit status.
-fn run<R: AllocGlobal + Threads + Wait + Sync>(
+fn run<R: AllocGlobal + Threads + Wait>(
     rt: &R,
     words: Result<Vec<String>, Fault>,
     source: &mut MemorySource<'_>,
@@ -70,7 +70,7 @@ fn run<R: AllocGlobal + Threads + Wait + Sync>(
 }
 
 /// Runs a command line that gives an order, and compares what went out.
-fn expect<R: Abort + AllocGlobal + Threads + Wait + Sync>(
+fn expect<R: Abort + AllocGlobal + Threads + Wait>(
     rt: &R,
     line: &str,
     input: &[u8],
@@ -117,7 +117,7 @@ fn orders(rt: HostRuntime) -> Result<(), Fail> {
 }
 
 /// Runs a command line, and compares its line and status, and what the text for errors begins with.
-fn expect_usage<R: Abort + AllocGlobal + Threads + Wait + Sync>(
+fn expect_usage<R: Abort + AllocGlobal + Threads + Wait>(
     rt: &R,
     line: &str,
     error: &str,
