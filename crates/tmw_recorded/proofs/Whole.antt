@@ -1,6 +1,5 @@
 -- From the settled ring and the headline of its rest to the headline of the whole run.
-use Rattle.std.proofs.Common.{◌≡◌, ◌==◌, ◌<◌, ◌+◌, ◌++◌, ℕ, List, [], ◌∷◌, Option, None, length, get_or, All, inl, inr, refl, sym, ap, ◌∙◌, subst, arith}
-use Rattle.std.proofs.lemmas.Bool.{cases_Bool}
+use Rattle.std.proofs.Common.{◌≡◌, ◌<◌, ◌++◌, ℕ, List, [], Option, None, length, get_or, All, sym, ap, ◌∙◌, subst, arith}
 use Rattle.std.specs.Global.{Vec}
 use Rattle.tmw_defs.specs.Opaque.{zeros}
 use Rattle.tmw_defs.specs.Texts.{kinds_of}
@@ -14,7 +13,6 @@ use Rattle.tmw_recorded.specs.Recording.{kinds_made, kinds_at, IsRecordOf, AreBa
 use Rattle.tmw_recorded.specs.declared.plan.Plan.{Plan}
 use Rattle.tmw_recorded.specs.declared.recorded.Recorded.{Recorded}
 use Rattle.tmw_ring.specs.Ends.{RingIs, WriterIs, ReaderIs, WriterOf, ReaderOf}
-use Rattle.tmw_ring.specs.Parts.{made_from}
 use Rattle.tmw_ring.specs.Settling.{AreInOrder, IsSettled}
 use Rattle.tmw_ring.specs.declared.refused.Refused.{Refused}
 use Rattle.tmw_ring_defs.specs.Runs.{Gone, IsRunTo, writer_actor}
