@@ -4,9 +4,10 @@ use Rattle.std.proofs.Common.{◌≡◌, ◌≤◌, ◌<◌, ◌+◌, ◌++◌, 
 use Rattle.std.specs.Prelude.{All}
 use Rattle.std.proofs.lemmas.List.{length-take-le, take-append-drop}
 use Rattle.std.proofs.lemmas.List.Elements.{All-head, All-tail}
-use Rattle.tmw_bench.proofs.MadeFrom.{earlier_made, kinds_made-made_from, later_made, made_from-append}
+use Rattle.tmw_bench.proofs.MadeFrom.{earlier_made, later_made, made_from-append}
 use Rattle.tmw_defs.specs.Texts.{kinds_of}
 use Rattle.tmw_events.specs.declared.event.Event.{Event}
+use Rattle.tmw_recorded.proofs.KindsMade.{kinds_made-made_from}
 use Rattle.tmw_recorded.specs.Recording.{kinds_made}
 use Rattle.tmw_ring.specs.Parts.{made_from}
 use Rattle.tmw_ring.specs.declared.part.Made.{Made}

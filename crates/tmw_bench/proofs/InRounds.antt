@@ -7,11 +7,12 @@ use Rattle.std.proofs.lemmas.List.Elements.{All-drop, All-take}
 use Rattle.tmw_bench.proofs.Cutting.{cutting}
 use Rattle.tmw_bench.proofs.OpaqueRounds.{all_opaque-take, last_bound-within}
 use Rattle.tmw_bench.proofs.PlayedRounds.{earlier_played}
-use Rattle.tmw_bench.proofs.WholeRounds.{are_whole_rounds, no_kinds}
+use Rattle.tmw_bench.proofs.WholeRounds.{are_whole_rounds}
 use Rattle.tmw_bench.specs.Benched.{EndsRound, IsInRounds}
 use Rattle.tmw_bench.specs.Rounds.{last_bound, ending_of, AllOpaque, AreEndings, HasPlayed, HasPlayedLast, HaveAllPlayedLast, IsLogOfAll}
 use Rattle.tmw_defs.specs.Texts.{kinds_of}
 use Rattle.tmw_defs.specs.Verdict.{Rules}
+use Rattle.tmw_drive.proofs.Driven.{no_kinds}
 use Rattle.tmw_drive.specs.Driving.{script_at}
 use Rattle.tmw_drive.specs.declared.ending.Ending.{Ending}
 use Rattle.tmw_events.specs.declared.event.Event.{Event}

@@ -1,24 +1,11 @@
--- The places that a writer has claimed in a log: of a log in two parts, between which lengths they lie, and the kinds there.
-use Rattle.std.proofs.Common.{◌≡◌, ◌==◌, ◌≤◌, ◌<◌, ◌+◌, ◌++◌, ℕ, List, [], ◌∷◌, length, inl, inr, refl, ap, ◌∙◌, arith}
+-- The places that a writer has claimed in a log: of a log in two parts, and between which lengths they lie.
+use Rattle.std.proofs.Common.{◌≡◌, ◌==◌, ◌≤◌, ◌<◌, ◌+◌, ◌++◌, ℕ, List, [], ◌∷◌, length, inl, inr, ap, ◌∙◌, arith}
 use Rattle.std.specs.Prelude.{All}
 use Rattle.std.proofs.lemmas.Bool.{cases_Bool}
 use Rattle.std.proofs.lemmas.List.Elements.{All-cons, All-nil}
-use Rattle.tmw_defs.specs.Texts.{kinds_of}
 use Rattle.tmw_events.specs.declared.event.Event.{Event}
-use Rattle.tmw_events.specs.declared.event.Kind.{Kind}
-use Rattle.tmw_recorded.specs.Recording.{kinds_made}
 use Rattle.tmw_ring.specs.Parts.{made_from}
 use Rattle.tmw_ring.specs.declared.part.Made.{Made}
-
--- the kinds of a writer's items of a log are those of its thread's events there, from whatever place they are counted
-pub kinds_made-made_from : (writer place : ℕ) (log : List Event) → kinds_made (made_from writer place log) ≡ kinds_of writer log
-kinds_made-made_from writer place [] = refl
-kinds_made-made_from writer place (event ∷ log) =
-    let rest = kinds_made-made_from writer (place + 1) log in
-    elim (cases_Bool (event.thread.number == writer)) [
-      | inl own ↦ rw own (ap (λ (kinds : List Kind). event.kind ∷ kinds) rest)
-      | inr other ↦ rw other rest
-    ]
 
 pub made_from-append : (writer place : ℕ) (front back : List Event)
     → made_from writer place (front ++ back) ≡ made_from writer place front ++ made_from writer (place + length front) back

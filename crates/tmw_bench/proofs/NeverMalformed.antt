@@ -5,13 +5,13 @@ use Rattle.std.proofs.lemmas.Bool.{both_ways, cases_lt}
 use Rattle.std.proofs.lemmas.List.{append-nil, get_or_past}
 use Rattle.tmw_bench.proofs.InRounds.{some_writer}
 use Rattle.tmw_bench.proofs.RepeatedRuns.{repeated, are_transactions-repeated, beginning-append, repeated-nil, whole_run-append}
-use Rattle.tmw_bench.proofs.WholeRounds.{no_kinds}
 use Rattle.tmw_bench.specs.Benched.{AreWholeRounds, EndsRound, IsInRounds}
 use Rattle.tmw_defs.specs.History.{is_well_formed}
 use Rattle.tmw_defs.specs.Texts.{kinds_of}
 use Rattle.tmw_defs.specs.Verdict.{Rules, IsFirst, IsMalformed}
 use Rattle.tmw_defs.specs.declared.verdict.Verdict.{Verdict}
 use Rattle.tmw_defs.specs.declared.verdict.Verdict.TheVariants.{Malformed}
+use Rattle.tmw_drive.proofs.Driven.{no_kinds}
 use Rattle.tmw_drive.specs.Driving.{script_at}
 use Rattle.tmw_drive.specs.declared.ending.Ending.{Ending}
 use Rattle.tmw_drive.specs.declared.ending.Ending.TheVariants.{Done, Left, Stopped}

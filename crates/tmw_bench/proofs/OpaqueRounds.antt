@@ -1,11 +1,8 @@
 -- That the verdict was opaque so far at each bound, as the log goes on and when it is cut.
 use Rattle.std.proofs.Common.{◌≡◌, ◌≤◌, ◌++◌, ℕ, List, [], ◌∷◌, length, take, sym, subst, arith}
-use Rattle.std.specs.Prelude.{◌≢◌}
 use Rattle.std.proofs.lemmas.List.{length-append, length-take-le, take-append-le, take-take, take_all}
 use Rattle.tmw_bench.specs.Rounds.{last_bound, AllOpaque}
-use Rattle.tmw_defs.proofs.VerdictProof.{verdict-one}
-use Rattle.tmw_defs.specs.Verdict.{Rules, IsFine, IsVerdict}
-use Rattle.tmw_defs.specs.declared.verdict.Verdict.{Verdict}
+use Rattle.tmw_defs.specs.Verdict.{Rules, IsVerdict}
 use Rattle.tmw_defs.specs.declared.verdict.Verdict.TheVariants.{OpaqueSoFar}
 use Rattle.tmw_events.specs.declared.event.Event.{Event}
 
@@ -35,12 +32,6 @@ all_opaque-round rules bounds tail log all is told = (
   all,
 )
 
--- the same where more was judged since
-pub all_opaque-judged : (rules : Rules) (bounds : List ℕ) (tail : ℕ) (old more new : List Event) → AllOpaque rules bounds old
-    → new ≡ old ++ more → length new ≡ tail → IsVerdict rules new OpaqueSoFar → AllOpaque rules (tail ∷ bounds) new
-all_opaque-judged rules bounds tail old more new all is counted told =
-    all_opaque-round rules bounds tail new (subst (AllOpaque rules bounds) (sym is) (all_opaque-append rules bounds old more all)) (sym counted) told
-
 -- the log up to some place behind the last of the rounds
 pub all_opaque-take : (rules : Rules) (bounds : List ℕ) (log : List Event) (place : ℕ) → AllOpaque rules bounds log → last_bound bounds ≤ place
     → place ≤ length log → AllOpaque rules bounds (take place log)
@@ -57,14 +48,3 @@ pub opaque_at_last : (rules : Rules) (bound : ℕ) (earlier : List ℕ) (log : L
     → bound ≡ length log → IsVerdict rules log OpaqueSoFar
 opaque_at_last rules bound earlier log (rises, within, told, rest) is =
     subst (λ (history : List Event). IsVerdict rules history OpaqueSoFar) (take_all bound log (omega (arith, is))) told
-
--- a verdict that is opaque so far was so before
-opaque_before : (rules : Rules) (front back : List Event) → IsVerdict rules (front ++ back) OpaqueSoFar → IsVerdict rules front OpaqueSoFar
-opaque_before rules front back told place within =
-    subst (IsFine rules) (take-append-le place front back within) (told place (omega (arith, within, length-append front back)))
-
--- so one that was not is not, as the log goes on
-pub not_opaque-append : (rules : Rules) (front back : List Event) (old new : Verdict) → IsVerdict rules front old → old ≢ OpaqueSoFar
-    → IsVerdict rules (front ++ back) new → new ≢ OpaqueSoFar
-not_opaque-append rules front back old new was apart told same =
-    apart (verdict-one rules front old OpaqueSoFar was (opaque_before rules front back (subst (IsVerdict rules (front ++ back)) same told)))

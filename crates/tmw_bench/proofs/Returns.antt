@@ -1,5 +1,5 @@
 -- Writers that go to their threads, and that come back from them.
-use Rattle.std.proofs.Common.{◌≡◌, ◌<◌, ◌++◌, ℕ, zero, suc, true, List, [], ◌∷◌, Option, None, length, get_or, map, sym, ap, ◌∙◌, subst, arith}
+use Rattle.std.proofs.Common.{◌≡◌, ◌<◌, ◌++◌, ℕ, true, List, [], ◌∷◌, Option, None, length, get_or, map, sym, ap, ◌∙◌, subst}
 use Rattle.std.proofs.Math.Seq.{get_or-append_seam}
 use Rattle.std.proofs.lemmas.List.{get_or-map}
 use Rattle.std.specs.declared.thread.PromisedHandle.{PromisedHandle}
@@ -48,11 +48,7 @@ pushed {A = A} P items item new is each last =
     subst (λ (l : List A). (place : ℕ) (fallback : A) → place < length l → P place (get_or l place fallback)) (sym is)
     (one_more P items item each last)
 
--- An item has a place, and is the one there.
-pub shorter : {A : Type 0} (before : List A) (item : A) (after : List A) → length before < length (before ++ item ∷ after)
-shorter [] item after = omega arith
-shorter (first ∷ before) item after = let rest = shorter before item after in omega (arith, rest)
-
+-- An item is the one at its place.
 pub at_seam : {A : Type 0} (items before after : List A) (item : A) → before ++ item ∷ after ≡ items
     → (fallback : A) → get_or items (length before) fallback ≡ item
 at_seam {A = A} items before after item is fallback =

@@ -1,9 +1,9 @@
 -- From writers that have claimed whole rounds to the log of these rounds.
-use Rattle.std.proofs.Common.{◌≡◌, ◌≤◌, ◌<◌, ℕ, true, List, [], ◌∷◌, length, take, drop, inl, inr, refl, sym, subst, arith}
+use Rattle.std.proofs.Common.{◌≡◌, ◌≤◌, ◌<◌, ℕ, true, List, [], ◌∷◌, length, take, drop, inl, inr, sym, subst, arith}
 use Rattle.std.specs.Prelude.{All}
-use Rattle.std.proofs.lemmas.Bool.{cases_lt, ne_eqb}
+use Rattle.std.proofs.lemmas.Bool.{cases_lt}
 use Rattle.std.proofs.lemmas.List.{length-take-le, nil_from_length, take-append-drop}
-use Rattle.std.proofs.lemmas.List.Elements.{All-drop, All-head, All-tail, All-take}
+use Rattle.std.proofs.lemmas.List.Elements.{All-drop, All-take}
 use Rattle.tmw_bench.proofs.Cutting.{cutting}
 use Rattle.tmw_bench.proofs.OpaqueRounds.{all_opaque-take, last_bound-within, opaque_at_last}
 use Rattle.tmw_bench.proofs.PlayedRounds.{earlier_played}
@@ -11,6 +11,7 @@ use Rattle.tmw_bench.specs.Benched.{AreWholeRounds, IsWholeRound}
 use Rattle.tmw_bench.specs.Rounds.{last_bound, AllOpaque, HasPlayed}
 use Rattle.tmw_defs.specs.Texts.{kinds_of}
 use Rattle.tmw_defs.specs.Verdict.{Rules}
+use Rattle.tmw_drive.proofs.Driven.{no_kinds}
 use Rattle.tmw_drive.specs.Driving.{script_at}
 use Rattle.tmw_events.specs.declared.event.Event.{Event}
 use Rattle.tmw_events.specs.declared.event.Kind.{Kind}
@@ -18,15 +19,6 @@ use Rattle.tmw_ring.specs.Parts.{made_from}
 use Rattle.tmw_runs.specs.Runs.{IsWholeRun}
 use Rattle.tmw_runs.specs.Standing.{AllStand}
 use Rattle.tmw_tm.specs.Answers.{Call, Answer}
-
--- a thread without a script has no events
-pub no_kinds : (threads thread : ℕ) (log : List Event) → All (λ event. event.thread.number < threads) log → threads ≤ thread
-    → kinds_of thread log ≡ []
-no_kinds threads thread [] own past = refl
-no_kinds threads thread (event ∷ log) own past =
-    let low : event.thread.number < threads = All-head (λ (e : Event). e.thread.number < threads) event log own in
-    rw (ne_eqb event.thread.number thread (λ same. absurd (omega (arith, low, past, same))))
-    (no_kinds threads thread log (All-tail (λ (e : Event). e.thread.number < threads) event log own) past)
 
 -- What a thread has done in a log whose last round begins at this length.
 pub record RoundAt (gives : Call → Answer → Type 0) (script : List (List Kind)) (earlier : List ℕ) (thread : ℕ) (log : List Event) : Type 0 where

@@ -10,12 +10,14 @@ use tmw_drive::Ending;
 use tmw_events::{Event, Kind};
 use tmw_monitor::Bounds;
 use tmw_ring::{Refused, RingFault};
-use tmw_testing::{FIRST, one};
+use tmw_testing::{FIRST, one, other};
 use tmw_workloads::{Workload, read_workload};
 
+mod at_once;
 mod memories;
+mod rounds;
 
-use memories::{Counting, Waiting};
+use memories::{Counting, Holding, Overtaken, Waiting};
 
 /// So often a record is tried where no thread is to stop.
 const PATIENT: u64 = 1_000_000_000;
@@ -82,7 +84,7 @@ fn a_thread_stops_where_the_places_are_spent(rt: HostRuntime) -> Result<(), Fail
         (3, Ending::Stopped(Refused::Spent { tail: 3 }), 1, 0),
         (4, Ending::Done, 1, 0),
     ] {
-        let memory = Counting::new();
+        let memory = Counting::new(7);
         let settings = settings(4, limit, 1_000_000, 1);
         let benched = run_bench(&rt, rt.alloc(), &memory, &workload, settings)?;
         assert_eq!(rt; benched.outcome.log.as_slice(), &log[..limit as usize]);
@@ -95,9 +97,20 @@ fn a_thread_stops_where_the_places_are_spent(rt: HostRuntime) -> Result<(), Fail
 }
 
 #[test]
+fn each_thread_has_a_cell(rt: HostRuntime) -> Result<(), Fail> {
+    let workload = told(rt.alloc(), TWO_WRITE)?;
+    let memory = Counting::new(7);
+    let settings = settings(1, 1_000, PATIENT, 1);
+    let fault = run_bench(&rt, rt.alloc(), &memory, &workload, settings).err();
+    assert_eq!(rt; fault, Some(BenchFault::Ring(RingFault::BadSize)));
+    assert_eq!(rt; memory.counts(), [0, 0, 0, 0, 0]);
+    Ok(())
+}
+
+#[test]
 fn no_ring_has_no_place(rt: HostRuntime) -> Result<(), Fail> {
     let workload = told(rt.alloc(), WRITES)?;
-    let memory = Counting::new();
+    let memory = Counting::new(7);
     let settings = settings(8, 0, PATIENT, 1);
     let fault = run_bench(&rt, rt.alloc(), &memory, &workload, settings).err();
     assert_eq!(rt; fault, Some(BenchFault::Ring(RingFault::BadLimit)));
@@ -108,7 +121,7 @@ fn no_ring_has_no_place(rt: HostRuntime) -> Result<(), Fail> {
 #[test]
 fn a_memory_has_the_registers_of_the_workload(rt: HostRuntime) -> Result<(), Fail> {
     let workload = told(rt.alloc(), TWO_READ)?;
-    let memory = Counting::new();
+    let memory = Counting::new(7);
     let settings = settings(8, 0, PATIENT, 1);
     let fault = run_bench(&rt, rt.alloc(), &memory, &workload, settings).err();
     assert_eq!(rt; fault, Some(BenchFault::Registers));
@@ -119,7 +132,7 @@ fn a_memory_has_the_registers_of_the_workload(rt: HostRuntime) -> Result<(), Fai
 #[test]
 fn a_small_ring_carries_a_long_log(rt: HostRuntime) -> Result<(), Fail> {
     let workload = writes_often(rt.alloc(), 100)?;
-    let memory = Counting::new();
+    let memory = Counting::new(7);
     let benched = run_bench(
         &rt,
         rt.alloc(),
@@ -135,52 +148,11 @@ fn a_small_ring_carries_a_long_log(rt: HostRuntime) -> Result<(), Fail> {
 }
 
 #[test]
-fn threads_work_at_once(rt: HostRuntime) -> Result<(), Fail> {
-    let workload = told(rt.alloc(), TWO_READ)?;
-    let memory = Waiting::new();
-    let benched = run_bench(
-        &rt,
-        rt.alloc(),
-        &memory,
-        &workload,
-        settings(8, 1_000, PATIENT, 1),
-    )?;
-    let done = [Ending::Done, Ending::Done];
-    assert_eq!(rt; benched.outcome.ends.as_slice(), done.as_slice());
-    assert_eq!(rt; benched.outcome.log.len(), 8);
-    for event in benched.outcome.log.as_slice() {
-        assert!(rt; event.kind != Kind::A);
-    }
-    Ok(())
-}
-
-#[test]
-fn each_call_is_made_once(rt: HostRuntime) -> Result<(), Fail> {
-    let workload = told(rt.alloc(), READS)?;
-    let memory = Counting::new();
-    let settings = settings(8, 1_000, PATIENT, 3);
-    let benched = run_bench(&rt, rt.alloc(), &memory, &workload, settings)?;
-    let log = [
-        one(Kind::R(FIRST)),
-        one(Kind::V(7)),
-        one(Kind::R(FIRST)),
-        one(Kind::V(7)),
-        one(Kind::T),
-        one(Kind::C),
-    ];
-    assert_eq!(rt; benched.outcome.log.as_slice(), log.as_slice());
-    assert_eq!(rt; benched.outcome.verdict, Verdict::Violated(2));
-    assert_eq!(rt; benched.rounds, 1);
-    assert_eq!(rt; memory.counts(), [1, 2, 0, 1, 0]);
-    Ok(())
-}
-
-#[test]
 fn a_thread_of_a_small_ring_is_done_or_stopped(rt: HostRuntime) -> Result<(), Fail> {
     let workload = told(rt.alloc(), WRITES)?;
     let settings = settings(1, 1_000, 1, 1);
     for _ in 0..1_000 {
-        let memory = Counting::new();
+        let memory = Counting::new(7);
         let benched = run_bench(&rt, rt.alloc(), &memory, &workload, settings)?;
         let events = benched.outcome.log.len();
         assert_eq!(rt; benched.outcome.ends.len(), 1);
@@ -193,50 +165,5 @@ fn a_thread_of_a_small_ring_is_done_or_stopped(rt: HostRuntime) -> Result<(), Fa
             _ => panic!(rt; "neither done nor stopped by a full ring"),
         }
     }
-    Ok(())
-}
-
-/// The kinds of the events of the thread of this number, in order.
-fn kinds_by(alloc: Global, log: &[Event], number: u8) -> Result<Vec<Kind>, Fail> {
-    let mut kinds = Vec::new(alloc);
-    for event in log {
-        if event.thread.get() == number {
-            kinds.push(event.kind)?;
-        }
-    }
-    Ok(kinds)
-}
-
-#[test]
-fn rounds_follow_one_another(rt: HostRuntime) -> Result<(), Fail> {
-    let workload = told(rt.alloc(), TWO_WRITE)?;
-    let memory = Counting::new();
-    let settings = settings(8, 1_000, PATIENT, 3);
-    let benched = run_bench(&rt, rt.alloc(), &memory, &workload, settings)?;
-    assert_eq!(rt; benched.rounds, 3);
-    assert_eq!(rt; benched.outcome.verdict, Verdict::OpaqueSoFar);
-    assert_eq!(rt; benched.outcome.log.len(), 24);
-    for (number, value) in [(0, 1), (1, 2)] {
-        let once = [Kind::W(FIRST, value), Kind::K, Kind::T, Kind::C];
-        for round in [0, 8, 16] {
-            let part = &benched.outcome.log.as_slice()[round..round + 8];
-            let kinds = kinds_by(rt.alloc(), part, number)?;
-            assert_eq!(rt; kinds.as_slice(), once.as_slice());
-        }
-    }
-    assert_eq!(rt; memory.counts(), [6, 0, 6, 6, 0]);
-    Ok(())
-}
-
-#[test]
-fn no_round_follows_one_that_was_stopped(rt: HostRuntime) -> Result<(), Fail> {
-    let workload = told(rt.alloc(), WRITES)?;
-    let memory = Counting::new();
-    let settings = settings(8, 6, PATIENT, 5);
-    let benched = run_bench(&rt, rt.alloc(), &memory, &workload, settings)?;
-    assert_eq!(rt; benched.rounds, 2);
-    assert_eq!(rt; benched.outcome.log.len(), 6);
-    let stopped = [Ending::Stopped(Refused::Spent { tail: 6 })];
-    assert_eq!(rt; benched.outcome.ends.as_slice(), stopped.as_slice());
     Ok(())
 }

@@ -26,7 +26,7 @@ use Rattle.tmw_tm.specs.Answers.{Call, Answer}
 use Rattle.tmw_workloads.specs.Workload.{is_workload}
 
 -- a thread without a script has no events
-no_kinds : (threads thread : ℕ) (log : List Event) → All (λ event. event.thread.number < threads) log → threads ≤ thread
+pub no_kinds : (threads thread : ℕ) (log : List Event) → All (λ event. event.thread.number < threads) log → threads ≤ thread
     → kinds_of thread log ≡ []
 no_kinds threads thread [] own past = refl
 no_kinds threads thread (event ∷ log) own past =

@@ -1,5 +1,5 @@
 mod AllPlaying
-mod Driven
+pub mod Driven
 mod Entries
 pub mod Going
 pub mod Players

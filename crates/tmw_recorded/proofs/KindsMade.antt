@@ -1,9 +1,23 @@
--- The kinds of the events for which places were claimed, one list of places behind another.
-use Rattle.std.proofs.Common.{◌≡◌, ◌++◌, List, [], ◌∷◌, refl, ap}
+-- The kinds of the events for which places were claimed: of one list of places behind another, and of a writer's places in a log.
+use Rattle.std.proofs.Common.{◌≡◌, ◌==◌, ◌+◌, ◌++◌, ℕ, List, [], ◌∷◌, inl, inr, refl, ap}
+use Rattle.std.proofs.lemmas.Bool.{cases_Bool}
+use Rattle.tmw_defs.specs.Texts.{kinds_of}
+use Rattle.tmw_events.specs.declared.event.Event.{Event}
 use Rattle.tmw_events.specs.declared.event.Kind.{Kind}
 use Rattle.tmw_recorded.specs.Recording.{kinds_made}
+use Rattle.tmw_ring.specs.Parts.{made_from}
 use Rattle.tmw_ring.specs.declared.part.Made.{Made}
 
 pub kinds_made-append : (old fresh : List Made) → kinds_made (old ++ fresh) ≡ kinds_made old ++ kinds_made fresh
 kinds_made-append [] fresh = refl
 kinds_made-append (made ∷ old) fresh = ap (λ (kinds : List Kind). made.event.kind ∷ kinds) (kinds_made-append old fresh)
+
+-- the kinds of a writer's items of a log are those of its thread's events there, from whatever place they are counted
+pub kinds_made-made_from : (writer place : ℕ) (log : List Event) → kinds_made (made_from writer place log) ≡ kinds_of writer log
+kinds_made-made_from writer place [] = refl
+kinds_made-made_from writer place (event ∷ log) =
+    let rest = kinds_made-made_from writer (place + 1) log in
+    elim (cases_Bool (event.thread.number == writer)) [
+      | inl own ↦ rw own (ap (λ (l : List Kind). event.kind ∷ l) rest)
+      | inr other ↦ rw other rest
+    ]

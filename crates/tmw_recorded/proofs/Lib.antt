@@ -1,4 +1,3 @@
-pub mod Fronts
 pub mod KindsMade
 pub mod Returns
 pub mod Tries

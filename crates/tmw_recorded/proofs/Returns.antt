@@ -28,9 +28,10 @@ one_more P (first ∷ items) item each last zero fallback low = each zero fallba
 one_more P (first ∷ items) item each last (suc place) fallback low =
     one_more (λ n. P (suc n)) items item (λ n d below. each (suc n) d (omega (arith, below))) last place fallback (omega (arith, low))
 
-shorter : (before : List WriterIs) (writer : WriterIs) (after : List WriterIs) → length before < length (before ++ writer ∷ after)
-shorter [] writer after = omega arith
-shorter (first ∷ before) writer after = let rest = shorter before writer after in omega (arith, rest)
+-- An item has a place.
+pub shorter : {A : Type 0} (before : List A) (item : A) (after : List A) → length before < length (before ++ item ∷ after)
+shorter [] item after = omega arith
+shorter (first ∷ before) item after = let rest = shorter before item after in omega (arith, rest)
 
 -- The writer behind so many new ones is a new one of that number.
 pub next_new : (ring : RingIs) (writers before after : List WriterIs) (writer : WriterIs) → AreNewWriters ring writers

@@ -1,6 +1,5 @@
 -- From the settled ring and the headline of its rest to the headline of the whole run.
-use Rattle.std.proofs.Common.{◌≡◌, ◌==◌, ◌<◌, ◌+◌, ◌++◌, ℕ, List, [], ◌∷◌, Option, None, length, get_or, All, inl, inr, refl, sym, ap, ◌∙◌, subst, arith}
-use Rattle.std.proofs.lemmas.Bool.{cases_Bool}
+use Rattle.std.proofs.Common.{◌≡◌, ◌<◌, ◌++◌, ℕ, List, [], Option, None, length, get_or, All, sym, ap, ◌∙◌, subst, arith}
 use Rattle.std.specs.Global.{Vec}
 use Rattle.tmw_defs.specs.Opaque.{zeros}
 use Rattle.tmw_defs.specs.Texts.{kinds_of}
@@ -8,28 +7,18 @@ use Rattle.tmw_events.specs.declared.event.Event.{Event}
 use Rattle.tmw_events.specs.declared.event.Kind.{Kind}
 use Rattle.tmw_monitor.specs.Fitting.{rules_of}
 use Rattle.tmw_pump.specs.Headline.{IsLogOf, Headline}
+use Rattle.tmw_recorded.proofs.KindsMade.{kinds_made-made_from}
 use Rattle.tmw_recorded.specs.Recorded.{IsRecorded}
 use Rattle.tmw_recorded.specs.Recording.{kinds_made, kinds_at, IsRecordOf, AreBack}
 use Rattle.tmw_recorded.specs.declared.plan.Plan.{Plan}
 use Rattle.tmw_recorded.specs.declared.recorded.Recorded.{Recorded}
 use Rattle.tmw_ring.specs.Ends.{RingIs, WriterIs, ReaderIs, WriterOf, ReaderOf}
-use Rattle.tmw_ring.specs.Parts.{made_from}
 use Rattle.tmw_ring.specs.Settling.{AreInOrder, IsSettled}
 use Rattle.tmw_ring.specs.declared.refused.Refused.{Refused}
 use Rattle.tmw_ring_defs.specs.Runs.{Gone, IsRunTo, writer_actor}
 use Rattle.tmw_ring_defs.specs.Sizes.{HasNumbers}
 use Rattle.tmw_ring_defs.specs.declared.ring_size.RingSize.{RingSize}
 use Rattle.tmw_ring_defs.specs.declared.ring_step.Answered.{Answered}
-
--- The kinds of a writer's items of a log are those of its thread's events there.
-pub kinds_made-made_from : (writer place : ℕ) (log : List Event) → kinds_made (made_from writer place log) ≡ kinds_of writer log
-kinds_made-made_from writer place [] = refl
-kinds_made-made_from writer place (event ∷ log) =
-    let rest = kinds_made-made_from writer (place + 1) log in
-    elim (cases_Bool (event.thread.number == writer)) [
-      | inl own ↦ rw own (ap (λ (l : List Kind). event.kind ∷ l) rest)
-      | inr other ↦ rw other rest
-    ]
 
 -- Writers that are back are the ring's.
 pub of_ring-back : (ring : RingIs) (lists : List (Vec Kind)) (writers : List WriterIs) (stops : List (Option Refused))

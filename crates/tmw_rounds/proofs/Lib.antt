@@ -1,2 +1,1 @@
-pub mod Judgings
 pub mod Meetings

@@ -3,10 +3,8 @@ use Rattle.std.proofs.Common.{◌≢◌, ◌+◌, ◌<◌, ℕ, zero, suc, List,
 use native.Mathlib.Decide.{ℕ_discrete}
 use Rattle.std.proofs.lemmas.List.{length-set, get_or_default}
 use Rattle.std.proofs.lemmas.List.Elements.{All-get_or, All-from_get_or, All-nil}
-use Rattle.tmw_events.specs.declared.ix.Ix.{Ix}
 use Rattle.tmw_ring.specs.Ends.{RingIs, WriterIs, WriterOf}
 use Rattle.tmw_ring.specs.Meeting.{WritersHaveMet, FindsTail}
-use Rattle.tmw_ring.specs.Settling.{AreInOrder}
 use Rattle.tmw_rounds.specs.Meeting.{HasMet, HaveAllMet, HasOnlySeen, HasMetOne, HasMetUpTo}
 
 -- Before the first meeting.
@@ -166,7 +164,7 @@ all_met tail one one_met one_found one_after others others_met others_after befo
   each = each_met tail one one_met one_found one_after others others_met others_after before found after;
 }
 
--- The writers that have met are of the ring still, and in order.
+-- The writers that have met are of the ring still.
 pub all_of_ring : (ring : RingIs) (tail : ℕ) (old new : List WriterIs) → All (WriterOf ring) old → HaveAllMet tail old new
     → All (WriterOf ring) new
 all_of_ring ring tail old [] of_ring met = All-nil (WriterOf ring)
@@ -177,9 +175,3 @@ all_of_ring ring tail old (first ∷ rest) of_ring met =
     let one = met.each place first in_old in
     let was = All-get_or (WriterOf ring) old place first in_old of_ring in
     (one.table ∙ was.0, one.sized ∙ was.1))
-
-pub all_in_order : (tail : ℕ) (old new : List WriterIs) → AreInOrder old → HaveAllMet tail old new → AreInOrder new
-all_in_order tail old new order met place fallback below =
-    let same = met.counted in
-    let in_old : place < length old = omega (arith, below, same) in
-    ap (λ (number : Ix). number.number) (met.each place fallback in_old).number ∙ order place fallback in_old

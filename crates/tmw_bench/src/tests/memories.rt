@@ -1,15 +1,30 @@
 //! Memories that tests run.
-use std::hint;
 use std::sync::atomic::{AtomicBool, AtomicU64, Ordering};
+use std::{hint, thread};
 use tmw_events::{Ix, Registers};
 use tmw_tm::{Did, Got, Tm, Tx};
 
 /// So often a thread looks for the other one.
 const LOOKS: u64 = 1_000_000_000;
 
-/// A memory of one register that answers 7 to each read and each add, carries everything out, and counts its calls.
+/// So often a commit that is held lets others run.
+const TURNS: u64 = 10_000;
+
+/// Waits until there are so many, and answers whether there were. It does not wait for ever.
+fn come(count: &AtomicU64, least: u64) -> bool {
+    for _ in 0..LOOKS {
+        if count.load(Ordering::SeqCst) >= least {
+            return true;
+        }
+        hint::spin_loop();
+    }
+    false
+}
+
+/// A memory of one register that answers one value to each read and each add, carries everything out, and counts its calls.
 #[derive(Drop)]
 pub struct Counting {
+    value: u64,
     begins: AtomicU64,
     reads: AtomicU64,
     writes: AtomicU64,
@@ -18,8 +33,9 @@ pub struct Counting {
 }
 
 impl Counting {
-    pub fn new() -> Counting {
+    pub fn new(value: u64) -> Counting {
         Counting {
+            value,
             begins: AtomicU64::new(0),
             reads: AtomicU64::new(0),
             writes: AtomicU64::new(0),
@@ -54,7 +70,7 @@ impl Tm for Counting {
 
     fn read(&self, _tx: &mut Tx, _register: Ix) -> Got {
         self.reads.fetch_add(1, Ordering::SeqCst);
-        Got::Value(7)
+        Got::Value(self.value)
     }
 
     fn write(&self, _tx: &mut Tx, _register: Ix, _value: u64) -> Did {
@@ -129,6 +145,140 @@ impl Tm for Waiting {
 
     fn commit(&self, _tx: &mut Tx) -> Did {
         Did::Done
+    }
+
+    fn abort(&self, _tx: &mut Tx) {}
+}
+
+/// A memory of one register, in which a commit waits until two transactions have begun, and a read until three have. It answers 1 to
+/// each read, and aborts what waits in vain.
+#[derive(Drop)]
+pub struct Overtaken {
+    begins: AtomicU64,
+}
+
+impl Overtaken {
+    pub fn new() -> Overtaken {
+        Overtaken {
+            begins: AtomicU64::new(0),
+        }
+    }
+}
+
+impl Tm for Overtaken {
+    ghost gives = { λ memory call answer. Unit {0} };
+
+    fn registers(&self) -> Registers {
+        Registers { number: 1 }
+    }
+
+    fn begin(&self, _tx: &mut Tx) -> Did {
+        self.begins.fetch_add(1, Ordering::SeqCst);
+        Did::Done
+    }
+
+    fn read(&self, _tx: &mut Tx, _register: Ix) -> Got {
+        if come(&self.begins, 3) {
+            Got::Value(1)
+        } else {
+            Got::Abort
+        }
+    }
+
+    fn write(&self, _tx: &mut Tx, _register: Ix, _value: u64) -> Did {
+        Did::Done
+    }
+
+    fn add(&self, tx: &mut Tx, register: Ix, _addend: u64) -> Got {
+        self.read(tx, register)
+    }
+
+    fn commit(&self, _tx: &mut Tx) -> Did {
+        if come(&self.begins, 2) {
+            Did::Done
+        } else {
+            Did::Abort
+        }
+    }
+
+    fn abort(&self, _tx: &mut Tx) {}
+}
+
+/// A memory of two registers, each for one thread, which answers 0 to each read. A commit of the second thread is held until the
+/// first thread has committed as often, and then for many turns more; behind them it notes how often the first has begun.
+#[derive(Drop)]
+pub struct Holding {
+    begins: AtomicU64,
+    commits: AtomicU64,
+    held: AtomicU64,
+    first: AtomicU64,
+    second: AtomicU64,
+}
+
+impl Holding {
+    pub fn new() -> Holding {
+        Holding {
+            begins: AtomicU64::new(0),
+            commits: AtomicU64::new(0),
+            held: AtomicU64::new(0),
+            first: AtomicU64::new(0),
+            second: AtomicU64::new(0),
+        }
+    }
+
+    /// How often the first thread had begun when the second thread's first commit was held, and its second one.
+    pub fn noted(&self) -> [u64; 2] {
+        [
+            self.first.load(Ordering::SeqCst),
+            self.second.load(Ordering::SeqCst),
+        ]
+    }
+
+    /// Holds a commit of the second thread, and answers whether the first has committed as often.
+    fn hold(&self) -> bool {
+        let own = self.held.fetch_add(1, Ordering::SeqCst).wrapping_add(1);
+        let has_come = come(&self.commits, own);
+        for _ in 0..TURNS {
+            thread::yield_now();
+        }
+        let noted = if own == 1 { &self.first } else { &self.second };
+        let begins = self.begins.load(Ordering::SeqCst);
+        noted.store(begins.saturating_sub(own), Ordering::SeqCst);
+        has_come
+    }
+}
+
+impl Tm for Holding {
+    ghost gives = { λ memory call answer. Unit {0} };
+
+    fn registers(&self) -> Registers {
+        Registers { number: 2 }
+    }
+
+    fn begin(&self, _tx: &mut Tx) -> Did {
+        self.begins.fetch_add(1, Ordering::SeqCst);
+        Did::Done
+    }
+
+    fn read(&self, tx: &mut Tx, register: Ix) -> Got {
+        tx.snapshot = u64::from(register.get());
+        Got::Value(0)
+    }
+
+    fn write(&self, _tx: &mut Tx, _register: Ix, _value: u64) -> Did {
+        Did::Done
+    }
+
+    fn add(&self, tx: &mut Tx, register: Ix, _addend: u64) -> Got {
+        self.read(tx, register)
+    }
+
+    fn commit(&self, tx: &mut Tx) -> Did {
+        if tx.snapshot == 0 {
+            self.commits.fetch_add(1, Ordering::SeqCst);
+            return Did::Done;
+        }
+        if self.hold() { Did::Done } else { Did::Abort }
     }
 
     fn abort(&self, _tx: &mut Tx) {}

@@ -1,11 +1,12 @@
 use Rattle.std.proofs.Common.{◌≡◌, ◌<◌, ◌+◌, ◌++◌, ℕ, List, [], ◌∷◌, length, get_or, IsTrue, sym, ap, ◌∙◌, subst, append_assoc, arith}
 use Rattle.std.proofs.lemmas.List.{length_push, get_or-map}
 use Rattle.std.specs.Vec.Iter.{into_iter_items}
-use Rattle.tmw_bench.proofs.Returns.{Handle, pushed, shorter, at_seam}
+use Rattle.tmw_bench.proofs.Returns.{Handle, pushed, at_seam}
 use Rattle.tmw_bench.specs.Playing.{IsPromise}
 use Rattle.tmw_drive.specs.Driving.{script_at}
 use Rattle.tmw_drive.specs.Playing.{calls_of}
 use Rattle.tmw_events.specs.declared.event.Kind.{Kind}
+use Rattle.tmw_recorded.proofs.Returns.{shorter}
 use Rattle.tmw_ring.specs.Ends.{WriterIs, WriterOf}
 use Rattle.tmw_runs.specs.Scripts.{are_transactions, script_of, scripts_of}
 use Rattle.tmw_bench.proofs.threads.start_all.Goals as goal
