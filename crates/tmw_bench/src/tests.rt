@@ -55,15 +55,15 @@ fn told(alloc: Global, text: &str) -> Result<Workload, Fail> {
     Ok(read_workload(alloc, text.as_bytes())?)
 }
 
-/// One thread writes 1, so many times, and commits each time.
-fn writes_often(alloc: Global, times: u64) -> Result<Workload, Fail> {
+/// One thread makes this transaction so many times.
+fn often(alloc: Global, transaction: &str, times: u64) -> Result<Workload, Fail> {
     let mut text = String::new(alloc);
     text.push_str(r#"{"order": [], "registers": 1, "scripts": [["#)?;
     for at in 0..times {
         if at > 0 {
             text.push(',')?;
         }
-        text.push_str(r#"["W 0 1", "T"]"#)?;
+        text.push_str(transaction)?;
     }
     text.push_str("]]}")?;
     told(alloc, &text)
@@ -131,19 +131,39 @@ fn a_memory_has_the_registers_of_the_workload(rt: HostRuntime) -> Result<(), Fai
 
 #[test]
 fn a_small_ring_carries_a_long_log(rt: HostRuntime) -> Result<(), Fail> {
-    let workload = writes_often(rt.alloc(), 100)?;
-    let memory = Counting::new(7);
-    let benched = run_bench(
-        &rt,
-        rt.alloc(),
-        &memory,
-        &workload,
-        settings(8, 1_000, PATIENT, 1),
-    )?;
-    assert_eq!(rt; benched.outcome.log.len(), 400);
-    assert_eq!(rt; benched.outcome.verdict, Verdict::OpaqueSoFar);
-    assert_eq!(rt; benched.outcome.ends.as_slice(), [Ending::Done].as_slice());
-    assert_eq!(rt; memory.counts(), [100, 0, 100, 100, 0]);
+    // 6,000 events are more than any ring holds at once.
+    for (transaction, times, writes, events) in [
+        (r#"["W 0 1", "T"]"#, 100, 100, 400),
+        (r#"["W 0 1", "W 0 1", "T"]"#, 1_000, 2_000, 6_000),
+    ] {
+        let workload = often(rt.alloc(), transaction, times)?;
+        let memory = Counting::new(7);
+        let settings = settings(8, 10_000, PATIENT, 1);
+        let benched = run_bench(&rt, rt.alloc(), &memory, &workload, settings)?;
+        assert_eq!(rt; benched.outcome.log.len(), events);
+        assert_eq!(rt; benched.outcome.verdict, Verdict::OpaqueSoFar);
+        assert_eq!(rt; benched.outcome.ends.as_slice(), [Ending::Done].as_slice());
+        assert_eq!(rt; memory.counts(), [times, 0, writes, times, 0]);
+    }
+    Ok(())
+}
+
+#[test]
+fn an_abort_request_reaches_the_memory(rt: HostRuntime) -> Result<(), Fail> {
+    let workload = often(rt.alloc(), r#"["R 0", "X"]"#, 2)?;
+    let memory = Counting::new(0);
+    let settings = settings(8, 1_000, PATIENT, 1);
+    let benched = run_bench(&rt, rt.alloc(), &memory, &workload, settings)?;
+    let once = [
+        one(Kind::R(FIRST)),
+        one(Kind::V(0)),
+        one(Kind::X),
+        one(Kind::A),
+    ];
+    assert_eq!(rt; benched.outcome.log.len(), 8);
+    assert_eq!(rt; &benched.outcome.log.as_slice()[..4], once.as_slice());
+    assert_eq!(rt; &benched.outcome.log.as_slice()[4..], once.as_slice());
+    assert_eq!(rt; memory.counts(), [2, 2, 0, 0, 2]);
     Ok(())
 }
 
