@@ -54,6 +54,18 @@ const ONE_CELL: Settings = Settings {
     },
 };
 
+/// A ring of one cell, in which a record is tried once.
+const IMPATIENT: Settings = Settings {
+    cells: 1,
+    limit: 1 << 40,
+    patience: 1,
+    rounds: 1,
+    bounds: Bounds {
+        window: 8,
+        states: 64,
+    },
+};
+
 /// No place at all.
 const NO_PLACE: Settings = Settings {
     cells: 256,
@@ -214,6 +226,27 @@ fn workloads_that_are_carried_out(rt: HostRuntime) {
     ] {
         expect(&rt, text, trace, settings, written, status);
     }
+}
+
+#[test]
+fn a_thread_without_patience_is_stopped(rt: HostRuntime) {
+    let mut stopped = false;
+    for _ in 0..1_000 {
+        let mut source = MemorySource::new(WRITE);
+        let mut sink = MemorySink::new(rt.alloc());
+        let answered = run_bench_cmd(
+            &rt,
+            rt.alloc(),
+            &mut source,
+            &mut sink,
+            &Seven,
+            false,
+            IMPATIENT,
+        );
+        assert_eq!(rt; answered, OPAQUE);
+        stopped = stopped || sink.bytes().ends_with(b"{\"ends\":[\"full\"]}\n");
+    }
+    assert!(rt; stopped, "no run found the ring full");
 }
 
 #[test]
