@@ -51,6 +51,9 @@ impl OneWriter {
 
 impl Tm for OneWriter {
     ghost use Rattle.tmw_one_writer.specs.Gives.{Gives};
+    ghost use Rattle.tmw_one_writer.specs.Leaves.{GoesOnOrEnds, IsBegun, IsEnded};
+    ghost use Rattle.tmw_tm.specs.Answers.{did_answer, got_answer};
+    ghost use Rattle.tmw_tm.specs.Answers.Call.{Begin, Read, Write, Add, Commit};
 
     ghost gives = { λ memory call answer. Gives memory.registers call answer };
 
@@ -60,7 +63,10 @@ impl Tm for OneWriter {
         self.registers
     }
 
-    fn begin(&self, tx: &mut Tx) -> Did {
+    fn begin(&self, tx: &mut Tx) -> Did
+        ensures gives { Gives self.now.registers Begin (did_answer result) }
+        ensures begun { IsBegun tx.new }
+    {
         self.abort(tx);
         let seen = self.sequence.load(SeqCst);
         tx.snapshot = seen - seen % 2;
@@ -68,7 +74,10 @@ impl Tm for OneWriter {
         Did::Done
     }
 
-    fn read(&self, tx: &mut Tx, register: Ix) -> Got {
+    fn read(&self, tx: &mut Tx, register: Ix) -> Got
+        ensures gives { Gives self.now.registers (Read register) (got_answer result) }
+        ensures leaves { GoesOnOrEnds (got_answer result) tx.new }
+    {
         if self.may_use(tx, register) {
             let mut latest = tx.writes.as_slice().iter().rev();
             if let Some(own) = latest.find(|write| write.register == register) {
@@ -83,7 +92,10 @@ impl Tm for OneWriter {
         Got::Abort
     }
 
-    fn write(&self, tx: &mut Tx, register: Ix, value: u64) -> Did {
+    fn write(&self, tx: &mut Tx, register: Ix, value: u64) -> Did
+        ensures gives { Gives self.now.registers (Write register value) (did_answer result) }
+        ensures leaves { GoesOnOrEnds (did_answer result) tx.new }
+    {
         let may_write = self.may_use(tx, register) && self.take_turn(tx);
         if may_write && tx.writes.try_push(Entry { register, value }).is_ok() {
             return Did::Done;
@@ -92,7 +104,10 @@ impl Tm for OneWriter {
         Did::Abort
     }
 
-    fn add(&self, tx: &mut Tx, register: Ix, addend: u64) -> Got {
+    fn add(&self, tx: &mut Tx, register: Ix, addend: u64) -> Got
+        ensures gives { Gives self.now.registers (Add register addend) (got_answer result) }
+        ensures leaves { GoesOnOrEnds (got_answer result) tx.new }
+    {
         let Got::Value(value) = self.read(tx, register) else {
             return Got::Abort;
         };
@@ -102,7 +117,10 @@ impl Tm for OneWriter {
         }
     }
 
-    fn commit(&self, tx: &mut Tx) -> Did {
+    fn commit(&self, tx: &mut Tx) -> Did
+        ensures gives { Gives self.now.registers Commit (did_answer result) }
+        ensures ended { IsEnded tx.new }
+    {
         for write in tx.writes.as_slice() {
             self.values[usize::from(write.register.get())].store(write.value, SeqCst);
         }
@@ -112,7 +130,9 @@ impl Tm for OneWriter {
         Did::Done
     }
 
-    fn abort(&self, tx: &mut Tx) {
+    fn abort(&self, tx: &mut Tx)
+        ensures { IsEnded tx.new }
+    {
         if !tx.writes.is_empty() {
             self.sequence.store(tx.snapshot, SeqCst);
         }

@@ -55,6 +55,18 @@ const ONE_CELL: Settings = Settings {
     },
 };
 
+/// A ring of one cell, in which a record is tried once.
+const IMPATIENT: Settings = Settings {
+    cells: 1,
+    limit: 1 << 40,
+    patience: 1,
+    rounds: 1,
+    bounds: Bounds {
+        window: 8,
+        states: 64,
+    },
+};
+
 /// No place at all.
 const NO_PLACE: Settings = Settings {
     cells: 256,
@@ -285,6 +297,27 @@ fn a_workload_is_carried_out_once(rt: HostRuntime) {
     assert_eq!(rt; memory.begins.load(Ordering::SeqCst), 1);
     assert_eq!(rt; memory.reads.load(Ordering::SeqCst), 2);
     assert_eq!(rt; memory.commits.load(Ordering::SeqCst), 1);
+}
+
+#[test]
+fn a_thread_without_patience_is_stopped(rt: HostRuntime) {
+    let mut stopped = false;
+    for _ in 0..1_000 {
+        let mut source = MemorySource::new(WRITE);
+        let mut sink = MemorySink::new(rt.alloc());
+        let answered = run_bench_cmd(
+            &rt,
+            rt.alloc(),
+            &mut source,
+            &mut sink,
+            &Seven,
+            false,
+            IMPATIENT,
+        );
+        assert_eq!(rt; answered, OPAQUE);
+        stopped = stopped || sink.bytes().ends_with(b"{\"ends\":[\"full\"]}\n");
+    }
+    assert!(rt; stopped, "no run found the ring full");
 }
 
 #[test]
