@@ -88,11 +88,10 @@ later-refused kind old (Spent tail) new (before, waited, is) = omega (arith, wai
 -- the record of the call was refused
 pub stops_at-call : (ring : RingIs) (call : Kind) (refused : Refused) (before after : WriterIs) → WriterOf ring before → WriterOf ring after
     → after.number ≡ before.number → HasTried call before (Err refused) after → StopsAt call refused before after
-stops_at-call ring call refused before after before_of after_of number tried =
-    (
-      later-refused call before refused after tried,
-      inl (claimed-refused call before refused after tried, was_refused-tried ring call before refused after before_of after_of number tried),
-    )
+stops_at-call ring call refused before after before_of after_of number tried = (
+  later-refused call before refused after tried,
+  inl (claimed-refused call before refused after tried, was_refused-tried ring call before refused after before_of after_of number tried),
+)
 
 -- the call was recorded, and the record of its answer was refused
 pub stops_at-answer : (ring : RingIs) (call answer : Kind) (place : ℕ) (refused : Refused) (before middle after : WriterIs) → WriterOf ring middle
