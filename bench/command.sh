@@ -76,6 +76,29 @@ expect examples/own_write.trace 0 '{"events":6,"verdict":"opaque so far"}' judge
 expect examples/left_open.trace 2 '{"at":16,"events":16,"verdict":"undecided","why":"transactions"}' judge
 expect examples/two_writers.trace 2 '{"at":8,"events":8,"verdict":"undecided","why":"states"}' judge --states 1
 expect examples/dirty_read.trace 2 '{"at":3,"events":8,"verdict":"undecided","why":"transactions"}' judge --window=1 --states=64
+expect examples/dirty_read.trace 1 '{"at":4,"events":8,"verdict":"violated"}' judge --criterion opacity
+# each trace by both criteria: the lengths at which each verdict was settled, or 0
+both_of() {
+    local name=$1 events=$2 status=$3 opacity=$4 strict=$5
+    local lines=('{"events":'"$events"',"verdict":"opaque so far"}' '{"criterion":"strict","events":'"$events"',"verdict":"strict so far"}')
+    [ "$opacity" = 0 ] || lines[0]='{"at":'"$opacity"',"events":'"$events"',"verdict":"violated"}'
+    [ "$strict" = 0 ] || lines[1]='{"at":'"$strict"',"criterion":"strict","events":'"$events"',"verdict":"violated"}'
+    expect "examples/$name.trace" "$status" "${lines[0]}"$'\n'"${lines[1]}" judge --criterion both
+    expect "examples/$name.trace" "$((strict > 0))" "${lines[1]}" judge --criterion=strict
+}
+both_of dirty_read 8 1 4 0
+both_of zombie_read 12 1 10 0
+both_of opposite_readers 16 1 14 16
+both_of lost_update 12 1 12 12
+both_of lost_writer 8 1 8 8
+both_of stale_read 6 1 6 0
+both_of commit_pending_read 6 0 0 0
+both_of own_write 6 0 0 0
+both_of add 6 0 0 0
+both_of two_writers 8 0 0 0
+expect examples/left_open.trace 2 "$(printf '%s\n' '{"at":16,"events":16,"verdict":"undecided","why":"transactions"}' \
+    '{"at":16,"criterion":"strict","events":16,"verdict":"undecided","why":"transactions"}')" judge --criterion both
+expect examples/stopped_writer.steps 4 '{"fault":"bad header"}' judge --criterion both
 expect examples/stopped_writer.steps 4 '{"fault":"bad header"}' judge
 expect examples/stopped_writer.steps 0 "$(printf '%s\n' 'saw 0' cleared 'place 0' stopped 'not now' 'saw 0' cleared 'place 1' \
     filled 'published 1' 'not ready' 'not now' 'log 2 taken 0')" steps
@@ -121,6 +144,9 @@ expect_usage "error: unrecognized subcommand 'replay'" help replay
 expect_usage "error: the argument '--window <N>' cannot be used multiple times" judge --window 3 --window 3
 expect_usage "error: invalid value '9' for '--window <N>': 9 is not in 1..=8" judge --window 9
 expect_usage "error: invalid value '65' for '--states <N>': 65 is not in 1..=64" judge --states=65
+expect_usage "error: invalid value 'serial' for '--criterion <CRITERION>'" judge --criterion serial
+expect_usage "error: the argument '--criterion <CRITERION>' cannot be used multiple times" judge --criterion strict --criterion strict
+expect_usage "error: unexpected argument '--criterion' found" drive --criterion strict
 expect_usage "error: invalid value 'norec2' for '--memory <MEMORY>'" drive --memory norec2
 expect_usage "error: the argument '--memory <MEMORY>' cannot be used multiple times" drive --memory lock --memory torn
 expect_usage "error: the argument '--trace' cannot be used multiple times" drive --trace --trace

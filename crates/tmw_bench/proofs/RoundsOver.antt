@@ -8,6 +8,7 @@ use Rattle.tmw_bench.specs.Benched.{SomeStopped}
 use Rattle.tmw_bench.specs.Rounds.{ending_of, AreEndings}
 use Rattle.tmw_defs.proofs.VerdictProof.{verdict-one}
 use Rattle.tmw_defs.specs.Verdict.{Rules, IsFine, IsVerdict}
+use Rattle.tmw_defs.specs.declared.criterion.Criterion.TheVariants.{Opacity}
 use Rattle.tmw_defs.specs.declared.verdict.Verdict.{Verdict}
 use Rattle.tmw_defs.specs.declared.verdict.Verdict.TheVariants.{OpaqueSoFar}
 use Rattle.tmw_drive.specs.declared.ending.Ending.{Ending}
@@ -34,23 +35,25 @@ opaque-front : (rules : Rules) (front more log : List Event) (verdict : Verdict)
     → IsVerdict rules log OpaqueSoFar → verdict ≡ OpaqueSoFar
 opaque-front rules front more log verdict is told opaque =
     let whole : IsVerdict rules (front ++ more) OpaqueSoFar = subst (λ (l : List Event). IsVerdict rules l OpaqueSoFar) is opaque in
-    let part : IsVerdict rules front OpaqueSoFar =
-    λ k within.
-    subst (IsFine rules) (take-append-le k front more within)
-    (whole k (let longer = length-append front more in omega (arith, within, longer))) in
+    let part : IsVerdict rules front OpaqueSoFar = (
+      whole.0,
+      λ k within.
+          subst (IsFine rules) (take-append-le k front more within)
+          (whole.1 k (let longer = length-append front more in omega (arith, within, longer))),
+    ) in
     verdict-one rules front verdict OpaqueSoFar told part
 
 -- No further round could begin.
 pub over-log : (rules : Rules) (scripts : List (List (List Kind))) (stops : List (Option Refused)) (ends : List Ending) (front : Front)
-    (more log : List Event) (writers : List WriterIs) (verdict : Verdict) → length stops ≡ length scripts → AreEndings scripts stops ends
+    (more log : List Event) (writers : List WriterIs) (verdict : Verdict) → rules.criterion ≡ Opacity → length stops ≡ length scripts → AreEndings scripts stops ends
     → log ≡ front.judged.items ++ more → IsVerdict rules front.judged.items front.monitor.verdict → Headline rules log writers log verdict
     → IsOver stops front → (verdict ≢ OpaqueSoFar) ⊎ SomeStopped ends
-over-log rules scripts stops ends front more log writers verdict counted endings is told headline over =
+over-log rules scripts stops ends front more log writers verdict opacity counted endings is told headline over =
     elim over [
       | inl stop ↦
           inr (some_stopped-endings scripts stops ends stop.thread stop.refused (subst (λ (n : ℕ). stop.thread < n) counted stop.low)
           (stop.stopped None) endings)
       | inr wrong ↦
           inl (λ opaque. wrong (opaque-front rules front.judged.items more log front.monitor.verdict is told
-          (fine-opaque rules log (headline.opaque.0 opaque))))
+          (fine-opaque rules log opacity (headline.opaque.0 opaque))))
     ]

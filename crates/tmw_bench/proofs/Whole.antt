@@ -8,7 +8,7 @@ use Rattle.tmw_bench.specs.Rounds.{ending_of, AllOpaque, AreEndings, HaveAllPlay
 use Rattle.tmw_bench.specs.declared.benched.Benched.{Benched}
 use Rattle.tmw_bench.specs.declared.settings.Settings.{Settings}
 use Rattle.tmw_defs.specs.Opaque.{zeros}
-use Rattle.tmw_defs.specs.Verdict.{Rules}
+use Rattle.tmw_defs.specs.Verdict.{Rules, IsVerdict}
 use Rattle.tmw_defs.specs.declared.verdict.Verdict.TheVariants.{OpaqueSoFar}
 use Rattle.tmw_drive.specs.Driving.{script_at}
 use Rattle.tmw_drive.specs.declared.ending.Ending.{Ending}
@@ -58,11 +58,12 @@ pub is_benched : (gives : Call → Answer → Type 0) (registers : Registers) (s
     → HasNumbers settings.cells (length scripts) settings.limit ring.size → HasCome (length scripts) ring reader writers left
     → benched.outcome.log.items ≡ reader.taken ++ left → HaveAllPlayedLast gives scripts bounds stops writers
     → AllOpaque (rules_of registers zeros settings.bounds) bounds benched.outcome.log.items → AreEndings scripts stops benched.outcome.ends.items
+    → IsVerdict (rules_of registers zeros settings.bounds) benched.outcome.log.items benched.outcome.verdict
     → Headline (rules_of registers zeros settings.bounds) benched.outcome.log.items writers benched.outcome.log.items benched.outcome.verdict
     → benched.rounds ≡ length bounds + 1 → benched.rounds ≤ settings.rounds
     → (benched.rounds < settings.rounds → (benched.outcome.verdict ≢ OpaqueSoFar) ⊎ SomeStopped benched.outcome.ends.items)
     → IsBenched gives registers scripts settings benched
-is_benched gives registers scripts settings benched ring reader writers left bounds stops asks sized come is last opaque endings headline rounds within over =
+is_benched gives registers scripts settings benched ring reader writers left bounds stops asks sized come is last opaque endings judged headline rounds within over =
     let log = benched.outcome.log.items in
     let ends = benched.outcome.ends.items in
     let rules : Rules = rules_of registers zeros settings.bounds in
@@ -77,6 +78,7 @@ is_benched gives registers scripts settings benched ring reader writers left bou
       order = come.order;
       count = come.count;
       end_count = endings.counted;
+      judged = judged;
       headline = headline;
       formed = formed-in_rounds rules gives scripts (length bounds) log ends writers benched.outcome.verdict asks come.count whole.own parts headline;
       run = come.settled.run;

@@ -66,7 +66,7 @@ pub record SomeStopped (ends : List Ending) : Type 0 where
   pub stopped : (fallback : Ending) → get_or ends thread fallback ≡ Stopped refused
 
 -- The log is the one log of a ring with a writer for each script, to which one run of the ring's machine leads, and the verdict is
--- the headline's on all of it, and never malformed. The log is one round after another, the last of them to its end or up to
+-- the one on all of it, of which the headline tells, and never malformed. The log is one round after another, the last of them to its end or up to
 -- where threads were stopped. No round is left out but behind one after which the verdict is not opaque so far, or in which a
 -- thread was stopped.
 pub record IsBenched (gives : Call → Answer → Type 0) (registers : Registers) (scripts : List (List (List Kind))) (settings : Settings) (benched : Benched) : Type 0 where
@@ -77,6 +77,7 @@ pub record IsBenched (gives : Call → Answer → Type 0) (registers : Registers
   pub order : AreInOrder writers
   pub count : length writers ≡ length scripts
   pub end_count : length benched.outcome.ends.items ≡ length scripts
+  pub judged : IsVerdict (rules_of registers zeros settings.bounds) benched.outcome.log.items benched.outcome.verdict
   pub headline : Headline (rules_of registers zeros settings.bounds) benched.outcome.log.items writers benched.outcome.log.items benched.outcome.verdict
   pub formed : (events : ℕ) → benched.outcome.verdict ≢ Malformed events
   pub run : List Answered

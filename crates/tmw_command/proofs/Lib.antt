@@ -1,7 +1,7 @@
-mod DriveValues
 mod HelpWords
 mod Numbers
 mod Orders
+mod OptionValues
 mod OtherFaults
 mod OtherParsers
 mod Picked

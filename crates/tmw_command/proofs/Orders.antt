@@ -2,8 +2,9 @@
 use Rattle.std.proofs.Common.{◌≡◌, ◌∙◌, Bool, Option, Some, List, codes, ap, sym, subst, get_or, arith}
 use Rattle.std.specs.Prelude.{unwrap_or}
 use Rattle.clap.specs.Words.{Row, Text}
+use Rattle.tmw_defs.specs.declared.criterion.Asked.{Asked}
 use Rattle.tmw_monitor.specs.declared.bounds.Bounds.{Bounds}
-use Rattle.tmw_command.specs.Words.{HasBounds, HasOptions, HasTrace, IsOrder, NamesMemory}
+use Rattle.tmw_command.specs.Words.{HasBounds, HasOptions, HasTrace, IsOrder, NamesCriteria, NamesMemory}
 use Rattle.tmw_command.specs.declared.bench_options.BenchOptions.{BenchOptions}
 use Rattle.tmw_command.specs.declared.order.Order.{Order}
 use Rattle.tmw_command.specs.declared.order.Order.TheVariants.{Judge, Drive, Bench, Steps}
@@ -18,18 +19,19 @@ one_name found name other rows given is same =
 own_rows : (found : Option (Text × List Row)) (name : Text) (rows given : List Row) → found ≡ Some (name, rows) → found ≡ Some (name, given) → given ≡ rows
 own_rows found name rows given is same = ap (λ (o : Option (Text × List Row)). (unwrap_or o (name, rows)).1) (sym same ∙ is)
 
--- without bounds `judge` is no order
-pub judge-unbounded : (found : Option (Text × List Row)) (rows : List Row) → found ≡ Some (codes "judge", rows)
-    → ((bounds : Bounds) → HasBounds rows bounds → ⊥) → (order : Order) → IsOrder found order → ⊥
-judge-unbounded found rows is none (Judge bounds) (given, same, has) =
-    none bounds (subst (λ (r : List Row). HasBounds r bounds) (own_rows found (codes "judge") rows given is same) has)
-judge-unbounded found rows is none (Drive memory trace bounds) (given, same, named, traced, has) =
+-- without criteria or bounds `judge` is no order
+pub judge-lacking : (found : Option (Text × List Row)) (rows : List Row) → found ≡ Some (codes "judge", rows)
+    → ((asked : Asked) (bounds : Bounds) → NamesCriteria rows asked → HasBounds rows bounds → ⊥) → (order : Order) → IsOrder found order → ⊥
+judge-lacking found rows is none (Judge bounds asked) (given, same, named, has) =
+    let own = own_rows found (codes "judge") rows given is same in
+    none asked bounds (subst (λ (r : List Row). NamesCriteria r asked) own named) (subst (λ (r : List Row). HasBounds r bounds) own has)
+judge-lacking found rows is none (Drive memory trace bounds) (given, same, named, traced, has) =
     let first = one_name found (codes "judge") (codes "drive") rows given is same in
     absurd (omega (arith, first))
-judge-unbounded found rows is none (Bench memory trace options) (given, same, named, traced, has) =
+judge-lacking found rows is none (Bench memory trace options) (given, same, named, traced, has) =
     let first = one_name found (codes "judge") (codes "bench") rows given is same in
     absurd (omega (arith, first))
-judge-unbounded found rows is none Steps (given, same) =
+judge-lacking found rows is none Steps (given, same) =
     let first = one_name found (codes "judge") (codes "steps") rows given is same in
     absurd (omega (arith, first))
 
@@ -41,7 +43,7 @@ drive-lacking found rows is none (Drive memory trace bounds) (given, same, named
     let own = own_rows found (codes "drive") rows given is same in
     none memory trace bounds (subst (λ (r : List Row). NamesMemory r memory) own named) (subst (λ (r : List Row). HasTrace r trace) own traced)
     (subst (λ (r : List Row). HasBounds r bounds) own has)
-drive-lacking found rows is none (Judge bounds) (given, same, has) =
+drive-lacking found rows is none (Judge bounds asked) (given, same, named, has) =
     let first = one_name found (codes "drive") (codes "judge") rows given is same in
     absurd (omega (arith, first))
 drive-lacking found rows is none (Bench memory trace options) (given, same, named, traced, has) =
@@ -59,7 +61,7 @@ bench-lacking found rows is none (Bench memory trace options) (given, same, name
     let own = own_rows found (codes "bench") rows given is same in
     none memory trace options (subst (λ (r : List Row). NamesMemory r memory) own named) (subst (λ (r : List Row). HasTrace r trace) own traced)
     (subst (λ (r : List Row). HasOptions r options) own has)
-bench-lacking found rows is none (Judge bounds) (given, same, has) =
+bench-lacking found rows is none (Judge bounds asked) (given, same, named, has) =
     let first = one_name found (codes "bench") (codes "judge") rows given is same in
     absurd (omega (arith, first))
 bench-lacking found rows is none (Drive memory trace bounds) (given, same, named, traced, has) =

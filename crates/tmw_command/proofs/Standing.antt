@@ -15,7 +15,7 @@ use Rattle.clap.specs.declared.builder.value_parser.ValueParser.TheVariants as p
 use Rattle.clap.specs.declared.error.kind.ErrorKind.TheVariants.{InvalidValue}
 use Rattle.clap.proofs.OnLiterals.{clap_on_literals}
 use Rattle.clap.proofs.WalkLemmas.{both}
-use Rattle.tmw_command.specs.Program.{IsProgram, lent, memory_names, one_of_names, program, program_among}
+use Rattle.tmw_command.specs.Program.{IsProgram, criteria_names, lent, memory_names, one_of_names, program, program_among}
 use Rattle.tmw_command.proofs.OtherFaults.{fault-other}
 use Rattle.tmw_command.proofs.OtherParsers.{app, subcommand-other}
 
@@ -47,41 +47,61 @@ placed-takes ignore_case (Some p) text = refl
 
 -- ---- the program
 
--- whatever the memories are, it is simple
-free_among : (memories : ValueParser) → is_simple_and_free (program_among memories) ≡ true
+-- whatever the criteria and the memories are, it is simple
+free_among : (criteria memories : ValueParser) → is_simple_and_free (program_among criteria memories) ≡ true
 unfolding clap_on_literals
-free_among memories = refl
+free_among criteria memories = refl
 
-module _ (names : Bor (List (Bor Text))) (are : texts names.now ≡ memory_names) where
-  built-placed : built (program_among (one_of_names (texts names.now))) ≡ app placed_if (built (program_among (parser.Names names)))
+module _ (criteria memories : Bor (List (Bor Text))) (criteria_are : texts criteria.now ≡ criteria_names)
+    (memories_are : texts memories.now ≡ memory_names) where
+  -- the names as they stand, and at the address 0
+  standing : App
+  standing = program_among (parser.Names criteria) (parser.Names memories)
+
+  at_zero : App
+  at_zero = program_among (one_of_names (texts criteria.now)) (one_of_names (texts memories.now))
+
+  built-placed : built at_zero ≡ app placed_if (built standing)
+  unfolding standing at_zero
   built-placed = refl
 
+  at_zero-program : {A : Type 0} (f : App → A) → f at_zero ≡ f program
+  unfolding at_zero
+  at_zero-program f =
+      ap (λ (ts : List Text). f (program_among (one_of_names ts) (one_of_names (texts memories.now)))) criteria_are
+      ∙ ap (λ (ts : List Text). f (program_among (one_of_names criteria_names) (one_of_names ts))) memories_are
+
   -- wherever the names stand, the faults of the words are the same
-  pub fault-anywhere : (words : List Text) → fault_of (program_among (parser.Names names)) words ≡ fault_of program words
+  pub fault-anywhere : (words : List Text) → fault_of (program_among (parser.Names criteria) (parser.Names memories)) words ≡ fault_of program words
+  unfolding standing at_zero
   fault-anywhere words =
-      sym (fault-other placed_if placed-reads placed-takes (built (program_among (parser.Names names))) (drop 1 words))
+      sym (fault-other placed_if placed-reads placed-takes (built standing) (drop 1 words))
       ∙ sym (ap (λ (a : App). built_fault a nothing_held (drop 1 words)) built-placed)
-      ∙ ap (λ (ts : List Text). fault_of (program_among (one_of_names ts)) words) are
+      ∙ at_zero-program (λ a. fault_of a words)
 
   -- and so is what is read of a command's words
-  pub subcommand-anywhere : (words : List Text) → subcommand_of (program_among (parser.Names names)) words ≡ subcommand_of program words
+  pub subcommand-anywhere : (words : List Text)
+      → subcommand_of (program_among (parser.Names criteria) (parser.Names memories)) words ≡ subcommand_of program words
+  unfolding standing at_zero
   subcommand-anywhere words =
-      sym (subcommand-other placed_if placed-reads (built (program_among (parser.Names names))) (drop 1 words))
+      sym (subcommand-other placed_if placed-reads (built standing) (drop 1 words))
       ∙ sym (ap (λ (a : App). entered a (stop_after a.top.rules (names_of a) (drop 1 words))) built-placed)
-      ∙ ap (λ (ts : List Text). subcommand_of (program_among (one_of_names ts)) words) are
+      ∙ at_zero-program (λ a. subcommand_of a words)
 
 -- ---- the same of a command that is the program
 
 pub is_free : (app : App) → IsProgram app → is_simple_and_free app ≡ true
-is_free app (names, are, is) = ap is_simple_and_free is ∙ free_among (parser.Names names)
+is_free app p = ap is_simple_and_free p.is ∙ free_among (parser.Names p.criteria) (parser.Names p.memories)
 
 pub is_plain : (app : App) → IsProgram app → is_simple app ≡ true
 is_plain app program_is = (both (is_simple app) (is_free_app (built app)) (is_free app program_is)).0
 
 pub fault-program : (app : App) (given words : List Text) → IsProgram app → given ≡ words → fault_of app given ≡ fault_of program words
-fault-program app given words (names, are, is) same =
-    ap (λ (a : App). fault_of a given) is ∙ fault-anywhere names are given ∙ ap (λ (ws : List Text). fault_of program ws) same
+fault-program app given words p same =
+    ap (λ (a : App). fault_of a given) p.is ∙ fault-anywhere p.criteria p.memories p.criteria_are p.memories_are given
+    ∙ ap (λ (ws : List Text). fault_of program ws) same
 
 pub subcommand-program : (app : App) (given words : List Text) → IsProgram app → given ≡ words → subcommand_of app given ≡ subcommand_of program words
-subcommand-program app given words (names, are, is) same =
-    ap (λ (a : App). subcommand_of a given) is ∙ subcommand-anywhere names are given ∙ ap (λ (ws : List Text). subcommand_of program ws) same
+subcommand-program app given words p same =
+    ap (λ (a : App). subcommand_of a given) p.is ∙ subcommand-anywhere p.criteria p.memories p.criteria_are p.memories_are given
+    ∙ ap (λ (ws : List Text). subcommand_of program ws) same

@@ -44,6 +44,42 @@ trace_of_judge : kinds_of (said (codes "judge" ∷ codes "--trace" ∷ [])) ≡ 
 unfolding clap_on_literals
 trace_of_judge = refl
 
+-- by which criteria `judge` judges
+abbrev the_criteria : List Text → Option (Option Text)
+the_criteria words = option_map (λ p. first_of (codes "criterion") p.1) (subcommand_of program (help_as_flag (said (codes "judge" ∷ words))))
+
+default_criterion : the_criteria [] ≡ Some (Some (codes "opacity"))
+unfolding clap_on_literals
+default_criterion = refl
+
+criterion_opacity : the_criteria (codes "--criterion=opacity" ∷ []) ≡ Some (Some (codes "opacity"))
+unfolding clap_on_literals
+criterion_opacity = refl
+
+criterion_strict : the_criteria (codes "--window=3" ∷ codes "--criterion" ∷ codes "strict" ∷ []) ≡ Some (Some (codes "strict"))
+unfolding clap_on_literals
+criterion_strict = refl
+
+criterion_both : the_criteria (codes "--criterion" ∷ codes "both" ∷ codes "--states=2" ∷ []) ≡ Some (Some (codes "both"))
+unfolding clap_on_literals
+criterion_both = refl
+
+criterion_taken : kinds_of (said (codes "judge" ∷ codes "--criterion" ∷ codes "both" ∷ [])) ≡ []
+unfolding clap_on_literals
+criterion_taken = refl
+
+other_criterion : kinds_of (said (codes "judge" ∷ codes "--criterion=serial" ∷ [])) ≡ InvalidValue ∷ []
+unfolding clap_on_literals
+other_criterion = refl
+
+criterion_twice : kinds_of (said (codes "judge" ∷ codes "--criterion=strict" ∷ codes "--criterion=strict" ∷ [])) ≡ ArgumentConflict ∷ []
+unfolding clap_on_literals
+criterion_twice = refl
+
+criterion_of_drive : kinds_of (said (codes "drive" ∷ codes "--criterion" ∷ codes "strict" ∷ [])) ≡ UnknownArgument ∷ []
+unfolding clap_on_literals
+criterion_of_drive = refl
+
 -- `drive` has four rows: its memory's, its flag's, and those of its bounds
 abbrev option_of : Text → List Text → Option (Option Text)
 option_of name words = option_map (λ p. one_of name p.1) (subcommand_of program (help_as_flag (said (codes "drive" ∷ words))))

@@ -6,8 +6,19 @@ use Rattle.clap.specs.Words.{App, Rule, Text, new_app, new_rule, with_rule, with
 use Rattle.clap.specs.declared.builder.action.ArgAction.TheVariants.{SetTrue}
 use Rattle.clap.specs.declared.builder.value_parser.ValueParser.{ValueParser}
 use Rattle.clap.specs.declared.builder.value_parser.ValueParser.TheVariants.{Names, Signed, Unsigned}
+use Rattle.tmw_defs.specs.declared.criterion.Asked.{Asked}
+use Rattle.tmw_defs.specs.declared.criterion.Asked.TheVariants.{Opacity, Strict, Both}
 use Rattle.tmw_command.specs.declared.which.Which.{Which}
 use Rattle.tmw_command.specs.declared.which.Which.TheVariants.{NoRec, Lock, Torn}
+
+-- the name of the criteria that are asked for
+abbrev pub asked_name : Asked → Text
+asked_name Opacity = codes "opacity"
+asked_name Strict = codes "strict"
+asked_name Both = codes "both"
+
+abbrev pub criteria_names : List Text
+criteria_names = asked_name Opacity ∷ asked_name Strict ∷ asked_name Both ∷ []
 
 -- the name of a memory
 abbrev pub memory_name : Which → Text
@@ -48,6 +59,10 @@ abbrev pub with_bounds : App → App
 with_bounds app = with_rule (with_rule app (value_rule (codes "window") (one_to 8) (codes "8")))
     (value_rule (codes "states") (one_to 64) (codes "64"))
 
+-- with what to judge by, one of these, and opacity where none is named
+abbrev pub with_criterion : ValueParser → App → App
+with_criterion criteria app = with_rule app (value_rule (codes "criterion") criteria (asked_name Opacity))
+
 -- `--trace`, which takes no value
 abbrev pub trace_rule : Rule
 trace_rule = record (new_rule (codes "trace")) { long = Some (codes "trace"); action = Some SetTrue }
@@ -62,9 +77,9 @@ with_counts app = with_rule (with_rule (with_rule app (value_rule (codes "ring")
     (value_rule (codes "patience") (count_to 1000000000) (codes "1000000")))
     (value_rule (codes "rounds") (count_to 1000000) (codes "1"))
 
--- `judge`
-abbrev pub judge : App
-judge = with_bounds (new_app (codes "judge"))
+-- `judge`, by one of these criteria
+abbrev pub judge_among : ValueParser → App
+judge_among criteria = with_bounds (with_criterion criteria (new_app (codes "judge")))
 
 -- `drive`, over one of these memories
 abbrev pub drive_among : ValueParser → App
@@ -82,15 +97,19 @@ steps = new_app (codes "steps")
 abbrev pub wanting : App → App
 wanting app = record app { top = record app.top { subcommand_required = true; disable_help_subcommand = true } }
 
--- with its commands, `drive` and `bench` over one of these memories
-abbrev pub program_among : ValueParser → App
-program_among memories =
-    with_subcommand (with_subcommand (with_subcommand (with_subcommand (wanting (new_app (codes "tmwatch"))) judge.top)
+-- with its commands, `judge` by one of these criteria, `drive` and `bench` over one of these memories
+abbrev pub program_among : ValueParser → ValueParser → App
+program_among criteria memories =
+    with_subcommand (with_subcommand (with_subcommand (with_subcommand (wanting (new_app (codes "tmwatch"))) (judge_among criteria).top)
     (drive_among memories).top) (bench_among memories).top) steps.top
 
 abbrev pub program : App
-program = program_among (one_of_names memory_names)
+program = program_among (one_of_names criteria_names) (one_of_names memory_names)
 
--- the program, whatever the addresses of the memories' names are
-abbrev pub IsProgram : App → Type 0
-IsProgram app = (names : Bor (List (Bor Text))) × (texts names.now ≡ memory_names) × (app ≡ program_among (Names names))
+-- the program, whatever the addresses of the criteria's and of the memories' names are
+pub record IsProgram (app : App) : Type 0 where
+  pub criteria : Bor (List (Bor Text))
+  pub memories : Bor (List (Bor Text))
+  pub criteria_are : texts criteria.now ≡ criteria_names
+  pub memories_are : texts memories.now ≡ memory_names
+  pub is : app ≡ program_among (Names criteria) (Names memories)

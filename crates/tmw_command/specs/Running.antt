@@ -33,7 +33,7 @@ by_name norec lock torn Torn = torn
 
 -- What the order's command does.
 abbrev pub RunsOrder : {S K : Type 0} → FromSource S → ToSink K → MemoryAnswers → Order → S → S → K → K → ℕ → Type 0
-RunsOrder From To memories (Judge bounds) = JudgesBytes From To bounds
+RunsOrder From To memories (Judge bounds asked) = JudgesBytes From To bounds asked
 RunsOrder From To memories (Drive memory trace bounds) = DrivesBytes From To (memories memory) trace bounds
 RunsOrder From To memories (Bench memory trace options) = BenchesBytes From To (memories memory) trace (settings_of options)
 RunsOrder From To memories Steps = RunsSteps From To

@@ -7,8 +7,9 @@ use Rattle.clap.specs.Values.{bool_text}
 use Rattle.clap.specs.Words.{IsAmong, Kinds, Row, Text, fault_of, first_of, one_of, subcommand_of}
 use Rattle.clap.specs.declared.error.kind.ErrorKind.{ErrorKind}
 use Rattle.clap.specs.declared.error.kind.ErrorKind.TheVariants.{DisplayHelp}
+use Rattle.tmw_defs.specs.declared.criterion.Asked.{Asked}
 use Rattle.tmw_monitor.specs.declared.bounds.Bounds.{Bounds}
-use Rattle.tmw_command.specs.Program.{memory_name, program}
+use Rattle.tmw_command.specs.Program.{asked_name, memory_name, program}
 use Rattle.tmw_command.specs.declared.bench_options.BenchOptions.{BenchOptions}
 use Rattle.tmw_command.specs.declared.order.Order.{Order}
 use Rattle.tmw_command.specs.declared.order.Order.TheVariants.{Judge, Drive, Bench, Steps}
@@ -39,6 +40,10 @@ pub record Gives (name : Text) (rows : List Row) (number : ℕ) : Type 0 where
 abbrev pub HasBounds : List Row → Bounds → Type 0
 HasBounds rows bounds = Gives (codes "window") rows bounds.window × Gives (codes "states") rows bounds.states
 
+-- The words name these criteria, or the option's default does where they name none.
+abbrev pub NamesCriteria : List Row → Asked → Type 0
+NamesCriteria rows asked = first_of (codes "criterion") rows ≡ Some (asked_name asked)
+
 -- The words name this memory, or the option's default does where they name none.
 abbrev pub NamesMemory : List Row → Which → Type 0
 NamesMemory rows memory = first_of (codes "memory") rows ≡ Some (memory_name memory)
@@ -56,7 +61,8 @@ pub record HasOptions (rows : List Row) (options : BenchOptions) : Type 0 where
 
 -- This is the order of a command and of what was found for its options.
 abbrev pub IsOrder : Option (Text × List Row) → Order → Type 0
-IsOrder found (Judge bounds) = (rows : List Row) × (found ≡ Some (codes "judge", rows)) × HasBounds rows bounds
+IsOrder found (Judge bounds asked) =
+    (rows : List Row) × (found ≡ Some (codes "judge", rows)) × NamesCriteria rows asked × HasBounds rows bounds
 IsOrder found (Drive memory trace bounds) =
     (rows : List Row) × (found ≡ Some (codes "drive", rows)) × NamesMemory rows memory × HasTrace rows trace × HasBounds rows bounds
 IsOrder found (Bench memory trace options) =

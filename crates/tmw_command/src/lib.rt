@@ -1,6 +1,7 @@
 //! The command line: which order its words ask for, and its run from a source to a sink.
 #![tactic(auto)]
 
+mod asked;
 mod bench_options;
 mod memories;
 mod order;

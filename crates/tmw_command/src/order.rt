@@ -1,13 +1,15 @@
 use crate::bench_options::BenchOptions;
 use crate::which::Which;
+use tmw_defs::Asked;
 use tmw_monitor::Bounds;
 
 /// What the command line asks the program to do.
 #[derive(Clone, Copy, PartialEq, Eq, Debug)]
 pub enum Order {
-    /// To judge the trace on standard input within these bounds.
+    /// To judge the trace on standard input within these bounds, by the criteria that are asked for.
     Judge {
         bounds: Bounds,
+        asked: Asked,
     },
     /// To run the workload on standard input over this memory, and to judge the run within these bounds. Its trace is written
     /// before the report where that is asked for.

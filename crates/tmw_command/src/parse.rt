@@ -2,12 +2,14 @@ ghost use Rattle.std.specs.Prelude.{◌≡◌, ◌≤◌, ℕ, Bool, IfErr, IfNo
 ghost use Rattle.clap.specs.Walk.{texts};
 ghost use Rattle.clap.specs.Words.{found_of, kind_of, rows_of, subcommand_rows_of};
 ghost use Rattle.tmw_command.specs.Reading.{FailsAs};
-ghost use Rattle.tmw_command.specs.Words.{Asks, Gives, HasBounds, HasOptions, HasTrace, IsOrder, NamesMemory, help_as_flag, names_help};
+ghost use Rattle.tmw_command.specs.Words.{Asks, Gives, HasBounds, HasOptions, HasTrace, IsOrder, NamesCriteria, NamesMemory, help_as_flag, names_help};
 ghost use Rattle.tmw_command.specs.declared.bench_options.BenchOptions.{BenchOptions};
 ghost use Rattle.tmw_command.specs.declared.order.Order.{Order};
 ghost use Rattle.tmw_command.specs.declared.which.Which.{Which};
+ghost use Rattle.tmw_defs.specs.declared.criterion.Asked.{Asked};
 ghost use Rattle.tmw_monitor.specs.declared.bounds.Bounds.{Bounds};
 
+use crate::asked::asked_named;
 use crate::bench_options::BenchOptions;
 use crate::order::Order;
 use crate::program::new_program;
@@ -16,6 +18,7 @@ use clap::error::ErrorKind;
 use clap::{ArgMatches, Error};
 use std::alloc::{AllocError, Global};
 use std::convert::AsStr;
+use tmw_defs::Asked;
 use tmw_monitor::Bounds;
 
 /// Parses the words of the command line, of which the first is the program's name and is passed over. The error is clap's, and
@@ -72,15 +75,40 @@ fn order_of(matches: &ArgMatches<'_>) -> Option<Order>
     ensures none { IfNone result ((order : Order) → IsOrder (subcommand_rows_of matches.now) order → ⊥) }
 {
     match matches.subcommand() {
-        Some(("judge", judge)) => match bounds_of(judge) {
-            Some(bounds) => Some(Order::Judge { bounds }),
-            None => None,
-        },
+        Some(("judge", judge)) => judge_of(judge),
         Some(("drive", drive)) => drive_of(drive),
         Some(("bench", bench)) => bench_of(bench),
         Some(("steps", _)) => Some(Order::Steps),
         _ => None,
     }
+}
+
+/// The order that the matches of `judge` hold. There is none where they lack one of its values.
+fn judge_of(judge: &ArgMatches<'_>) -> Option<Order>
+    ensures some { IfSome result (IsOrder (Some (codes "judge", rows_of (found_of judge.now)))) }
+    ensures none { IfNone result ((order : Order) → IsOrder (Some (codes "judge", rows_of (found_of judge.now))) order → ⊥) }
+{
+    let Some(asked) = asked_of(judge) else {
+        return None;
+    };
+    let Some(bounds) = bounds_of(judge) else {
+        return None;
+    };
+    Some(Order::Judge { bounds, asked })
+}
+
+/// The criteria that the matches of `judge` name.
+fn asked_of(judge: &ArgMatches<'_>) -> Option<Asked>
+    ensures some { IfSome result (NamesCriteria (rows_of (found_of judge.now))) }
+    ensures none { IfNone result ((asked : Asked) → NamesCriteria (rows_of (found_of judge.now)) asked → ⊥) }
+{
+    let Some(name) = judge.get_str("criterion") else {
+        return None;
+    };
+    let Some(asked) = asked_named(name) else {
+        return None;
+    };
+    Some(asked)
 }
 
 /// The order that the matches of `drive` hold. There is none where they lack one of its values.

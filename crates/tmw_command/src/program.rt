@@ -1,7 +1,7 @@
 ghost use Rattle.std.specs.Prelude.{◌≡◌, IfOk, false};
 ghost use Rattle.clap.specs.Words.{app_of, rule_of};
 ghost use Rattle.clap.specs.declared.builder.value_parser.ValueParser.TheVariants.{Names};
-ghost use Rattle.tmw_command.specs.Program.{IsProgram, bench_among, count_to, drive_among, judge, one_to, steps, value_rule, with_bounds, with_counts, with_memory};
+ghost use Rattle.tmw_command.specs.Program.{IsProgram, bench_among, count_to, drive_among, judge_among, one_to, steps, value_rule, with_bounds, with_counts, with_criterion, with_memory};
 
 use clap::builder::ValueParser;
 use clap::{Arg, ArgAction, Command, value_parser};
@@ -9,6 +9,12 @@ use std::alloc::{AllocError, Global};
 
 /// The names of the memories.
 static MEMORIES: [&str; 3] = ["norec", "lock", "torn"];
+
+/// The names of what a trace is judged by.
+static CRITERIA: [&str; 3] = ["opacity", "strict", "both"];
+
+const CRITERION_HELP: &str =
+    "What the run is judged by: opacity, strict serializability, or both, with a line for each";
 
 const MEMORY_HELP: &str = "The memory that the workload is run over";
 
@@ -33,27 +39,28 @@ const STATES_HELP: &str =
 pub fn new_program<'a>(alloc: Global) -> Result<Command<'a>, AllocError>
     ensures { IfOk result (λ command. IsProgram (app_of command)) }
 {
+    let criteria = CRITERIA.as_slice();
     let memories = MEMORIES.as_slice();
     Command::new(alloc, "tmwatch")
         .about(
-            "A monitor of opacity for transactional memories, and the ring that events reach it by",
+            "A monitor of opacity, and of strict serializability, for transactional memories, and the ring that events reach it by",
         )
         .subcommand_required(true)
         .disable_help_subcommand(true)
-        .subcommand(new_judge(alloc)?)?
+        .subcommand(new_judge(alloc, criteria)?)?
         .subcommand(new_drive(alloc, memories)?)?
         .subcommand(new_bench(alloc, memories)?)?
         .subcommand(new_steps(alloc))
 }
 
-/// The command `judge`.
-fn new_judge<'a>(alloc: Global) -> Result<Command<'a>, AllocError>
-    ensures { IfOk result (λ command. app_of command ≡ judge) }
+/// The command `judge`, by criteria of these names.
+fn new_judge<'a>(alloc: Global, criteria: &'a [&'a str]) -> Result<Command<'a>, AllocError>
+    ensures { IfOk result (λ command. app_of command ≡ judge_among (Names criteria.entry)) }
 {
     let judge = Command::new(alloc, "judge").about(
-        "Judge the trace on standard input: opaque so far, or which of its prefixes is the first that is not",
+        "Judge the trace on standard input: opaque so far, or strict so far, or which of its prefixes is the first that is not",
     );
-    with_bounds(alloc, judge)
+    with_bounds(alloc, with_criterion(alloc, judge, criteria)?)
 }
 
 /// The command `drive`, over memories of these names.
@@ -84,6 +91,25 @@ fn new_steps<'a>(alloc: Global) -> Command<'a>
     Command::new(alloc, "steps").about(
         "Take the ring's steps that standard input lists, one by one, and write what each of them answers",
     )
+}
+
+/// The command with what to judge by, one of these names, as an option.
+fn with_criterion<'a>(
+    alloc: Global,
+    command: Command<'a>,
+    criteria: &'a [&'a str],
+) -> Result<Command<'a>, AllocError>
+    ensures { IfOk result (λ given. app_of given ≡ with_criterion (Names criteria.entry) (app_of command.entry)) }
+{
+    let criterion = value_option(
+        alloc,
+        "criterion",
+        "CRITERION",
+        ValueParser::Names(criteria),
+        "opacity",
+        CRITERION_HELP,
+    );
+    command.arg(criterion)
 }
 
 /// The command with a memory, one of these names, and with the flag `--trace` as options.

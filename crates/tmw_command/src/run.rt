@@ -82,7 +82,7 @@ fn run_order<S: Source, K: Sink, R: Threads + Wait>(
         source.old source.new sink.old sink.new result }
 {
     match order {
-        Order::Judge { bounds } => run_judge(alloc, source, sink, bounds),
+        Order::Judge { bounds, asked } => run_judge(alloc, source, sink, bounds, asked),
         Order::Drive {
             memory,
             trace,

@@ -2,7 +2,7 @@ pub mod AcrossCuts
 pub mod Bits
 mod Effects
 pub mod FirstMembers
-mod Found
+pub mod Found
 pub mod Held
 mod Marked
 pub mod Masks

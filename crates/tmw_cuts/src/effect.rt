@@ -1,6 +1,7 @@
 ghost use Rattle.std.specs.Prelude.{◌≡◌, ◌++◌, [], ◌∷◌, List};
 ghost use Rattle.tmw_defs.specs.declared.op.Op.{Op};
 ghost use Rattle.tmw_defs.specs.declared.op.Op.TheVariants.{Read, Write};
+ghost use Rattle.tmw_defs.specs.Opaque.{reads_hold};
 ghost use Rattle.tmw_cuts.specs.Registers.{have, put};
 ghost use Rattle.tmw_cuts.specs.Replaying.{Replays};
 
@@ -75,6 +76,7 @@ impl Effect {
     }
 
     /// Takes an operation more.
+    #[inline(always)]
     pub fn add(&mut self, op: Op)
         ensures { (ops : List Op) → IsEffectOf self.old ops → IsEffectOf self.new (ops ++ op ∷ []) }
     {
@@ -113,11 +115,18 @@ impl Effect {
         end
     }
 
+    /// Whether each of the operations was answered what the registers held then.
+    pub fn fits(&self, state: &State) -> bool
+        ensures { (ops : List Op) → IsEffectOf self.now ops → result ≡ reads_hold state.now ops }
+    {
+        self.agrees && self.is_met(state)
+    }
+
     /// What the registers hold after the operations, if each of them was answered what the registers held then.
     pub fn after(&self, state: &State) -> Option<State>
         ensures { (ops : List Op) → IsEffectOf self.now ops → Replays state.now ops result }
     {
-        if self.agrees && self.is_met(state) {
+        if self.fits(state) {
             Some(self.put(state))
         } else {
             None

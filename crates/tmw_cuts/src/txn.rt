@@ -1,5 +1,6 @@
 ghost use Rattle.std.specs.Prelude.{◌≡◌, IfOk, OnOk, OnErr};
 ghost use Rattle.tmw_defs.specs.History.{is_over};
+ghost use Rattle.tmw_defs.specs.Opaque.{reads_hold};
 ghost use Rattle.tmw_cuts.specs.Effects.{IsEffectOf, IsEffectOf-prop, tells, leaves_none};
 ghost use Rattle.tmw_cuts.specs.Replaying.{Replays};
 
@@ -97,6 +98,13 @@ impl Txn {
         ensures { result ≡ awaits_commit_of thread.number (view self.now) }
     {
         self.thread == thread && self.status == Status::Pending
+    }
+
+    /// Whether each of its operations was answered what the registers held then.
+    pub fn fits(&self, state: &State) -> bool
+        ensures { result ≡ reads_hold state.now self.now.ops.items }
+    {
+        self.effect.fits(state)
     }
 
     /// What the registers hold after its operations, if each of them was answered what the registers held then.

@@ -8,7 +8,7 @@ use crate::mask::completed_mask;
 use crate::spare::Spare;
 use crate::txn::Txn;
 use std::alloc::{AllocError, Global};
-use tmw_defs::Status;
+use tmw_defs::{Criterion, Status};
 use tmw_events::{Event, Ix, Kind, Registers};
 use tmw_wellformed::Note;
 
@@ -73,9 +73,9 @@ fn go_on(txns: &mut Vec<Txn>, event: Event) -> Result<(), AllocError>
 
 impl Window {
     ghost use Rattle.tmw_events.specs.declared.event.Event.{Event};
+    ghost use Rattle.tmw_defs.specs.Criteria.{is_quiet_by};
     ghost use Rattle.tmw_defs.specs.Cuts.{is_cut};
     ghost use Rattle.tmw_defs.specs.History.{transactions};
-    ghost use Rattle.tmw_defs.specs.Quiet.{is_quiet};
     ghost use Rattle.tmw_wellformed.specs.Notes.{Notes};
     ghost use Rattle.tmw_cuts.specs.Marking.{Marks};
     ghost use Rattle.tmw_cuts.specs.Standing.{StandsFor, views, views_of, count_of};
@@ -132,6 +132,13 @@ impl Window {
         }
     }
 
+    /// The place of the transaction to which the thread's next event belongs, if it has one that has not ended.
+    pub fn open_place(&self, thread: Ix) -> Option<usize>
+        ensures { (events : List Event) → StandsFor self.now events → result ≡ position (is_open_for thread.number) (views_of events) }
+    {
+        open_transaction(&self.txns, thread)
+    }
+
     /// Notes what the next event of the thread will change, so that it can be taken back.
     pub fn mark(&self, thread: Ix) -> Mark
         ensures thread { result.thread ≡ thread }
@@ -180,13 +187,15 @@ impl Window {
         }
     }
 
-    /// Whether the event tells nothing of the memory: it answers no read and no add, and no commit request.
-    pub fn is_quiet(&self, event: Event) -> bool
+    /// Whether the event can't break the criterion: it answers no commit request, and where the criterion is opacity no read and
+    /// no add either.
+    pub fn is_quiet(&self, criterion: Criterion, event: Event) -> bool
         ensures { (events : List Event) → StandsFor self.now events
-            → result ≡ is_quiet (transactions events) event.thread.number event.kind }
+            → result ≡ is_quiet_by criterion (transactions events) event.thread.number event.kind }
     {
         match event.kind {
-            Kind::V(_) | Kind::C => false,
+            Kind::V(_) => criterion == Criterion::Strict,
+            Kind::C => false,
             Kind::A => !any_awaits_commit(&self.txns, event.thread),
             _ => true,
         }

@@ -1,6 +1,6 @@
 -- An order of transactions is one of others that are pairwise like them: where each reads, may be held and leaves the same,
 -- and none precedes another that the ones like them allow.
-use Rattle.std.proofs.Common.{◌≡◌, ◌&&◌, ℕ, zero, suc, Bool, true, false, not, List, [], ◌∷◌, Some, None, IsTrue, refl, sym, ap, ◌∙◌, inl, inr, arith}
+use Rattle.std.proofs.Common.{◌≡◌, ℕ, zero, suc, Bool, true, not, List, [], ◌∷◌, Some, IsTrue, refl, sym, ap, ◌∙◌, inl, inr}
 use Rattle.std.specs.Prelude.{remove, slice_get}
 use Rattle.std.specs.List.{list_all}
 use Rattle.std.proofs.lemmas.Bool.{and_parts, and_from, cases_Bool}
@@ -119,18 +119,32 @@ legal-along Rel keeps s (p ∷ order) (q ∷ other) pairs may legal =
       end = ap (λ m. end_state m order) same ∙ on.end;
     }
 
--- so where the ones lead, the others do
-pub leads-along : (Rel : Txn → Txn → Type 0) → Keeps Rel → (ts us : List Txn) → Pairs Rel ts us → (s r : State)
-    → Leads s ts r → Leads s us r
-leads-along Rel keeps ts us pairs s r (order, a, is_r) =
+-- so where an order explains the ones, one that goes along with it explains the others
+pub record IsExplained (Rel : Txn → Txn → Type 0) (s : State) (us : List Txn) (order : List Placed) : Type 0 where
+  pub other : List Placed
+  pub explains : Explains s us other
+  pub alike : Pairs (Alike Rel) order other
+  pub end : end_state s order ≡ end_state s other
+
+pub explains-along : (Rel : Txn → Txn → Type 0) → Keeps Rel → (ts us : List Txn) → Pairs Rel ts us → (s : State)
+    → (order : List Placed) → Explains s ts order → IsExplained Rel s us order
+explains-along Rel keeps ts us pairs s order a =
     let along = places-along Rel order ts us pairs a.each in
-    let goes = legal-along Rel keeps s order along.other along.alike a.completed a.legal in (
-      along.other,
-      record {
+    let goes = legal-along Rel keeps s order along.other along.alike a.completed a.legal in
+    record {
+      other = along.other;
+      explains = record {
         each = along.each;
         kept = keeps-along Rel keeps order along.other along.alike a.kept;
         completed = may-along Rel keeps order along.other along.alike a.completed;
         legal = goes.legal;
-      },
-      sym goes.end ∙ is_r,
-    )
+      };
+      alike = along.alike;
+      end = goes.end;
+    }
+
+-- and where the ones lead, the others do
+pub leads-along : (Rel : Txn → Txn → Type 0) → Keeps Rel → (ts us : List Txn) → Pairs Rel ts us → (s r : State)
+    → Leads s ts r → Leads s us r
+leads-along Rel keeps ts us pairs s r (order, a, is_r) =
+    let along = explains-along Rel keeps ts us pairs s order a in (along.other, along.explains, sym along.end ∙ is_r)

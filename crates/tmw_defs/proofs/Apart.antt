@@ -1,5 +1,5 @@
 -- The other way round: each order of all is an order of those that have completed, followed by one of those that began after.
-use Rattle.std.proofs.Common.{◌≡◌, ◌&&◌, ◌+◌, ◌-◌, ◌<◌, ◌≤◌, ℕ, zero, suc, Bool, true, false, not, List, [], ◌∷◌, ◌++◌, length, Some, IsTrue, refl, sym, ap, ◌∙◌, inl, inr, arith}
+use Rattle.std.proofs.Common.{◌≡◌, ◌+◌, ◌-◌, ◌<◌, ℕ, zero, suc, not, List, [], ◌∷◌, ◌++◌, length, Some, IsTrue, refl, sym, ap, ◌∙◌, inl, inr, arith}
 use Rattle.std.specs.Prelude.{remove, slice_get}
 use Rattle.std.specs.List.{list_all}
 use Rattle.std.proofs.lemmas.Bool.{and_parts, and_from, cases_lt}
@@ -73,23 +73,29 @@ places_split (p ∷ more) (t ∷ ts) us before (i, at, places) kept =
           absurd (stands_first ts us (ts ++ remove us j) t p more j before there left_over kept)
     ]
 
-pub leads_split : (s r : State) (ts us : List Txn) → IsTrue (is_before ts us) → Leads s (ts ++ us) r
-    → (m : State) × Leads s ts m × Leads m us r
-leads_split s r ts us before (order, a, is_r) =
+-- the order is one of the first, and then one of the others from where that ends
+pub record IsSplit (s : State) (ts us : List Txn) (order : List Placed) : Type 0 where
+  pub one : List Placed
+  pub two : List Placed
+  pub joined : order ≡ one ++ two
+  pub first : Explains s ts one
+  pub others : Explains (end_state s one) us two
+
+pub explains_split : (s : State) (ts us : List Txn) (order : List Placed) → IsTrue (is_before ts us) → Explains s (ts ++ us) order
+    → IsSplit s ts us order
+explains_split s ts us order before a =
     let apart = places_split order ts us before a.each a.kept in
     let legal = and_parts (is_legal s apart.one) _ (rw (apart.joined, is_legal-append s apart.one apart.two) at a.legal) in
     let completed = and_parts (list_all may_be apart.one) _
     (rw (apart.joined, list_all-append may_be apart.one apart.two) at a.completed) in
     let kept = keeps_parts apart.one apart.two (rw apart.joined at a.kept) in
-    let m = end_state s apart.one in (
-      m,
-      (apart.one, record { each = apart.first; kept = kept.0; completed = completed.0; legal = legal.0 }, refl),
-      (
-        apart.two,
-        record { each = apart.others; kept = kept.1; completed = completed.1; legal = legal.1 },
-        sym (end_state-append s apart.one apart.two) ∙ ap (end_state s) (sym apart.joined) ∙ is_r,
-      ),
-    )
+    record {
+      one = apart.one;
+      two = apart.two;
+      joined = apart.joined;
+      first = record { each = apart.first; kept = kept.0; completed = completed.0; legal = legal.0 };
+      others = record { each = apart.others; kept = kept.1; completed = completed.1; legal = legal.1 };
+    }
   where
     keeps_parts : (one two : List Placed) → IsTrue (keeps_order (one ++ two)) → IsTrue (keeps_order one) × IsTrue (keeps_order two)
     keeps_parts [] two kept = (refl, kept)
@@ -99,3 +105,12 @@ leads_split s r ts us before (order, a, is_r) =
         (rw (list_all-append (λ q. not (precedes q.txn p.txn)) one two) at free) in
         let (one_kept, two_kept) = keeps_parts one two more in
         (and_from _ _ here one_kept, two_kept)
+
+pub leads_split : (s r : State) (ts us : List Txn) → IsTrue (is_before ts us) → Leads s (ts ++ us) r
+    → (m : State) × Leads s ts m × Leads m us r
+leads_split s r ts us before (order, a, is_r) =
+    let split = explains_split s ts us order before a in (
+      end_state s split.one,
+      (split.one, split.first, refl),
+      (split.two, split.others, sym (end_state-append s split.one split.two) ∙ ap (end_state s) (sym split.joined) ∙ is_r),
+    )

@@ -1,16 +1,16 @@
 -- Serial orders of transactions of which some have completed before the others began: an order of all of them is one of
 -- the first followed by one of the others.
-use Rattle.std.proofs.Common.{◌≡◌, ◌&&◌, ◌+◌, ◌-◌, ◌<◌, ◌≤◌, ℕ, zero, suc, Bool, true, false, not, List, [], ◌∷◌, ◌++◌, length, Some, IsTrue, refl, sym, ap, ◌∙◌, inl, inr, arith}
+use Rattle.std.proofs.Common.{◌≡◌, ◌&&◌, ◌<◌, ℕ, zero, suc, Bool, true, false, not, List, [], ◌∷◌, ◌++◌, length, Some, IsTrue, refl, sym, ap, ◌∙◌}
 use Rattle.std.specs.Prelude.{remove, slice_get}
 use Rattle.std.specs.List.{list_all}
-use Rattle.std.proofs.lemmas.Bool.{and_parts, and_from, cases_lt}
-use Rattle.std.proofs.lemmas.List.Edits.{remove-append_left, remove-append_right}
+use Rattle.std.proofs.lemmas.Bool.{and_parts, and_from}
+use Rattle.std.proofs.lemmas.List.Edits.{remove-append_left}
 use Rattle.std.proofs.lemmas.List.Folds.{list_all-append}
 use Rattle.std.proofs.lemmas.Option.{slice_get_within}
 use Rattle.tmw_defs.specs.History.{Txn, operations}
 use Rattle.tmw_defs.specs.Opaque.{State, Placed, precedes, may_be, PlacesEach, keeps_order, reads_hold, after, is_legal, Explains}
 use Rattle.tmw_defs.specs.Outcomes.{end_state, Leads}
-use Rattle.tmw_defs.proofs.Removals.{list_all-remove, list_all-places}
+use Rattle.tmw_defs.proofs.Removals.{list_all-places}
 
 -- the one has completed before the other began, and not the other way round
 abbrev pub comes_before : Txn → Txn → Bool
@@ -79,16 +79,19 @@ pub end_state-append : (s : State) (one two : List Placed) → end_state s (one 
 end_state-append s [] two = refl
 end_state-append s (p ∷ one) two = end_state-append (after s p) one two
 
+pub explains-append : (s : State) (ts us : List Txn) (one two : List Placed) → IsTrue (is_before ts us) → Explains s ts one
+    → Explains (end_state s one) us two → Explains s (ts ++ us) (one ++ two)
+explains-append s ts us one two before a b = record {
+  each = places-append ts us one two a.each b.each;
+  kept = keeps-append one two a.kept b.kept (across-before ts us one two a.each b.each before);
+  completed = rw (list_all-append may_be one two) (and_from _ _ a.completed b.completed);
+  legal = rw (is_legal-append s one two) (and_from _ _ a.legal b.legal);
+}
+
 pub leads-append : (s m r : State) (ts us : List Txn) → IsTrue (is_before ts us) → Leads s ts m → Leads m us r
     → Leads s (ts ++ us) r
-leads-append s m r ts us before (one, a, is_m) (two, b, is_r) =
-    let legal : IsTrue (is_legal (end_state s one) two) = rw is_m b.legal in (
-      one ++ two,
-      record {
-        each = places-append ts us one two a.each b.each;
-        kept = keeps-append one two a.kept b.kept (across-before ts us one two a.each b.each before);
-        completed = rw (list_all-append may_be one two) (and_from _ _ a.completed b.completed);
-        legal = rw (is_legal-append s one two) (and_from _ _ a.legal legal);
-      },
-      end_state-append s one two ∙ ap (λ x. end_state x two) is_m ∙ is_r,
-    )
+leads-append s m r ts us before (one, a, is_m) (two, b, is_r) = (
+  one ++ two,
+  explains-append s ts us one two before a (rw is_m b),
+  end_state-append s one two ∙ ap (λ x. end_state x two) is_m ∙ is_r,
+)

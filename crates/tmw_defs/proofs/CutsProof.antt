@@ -1,18 +1,17 @@
--- The law of cuts: over a cut the end states of a history are those of what follows from the outcomes of what went before.
-use Rattle.std.proofs.Common.{◌≡◌, ◌&&◌, ◌+◌, ◌<◌, ℕ, Bool, true, false, nat_lt, List, [], ◌∷◌, ◌++◌, length, ◌↔◌, IsTrue, if◌then◌else◌, refl, sym, ap, ◌∙◌, arith}
-use Rattle.std.specs.List.{AllByRecursion}
+-- Over a cut, serial orders of a history are those of what went before followed by those of what follows.
+use Rattle.std.proofs.Common.{◌≡◌, ◌+◌, ℕ, List, [], ◌∷◌, ◌++◌, length, IsTrue, if◌then◌else◌, sym, ap, ◌∙◌, arith}
 use Rattle.std.proofs.lemmas.Bool.{and_parts, and_from, ltb-true, lt-ltb}
 use Rattle.std.proofs.lemmas.List.{append-nil}
 use Rattle.tmw_events.specs.declared.event.Event.{Event}
 use Rattle.tmw_events.specs.declared.event.Kind.{Kind}
-use Rattle.tmw_defs.specs.Cuts.{is_cut, IsCutLaw, CutLaw}
-use Rattle.tmw_defs.specs.History.{Txn, is_ended, status_of, operations, transactions, transactions_from, is_well_formed}
-use Rattle.tmw_defs.specs.Opaque.{State, precedes, may_hold, reads_hold, after, after_writes, IsFinalOpaque, HasOrder}
-use Rattle.tmw_defs.specs.Outcomes.{end_state, Leads, Ends, Only, outcomes}
+use Rattle.tmw_defs.specs.Cuts.{is_cut}
+use Rattle.tmw_defs.specs.History.{Txn, is_ended, operations, transactions, transactions_from}
+use Rattle.tmw_defs.specs.Opaque.{State, precedes, after_writes}
+use Rattle.tmw_defs.specs.Outcomes.{Leads}
 use Rattle.tmw_defs.proofs.Along.{Pairs, Eases, Keeps, leads-along}
 use Rattle.tmw_defs.proofs.Apart.{leads_split}
 use Rattle.tmw_defs.proofs.Before.{is_before, leads-append}
-use Rattle.tmw_defs.proofs.Places.{IsLater, Lies, is_before-lies, later-transactions, lies-transactions, transactions_from-append, transactions_from-ended}
+use Rattle.tmw_defs.proofs.Places.{IsLater, is_before-lies, later-transactions, lies-transactions, transactions_from-append, transactions_from-ended}
 
 -- transactions with one text are alike
 eases_text : (t u : Txn) → t.text ≡ u.text → Eases t u
@@ -36,19 +35,19 @@ precedes-earlier n t u a b text last first h =
     let lt = ltb-true u.last b.first before in
     and_from _ _ (rw text at ended) (lt-ltb t.last a.first (omega (arith, last, first, lt)))
 
-keeps-later : (n : ℕ) → Keeps (IsLater n)
+pub keeps-later : (n : ℕ) → Keeps (IsLater n)
 keeps-later n = record {
   turn = λ t u l. eases_text t u l.text;
   order = λ t u a b l m. precedes-later n t u a b l.text l.last m.first;
 }
 
-keeps-earlier : (n : ℕ) → Keeps (λ t u. IsLater n u t)
+pub keeps-earlier : (n : ℕ) → Keeps (λ t u. IsLater n u t)
 keeps-earlier n = record {
   turn = λ t u l. eases_text t u (sym l.text);
   order = λ t u a b l m. precedes-earlier n t u a b l.text l.last m.first;
 }
 
-pairs-flip : (Rel : Txn → Txn → Type 0) (ts us : List Txn) → Pairs Rel ts us → Pairs (λ u t. Rel t u) us ts
+pub pairs-flip : (Rel : Txn → Txn → Type 0) (ts us : List Txn) → Pairs Rel ts us → Pairs (λ u t. Rel t u) us ts
 pairs-flip Rel [] [] pairs = tt
 pairs-flip Rel [] (u ∷ us) pairs = absurd pairs
 pairs-flip Rel (t ∷ ts) [] pairs = absurd pairs
@@ -73,7 +72,7 @@ transactions-cut past rest cut =
     ∙ ap (λ ts. transactions_from (length past) ts rest) (sym (append-nil (transactions past)))
     ∙ transactions_from-ended (length past) (transactions past) [] rest cut
 
-comes_apart : (past rest : List Event) → IsTrue (is_cut past) → IsTrue (is_before (transactions past) (behind past rest))
+pub comes_apart : (past rest : List Event) → IsTrue (is_cut past) → IsTrue (is_before (transactions past) (behind past rest))
 unfolding behind
 comes_apart past rest cut =
     let same : 0 + length past ≡ length past = omega arith in
@@ -100,23 +99,3 @@ leads-over s m r past rest cut one two =
     (leads-append s m r (transactions past) (behind past rest) (comes_apart past rest cut) one
     (leads-along (λ t u. IsLater (length past) u t) (keeps-earlier (length past)) (transactions rest) (behind past rest)
     (pairs-flip (IsLater (length past)) (behind past rest) (transactions rest) (behind-later past rest)) m r two))
-
--- the same of the end states from a set
-ends_over : (start end : State) (past rest : List Event) → IsTrue (is_cut past)
-    → outcomes start (past ++ rest) end ↔ Ends (outcomes start past) (transactions rest) end
-ends_over start end past rest cut = (
-  λ (s, is, leads). let over = leads_over s end past rest cut leads in (over.0, (s, is, over.1), over.2),
-  λ (m, (s, is, one), two). (s, is, leads-over s m end past rest cut one two),
-)
-
-pub cut_law : CutLaw
-cut_law registers start past rest formed cut = record {
-  opaque = (
-    λ o. let (order, a) = o.ordered in
-        let end = end_state start order in
-        (end, (ends_over start end past rest cut).0 (start, refl, (order, a, refl))),
-    λ (end, ends). let (s, is, leads) = (ends_over start end past rest cut).1 ends in
-        record { formed = formed; ordered = (leads.0, rw is at leads.1) },
-  );
-  ends = λ at_cut end. ends_over start end past rest cut;
-}

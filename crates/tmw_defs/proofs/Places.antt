@@ -1,14 +1,13 @@
 -- Where the transactions of a history lie in it, and what those of a part behind a cut are.
-use Rattle.std.proofs.Common.{◌≡◌, ◌==◌, ◌&&◌, ◌+◌, ◌<◌, ◌≤◌, ℕ, zero, suc, Bool, true, false, not, nat_lt, List, [], ◌∷◌, ◌++◌, length, IsTrue, refl, sym, ap, ◌∙◌, inl, inr, arith}
+use Rattle.std.proofs.Common.{◌≡◌, ◌==◌, ◌&&◌, ◌+◌, ◌<◌, ◌≤◌, ℕ, suc, Bool, true, false, not, nat_lt, List, [], ◌∷◌, ◌++◌, length, IsTrue, refl, ap, ◌∙◌, inl, inr, arith}
 use Rattle.std.specs.List.{list_all, AllByRecursion}
 use Rattle.std.proofs.lemmas.Bool.{and_parts, and_from, cases_Bool, ltb-true, lt-ltb}
 use Rattle.tmw_events.specs.declared.event.Event.{Event}
 use Rattle.tmw_events.specs.declared.event.Kind.{Kind}
-use Rattle.tmw_defs.specs.History.{Txn, is_ended, add_event, transactions, transactions_from}
-use Rattle.tmw_defs.specs.Opaque.{precedes}
+use Rattle.tmw_defs.specs.History.{Txn, is_ended, add_event, transactions_from}
 use Rattle.tmw_defs.proofs.Along.{Pairs}
 use Rattle.tmw_defs.proofs.Before.{comes_before, is_before}
-use Rattle.tmw_defs.proofs.OneMore.{joins, begun, longer, add_event_here, add_event_past}
+use Rattle.tmw_defs.proofs.OneMore.{joins, add_event_here, add_event_past}
 
 -- the transactions of two parts, one after the other
 pub transactions_from-append : (place : ℕ) (ts : List Txn) (past rest : List Event)

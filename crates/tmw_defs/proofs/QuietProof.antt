@@ -1,4 +1,4 @@
--- The law of quiet events: an order of a history's transactions is still one, with the same states, after a quiet event.
+-- Quiet events and opacity: an order of a history's transactions is still one, with the same states, after a quiet event.
 use Rattle.std.proofs.Common.{◌≡◌, ◌==◌, ◌&&◌, ◌||◌, ◌+◌, ◌%◌, ◌^◌, ◌++◌, ◌≤◌, ◌⊎◌, ℕ, Bool, true, false, not, nat_lt, List, [], ◌∷◌, length, Some, IsTrue, refl, ap, ◌∙◌, inl, inr, arith}
 use Rattle.std.specs.Prelude.{slice_index, slice_set}
 use Rattle.std.specs.List.{list_all, AllByRecursion}
@@ -12,9 +12,9 @@ use Rattle.tmw_defs.specs.declared.op.Op.TheVariants.{Read, Write, Add}
 use Rattle.tmw_defs.specs.declared.status.Status.{Status}
 use Rattle.tmw_defs.specs.declared.status.Status.TheVariants.{Live, Pending, Committed, Aborted}
 use Rattle.tmw_defs.specs.History.{Txn, is_over, is_text, is_ended, status_of, status_after, operations, add_event, transactions, is_well_formed}
-use Rattle.tmw_defs.specs.Opaque.{State, Placed, precedes, may_hold, may_be, reads_hold}
+use Rattle.tmw_defs.specs.Opaque.{State, Placed, precedes, may_hold, may_be, reads_hold, IsFinalOpaque}
 use Rattle.tmw_defs.specs.Outcomes.{end_state, Leads}
-use Rattle.tmw_defs.specs.Quiet.{is_pending, awaits_commit, is_quiet, QuietLaw}
+use Rattle.tmw_defs.specs.Quiet.{is_pending, awaits_commit, is_quiet}
 use Rattle.tmw_defs.proofs.Along.{Pairs, Eases, Keeps, leads-along}
 use Rattle.tmw_defs.proofs.Before.{none_precedes, places-append, keeps-append, is_legal-append, end_state-append}
 use Rattle.tmw_defs.proofs.OneMore.{joins, begun, longer, add_event_here, add_event_past, transactions-push}
@@ -52,7 +52,7 @@ quiet-kind ts thread X quiet = (refl, λ h. absurd (cc), λ h. absurd (cc))
 quiet-kind ts thread (N r v) quiet = (refl, λ h. absurd (cc), λ h. absurd (cc))
 
 -- a transaction may be left out unless it has committed
-left_out : (k : Kind) → (k ≡ C → ⊥) → may_hold (status_after (Some k)) false ≡ true
+pub left_out : (k : Kind) → (k ≡ C → ⊥) → may_hold (status_after (Some k)) false ≡ true
 left_out C other = absurd (other refl)
 left_out (R r) other = refl
 left_out (V v) other = refl
@@ -63,7 +63,7 @@ left_out X other = refl
 left_out A other = refl
 left_out (N r v) other = refl
 
-live_of : (s : Status) → is_over s ≡ false → (s ≡ Pending → ⊥) → s ≡ Live
+pub live_of : (s : Status) → is_over s ≡ false → (s ≡ Pending → ⊥) → s ≡ Live
 live_of Live over pending = refl
 live_of Pending over pending = absurd (pending refl)
 live_of Committed over pending = absurd (cc)
@@ -128,12 +128,12 @@ record Grows (registers n : ℕ) (e : Event) (ts : List Txn) : Type 0 where
   formed : IsTrue (list_all (λ t. is_text registers t.text) (add_event n e ts))
   aborts : e.kind ≡ A → awaits_commit ts e.thread.number ≡ false
 
-or_none : (a b : Bool) → (a || b) ≡ false → (a ≡ false) × (b ≡ false)
+pub or_none : (a b : Bool) → (a || b) ≡ false → (a ≡ false) × (b ≡ false)
 or_none true b h = absurd (cc)
 or_none false b h = (refl, h)
 
 -- the transaction that the event joins is not commit-pending
-joined_live : (registers n : ℕ) (e : Event) (t : Txn) (ts : List Txn) → joins e t ≡ true → (e.kind ≡ C → ⊥)
+pub joined_live : (registers n : ℕ) (e : Event) (t : Txn) (ts : List Txn) → joins e t ≡ true → (e.kind ≡ C → ⊥)
     → (e.kind ≡ A → awaits_commit (t ∷ ts) e.thread.number ≡ false) → IsTrue (is_text registers (t.text ++ e.kind ∷ []))
     → status_of t.text ≡ Pending → ⊥
 joined_live registers n e t ts here commit aborts formed pending =
@@ -222,8 +222,11 @@ leads-quiet registers s r h e formed quiet leads =
       | inr last ↦ rw last (leads-begun (length h) e (transactions h) s r all kind.1 leads)
     ])
 
-pub quiet_law : QuietLaw
-quiet_law registers start h e o formed quiet =
+-- so a history that was final-state opaque still is
+pub final_opaque-quiet : (registers : ℕ) (start : State) (h : List Event) (e : Event) → IsFinalOpaque registers start h
+    → IsTrue (is_well_formed registers (h ++ e ∷ [])) → IsTrue (is_quiet (transactions h) e.thread.number e.kind)
+    → IsFinalOpaque registers start (h ++ e ∷ [])
+final_opaque-quiet registers start h e o formed quiet =
     let (order, a) = o.ordered in
     let leads = leads-quiet registers start (end_state start order) h e formed quiet (order, a, refl) in
     record { formed = formed; ordered = (leads.0, leads.1) }

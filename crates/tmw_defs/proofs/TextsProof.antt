@@ -8,7 +8,7 @@ use Rattle.std.proofs.lemmas.Grind.{flat_map-append}
 use Rattle.std.proofs.lemmas.Option.{slice_get_within}
 use Rattle.tmw_events.specs.declared.event.Event.{Event}
 use Rattle.tmw_events.specs.declared.event.Kind.{Kind}
-use Rattle.tmw_events.specs.declared.event.Kind.TheVariants.{R, V, W, K, T, C, X, A, N}
+use Rattle.tmw_events.specs.declared.event.Kind.TheVariants.{R}
 use Rattle.tmw_defs.specs.History.{Txn, ends, is_ended, is_over, status_after, add_event, transactions}
 use Rattle.tmw_defs.specs.Texts.{kinds_of, of_thread, joined_texts, ended_but_last, open_but_last, Happens, LiesAfter, TextsLaw}
 use Rattle.tmw_defs.proofs.OneMore.{begun, longer, Own, turn, transactions-push, add_event_here, add_event_past, of_thread-add_other, of_thread-add_own, all_own, kinds_of-own, kinds_of-other, ended_rest, ended_but_last-add, joined_texts-add}

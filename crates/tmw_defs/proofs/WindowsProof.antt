@@ -12,7 +12,10 @@ use Rattle.tmw_defs.specs.declared.status.Status.{Status}
 use Rattle.tmw_defs.specs.declared.status.Status.TheVariants.{Live, Pending, Committed, Aborted}
 use Rattle.tmw_defs.specs.Cuts.{is_cut}
 use Rattle.tmw_defs.specs.History.{Txn, is_over, is_ended, status_of, transactions}
-use Rattle.tmw_defs.specs.Quiet.{is_pending, awaits_commit, is_quiet}
+use Rattle.tmw_defs.specs.declared.criterion.Criterion.{Criterion}
+use Rattle.tmw_defs.specs.declared.criterion.Criterion.TheVariants.{Opacity, Strict}
+use Rattle.tmw_defs.specs.Criteria.{is_quiet_by}
+use Rattle.tmw_defs.specs.Quiet.{is_pending, awaits_commit, is_quiet, is_quiet_strictly}
 use Rattle.tmw_defs.specs.Summary.{IsLastCut}
 use Rattle.tmw_defs.specs.Windows.{IsCutAt, between, HasWide}
 use Rattle.tmw_defs.proofs.Along.{Pairs}
@@ -101,10 +104,24 @@ is_quiet-awaits ts us thread T same = refl
 is_quiet-awaits ts us thread X same = refl
 is_quiet-awaits ts us thread (N r v) same = refl
 
-pub is_quiet-append : (past rest : List Event) (thread : ℕ) (kind : Kind) → IsTrue (is_cut past)
-    → is_quiet (transactions (past ++ rest)) thread kind ≡ is_quiet (transactions rest) thread kind
-is_quiet-append past rest thread kind cut =
+is_quiet_strictly-awaits : (ts us : List Txn) (thread : ℕ) (kind : Kind) → awaits_commit ts thread ≡ awaits_commit us thread
+    → is_quiet_strictly ts thread kind ≡ is_quiet_strictly us thread kind
+is_quiet_strictly-awaits ts us thread A same = rw same refl
+is_quiet_strictly-awaits ts us thread (V v) same = refl
+is_quiet_strictly-awaits ts us thread C same = refl
+is_quiet_strictly-awaits ts us thread (R r) same = refl
+is_quiet_strictly-awaits ts us thread (W r v) same = refl
+is_quiet_strictly-awaits ts us thread K same = refl
+is_quiet_strictly-awaits ts us thread T same = refl
+is_quiet_strictly-awaits ts us thread X same = refl
+is_quiet_strictly-awaits ts us thread (N r v) same = refl
+
+pub is_quiet_by-append : (c : Criterion) (past rest : List Event) (thread : ℕ) (kind : Kind) → IsTrue (is_cut past)
+    → is_quiet_by c (transactions (past ++ rest)) thread kind ≡ is_quiet_by c (transactions rest) thread kind
+is_quiet_by-append Opacity past rest thread kind cut =
     is_quiet-awaits (transactions (past ++ rest)) (transactions rest) thread kind (awaits_commit-append past rest thread cut)
+is_quiet_by-append Strict past rest thread kind cut =
+    is_quiet_strictly-awaits (transactions (past ++ rest)) (transactions rest) thread kind (awaits_commit-append past rest thread cut)
 
 -- with one event more, the cuts up to the old length stay the cuts
 pub IsCutAt-push : (h : List Event) (e : Event) (at : ℕ) → IsCutAt h at → IsCutAt (h ++ e ∷ []) at

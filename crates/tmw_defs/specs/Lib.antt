@@ -1,9 +1,12 @@
+pub mod Criteria
 pub mod Cuts
 pub mod Decision
 pub mod History
 pub mod Opaque
 pub mod Outcomes
 pub mod Quiet
+pub mod QuietLaw
+pub mod Strict
 pub mod Summary
 pub mod Texts
 pub mod Verdict

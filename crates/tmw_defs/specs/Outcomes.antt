@@ -1,7 +1,6 @@
 -- The states in which transactions may end, over all their legal serial orders and completions.
 use Rattle.std.specs.Prelude.{◌≡◌, ◌≢◌, ◌<◌, ℕ, List, [], ◌∷◌, length, All, AllPairs}
-use Rattle.tmw_events.specs.declared.event.Event.{Event}
-use Rattle.tmw_defs.specs.History.{Txn, transactions}
+use Rattle.tmw_defs.specs.History.{Txn}
 use Rattle.tmw_defs.specs.Opaque.{State, Placed, Explains, after}
 
 -- The state after the last transaction of an order.
@@ -20,10 +19,6 @@ Ends S ts r = (s : State) × S s × Leads s ts r
 -- The set of this state alone.
 abbrev pub Only : State → State → Type 0
 Only s r = r ≡ s
-
--- The states in which a history may have ended that began in this one.
-abbrev pub outcomes : State → List Event → State → Type 0
-outcomes start history = Ends (Only start) (transactions history)
 
 -- The set has more than so many states.
 pub record MoreThan (most : ℕ) (S : State → Type 0) : Type 0 where

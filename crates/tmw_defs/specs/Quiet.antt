@@ -1,13 +1,11 @@
--- Quiet events: those after which a history that was final-state opaque still is.
-use Rattle.std.specs.Prelude.{◌==◌, ◌&&◌, ◌++◌, ℕ, Bool, true, false, not, List, [], ◌∷◌, IsTrue}
+-- Quiet events: those after which a history that was final-state opaque, or final-state strict, still is.
+use Rattle.std.specs.Prelude.{◌==◌, ◌&&◌, ℕ, Bool, true, false, not, List}
 use Rattle.std.specs.List.{list_any}
-use Rattle.tmw_events.specs.declared.event.Event.{Event}
 use Rattle.tmw_events.specs.declared.event.Kind.{Kind}
-use Rattle.tmw_events.specs.declared.event.Kind.TheVariants.{R, V, W, K, T, C, X, A, N}
+use Rattle.tmw_events.specs.declared.event.Kind.TheVariants.{V, C, A}
 use Rattle.tmw_defs.specs.declared.status.Status.{Status}
-use Rattle.tmw_defs.specs.declared.status.Status.TheVariants.{Live, Pending, Committed, Aborted}
-use Rattle.tmw_defs.specs.History.{Txn, status_of, transactions, is_well_formed}
-use Rattle.tmw_defs.specs.Opaque.{State, IsFinalOpaque}
+use Rattle.tmw_defs.specs.declared.status.Status.TheVariants.{Pending}
+use Rattle.tmw_defs.specs.History.{Txn, status_of}
 
 abbrev pub is_pending : Status → Bool
 is_pending Pending = true
@@ -24,8 +22,9 @@ is_quiet ts thread C = false
 is_quiet ts thread A = not (awaits_commit ts thread)
 is_quiet ts thread _ = true
 
--- A final-state opaque history stays so under a quiet event, as long as it stays well-formed.
-abbrev pub QuietLaw : Type 0
-QuietLaw = (registers : ℕ) (start : State) (history : List Event) (event : Event) → IsFinalOpaque registers start history
-    → IsTrue (is_well_formed registers (history ++ event ∷ [])) → IsTrue (is_quiet (transactions history) event.thread.number event.kind)
-    → IsFinalOpaque registers start (history ++ event ∷ [])
+-- For strict serializability what reads and adds are answered tells nothing either, until their transaction asks to commit: only
+-- the answer of a commit request may tell something.
+abbrev pub is_quiet_strictly : List Txn → ℕ → Kind → Bool
+is_quiet_strictly ts thread C = false
+is_quiet_strictly ts thread A = not (awaits_commit ts thread)
+is_quiet_strictly ts thread _ = true

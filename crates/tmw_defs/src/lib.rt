@@ -1,7 +1,8 @@
-//! What it means that a history of a transactional memory is opaque: the definitions, from an event to opacity and to the
-//! verdict, and the laws about them.
+//! What it means that a history of a transactional memory is opaque, or strictly serializable: the definitions, from an event to
+//! opacity and to the verdict, and the laws about them.
 #![tactic(auto)]
 
+mod criterion;
 mod cuts;
 mod op;
 mod quiet;
@@ -9,6 +10,7 @@ mod status;
 mod texts;
 mod verdict;
 
+pub use criterion::{Asked, Criterion};
 pub use cuts::law_1;
 pub use op::Op;
 pub use quiet::law_2;

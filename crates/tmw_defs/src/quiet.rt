@@ -1,9 +1,10 @@
-ghost use Rattle.tmw_defs.specs.Quiet.{QuietLaw};
+ghost use Rattle.tmw_defs.specs.QuietLaw.{QuietLaw};
 
-/// Preservation: which events can't break opacity.
+/// Preservation: which events can't break opacity, and which can't break strict serializability.
 ///
 /// A history that is final-state opaque stays so under every event but the answer of a read or an add, and the answer of a
-/// commit request, as long as it stays well-formed.
+/// commit request, as long as it stays well-formed. One that is final-state strict stays so under every event but the answer of a
+/// commit request.
 pub fn law_2()
     ensures { QuietLaw }
 {}

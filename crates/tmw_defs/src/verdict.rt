@@ -3,7 +3,10 @@
 pub enum Verdict {
     /// Each prefix, the history itself included, is final-state opaque (Guerraoui and Kapalka 2008, section 5).
     OpaqueSoFar,
-    /// This prefix is not final-state opaque.
+    /// Each prefix, the history itself included, is final-state strict: what is said in place of it where strict serializability is
+    /// the criterion.
+    StrictSoFar,
+    /// This prefix is not final-state opaque, or not final-state strict, as the criterion is.
     Violated(u64),
     /// At this prefix a bound was passed, so that no more is said.
     Undecided(u64, Why),

@@ -1,1 +1,2 @@
+pub mod ByCriterion
 pub mod Judging

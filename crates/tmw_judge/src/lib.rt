@@ -1,11 +1,16 @@
-//! The command `judge`: a trace, read from its text and judged event by event, and the line that answers it.
+//! The command `judge`: a trace, read from its text and judged event by event, by opacity, by strict serializability or by both,
+//! and the lines that answer it.
 #![tactic(auto)]
 
+mod by_criterion;
 mod judging;
+mod lines;
+mod monitors;
 mod report;
 mod run;
 #[cfg(test)]
 mod tests;
 
+pub use by_criterion::ByCriterion;
 pub use report::Report;
 pub use run::run_judge;

@@ -3,9 +3,11 @@ use crate::run::run_judge;
 use std::alloc::{AllocError, Global};
 use std::process::Abort;
 use std::test::Fail;
+use tmw_defs::Asked;
 use tmw_monitor::Bounds;
 use tmw_streams::{MemorySink, MemorySource};
 
+mod criteria;
 mod streams;
 
 const OPAQUE: u8 = 0;
@@ -43,7 +45,7 @@ fn expect(rt: &(impl Abort + AllocGlobal), text: &[u8], line: &str, status: u8) 
     expect_within(rt, WIDEST, text, line, status);
 }
 
-/// Judges a text, which a source tells a byte a call, and compares what went out, which a sink takes a byte a call.
+/// Judges a text by opacity.
 fn expect_within(
     rt: &(impl Abort + AllocGlobal),
     bounds: Bounds,
@@ -51,11 +53,23 @@ fn expect_within(
     line: &str,
     status: u8,
 ) {
+    expect_by(rt, Asked::Opacity, bounds, text, line, status);
+}
+
+/// Judges a text, which a source tells a byte a call, and compares what went out, which a sink takes a byte a call.
+fn expect_by(
+    rt: &(impl Abort + AllocGlobal),
+    asked: Asked,
+    bounds: Bounds,
+    text: &[u8],
+    lines: &str,
+    status: u8,
+) {
     let mut source = MemorySource::limited(text, 1, None);
     let mut sink = MemorySink::limited(rt.alloc(), 1, None);
-    let answered = run_judge(rt.alloc(), &mut source, &mut sink, bounds);
-    assert_eq!(rt; sink.bytes(), line.as_bytes(), "of {text:?}");
-    assert_eq!(rt; answered, status, "of {text:?}");
+    let answered = run_judge(rt.alloc(), &mut source, &mut sink, bounds, asked);
+    assert_eq!(rt; sink.bytes(), lines.as_bytes(), "{asked:?} of {text:?}");
+    assert_eq!(rt; answered, status, "{asked:?} of {text:?}");
 }
 
 /// Judges a history over one register.

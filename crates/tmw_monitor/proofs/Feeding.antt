@@ -1,8 +1,8 @@
--- A monitor whose verdict is opaque so far, with what the next event makes of what it keeps.
+-- A monitor whose verdict is that nothing is wrong, with what the next event makes of what it keeps.
 use Rattle.std.proofs.Common.{◌≡◌, ◌+◌, List, [], ◌∷◌, ◌++◌, sym, subst, arith}
 use Rattle.tmw_events.specs.declared.event.Event.{Event}
 use Rattle.tmw_defs.specs.declared.verdict.Verdict.{Verdict}
-use Rattle.tmw_defs.specs.declared.verdict.Verdict.TheVariants.{OpaqueSoFar}
+use Rattle.tmw_defs.specs.Criteria.{so_far}
 use Rattle.tmw_defs.specs.Verdict.{Rules}
 use Rattle.tmw_defs.proofs.WindowsProof as windows
 use Rattle.tmw_monitor.specs.declared.monitor.Monitor.{Monitor}
@@ -11,10 +11,11 @@ use Rattle.tmw_monitor.specs.Fitting.{Fits, Keeps, KeepsNothing}
 use Rattle.tmw_monitor.proofs.Told.{Follows}
 
 pub fits-next : (rules : Rules) (h : List Event) (e : Event) (old : Monitor) (verdict : Verdict) (kept left : Open) → Fits rules h old
-    → Follows rules (h ++ e ∷ []) verdict kept → (verdict ≡ OpaqueSoFar → left ≡ kept)
-    → ((verdict ≡ OpaqueSoFar → ⊥) → KeepsNothing left)
+    → Follows old.criterion rules (h ++ e ∷ []) verdict kept → (verdict ≡ so_far old.criterion → left ≡ kept)
+    → ((verdict ≡ so_far old.criterion → ⊥) → KeepsNothing left)
     → Fits rules (h ++ e ∷ []) (record old { count = old.count + 1; verdict = verdict; kept = left })
 fits-next rules h e old verdict kept left fits follows same ended = record {
+  criterion = fits.criterion;
   window = fits.window;
   states = fits.states;
   counted = (let n = fits.counted in let m = windows.length-push h e in omega (arith, n, m));
@@ -24,13 +25,14 @@ fits-next rules h e old verdict kept left fits follows same ended = record {
 }
 
 -- where memory was refused
-pub fits-kept : (rules : Rules) (h : List Event) (old : Monitor) (kept : Open) → Fits rules h old → old.verdict ≡ OpaqueSoFar
+pub fits-kept : (rules : Rules) (h : List Event) (old : Monitor) (kept : Open) → Fits rules h old → old.verdict ≡ so_far old.criterion
     → (Keeps rules h old.kept → Keeps rules h kept) → Fits rules h (record old { kept = kept })
-fits-kept rules h old kept fits opaque keeps = record {
+fits-kept rules h old kept fits fine keeps = record {
+  criterion = fits.criterion;
   window = fits.window;
   states = fits.states;
   counted = fits.counted;
   judged = fits.judged;
   keeps = λ is. keeps (fits.keeps is);
-  forgets = λ final. absurd (final opaque);
+  forgets = λ final. absurd (final fine);
 }

@@ -3,4 +3,5 @@ mod Feeding
 mod Fresh
 mod OnlyOpen
 mod Opening
+mod SoFar
 mod Told

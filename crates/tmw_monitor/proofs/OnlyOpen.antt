@@ -2,7 +2,7 @@
 use Rattle.std.proofs.Common.{◌≤◌, List, [], length, take, drop, inl, inr, arith}
 use Rattle.std.proofs.lemmas.Bool.{cases_lt}
 use Rattle.tmw_events.specs.declared.event.Event.{Event}
-use Rattle.tmw_defs.specs.Outcomes.{outcomes}
+use Rattle.tmw_defs.specs.Criteria.{outcomes_by}
 use Rattle.tmw_defs.specs.Verdict.{Rules}
 use Rattle.tmw_cuts.specs.Members.{members}
 use Rattle.tmw_cuts.proofs.Held.{length-operations_in-le, has_few_rooms}
@@ -12,13 +12,13 @@ use Rattle.tmw_monitor.specs.Fitting.{Fits, Keeps, KeepsNothing}
 use Rattle.tmw_monitor.specs.Holding.{HoldsOpen, HoldsNone, KeepsOnlyOpen}
 use Rattle.tmw_monitor.proofs.Counting.{more_than-rising}
 
--- a history that is opaque so far has no more outcomes at its last cut than the bound
+-- a history in which nothing is wrong has no more outcomes at its last cut than the bound
 few_outcomes : (rules : Rules) (history : List Event) (kept : Open) → Keeps rules history kept → length (members kept.states) ≤ rules.states
 few_outcomes rules history kept keeps =
     let sums = keeps.sums_up in
     elim (cases_lt rules.states (length (members kept.states))) [
       | inl many ↦
-          let more = more_than-rising rules.states (outcomes rules.start (take keeps.cut history))
+          let more = more_than-rising rules.states (outcomes_by rules.criterion rules.start (take keeps.cut history))
           (members kept.states, kept.states.rising, many, λ s has. (sums.states s).0 has) in
           absurd ((sums.judged keeps.cut sums.last.is.0).few (record { cut = sums.last.is.1; many = more }))
       | inr few ↦ few
@@ -44,7 +44,7 @@ holds_none kept nothing = record {
 pub keeps_only_open : (rules : Rules) (history : List Event) (monitor : Monitor) → Fits rules history monitor
     → KeepsOnlyOpen rules history monitor
 keeps_only_open rules history monitor fits = record {
-  so_far = λ is. holds_open rules history monitor.kept (fits.keeps is);
+  holds = λ is. holds_open rules history monitor.kept (fits.keeps is);
   ended = λ final. holds_none monitor.kept (fits.forgets final);
   rooms = has_few_rooms monitor.kept.window;
 }

@@ -1,12 +1,14 @@
 -- The open window of a history that is summed up: it is narrow, and so it is with an event more where the note allows it.
-use Rattle.std.proofs.Common.{◌≡◌, ◌⊎◌, ◌+◌, ◌<◌, ◌≤◌, ℕ, true, List, [], ◌∷◌, ◌++◌, length, take, drop, refl, subst, inl, inr, arith}
-use Rattle.std.proofs.lemmas.Bool.{cases_Bool, cases_lt}
+use Rattle.std.proofs.Common.{◌≡◌, ◌==◌, ◌↔◌, ◌⊎◌, ◌+◌, ◌<◌, ◌≤◌, ℕ, Bool, true, false, List, [], ◌∷◌, ◌++◌, length, take, drop, IsTrue, refl, sym, subst, ◌∙◌, inl, inr, arith}
+use Rattle.std.proofs.lemmas.Bool.{cases_Bool, cases_lt, eqb-true, eq-eqb}
 use Rattle.std.proofs.lemmas.List.{take-append-drop, take_all}
 use Rattle.tmw_events.specs.declared.event.Event.{Event}
+use Rattle.tmw_defs.specs.Cuts.{is_cut}
 use Rattle.tmw_defs.specs.History.{Txn, add_event, transactions}
 use Rattle.tmw_defs.specs.Opaque.{State}
 use Rattle.tmw_defs.specs.Summary.{SumsUp}
 use Rattle.tmw_defs.specs.Verdict.{Rules, IsFine}
+use Rattle.tmw_defs.proofs.WindowsProof as windows
 use Rattle.tmw_defs.proofs.OneMore.{joins, add_event_here, add_event_past, transactions-push}
 use Rattle.tmw_wellformed.specs.declared.note.Note.{Note}
 use Rattle.tmw_wellformed.specs.Notes.{Notes}
@@ -17,6 +19,21 @@ pub notes_open : (rules : Rules) (S : State → Type 0) (c : ℕ) (h : List Even
     → Notes h e note → Notes (drop c h) e note
 notes_open rules S c h e note sums notes =
     notes-behind (take c h) (drop c h) e note sums.last.is.1 (rw (take-append-drop c h) notes)
+
+none_live : (live : ℕ) (cut : Bool) → (live ≡ 0) ↔ IsTrue cut → (live == 0) ≡ cut
+none_live live cut tells =
+    elim (cases_Bool (live == 0)) [
+      | inl none ↦ none ∙ sym (tells.0 (eqb-true live 0 none))
+      | inr some ↦ elim (cases_Bool cut) [
+        | inl is ↦ let bad : true ≡ false = sym (eq-eqb live 0 (tells.1 is)) ∙ some in absurd (cc)
+        | inr uncut ↦ some ∙ sym uncut
+      ]
+    ]
+
+-- with the event the open window is at a cut where no transaction of the history is live
+pub cut_open : (rules : Rules) (S : State → Type 0) (c : ℕ) (h : List Event) (e : Event) (live : ℕ) → SumsUp rules S c h
+    → (live ≡ 0) ↔ IsTrue (is_cut (h ++ e ∷ [])) → (live == 0) ≡ is_cut (drop c h ++ e ∷ [])
+cut_open rules S c h e live sums tells = none_live live (is_cut (h ++ e ∷ [])) tells ∙ windows.is_cut-push c h e sums.last.is
 
 pub narrow_open : (rules : Rules) (S : State → Type 0) (c : ℕ) (h : List Event) → SumsUp rules S c h
     → length (transactions (drop c h)) ≤ rules.window

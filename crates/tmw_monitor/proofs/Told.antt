@@ -3,100 +3,103 @@ use Rattle.std.proofs.Common.{◌≡◌, ◌⊎◌, ◌+◌, ◌≤◌, ℕ, Boo
 use Rattle.std.proofs.lemmas.List.{drop_all, drop-append-le}
 use Rattle.std.specs.List.{Contains}
 use Rattle.tmw_events.specs.declared.event.Event.{Event}
+use Rattle.tmw_defs.specs.declared.criterion.Criterion.{Criterion}
 use Rattle.tmw_defs.specs.declared.verdict.Verdict.{Verdict}
-use Rattle.tmw_defs.specs.declared.verdict.Verdict.TheVariants.{OpaqueSoFar}
+use Rattle.tmw_defs.specs.Criteria.{EndsBy, is_quiet_by, so_far}
 use Rattle.tmw_defs.specs.Cuts.{is_cut}
 use Rattle.tmw_defs.specs.History.{transactions, is_well_formed}
 use Rattle.tmw_defs.specs.Opaque.{State}
-use Rattle.tmw_defs.specs.Outcomes.{Ends}
-use Rattle.tmw_defs.specs.Quiet.{is_quiet}
 use Rattle.tmw_defs.specs.Summary.{SumsUp}
 use Rattle.tmw_defs.specs.Verdict.{Rules, IsVerdict}
 use Rattle.tmw_defs.proofs.WindowsProof as windows
-use Rattle.tmw_defs.proofs.VerdictProof.{verdict-violated, verdict-many, sums_up-open, sums_up-quiet, sums_up-cut}
+use Rattle.tmw_defs.proofs.VerdictProof.{verdict-violated, verdict-many, sums_up-open, sums_up-quiet, sums_up-cut, so_far-fine}
 use Rattle.tmw_wellformed.specs.declared.tracker.Tracker.{Tracker}
 use Rattle.tmw_wellformed.specs.Tracks.{Tracks}
 use Rattle.tmw_cuts.specs.declared.states.States.{States as SetOfStates}
 use Rattle.tmw_cuts.specs.declared.window.Window.{Window}
 use Rattle.tmw_cuts.specs.Members.{members}
-use Rattle.tmw_cuts.specs.Standing.{StandsFor}
+use Rattle.tmw_cuts.specs.Standing.{StandsFor, views_of}
+use Rattle.tmw_witness.specs.Witnessing.{Witnesses}
 use Rattle.tmw_monitor.specs.declared.open.Open.{Open}
 use Rattle.tmw_monitor.specs.declared.weighed.Weighed.{Weighed}
 use Rattle.tmw_monitor.specs.declared.weighed.Weighed.TheVariants.{Outcome, NoOutcome, TooMany}
 use Rattle.tmw_monitor.specs.Fitting.{Keeps}
 use Rattle.tmw_monitor.specs.Weighing.{StaysOpen, Closes, Tells, verdict_of}
 use Rattle.tmw_monitor.proofs.Counting.{not_more_among, more_than-rising}
+use Rattle.tmw_monitor.proofs.SoFar.{so_far-apart}
 
--- the verdict, and what is kept where it is opaque so far
-abbrev pub Follows : Rules → List Event → Verdict → Open → Type 0
-Follows rules history verdict kept = IsVerdict rules history verdict × (verdict ≡ OpaqueSoFar → Keeps rules history kept)
+-- the verdict, and what is kept where it is that nothing is wrong
+abbrev pub Follows : Criterion → Rules → List Event → Verdict → Open → Type 0
+Follows criterion rules history verdict kept = IsVerdict rules history verdict × (verdict ≡ so_far criterion → Keeps rules history kept)
 
 sums_up-stays : (rules : Rules) (S : State → Type 0) (c : ℕ) (h : List Event) (e : Event) (quiet : Bool) → SumsUp rules S c h
     → IsTrue (is_well_formed rules.registers (h ++ e ∷ [])) → length (transactions (drop c h ++ e ∷ [])) ≤ rules.window
-    → IsFalse (is_cut (drop c h ++ e ∷ [])) → quiet ≡ is_quiet (transactions (drop c h)) e.thread.number e.kind
-    → (IsTrue quiet ⊎ ((end : State) × Ends S (transactions (drop c h ++ e ∷ [])) end)) → SumsUp rules S c (h ++ e ∷ [])
+    → IsFalse (is_cut (drop c h ++ e ∷ [])) → quiet ≡ is_quiet_by rules.criterion (transactions (drop c h)) e.thread.number e.kind
+    → (IsTrue quiet ⊎ ((end : State) × EndsBy rules.criterion S (transactions (drop c h ++ e ∷ [])) end)) → SumsUp rules S c (h ++ e ∷ [])
 sums_up-stays rules S c h e quiet sums formed narrow uncut is (inl still) = sums_up-quiet rules S c h e sums formed narrow uncut (sym is ∙ still)
 sums_up-stays rules S c h e quiet sums formed narrow uncut is (inr (end, ends)) = sums_up-open rules S c h e sums formed narrow uncut end ends
 
 follows-open : (rules : Rules) (h : List Event) (e : Event) (kept : Open) (keeps : Keeps rules h kept) (quiet : Bool)
-    (states : SetOfStates) (window : Window) (tracker : Tracker) → Tracks rules.registers (h ++ e ∷ []) tracker
+    (new : Open) → Tracks rules.registers (h ++ e ∷ []) new.tracker
     → length (transactions (drop keeps.cut h ++ e ∷ [])) ≤ rules.window
-    → quiet ≡ is_quiet (transactions (drop keeps.cut h)) e.thread.number e.kind
-    → StaysOpen kept.states quiet (drop keeps.cut h ++ e ∷ []) states window
-    → Follows rules (h ++ e ∷ []) OpaqueSoFar (record { states = states; window = window; tracker = tracker })
-follows-open rules h e kept keeps quiet states window tracker tracks narrow is stays =
+    → quiet ≡ is_quiet_by rules.criterion (transactions (drop keeps.cut h)) e.thread.number e.kind
+    → StaysOpen rules.criterion kept.states quiet (drop keeps.cut h ++ e ∷ []) new
+    → Follows rules.criterion rules (h ++ e ∷ []) (so_far rules.criterion) new
+follows-open rules h e kept keeps quiet new tracks narrow is stays =
     let c = keeps.cut in
     let old : SumsUp rules (Contains (members kept.states)) c (h ++ e ∷ []) =
     sums_up-stays rules (Contains (members kept.states)) c h e quiet keeps.sums_up tracks.formed narrow stays.uncut is stays.ends in
-    let sums : SumsUp rules (Contains (members states)) c (h ++ e ∷ []) =
-    subst (λ (xs : List State). SumsUp rules (Contains xs) c (h ++ e ∷ [])) (sym stays.states) old in (
-      sums.judged,
+    let sums : SumsUp rules (Contains (members new.states)) c (h ++ e ∷ []) =
+    subst (λ (xs : List State). SumsUp rules (Contains xs) c (h ++ e ∷ [])) (sym stays.states) old in
+    let rest : drop c (h ++ e ∷ []) ≡ drop c h ++ e ∷ [] = drop-append-le c h (e ∷ []) keeps.sums_up.last.is.0 in (
+      so_far-fine rules (h ++ e ∷ []) sums.judged,
       λ is. record {
         cut = c;
         sums_up = sums;
-        stands = subst (λ (es : List Event). StandsFor window es) (sym (drop-append-le c h (e ∷ []) keeps.sums_up.last.is.0)) stays.stands;
+        stands = subst (λ (es : List Event). StandsFor new.window es) (sym rest) stays.stands;
         tracks = tracks;
+        witness = subst (λ (es : List Event). Witnesses (members new.states) (views_of es) new.witness) (sym rest) stays.witness;
       },
     )
 
 follows-cut : (rules : Rules) (h : List Event) (e : Event) (kept : Open) (keeps : Keeps rules h kept) (cap : ℕ)
-    (states : SetOfStates) (window : Window) (tracker : Tracker) → cap ≡ rules.states → Tracks rules.registers (h ++ e ∷ []) tracker
+    (new : Open) → cap ≡ rules.states → Tracks rules.registers (h ++ e ∷ []) new.tracker
     → length (transactions (drop keeps.cut h ++ e ∷ [])) ≤ rules.window
-    → Closes kept.states cap (drop keeps.cut h ++ e ∷ []) states window
-    → Follows rules (h ++ e ∷ []) OpaqueSoFar (record { states = states; window = window; tracker = tracker })
-follows-cut rules h e kept keeps cap states window tracker bound tracks narrow closes =
-    let few : length (members states) ≤ rules.states = rw (← bound) closes.few in
-    let sums : SumsUp rules (Contains (members states)) (length h + 1) (h ++ e ∷ []) =
-    sums_up-cut rules (Contains (members kept.states)) (Contains (members states)) keeps.cut h e keeps.sums_up tracks.formed narrow closes.cut
-    closes.exact closes.end closes.some (not_more_among rules.states (members states) few) in
+    → Closes rules.criterion kept.states cap (drop keeps.cut h ++ e ∷ []) new
+    → Follows rules.criterion rules (h ++ e ∷ []) (so_far rules.criterion) new
+follows-cut rules h e kept keeps cap new bound tracks narrow closes =
+    let few : length (members new.states) ≤ rules.states = rw (← bound) closes.few in
+    let sums : SumsUp rules (Contains (members new.states)) (length h + 1) (h ++ e ∷ []) =
+    sums_up-cut rules (Contains (members kept.states)) (Contains (members new.states)) keeps.cut h e keeps.sums_up tracks.formed narrow closes.cut
+    closes.exact closes.end closes.some (not_more_among rules.states (members new.states) few) in
     let nothing : drop (length h + 1) (h ++ e ∷ []) ≡ [] =
     drop_all (length h + 1) (h ++ e ∷ []) (let n = windows.length-push h e in omega (arith, n)) in (
-      sums.judged,
+      so_far-fine rules (h ++ e ∷ []) sums.judged,
       λ is. record {
         cut = length h + 1;
         sums_up = sums;
-        stands = subst (λ (es : List Event). StandsFor window es) (sym nothing) closes.stands;
+        stands = subst (λ (es : List Event). StandsFor new.window es) (sym nothing) closes.stands;
         tracks = tracks;
+        witness = subst (λ (es : List Event). Witnesses (members new.states) (views_of es) new.witness) (sym nothing) closes.witness;
       },
     )
 
 -- each thing that was found
 pub follows-told : (rules : Rules) (h : List Event) (e : Event) (kept : Open) (keeps : Keeps rules h kept) (at cap : ℕ) (quiet : Bool)
-    (states : SetOfStates) (window : Window) (tracker : Tracker) (found : Weighed) → at ≡ length h + 1 → cap ≡ rules.states
-    → Tracks rules.registers (h ++ e ∷ []) tracker → length (transactions (drop keeps.cut h ++ e ∷ [])) ≤ rules.window
-    → quiet ≡ is_quiet (transactions (drop keeps.cut h)) e.thread.number e.kind
-    → Tells kept.states cap quiet (drop keeps.cut h ++ e ∷ []) states window found
-    → Follows rules (h ++ e ∷ []) (verdict_of at found) (record { states = states; window = window; tracker = tracker })
-follows-told rules h e kept keeps at cap quiet states window tracker Outcome length_is bound tracks narrow is (inl stays) =
-    follows-open rules h e kept keeps quiet states window tracker tracks narrow is stays
-follows-told rules h e kept keeps at cap quiet states window tracker Outcome length_is bound tracks narrow is (inr closes) =
-    follows-cut rules h e kept keeps cap states window tracker bound tracks narrow closes
-follows-told rules h e kept keeps at cap quiet states window tracker NoOutcome length_is bound tracks narrow is none_ends = (
+    (new : Open) (found : Weighed) → at ≡ length h + 1 → cap ≡ rules.states → Tracks rules.registers (h ++ e ∷ []) new.tracker → length (transactions (drop keeps.cut h ++ e ∷ [])) ≤ rules.window
+    → quiet ≡ is_quiet_by rules.criterion (transactions (drop keeps.cut h)) e.thread.number e.kind
+    → Tells rules.criterion kept.states cap quiet (drop keeps.cut h ++ e ∷ []) new found
+    → Follows rules.criterion rules (h ++ e ∷ []) (verdict_of rules.criterion at found) new
+follows-told rules h e kept keeps at cap quiet new Outcome length_is bound tracks narrow is (inl stays) =
+    follows-open rules h e kept keeps quiet new tracks narrow is stays
+follows-told rules h e kept keeps at cap quiet new Outcome length_is bound tracks narrow is (inr closes) =
+    follows-cut rules h e kept keeps cap new bound tracks narrow closes
+follows-told rules h e kept keeps at cap quiet new NoOutcome length_is bound tracks narrow is none_ends = (
   rw length_is (verdict-violated rules (Contains (members kept.states)) keeps.cut h e keeps.sums_up tracks.formed narrow none_ends),
-  λ other. absurd (cc),
+  λ other. absurd (so_far-apart rules.criterion _ (λ is. cc) (λ is. cc) other),
 )
-follows-told rules h e kept keeps at cap quiet states window tracker TooMany length_is bound tracks narrow is (cut, more) = (
+follows-told rules h e kept keeps at cap quiet new TooMany length_is bound tracks narrow is (cut, more) = (
   rw length_is (verdict-many rules (Contains (members kept.states)) keeps.cut h e keeps.sums_up tracks.formed narrow cut
       (rw (← bound) (more_than-rising cap _ more))),
-  λ other. absurd (cc),
+  λ other. absurd (so_far-apart rules.criterion _ (λ is. cc) (λ is. cc) other),
 )

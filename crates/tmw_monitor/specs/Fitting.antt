@@ -3,40 +3,54 @@ use Rattle.std.specs.Prelude.{◌≡◌, ℕ, List, [], length, drop}
 use Rattle.std.specs.List.{Contains}
 use Rattle.tmw_events.specs.declared.event.Event.{Event}
 use Rattle.tmw_events.specs.declared.registers.Registers.{Registers}
-use Rattle.tmw_defs.specs.declared.verdict.Verdict.TheVariants.{OpaqueSoFar}
+use Rattle.tmw_defs.specs.declared.criterion.Criterion.{Criterion}
+use Rattle.tmw_defs.specs.declared.criterion.Criterion.TheVariants.{Opacity}
+use Rattle.tmw_defs.specs.Criteria.{so_far}
 use Rattle.tmw_defs.specs.Opaque.{State}
 use Rattle.tmw_defs.specs.Summary.{SumsUp}
 use Rattle.tmw_defs.specs.Verdict.{Rules, IsVerdict}
 use Rattle.tmw_wellformed.specs.Tracks.{Tracks}
 use Rattle.tmw_cuts.specs.Members.{members}
-use Rattle.tmw_cuts.specs.Standing.{StandsFor}
+use Rattle.tmw_cuts.specs.Standing.{StandsFor, views_of}
+use Rattle.tmw_witness.specs.Witnessing.{Witnesses}
 use Rattle.tmw_monitor.specs.declared.bounds.Bounds.{Bounds}
 use Rattle.tmw_monitor.specs.declared.monitor.Monitor.{Monitor}
 use Rattle.tmw_monitor.specs.declared.open.Open.{Open}
 
 -- What a history is judged by, where the run has so many registers, which begin with these values.
-abbrev pub rules_of : Registers → State → Bounds → Rules
-rules_of registers start bounds =
-    record { registers = registers.number; start = start; window = bounds.window; states = bounds.states }
+abbrev pub rules_for : Criterion → Registers → State → Bounds → Rules
+rules_for criterion registers start bounds = record {
+  criterion = criterion;
+  registers = registers.number;
+  start = start;
+  window = bounds.window;
+  states = bounds.states;
+}
 
--- What is kept of a history that is opaque so far: its outcomes at its last cut, the transactions since, and each thread's phase.
+-- The same, where the criterion is opacity.
+abbrev pub rules_of : Registers → State → Bounds → Rules
+rules_of registers start bounds = rules_for Opacity registers start bounds
+
+-- What is kept of a history in which nothing is wrong: its outcomes at its last cut, the transactions since, and each thread's phase.
 pub record Keeps (rules : Rules) (history : List Event) (kept : Open) : Type 0 where
   pub cut : ℕ
   pub sums_up : SumsUp rules (Contains (members kept.states)) cut history
   pub stands : StandsFor kept.window (drop cut history)
   pub tracks : Tracks rules.registers history kept.tracker
+  pub witness : Witnesses (members kept.states) (views_of (drop cut history)) kept.witness
 
 -- Nothing is kept: no state and no transaction.
 pub record KeepsNothing (kept : Open) : Type 0 where
   pub states : members kept.states ≡ []
   pub stands : StandsFor kept.window []
 
--- The history fits the monitor: its length and its verdict are the monitor's, and where it is opaque so far, the monitor has
+-- The history fits the monitor: its length and its verdict are the monitor's, and where nothing is wrong with it, the monitor has
 -- kept of it what it needs to judge what follows, and else nothing.
 pub record Fits (rules : Rules) (history : List Event) (monitor : Monitor) : Type 0 where
+  pub criterion : monitor.criterion ≡ rules.criterion
   pub window : monitor.bounds.window ≡ rules.window
   pub states : monitor.bounds.states ≡ rules.states
   pub counted : monitor.count ≡ length history
   pub judged : IsVerdict rules history monitor.verdict
-  pub keeps : monitor.verdict ≡ OpaqueSoFar → Keeps rules history monitor.kept
-  pub forgets : (monitor.verdict ≡ OpaqueSoFar → ⊥) → KeepsNothing monitor.kept
+  pub keeps : monitor.verdict ≡ so_far monitor.criterion → Keeps rules history monitor.kept
+  pub forgets : (monitor.verdict ≡ so_far monitor.criterion → ⊥) → KeepsNothing monitor.kept

@@ -3,9 +3,8 @@
 use Rattle.std.specs.Prelude.{◌≡◌, ◌↔◌, ◌*◌, ◌≤◌, ℕ, List, [], length, take, drop}
 use Rattle.std.specs.List.{Contains}
 use Rattle.tmw_events.specs.declared.event.Event.{Event}
-use Rattle.tmw_defs.specs.declared.verdict.Verdict.TheVariants.{OpaqueSoFar}
+use Rattle.tmw_defs.specs.Criteria.{outcomes_by, so_far}
 use Rattle.tmw_defs.specs.Opaque.{State}
-use Rattle.tmw_defs.specs.Outcomes.{outcomes}
 use Rattle.tmw_defs.specs.Summary.{IsLastCut}
 use Rattle.tmw_defs.specs.Verdict.{Rules}
 use Rattle.tmw_cuts.specs.Members.{members}
@@ -18,7 +17,7 @@ use Rattle.tmw_monitor.specs.declared.open.Open.{Open}
 pub record HoldsOpen (rules : Rules) (history : List Event) (kept : Open) : Type 0 where
   pub cut : ℕ
   pub last : IsLastCut history cut
-  pub states : (s : State) → Contains (members kept.states) s ↔ outcomes rules.start (take cut history) s
+  pub states : (s : State) → Contains (members kept.states) s ↔ outcomes_by rules.criterion rules.start (take cut history) s
   pub few : length (members kept.states) ≤ rules.states
   pub transactions : views kept.window ≡ views_of (drop cut history)
   pub operations : 2 * length (operations_in kept.window) ≤ length (drop cut history)
@@ -32,6 +31,6 @@ pub record HoldsNone (kept : Open) : Type 0 where
 -- The monitor keeps of the history only its open window and the outcomes before it, and neither after a final verdict. Beside it,
 -- the lists that it keeps of transactions that are gone are few, empty and small.
 pub record KeepsOnlyOpen (rules : Rules) (history : List Event) (monitor : Monitor) : Type 0 where
-  pub so_far : monitor.verdict ≡ OpaqueSoFar → HoldsOpen rules history monitor.kept
-  pub ended : (monitor.verdict ≡ OpaqueSoFar → ⊥) → HoldsNone monitor.kept
+  pub holds : monitor.verdict ≡ so_far monitor.criterion → HoldsOpen rules history monitor.kept
+  pub ended : (monitor.verdict ≡ so_far monitor.criterion → ⊥) → HoldsNone monitor.kept
   pub rooms : HasFewRooms monitor.kept.window

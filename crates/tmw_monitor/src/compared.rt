@@ -55,6 +55,7 @@ fn draw_events(
 fn plain(whole: Result<Whole, WholeFault>) -> Option<Verdict> {
     match whole {
         Ok(Whole::Opaque) => Some(Verdict::OpaqueSoFar),
+        Ok(Whole::Strict) => Some(Verdict::StrictSoFar),
         Ok(Whole::Violated(at)) => Some(Verdict::Violated(at)),
         Err(WholeFault::IllFormed(at)) => Some(Verdict::Malformed(at)),
         Err(WholeFault::Ninth(_) | WholeFault::Memory) => None,
@@ -114,7 +115,7 @@ fn the_monitor_agrees_with_the_plain_check(rt: HostRuntime) -> Result<(), Fail> 
             number % 5 == 0,
         )?;
         let answer = plain(judge_whole(rt.alloc(), TWO, &events));
-        let told = verdicts(rt.alloc(), TWO, WIDEST, &events)?;
+        let told = verdicts(rt.alloc(), Criterion::Opacity, TWO, WIDEST, &events)?;
         if let Some(expected) = answer {
             assert_eq!(rt; told.last().copied(), Some(expected), "of {events:?}");
         }
@@ -124,5 +125,39 @@ fn the_monitor_agrees_with_the_plain_check(rt: HostRuntime) -> Result<(), Fail> 
     let enough = met.opaque > 40 && met.violated > 40 && met.malformed > 40 && met.past_eight > 10;
     assert!(rt; enough, "{met:?}");
     assert!(rt; taken > 3_000, "{taken}");
+    Ok(())
+}
+
+/// Whether each of these verdicts by opacity is opaque so far only where that by strict serializability is strict so far.
+fn is_stronger(opacity: &[Verdict], strict: &[Verdict]) -> bool {
+    opacity.len() == strict.len()
+        && opacity.iter().zip(strict).all(|(by_opacity, by_strictness)| {
+            *by_opacity != Verdict::OpaqueSoFar || *by_strictness == Verdict::StrictSoFar
+        })
+}
+
+#[test]
+fn what_is_opaque_so_far_is_strict_so_far(rt: HostRuntime) -> Result<(), Fail> {
+    let mut seed = Seed::new();
+    let mut strict_alone = 0u32;
+    for number in 0..200u64 {
+        let events = draw_events(
+            rt.alloc(),
+            &mut seed,
+            4 + number % 11,
+            1 + number % 4,
+            4,
+            false,
+        )?;
+        let opacity = verdicts(rt.alloc(), Criterion::Opacity, TWO, WIDEST, &events)?;
+        let strict = verdicts(rt.alloc(), Criterion::Strict, TWO, WIDEST, &events)?;
+        assert!(rt; is_stronger(&opacity, &strict), "of {events:?}");
+        if strict.last() == Some(&Verdict::StrictSoFar)
+            && opacity.last() != Some(&Verdict::OpaqueSoFar)
+        {
+            strict_alone = strict_alone.saturating_add(1);
+        }
+    }
+    assert!(rt; strict_alone > 20, "{strict_alone}");
     Ok(())
 }

@@ -1,16 +1,16 @@
 ghost use Rattle.std.specs.Prelude.{◌≤◌, ◌^◌, IfOk, length};
 ghost use Rattle.tmw_defs.specs.Opaque.{zeros};
 ghost use Rattle.tmw_defs.specs.Verdict.{IsVerdict};
-ghost use Rattle.tmw_monitor.specs.Fitting.{rules_of};
+ghost use Rattle.tmw_monitor.specs.Fitting.{rules_for, rules_of};
 
 use crate::bounds::Bounds;
 use crate::monitor::Monitor;
 use std::alloc::{AllocError, Global};
 use tmw_cuts::State;
-use tmw_defs::Verdict;
+use tmw_defs::{Criterion, Verdict};
 use tmw_events::{Event, Registers};
 
-/// The verdict on a history of at most 2^40 events, whose registers all begin at 0.
+/// The verdict by opacity on a history of at most 2^40 events, whose registers all begin at 0.
 pub fn judge(
     alloc: Global,
     registers: Registers,
@@ -34,7 +34,22 @@ pub fn judge_from(
     requires { length events.now ≤ 2 ^ 40 }
     ensures { IfOk result (IsVerdict (rules_of registers start.now bounds) events.now) }
 {
-    let mut monitor = Monitor::new_from(alloc, registers, *start, bounds)?;
+    judge_for(alloc, Criterion::Opacity, registers, start, bounds, events)
+}
+
+/// The same by this criterion.
+pub fn judge_for(
+    alloc: Global,
+    criterion: Criterion,
+    registers: Registers,
+    start: &State,
+    bounds: Bounds,
+    events: &[Event],
+) -> Result<Verdict, AllocError>
+    requires { length events.now ≤ 2 ^ 40 }
+    ensures { IfOk result (IsVerdict (rules_for criterion registers start.now bounds) events.now) }
+{
+    let mut monitor = Monitor::for_criterion(alloc, criterion, registers, *start, bounds)?;
     for event in events {
         monitor.feed(*event)?;
     }

@@ -9,11 +9,14 @@ mod monitor;
 mod next;
 mod open;
 #[cfg(test)]
+mod strict_tests;
+mod taken;
+#[cfg(test)]
 mod tests;
 mod weigh;
 mod weighed;
 
 pub use bounds::{BadBounds, Bounds};
-pub use judging::{judge, judge_from};
+pub use judging::{judge, judge_for, judge_from};
 pub use monitor::Monitor;
-pub use tmw_defs::{Verdict, Why};
+pub use tmw_defs::{Criterion, Verdict, Why};

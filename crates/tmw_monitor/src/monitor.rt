@@ -1,6 +1,7 @@
 ghost use Rattle.std.specs.Prelude.{◌≡◌, ◌<◌, ◌^◌, List, [], ◌∷◌, ◌++◌, IfOk, IfErr, OnErr, Ok, length};
 ghost use Rattle.tmw_events.specs.declared.event.Event.{Event};
-ghost use Rattle.tmw_defs.specs.declared.verdict.Verdict.TheVariants.{OpaqueSoFar};
+ghost use Rattle.tmw_defs.specs.declared.criterion.Criterion.TheVariants.{Opacity};
+ghost use Rattle.tmw_defs.specs.Criteria.{so_far};
 ghost use Rattle.tmw_defs.specs.Opaque.{zeros};
 ghost use Rattle.tmw_defs.specs.Verdict.{Rules, IsVerdict};
 
@@ -9,15 +10,18 @@ use crate::next::next_verdict;
 use crate::open::Open;
 use std::alloc::{AllocError, Global};
 use tmw_cuts::{State, States, Window};
-use tmw_defs::Verdict;
+use tmw_defs::{Criterion, Verdict};
 use tmw_events::{Event, Registers};
 use tmw_wellformed::Tracker;
+use tmw_witness::Witness;
 
-/// Judges a history as its events come, by the definition of opacity (Guerraoui and Kapalka 2008, section 5) at each of its
-/// prefixes. It keeps no event: only the outcomes at the last cut and the transactions since, and neither after a final verdict.
+/// Judges a history as its events come, by the definition of its criterion at each of its prefixes: opacity (Guerraoui and Kapalka
+/// 2008, section 5) or strict serializability (Papadimitriou 1979). It keeps no event: only the outcomes at the last cut and the
+/// transactions since, and neither after a final verdict.
 #[derive(Debug, Drop)]
 pub struct Monitor {
     alloc: Global,
+    criterion: Criterion,
     bounds: Bounds,
     count: u64,
     verdict: Verdict,
@@ -25,18 +29,19 @@ pub struct Monitor {
 }
 
 impl Monitor {
-    ghost use Rattle.tmw_monitor.specs.Fitting.{Fits, rules_of};
+    ghost use Rattle.tmw_monitor.specs.Fitting.{Fits, rules_for, rules_of};
     ghost use Rattle.tmw_monitor.specs.Holding.{KeepsOnlyOpen};
 
-    /// A monitor for a run whose registers all begin at 0, before its first event.
+    /// A monitor that judges by opacity a run whose registers all begin at 0, before its first event.
     pub fn new(alloc: Global, registers: Registers, bounds: Bounds) -> Result<Monitor, AllocError>
         ensures fits { IfOk result (λ monitor. Fits (rules_of registers zeros bounds) [] monitor) }
         ensures keeps { IfOk result (λ monitor. KeepsOnlyOpen (rules_of registers zeros bounds) [] monitor) }
+        ensures criterion { IfOk result (λ monitor. monitor.criterion ≡ Opacity) }
     {
         Monitor::new_from(alloc, registers, [0; 8], bounds)
     }
 
-    /// A monitor for a run whose registers begin with these values. Those that the run does not have are to be 0.
+    /// A monitor that judges by opacity a run whose registers begin with these values. Those that the run does not have are to be 0.
     pub fn new_from(
         alloc: Global,
         registers: Registers,
@@ -45,29 +50,54 @@ impl Monitor {
     ) -> Result<Monitor, AllocError>
         ensures fits { IfOk result (λ monitor. Fits (rules_of registers start bounds) [] monitor) }
         ensures keeps { IfOk result (λ monitor. KeepsOnlyOpen (rules_of registers start bounds) [] monitor) }
+        ensures criterion { IfOk result (λ monitor. monitor.criterion ≡ Opacity) }
     {
+        Monitor::for_criterion(alloc, Criterion::Opacity, registers, start, bounds)
+    }
+
+    /// A monitor that judges by this criterion a run whose registers begin with these values. Those that the run does not have are
+    /// to be 0.
+    pub fn for_criterion(
+        alloc: Global,
+        criterion: Criterion,
+        registers: Registers,
+        start: State,
+        bounds: Bounds,
+    ) -> Result<Monitor, AllocError>
+        ensures fits { IfOk result (λ monitor. Fits (rules_for criterion registers start bounds) [] monitor) }
+        ensures keeps { IfOk result (λ monitor. KeepsOnlyOpen (rules_for criterion registers start bounds) [] monitor) }
+        ensures criterion { IfOk result (λ monitor. monitor.criterion ≡ criterion) }
+    {
+        let states = States::only(alloc, start)?;
+        let mut witness = Witness::new(start);
+        if criterion == Criterion::Strict {
+            witness.forget();
+        }
         Ok(Monitor {
             alloc,
+            criterion,
             bounds,
             count: 0,
-            verdict: Verdict::OpaqueSoFar,
+            verdict: criterion.so_far(),
             kept: Open {
-                states: States::only(alloc, start)?,
+                states,
                 window: Window::open(alloc, registers),
                 tracker: Tracker::new(registers),
+                witness,
             },
         })
     }
 
-    /// Takes the next event, and answers the verdict on all events so far. A verdict other than opaque so far stays for good,
-    /// and from then on each call succeeds. Where memory is refused, the event is not taken.
+    /// Takes the next event, and answers the verdict on all events so far. A verdict that something is wrong stays for good, and
+    /// from then on each call succeeds. Where memory is refused, the event is not taken.
     pub fn feed(&mut self, event: Event) -> Result<Verdict, AllocError>
         requires room { self.old.count < 2 ^ 40 }
         ensures ok { IfOk result (λ verdict. (rules : Rules) (history : List Event) → Fits rules history self.old
             → Fits rules (history ++ event ∷ []) self.new) }
         ensures verdict { IfOk result (λ verdict. verdict ≡ self.new.verdict) }
         ensures err { OnErr result ((rules : Rules) (history : List Event) → Fits rules history self.old → Fits rules history self.new) }
-        ensures stays { (self.old.verdict ≡ OpaqueSoFar → ⊥) → result ≡ Ok self.old.verdict }
+        ensures stays { (self.old.verdict ≡ so_far self.old.criterion → ⊥) → result ≡ Ok self.old.verdict }
+        ensures criterion { self.new.criterion ≡ self.old.criterion }
 
         // What is kept, whether the event was taken or not.
         ensures keeps { IfOk result (λ verdict. (rules : Rules) (history : List Event) → Fits rules history self.old
@@ -76,15 +106,31 @@ impl Monitor {
             → KeepsOnlyOpen rules history self.new) }
     {
         let at = self.count + 1;
-        if self.verdict == Verdict::OpaqueSoFar {
-            let verdict = next_verdict(self.alloc, &mut self.kept, self.bounds, at, event)?;
-            self.kept.forget_where_final(self.alloc, verdict);
+        if self.verdict == self.criterion.so_far() {
+            let verdict = next_verdict(
+                self.alloc,
+                self.criterion,
+                &mut self.kept,
+                self.bounds,
+                at,
+                event,
+            )?;
+            self.kept
+                .forget_where_final(self.alloc, self.criterion, verdict);
             self.verdict = verdict;
             self.count = at;
             return Ok(verdict);
         }
         self.count = at;
         Ok(self.verdict)
+    }
+
+    /// What the history is judged by.
+    pub fn criterion(&self) -> Criterion
+        ensures shown { result ≡ self.now.criterion }
+        ensures fits { (rules : Rules) (history : List Event) → Fits rules history self.now → result ≡ rules.criterion }
+    {
+        self.criterion
     }
 
     /// How many events were taken.

@@ -5,7 +5,7 @@ use std::test::Fail;
 use tmw_events::{Event, Kind, Registers};
 use tmw_testing::{FIRST, dirty_read, one, other};
 
-const ONE: Registers = Registers { number: 1 };
+pub(crate) const ONE: Registers = Registers { number: 1 };
 
 pub(crate) const WIDEST: Bounds = Bounds {
     window: 8,
@@ -13,7 +13,7 @@ pub(crate) const WIDEST: Bounds = Bounds {
 };
 
 /// The first writes 1 and the second 2, both at once.
-const fn writers() -> [Event; 8] {
+pub(crate) const fn writers() -> [Event; 8] {
     [
         one(Kind::W(FIRST, 1)),
         other(Kind::W(FIRST, 2)),
@@ -26,14 +26,15 @@ const fn writers() -> [Event; 8] {
     ]
 }
 
-/// The verdicts of a monitor after each of the events.
+/// The verdicts of a monitor for the criterion after each of the events.
 pub(crate) fn verdicts(
     alloc: Global,
+    criterion: Criterion,
     registers: Registers,
     bounds: Bounds,
     events: &[Event],
 ) -> Result<Vec<Verdict>, AllocError> {
-    let mut monitor = Monitor::new(alloc, registers, bounds)?;
+    let mut monitor = Monitor::for_criterion(alloc, criterion, registers, [0; 8], bounds)?;
     let mut list = Vec::new(alloc);
     for event in events {
         if monitor.fed() < 1_000_000 {
@@ -59,7 +60,7 @@ fn bounds_in_their_ranges(rt: HostRuntime) {
 
 #[test]
 fn a_final_verdict_stays(rt: HostRuntime) -> Result<(), Fail> {
-    let list = verdicts(rt.alloc(), ONE, WIDEST, &dirty_read())?;
+    let list = verdicts(rt.alloc(), Criterion::Opacity, ONE, WIDEST, &dirty_read())?;
     let so_far = Verdict::OpaqueSoFar;
     let violated = Verdict::Violated(4);
     assert_eq!(rt;

@@ -1,34 +1,43 @@
-ghost use Rattle.std.specs.Prelude.{◌≡◌, Bool, List, IfOk, OnErr, IsTrue};
+ghost use Rattle.std.specs.Prelude.{◌≡◌, [], Bool, List, IfOk, OnErr, IsTrue};
 ghost use Rattle.tmw_events.specs.declared.event.Event.{Event};
 ghost use Rattle.tmw_defs.specs.Cuts.{is_cut};
 ghost use Rattle.tmw_cuts.specs.Members.{members};
-ghost use Rattle.tmw_cuts.specs.Standing.{StandsFor};
+ghost use Rattle.tmw_cuts.specs.Standing.{StandsFor, views_of};
+ghost use Rattle.tmw_witness.specs.Witnessing.{Witnesses};
 ghost use Rattle.tmw_monitor.specs.Weighing.{Tells};
 
+use crate::open::Open;
 use crate::weighed::Weighed;
 use std::alloc::{AllocError, Global};
-use tmw_cuts::{States, Window};
+use tmw_cuts::States;
+use tmw_defs::Criterion;
 use tmw_search::{EndStates, outcomes, possible};
+use tmw_witness::Witness;
 
-/// Weighs the events of a window from the outcomes at its beginning. They are searched at a cut, and elsewhere where the last of
-/// them is not quiet. At a cut the set becomes that of the outcomes there, where these are at most `cap`, and the window is
-/// cleared.
+/// Weighs the events of a window from the outcomes at its beginning. Told is whether they are at a cut: the set then becomes that
+/// of the outcomes there, where these are at most `cap`, and the window is cleared. Elsewhere they are searched where no serial order
+/// is known.
 pub fn weigh(
+    criterion: Criterion,
     alloc: Global,
-    states: &mut States,
-    window: &mut Window,
+    kept: &mut Open,
     cap: u8,
-    quiet: bool,
+    cut: bool,
 ) -> Result<Weighed, AllocError>
-    ensures ok { IfOk result (λ found. (events : List Event) → StandsFor window.old events
-        → Tells states.old cap quiet events states.new window.new found) }
-    ensures states { OnErr result (members states.new ≡ members states.old) }
-    ensures window { OnErr result ((events : List Event) → StandsFor window.old events → StandsFor window.new events) }
+    ensures ok { IfOk result (λ found. (quiet : Bool) (events : List Event) → StandsFor kept.old.window events → cut ≡ is_cut events
+        → Witnesses (members kept.old.states) (views_of events) kept.old.witness
+        → Tells criterion kept.old.states cap quiet events kept.new found) }
+    ensures tracker { kept.new.tracker ≡ kept.old.tracker }
+    ensures states { OnErr result (members kept.new.states ≡ members kept.old.states) }
+    ensures window { OnErr result ((events : List Event) → StandsFor kept.old.window events → StandsFor kept.new.window events) }
 {
-    if window.is_cut() {
-        return close(alloc, states, window, cap);
+    if cut {
+        return close(criterion, alloc, kept, cap);
     }
-    if quiet || possible(alloc, states, window)? {
+    if criterion == Criterion::Opacity && kept.witness.is_known() {
+        return Ok(Weighed::Outcome);
+    }
+    if possible(criterion, alloc, &kept.states, &kept.window)? {
         Ok(Weighed::Outcome)
     } else {
         Ok(Weighed::NoOutcome)
@@ -37,23 +46,38 @@ pub fn weigh(
 
 /// The same of a window that is at a cut.
 fn close(
+    criterion: Criterion,
     alloc: Global,
-    states: &mut States,
-    window: &mut Window,
+    kept: &mut Open,
     cap: u8,
 ) -> Result<Weighed, AllocError>
-    ensures ok { IfOk result (λ found. (quiet : Bool) (events : List Event) → StandsFor window.old events → IsTrue (is_cut events)
-        → Tells states.old cap quiet events states.new window.new found) }
-    ensures states { OnErr result (members states.new ≡ members states.old) }
-    ensures window { OnErr result ((events : List Event) → StandsFor window.old events → StandsFor window.new events) }
+    ensures ok { IfOk result (λ found. (quiet : Bool) (events : List Event) → StandsFor kept.old.window events → IsTrue (is_cut events)
+        → Tells criterion kept.old.states cap quiet events kept.new found) }
+    ensures tracker { kept.new.tracker ≡ kept.old.tracker }
+    ensures states { OnErr result (members kept.new.states ≡ members kept.old.states) }
+    ensures window { OnErr result ((events : List Event) → StandsFor kept.old.window events → StandsFor kept.new.window events) }
 {
-    match outcomes(alloc, states, window, cap)? {
+    match outcomes(criterion, alloc, &kept.states, &kept.window, cap)? {
         EndStates::Many => Ok(Weighed::TooMany),
         EndStates::Few(ends) if ends.is_empty() => Ok(Weighed::NoOutcome),
         EndStates::Few(ends) => {
-            *states = ends;
-            window.clear();
+            begin_again(criterion, &mut kept.witness, &ends);
+            kept.states = ends;
+            kept.window.clear();
             Ok(Weighed::Outcome)
         }
     }
+}
+
+/// Begins with a window without a transaction, from the first of these states. Serial orders are kept for opacity alone.
+fn begin_again(criterion: Criterion, witness: &mut Witness, starts: &States)
+    ensures { Witnesses (members starts.now) [] witness.new }
+{
+    if criterion == Criterion::Opacity {
+        if let Some(start) = starts.get(0) {
+            witness.restart(&start);
+            return;
+        }
+    }
+    witness.forget();
 }

@@ -1,7 +1,7 @@
 ghost use Rattle.std.specs.Prelude.{◌≡◌};
 ghost use Rattle.tmw_monitor.specs.Weighing.{verdict_of};
 
-use tmw_defs::{Verdict, Why};
+use tmw_defs::{Criterion, Verdict, Why};
 
 /// What was found of the outcomes of a window, from those at its beginning.
 #[derive(Clone, Copy, PartialEq, Eq, Debug)]
@@ -15,12 +15,12 @@ pub enum Weighed {
 }
 
 impl Weighed {
-    /// The verdict on a history of this length, where this was found of its last window.
-    pub fn verdict(self, at: u64) -> Verdict
-        ensures { result ≡ verdict_of at self }
+    /// The verdict by this criterion on a history of this length, where this was found of its last window.
+    pub fn verdict(self, criterion: Criterion, at: u64) -> Verdict
+        ensures { result ≡ verdict_of criterion at self }
     {
         match self {
-            Weighed::Outcome => Verdict::OpaqueSoFar,
+            Weighed::Outcome => criterion.so_far(),
             Weighed::NoOutcome => Verdict::Violated(at),
             Weighed::TooMany => Verdict::Undecided(at, Why::States),
         }

@@ -1,4 +1,6 @@
 mod Adding
+mod CompletionProof
 mod OrderSteps
+mod StrictOrders
 mod TrackerSteps
 mod Weighing

@@ -4,80 +4,107 @@ use Rattle.std.specs.Prelude.{IsFalse}
 use Rattle.std.proofs.lemmas.Bool.{both_ways, cases_lt}
 use Rattle.std.proofs.lemmas.List.{length-map, length-take}
 use Rattle.tmw_events.specs.declared.event.Event.{Event}
-use Rattle.tmw_defs.specs.History.{transactions, is_well_formed}
-use Rattle.tmw_defs.specs.Opaque.{State}
+use Rattle.tmw_defs.specs.declared.criterion.Criterion.{Criterion}
+use Rattle.tmw_defs.specs.declared.criterion.Criterion.TheVariants.{Opacity, Strict}
+use Rattle.tmw_defs.specs.Criteria.{IsFinalBy}
 use Rattle.tmw_defs.specs.Decision.{is_explained}
+use Rattle.tmw_defs.specs.History.{Txn, transactions, is_well_formed}
+use Rattle.tmw_defs.specs.Opaque.{State}
 use Rattle.tmw_defs.proofs.DecisionProof.{is_explained-sound, is_explained-complete}
 use Rattle.tmw_plain_check.specs.declared.transaction.Transaction.{Transaction}
 use Rattle.tmw_plain_check.specs.declared.whole.WholeFault.{WholeFault}
 use Rattle.tmw_plain_check.specs.declared.whole.WholeFault.TheVariants.{IllFormed, Ninth, Memory}
+use Rattle.tmw_plain_check.specs.Completions.{has_completion}
 use Rattle.tmw_plain_check.specs.TransactionViews.{txns_of}
-use Rattle.tmw_plain_check.specs.Verdict.{IsFaultless, HasNinth, IsNotOpaque, IsFirstAtFault, Judges, Weighs}
+use Rattle.tmw_plain_check.specs.Verdict.{IsFaultless, HasNinth, IsNotFinal, IsFirstAtFault, JudgesBy, HasOrderBy, Weighs}
+use Rattle.tmw_plain_check.proofs.CompletionProof.{has_completion-sound, has_completion-complete}
 
--- what the search answers of a history of at most eight transactions
-weighs_search : (start : State) (history : List Event) (explained : Bool)
-    → length (transactions history) ≤ 8 → explained ≡ is_explained start (transactions history) → Weighs start history (Ok explained)
-weighs_search start history true few is = (few, is_explained-sound start (transactions history) (sym is))
-weighs_search start history false few is =
-    (few, λ ordered. both_ways _ (sym is) (is_explained-complete start (transactions history) ordered))
+-- what a history is asked by a criterion: to be well-formed, and that its transactions have an order
+final-from : (c : Criterion) (registers : ℕ) (start : State) (h : List Event) → IsTrue (is_well_formed registers h)
+    → HasOrderBy c start (transactions h) → IsFinalBy c registers start h
+final-from Opacity registers start h formed ordered = record { formed = formed; ordered = ordered }
+final-from Strict registers start h formed ordered = record { formed = formed; ordered = ordered }
 
-pub weighs_shown : (start : State) (history : List Event) (list : List Transaction) (explained : Bool)
-    → txns_of list ≡ transactions history → length list ≤ 8 → explained ≡ is_explained start (txns_of list)
-    → Weighs start history (Ok explained)
-weighs_shown start history list explained shown few is =
-    weighs_search start history explained (rw (← shown, length-map) few) (is ∙ ap (is_explained start) shown)
+final_ordered : (c : Criterion) (registers : ℕ) (start : State) (h : List Event) → IsFinalBy c registers start h → HasOrderBy c start (transactions h)
+final_ordered Opacity registers start h final = final.ordered
+final_ordered Strict registers start h final = final.ordered
+
+-- no transactions have an order
+no_transactions : (c : Criterion) (start : State) → HasOrderBy c start []
+no_transactions Opacity start = ([], record { each = refl; kept = refl; completed = refl; legal = refl })
+no_transactions Strict start = (
+  [],
+  record { members = []; are = refl; explains = record { each = refl; kept = refl; completed = refl; legal = refl }; held = refl },
+)
+
+-- what a search for an order decides of a history of at most eight transactions
+weighs_decided : (c : Criterion) (start : State) (history : List Event) (decide : List Txn → Bool) (found : Bool)
+    → ((ts : List Txn) → IsTrue (decide ts) → HasOrderBy c start ts) → ((ts : List Txn) → HasOrderBy c start ts → IsTrue (decide ts))
+    → length (transactions history) ≤ 8 → found ≡ decide (transactions history) → Weighs c start history (Ok found)
+weighs_decided c start history decide true sound complete few is = (few, sound (transactions history) (sym is))
+weighs_decided c start history decide false sound complete few is =
+    (few, λ ordered. both_ways _ (sym is) (complete (transactions history) ordered))
+
+module _ (start : State) (history : List Event) (list : List Transaction) (found : Bool)
+    (shown : txns_of list ≡ transactions history) (few : length list ≤ 8) where
+  pub weighs_explained : found ≡ is_explained start (txns_of list) → Weighs Opacity start history (Ok found)
+  weighs_explained is =
+      weighs_decided Opacity start history (is_explained start) found (is_explained-sound start) (is_explained-complete start)
+      (rw (← shown, length-map) few) (is ∙ ap (is_explained start) shown)
+
+  pub weighs_completed : found ≡ has_completion start (txns_of list) → Weighs Strict start history (Ok found)
+  weighs_completed is =
+      weighs_decided Strict start history (has_completion start) found (has_completion-sound start) (has_completion-complete start)
+      (rw (← shown, length-map) few) (is ∙ ap (has_completion start) shown)
 
 -- each prefix shorter than this is fine
-abbrev pub FaultlessBelow : ℕ → State → List Event → ℕ → Type 0
-FaultlessBelow registers start history m = (k : ℕ) → k < m → IsFaultless registers start (take k history)
+abbrev pub FaultlessBelow : Criterion → ℕ → State → List Event → ℕ → Type 0
+FaultlessBelow c registers start history m = (k : ℕ) → k < m → IsFaultless c registers start (take k history)
 
 -- the history of no event is fine
-pub faultless_below_one : (registers : ℕ) (start : State) (history : List Event) → FaultlessBelow registers start history 1
-faultless_below_one registers start history k first =
+pub faultless_below_one : (c : Criterion) (registers : ℕ) (start : State) (history : List Event) → FaultlessBelow c registers start history 1
+faultless_below_one c registers start history k first =
     let none : k ≡ 0 = omega arith in
-    rw none (record {
-      few = omega arith;
-      final_opaque = record { formed = refl; ordered = ([], record { each = refl; kept = refl; completed = refl; legal = refl }) };
-    })
+    rw none (record { few = omega arith; final = final-from c registers start [] refl (no_transactions c start) })
 
 -- a prefix more that is well-formed and has an order
-pub faultless_below_more : (registers : ℕ) (start : State) (history : List Event) (m : ℕ) → FaultlessBelow registers start history m
-    → IsTrue (is_well_formed registers (take m history)) → Weighs start (take m history) (Ok true)
-    → FaultlessBelow registers start history (m + 1)
-faultless_below_more registers start history m before formed (few, ordered) k within =
+pub faultless_below_more : (c : Criterion) (registers : ℕ) (start : State) (history : List Event) (m : ℕ) → FaultlessBelow c registers start history m
+    → IsTrue (is_well_formed registers (take m history)) → Weighs c start (take m history) (Ok true)
+    → FaultlessBelow c registers start history (m + 1)
+faultless_below_more c registers start history m before formed (few, ordered) k within =
     elim (cases_lt k m) [
       | inl shorter ↦ before k shorter
       | inr past ↦
           let last : k ≡ m = omega arith in
-          rw last (record { few = few; final_opaque = record { formed = formed; ordered = ordered } })
+          rw last (record { few = few; final = final-from c registers start (take m history) formed ordered })
     ]
 
 -- a fault of the first prefix that has one is the answer
-pub judges_ill_formed : (registers : ℕ) (start : State) (history : List Event) (m : ℕ) → m ≤ length history
-    → FaultlessBelow registers start history m → IsFalse (is_well_formed registers (take m history))
-    → Judges registers start history (Err (IllFormed m))
-judges_ill_formed registers start history m within before ill_formed = record {
+pub judges_ill_formed : (c : Criterion) (registers : ℕ) (start : State) (history : List Event) (m : ℕ) → m ≤ length history
+    → FaultlessBelow c registers start history m → IsFalse (is_well_formed registers (take m history))
+    → JudgesBy c registers start history (Err (IllFormed m))
+judges_ill_formed c registers start history m within before ill_formed = record {
   within = within;
   here = record { ill_formed = ill_formed };
   before = before;
 }
 
-pub judges_weighed : (registers : ℕ) (start : State) (history : List Event) (m : ℕ) (fault : WholeFault) → m ≤ length history
-    → FaultlessBelow registers start history m → IsTrue (is_well_formed registers (take m history))
-    → Weighs start (take m history) (Err fault)
-    → Judges registers start history (Err fault)
-judges_weighed registers start history m (IllFormed k) within before formed never = absurd never
-judges_weighed registers start history m (Ninth k) within before formed (size, ninth) =
+pub judges_weighed : (c : Criterion) (registers : ℕ) (start : State) (history : List Event) (m : ℕ) (fault : WholeFault) → m ≤ length history
+    → FaultlessBelow c registers start history m → IsTrue (is_well_formed registers (take m history))
+    → Weighs c start (take m history) (Err fault)
+    → JudgesBy c registers start history (Err fault)
+judges_weighed c registers start history m (IllFormed k) within before formed never = absurd never
+judges_weighed c registers start history m (Ninth k) within before formed (size, ninth) =
     let same : m ≡ k = omega (arith, length-take m history) in
-    subst (IsFirstAtFault HasNinth registers start history) same
+    subst (IsFirstAtFault HasNinth c registers start history) same
     (record { within = within; here = record { formed = formed; ninth = ninth }; before = before })
-judges_weighed registers start history m Memory within before formed weighs = tt
+judges_weighed c registers start history m Memory within before formed weighs = tt
 
-pub judges_violated : (registers : ℕ) (start : State) (history : List Event) (m : ℕ) → m ≤ length history
-    → FaultlessBelow registers start history m → IsTrue (is_well_formed registers (take m history)) → Weighs start (take m history) (Ok false)
-    → IsFirstAtFault IsNotOpaque registers start history m
-judges_violated registers start history m within before formed (few, unordered) = record {
+pub judges_violated : (c : Criterion) (registers : ℕ) (start : State) (history : List Event) (m : ℕ) → m ≤ length history
+    → FaultlessBelow c registers start history m → IsTrue (is_well_formed registers (take m history)) → Weighs c start (take m history) (Ok false)
+    → IsFirstAtFault IsNotFinal c registers start history m
+judges_violated c registers start history m within before formed (few, unordered) = record {
   within = within;
-  here = record { formed = formed; few = few; not_opaque = λ o. unordered o.ordered };
+  here = record { formed = formed; few = few; not_final = λ final. unordered (final_ordered c registers start (take m history) final) };
   before = before;
 }

@@ -1,7 +1,8 @@
-//! The plain check of a whole recorded history: whether it is opaque, by a search through the serial orders of each of its
-//! prefixes. It knows no windows, and is what the monitor is compared with.
+//! The plain check of a whole recorded history: whether it is opaque, or strictly serializable, by a search through the serial
+//! orders of each of its prefixes. It knows no windows, and is what the monitor is compared with.
 #![tactic(auto)]
 
+mod completion;
 mod judge;
 mod order;
 mod replay;
@@ -9,5 +10,5 @@ mod text;
 mod transaction;
 mod whole;
 
-pub use judge::{judge_whole, judge_whole_from};
+pub use judge::{judge_whole, judge_whole_for, judge_whole_from};
 pub use whole::{Whole, WholeFault};

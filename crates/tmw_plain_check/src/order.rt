@@ -89,7 +89,11 @@ fn goes_on(
 
 /// Whether these transactions have a serial order, with a completion, that keeps the real-time order and is legal from the state.
 #[cycle(orders)]
-fn has_order(alloc: Global, waiting: &[&Transaction], state: &[u64; 8]) -> Result<bool, AllocError>
+pub fn has_order(
+    alloc: Global,
+    waiting: &[&Transaction],
+    state: &[u64; 8],
+) -> Result<bool, AllocError>
     ensures { IfOk result (λ has. has ≡ is_explained state.now (shown waiting.now)) }
 {
     for index in 0..waiting.len() {

@@ -4,9 +4,11 @@ use thiserror::Error;
 /// What the plain check finds of a well-formed history in which no prefix has more than eight transactions.
 #[derive(Clone, Copy, PartialEq, Eq, Debug)]
 pub enum Whole {
-    /// Each prefix, the history itself included, is final-state opaque.
+    /// Each prefix, the history itself included, is final-state opaque: what opacity asks.
     Opaque,
-    /// The prefix of this length is the shortest that is not final-state opaque.
+    /// Each prefix, the history itself included, is final-state strict: what strict serializability asks.
+    Strict,
+    /// The prefix of this length is the shortest that is not final-state opaque, or not final-state strict, as the criterion is.
     Violated(u64),
 }
 

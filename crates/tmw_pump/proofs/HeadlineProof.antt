@@ -2,6 +2,7 @@
 use Rattle.std.proofs.Common.{◌≡◌, ◌++◌, List, refl, sym, ◌∙◌, subst, append_assoc}
 use Rattle.tmw_events.specs.declared.event.Event.{Event}
 use Rattle.tmw_defs.specs.Verdict.{Rules, IsVerdict}
+use Rattle.tmw_defs.specs.declared.criterion.Criterion.TheVariants.{Opacity}
 use Rattle.tmw_defs.specs.declared.verdict.Verdict.{Verdict}
 use Rattle.tmw_defs.specs.declared.verdict.Verdict.TheVariants.{OpaqueSoFar, Violated, Undecided, Malformed}
 use Rattle.tmw_defs.specs.declared.verdict.Why.TheVariants.{Transactions, States}
@@ -22,13 +23,13 @@ front_of log writers judged held is = record {
 }
 
 headline-verdict : (rules : Rules) (log : List Event) (writers : List WriterIs) (judged : List Event) (verdict : Verdict)
-    → IsLogOf log writers judged → IsVerdict rules judged verdict → Headline rules log writers judged verdict
-headline-verdict rules log writers judged verdict one_log exact = record {
+    → rules.criterion ≡ Opacity → IsLogOf log writers judged → IsVerdict rules judged verdict → Headline rules log writers judged verdict
+headline-verdict rules log writers judged verdict opacity one_log exact = record {
   one_log = one_log;
   opaque = let is = verdict-is rules judged verdict OpaqueSoFar exact in
-      (λ same. opaque-fine rules judged (is.0 same), λ fine. is.1 (fine-opaque rules judged fine));
+      (λ same. opaque-fine rules judged (is.0 same), λ fine. is.1 (fine-opaque rules judged opacity fine));
   violated = λ m. let is = verdict-is rules judged verdict (Violated m) exact in
-      (λ same. violation-first rules judged m (is.0 same), λ first. is.1 (first-violation rules judged m first));
+      (λ same. violation-first rules judged m opacity (is.0 same), λ first. is.1 (first-violation rules judged m opacity first));
   wide = λ m. verdict-is rules judged verdict (Undecided m Transactions) exact;
   many = λ m. verdict-is rules judged verdict (Undecided m States) exact;
   malformed = λ m. verdict-is rules judged verdict (Malformed m) exact;
@@ -38,8 +39,9 @@ headline-verdict rules log writers judged verdict one_log exact = record {
 pub gives_headline : (old : Front) (taken : List Event) (new : Front) → KeepsFit old new → came new ≡ taken
     → GivesHeadline old taken new.judged.items new.monitor.verdict
 gives_headline old taken new keeps all rules log writers fits one_log =
-    headline-verdict rules log writers new.judged.items new.monitor.verdict
-    (front_of log writers new.judged.items (listed new.held) (subst (IsLogOf log writers) (sym all) one_log)) (keeps rules fits).judged
+    let judged = keeps rules fits in
+    headline-verdict rules log writers new.judged.items new.monitor.verdict (sym judged.criterion ∙ new.opacity)
+    (front_of log writers new.judged.items (listed new.held) (subst (IsLogOf log writers) (sym all) one_log)) judged.judged
 
 -- The same for a log that goes on with what is left.
 pub gives_rest : (old new : Front) (left : List Event) → KeepsFit old new → GivesHeadline old (came new ++ left) new.judged.items new.monitor.verdict

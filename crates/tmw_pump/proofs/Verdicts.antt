@@ -1,29 +1,45 @@
 -- What each verdict says of a history in the field's words, from the definition of the verdict.
-use Rattle.std.proofs.Common.{◌≡◌, ◌↔◌, ℕ, List, length, subst, inl, inr, arith}
+use Rattle.std.proofs.Common.{◌≡◌, ◌↔◌, ℕ, List, length, sym, subst, inl, inr, arith}
 use Rattle.std.specs.Prelude.{take}
 use Rattle.std.proofs.lemmas.Bool.{cases_lt}
 use Rattle.tmw_events.specs.declared.event.Event.{Event}
 use Rattle.tmw_defs.proofs.VerdictProof.{verdict-one}
-use Rattle.tmw_defs.specs.Opaque.{IsOpaque}
+use Rattle.tmw_defs.specs.Criteria.{IsFinalBy}
+use Rattle.tmw_defs.specs.Opaque.{IsFinalOpaque, IsOpaque}
 use Rattle.tmw_defs.specs.Verdict.{Rules, HasMany, IsTooMany, IsViolated, IsFirst, IsVerdict}
 use Rattle.tmw_defs.specs.Windows.{HasWide}
+use Rattle.tmw_defs.specs.declared.criterion.Criterion.{Criterion}
+use Rattle.tmw_defs.specs.declared.criterion.Criterion.TheVariants.{Opacity}
 use Rattle.tmw_defs.specs.declared.verdict.Verdict.{Verdict}
 use Rattle.tmw_defs.specs.declared.verdict.Verdict.TheVariants.{OpaqueSoFar, Violated, Undecided}
 use Rattle.tmw_defs.specs.declared.verdict.Why.TheVariants.{States}
 use Rattle.tmw_pump.specs.Headline.{IsWithinBounds, IsFirstViolation}
 
+-- Where the criterion is opacity, final-state opacity is what is asked of a prefix.
+final-opaque : (rules : Rules) (h : List Event) → rules.criterion ≡ Opacity → IsFinalBy rules.criterion rules.registers rules.start h
+    → IsFinalOpaque rules.registers rules.start h
+final-opaque rules h opacity final = subst (λ (c : Criterion). IsFinalBy c rules.registers rules.start h) opacity final
+
+opaque-final : (rules : Rules) (h : List Event) → rules.criterion ≡ Opacity → IsFinalOpaque rules.registers rules.start h
+    → IsFinalBy rules.criterion rules.registers rules.start h
+opaque-final rules h opacity final = subst (λ (c : Criterion). IsFinalBy c rules.registers rules.start h) (sym opacity) final
+
 -- opaque so far
 pub opaque-fine : (rules : Rules) (h : List Event) → IsVerdict rules h OpaqueSoFar
     → IsOpaque rules.registers rules.start h × IsWithinBounds rules h (length h)
-opaque-fine rules h fine = (λ n within. (fine n within).final_opaque, λ k within. ((fine k within).narrow, (fine k within).few))
+opaque-fine rules h (opacity, fine) =
+    (λ n within. final-opaque rules (take n h) opacity (fine n within).final, λ k within. ((fine k within).narrow, (fine k within).few))
 
-pub fine-opaque : (rules : Rules) (h : List Event) → IsOpaque rules.registers rules.start h × IsWithinBounds rules h (length h)
-    → IsVerdict rules h OpaqueSoFar
-fine-opaque rules h (opaque, bounds) k within = record {
-  narrow = (bounds k within).0;
-  few = (bounds k within).1;
-  final_opaque = opaque k within;
-}
+pub fine-opaque : (rules : Rules) (h : List Event) → rules.criterion ≡ Opacity
+    → IsOpaque rules.registers rules.start h × IsWithinBounds rules h (length h) → IsVerdict rules h OpaqueSoFar
+fine-opaque rules h opacity (opaque, bounds) = (
+  opacity,
+  λ k within. record {
+    narrow = (bounds k within).0;
+    few = (bounds k within).1;
+    final = opaque-final rules (take k h) opacity (opaque k within);
+  },
+)
 
 -- A history that is violated at a length has not too many outcomes there: else it would be undecided.
 few-violated : (rules : Rules) (h : List Event) (m : ℕ) → IsFirst IsViolated rules h m → HasMany rules (take m h) → ⊥
@@ -36,14 +52,14 @@ few-violated rules h m first many =
     absurd (cc (verdict-one rules h (Violated m) (Undecided m States) first undecided))
 
 -- violated
-pub violation-first : (rules : Rules) (h : List Event) (m : ℕ) → IsFirst IsViolated rules h m
+pub violation-first : (rules : Rules) (h : List Event) (m : ℕ) → rules.criterion ≡ Opacity → IsFirst IsViolated rules h m
     → IsFirstViolation rules h m × IsWithinBounds rules h m
-violation-first rules h m first = (
+violation-first rules h m opacity first = (
   record {
     within = first.within;
     formed = first.here.formed;
-    not_opaque = first.here.not_opaque;
-    before = λ k less. (first.before k less).final_opaque;
+    not_opaque = λ opaque. first.here.not_final (opaque-final rules (take m h) opacity opaque);
+    before = λ k less. final-opaque rules (take k h) opacity (first.before k less).final;
   },
   λ k within. elim (cases_lt k m) [
     | inl less ↦ ((first.before k less).narrow, (first.before k less).few)
@@ -53,15 +69,19 @@ violation-first rules h m first = (
   ],
 )
 
-pub first-violation : (rules : Rules) (h : List Event) (m : ℕ) → IsFirstViolation rules h m × IsWithinBounds rules h m
-    → IsFirst IsViolated rules h m
-first-violation rules h m (first, bounds) = record {
+pub first-violation : (rules : Rules) (h : List Event) (m : ℕ) → rules.criterion ≡ Opacity
+    → IsFirstViolation rules h m × IsWithinBounds rules h m → IsFirst IsViolated rules h m
+first-violation rules h m opacity (first, bounds) = record {
   within = first.within;
-  here = record { formed = first.formed; narrow = (bounds m (omega arith)).0; not_opaque = first.not_opaque };
+  here = record {
+    formed = first.formed;
+    narrow = (bounds m (omega arith)).0;
+    not_final = λ final. first.not_opaque (final-opaque rules (take m h) opacity final);
+  };
   before = λ k less. record {
     narrow = (bounds k (omega (arith, less))).0;
     few = (bounds k (omega (arith, less))).1;
-    final_opaque = first.before k less;
+    final = opaque-final rules (take k h) opacity (first.before k less);
   };
 }
 

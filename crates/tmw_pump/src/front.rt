@@ -1,4 +1,5 @@
 ghost use Rattle.std.specs.Prelude.{◌≡◌, ◌∷◌, ◌++◌, ◌+◌, ◌<◌, ◌≤◌, ◌^◌, [], length, Some, None, OnOk, OnErr};
+ghost use Rattle.tmw_defs.specs.declared.criterion.Criterion.TheVariants.{Opacity};
 ghost use Rattle.tmw_pump.specs.Held.{listed, WasFed};
 
 use crate::pumped::Pumped;
@@ -13,6 +14,7 @@ pub struct Front {
     monitor: Monitor,
     judged: Vec<Event>,
     held: Option<Event>,
+    pub ghost opacity: { monitor.criterion ≡ Opacity },
     pub ghost fed: { ∥ WasFed judged.items monitor ∥₁ },
     pub ghost few: { length judged.items + length (listed held) ≤ 2 ^ 40 },
 }
@@ -20,9 +22,10 @@ pub struct Front {
 impl Front {
     ghost use Rattle.tmw_pump.specs.Fronts.{HasCome, KeepsFit, TellsVerdict};
 
-    /// Before the first event, over a monitor that was fed none.
+    /// Before the first event, over a monitor that judges by opacity and was fed none.
     pub(crate) fn new(alloc: Global, monitor: Monitor) -> Front
-        requires { WasFed [] monitor }
+        requires opacity { monitor.criterion ≡ Opacity }
+        requires fed { WasFed [] monitor }
         ensures judged { result.judged.items ≡ [] }
         ensures held { result.held ≡ None }
         ensures monitor { result.monitor ≡ monitor }

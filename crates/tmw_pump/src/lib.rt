@@ -6,6 +6,10 @@ mod pump;
 mod pumped;
 mod rest;
 #[cfg(test)]
+mod seen;
+#[cfg(test)]
+mod stopping_tests;
+#[cfg(test)]
 mod tests;
 #[cfg(test)]
 mod thread_tests;

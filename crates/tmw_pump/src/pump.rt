@@ -1,5 +1,6 @@
 //! Judging the events of a running ring.
 ghost use Rattle.std.specs.Prelude.{◌≡◌, ◌++◌, List, [], ◌∷◌, length, All, Some, None, IfOk, OnErr, IfSome, IfNone, IsSome, IsTrue, ◌↔◌};
+ghost use Rattle.tmw_defs.specs.declared.criterion.Criterion.TheVariants.{Opacity};
 ghost use Rattle.tmw_events.specs.declared.event.Event.{Event};
 ghost use Rattle.tmw_pump.specs.Held.{listed, WasFed};
 ghost use Rattle.tmw_ring.specs.Ends.{ReaderOf, WriterOf};
@@ -33,9 +34,11 @@ impl Pump {
     ghost use Rattle.tmw_pump.specs.Pumping.{HasTakenAll, HasPumped, IsPumped};
     ghost use Rattle.tmw_pump.specs.Resting.{all_of};
 
-    /// A pump that takes by a reader that has taken nothing, and judges by a monitor that was fed nothing.
+    /// A pump that takes by a reader that has taken nothing, and judges by a monitor whose criterion is opacity and that was fed
+    /// nothing.
     pub fn new(alloc: Global, reader: Reader, monitor: Monitor) -> Pump
         requires taken { reader.taken ≡ [] }
+        requires opacity { monitor.criterion ≡ Opacity }
         requires fed { WasFed [] monitor }
         ensures reader { result.reader ≡ reader }
         ensures judged { result.front.judged.items ≡ [] }

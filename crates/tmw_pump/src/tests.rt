@@ -5,10 +5,11 @@ ghost use Rattle.tmw_ring.specs.Ends.{ReaderOf, WriterOf};
 ghost use Rattle.tmw_ring.specs.Settling.{AreInOrder};
 
 use super::*;
+use crate::seen::Seen;
 use std::alloc::{AllocError, Global};
 use std::test::Fail;
 use tmw_defs::{Verdict, Why};
-use tmw_events::{Event, Kind, Registers};
+use tmw_events::{Kind, Registers};
 use tmw_monitor::{Bounds, Monitor};
 use tmw_ring::{Reader, Refused, Ring, Writer, ring};
 use tmw_testing::{FIRST, dirty_read};
@@ -153,49 +154,12 @@ fn a_left_transaction_keeps_its_window_open(rt: HostRuntime) -> Result<(), Fail>
     Ok(())
 }
 
-/// What is seen of a pump or a rest.
-#[derive(Clone, Copy, Debug)]
-struct Seen<'a> {
-    judged: &'a [Event],
-    held: bool,
-    verdict: Verdict,
-}
-
-impl<'a> Seen<'a> {
-    fn of_pump(pump: &'a Pump) -> Seen<'a> {
-        Seen {
-            judged: pump.judged(),
-            held: pump.held(),
-            verdict: pump.verdict(),
-        }
-    }
-
-    fn of_rest(rest: &'a Rest) -> Seen<'a> {
-        Seen {
-            judged: rest.judged(),
-            held: rest.held(),
-            verdict: rest.verdict(),
-        }
-    }
-
-    /// Whether a call that was to judge up to three events, where so many were judged before, may have answered so.
-    fn is_after(&self, before: usize, answer: Result<Pumped, AllocError>) -> bool {
-        let Some(more) = self.judged.len().checked_sub(before) else {
-            return false;
-        };
-        match answer {
-            Ok(pumped) => !self.held && more as u64 == pumped.judged,
-            Err(_) => self.held && more < 3,
-        }
-    }
-
-    /// Whether the first events of the dirty read are judged, with their verdict.
-    fn is_dirty_read_so_far(&self) -> bool {
-        let all = dirty_read();
-        self.judged.len() <= 4
-            && self.judged == &all.as_slice()[..self.judged.len()]
-            && (self.verdict == Verdict::Violated(4)) == (self.judged.len() == 4)
-    }
+/// Whether the first events of the dirty read are judged, with their verdict.
+fn is_dirty_read_so_far(seen: &Seen<'_>) -> bool {
+    let all = dirty_read();
+    seen.judged.len() <= 4
+        && seen.judged == &all.as_slice()[..seen.judged.len()]
+        && (seen.verdict == Verdict::Violated(4)) == (seen.judged.len() == 4)
 }
 
 /// Judges the dirty read of a running ring, three events at a time, and tells whether each answer was as it should be.
@@ -207,7 +171,7 @@ fn pump_all(ring: &Ring, pump: &mut Pump) -> bool
         let before = pump.judged().len();
         let answer = pump.pump(ring, 3);
         let seen = Seen::of_pump(pump);
-        if !seen.is_after(before, answer) || !seen.is_dirty_read_so_far() {
+        if !seen.is_after(before, 3, answer) || !is_dirty_read_so_far(&seen) {
             return false;
         }
     }
@@ -220,14 +184,14 @@ fn judge_rest(rest: &mut Rest) -> bool {
         let before = rest.judged().len();
         let answer = rest.pump(3);
         let seen = Seen::of_rest(rest);
-        if !seen.is_after(before, answer) || !seen.is_dirty_read_so_far() {
+        if !seen.is_after(before, 3, answer) || !is_dirty_read_so_far(&seen) {
             return false;
         }
     }
     rest.judged().len() == 4
 }
 
-/// Also where the growth of memory that `rt try --test --fail-alloc` chooses is refused, see bench/refused_pump.sh.
+/// Also where any one growth of memory in it is refused, as bench/refused.sh does.
 #[test]
 fn a_refused_growth_loses_no_event(rt: HostRuntime) -> Result<(), Fail> {
     let (ring, mut writers, reader) = ring(rt.alloc(), 8, 2, 100)?;

@@ -4,7 +4,7 @@ ghost use Rattle.tmw_ring.specs.Ends.{ReaderOf, WriterOf};
 ghost use Rattle.tmw_ring.specs.Settling.{AreInOrder};
 
 use super::*;
-use std::alloc::{AllocError, Global};
+use std::alloc::Global;
 use std::sync::{Mutex, Wait};
 use std::test::Fail;
 use std::thread;
@@ -86,8 +86,8 @@ fn record_run<R: Wait>(rt: &R, memory: &Memory, ring: &Ring, mut writer: Writer)
     writer
 }
 
-/// Judges the events of the running ring as they come, until few are left.
-fn pump_running(ring: &Ring, pump: &mut Pump) -> Result<(), AllocError>
+/// Judges the events of the running ring as they come, until few are left. Where memory is refused it goes on.
+fn pump_running(ring: &Ring, pump: &mut Pump)
     requires { ReaderOf ring.now pump.old.reader }
     ensures { ReaderOf ring.now pump.new.reader }
 {
@@ -96,11 +96,11 @@ fn pump_running(ring: &Ring, pump: &mut Pump) -> Result<(), AllocError>
         if left == 0 {
             break;
         }
-        if pump.pump(ring, left.min(64))?.judged == 0 {
+        let some = matches!(pump.pump(ring, left.min(64)), Ok(pumped) if pumped.judged > 0);
+        if !some {
             thread::yield_now();
         }
     }
-    Ok(())
 }
 
 /// Lets the writers record while their events are judged, and gives all back when the threads have ended.
@@ -124,26 +124,22 @@ fn run<'s, E, R: Threads + Wait + Sync>(
     let handles = start_all(scope, alloc, ring, writers, move |writer| {
         record_run(rt, memory, ring, writer)
     })?;
-    let Ok(()) = pump_running(ring, &mut pump) else {
-        return None;
-    };
+    pump_running(ring, &mut pump);
     let Ok(writers) = thread::join_promised(rt, handles) else {
         return None;
     };
     Some((pump, writers))
 }
 
-/// Judges what is left of the settled ring, by some at a time, and gives all events with the verdict on them.
-fn judge_rest(mut rest: Rest) -> Option<(Vec<Event>, Verdict)> {
+/// Judges what is left of the settled ring, by some at a time, and gives all events with the verdict on them. Where memory is
+/// refused it goes on.
+fn judge_rest(mut rest: Rest) -> (Vec<Event>, Verdict) {
     for _ in 0..ALL {
-        let Ok(pumped) = rest.pump(4) else {
-            return None;
-        };
-        if pumped.judged < 4 {
+        if matches!(rest.pump(4), Ok(pumped) if pumped.judged < 4) {
             break;
         }
     }
-    Some(rest.finish())
+    rest.finish()
 }
 
 /// A ring of three writers, with a pump that has judged nothing.
@@ -190,7 +186,7 @@ fn judged_run<R: Threads + Wait + Sync>(
     let Some((pump, writers)) = back else {
         return None;
     };
-    judge_rest(pump.settle(ring, writers))
+    Some(judge_rest(pump.settle(ring, writers)))
 }
 
 #[test]

@@ -1,5 +1,7 @@
 //! The pump of a ring: while its writers record, and after them.
 ghost use Rattle.std.specs.Prelude.{◌≡◌, IfOk, OnOk};
+ghost use Rattle.tmw_defs.specs.Verdict.{IsVerdict, Rules};
+ghost use Rattle.tmw_monitor.specs.Fitting.{Fits};
 ghost use Rattle.tmw_pump.specs.Headline.{GivesHeadline};
 ghost use Rattle.tmw_pump.specs.Resting.{all_of};
 ghost use Rattle.tmw_recorded.specs.Pumping.{GoesOn};
@@ -44,6 +46,8 @@ pub fn pump_running<R: Wait>(
 /// Judges all that the settled ring has left, and gives all events with the verdict on them.
 pub fn judge_rest(mut rest: Rest) -> Result<(Vec<Event>, Verdict), AllocError>
     ensures all { IfOk result (λ judged. judged.0.items ≡ all_of rest) }
+    ensures verdict { IfOk result (λ judged. (by : Rules) → Fits by rest.front.judged.items rest.front.monitor
+        → IsVerdict by judged.0.items judged.1) }
     ensures headline { IfOk result (λ judged. GivesHeadline rest.front (all_of rest) judged.0.items judged.1) }
 {
     rest.pump(u64::MAX)?;

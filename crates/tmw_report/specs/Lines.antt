@@ -1,9 +1,9 @@
 -- The lines that the program writes, each with its line feed, and its exit status. Each line is compact JSON with its keys
 -- in byte order.
-use Rattle.std.specs.Prelude.{ℕ, List, ◌++◌, codes}
+use Rattle.std.specs.Prelude.{ℕ, Bool, true, false, List, [], ◌++◌, ◌||◌, codes, if◌then◌else◌}
 use Rattle.std.specs.Fmt.{decimal}
 use Rattle.tmw_defs.specs.declared.verdict.Verdict.{Verdict}
-use Rattle.tmw_defs.specs.declared.verdict.Verdict.TheVariants.{OpaqueSoFar, Violated, Undecided, Malformed}
+use Rattle.tmw_defs.specs.declared.verdict.Verdict.TheVariants.{OpaqueSoFar, StrictSoFar, Violated, Undecided, Malformed}
 use Rattle.tmw_defs.specs.declared.verdict.Why.{Why}
 use Rattle.tmw_defs.specs.declared.verdict.Why.TheVariants.{Transactions, States}
 use Rattle.tmw_report.specs.declared.fault.Fault.{Fault}
@@ -14,9 +14,10 @@ abbrev pub reason_text : Why → List ℕ
 reason_text Transactions = codes "transactions"
 reason_text States = codes "states"
 
--- the line of a verdict on a history of so many events
+-- the line of a verdict on a history of so many events, where the criterion is opacity: strict so far is no such verdict, and has none
 abbrev pub report_text : ℕ → Verdict → List ℕ
 report_text events OpaqueSoFar = codes "{\"events\":" ++ (decimal events ++ codes ",\"verdict\":\"opaque so far\"}\n")
+report_text events StrictSoFar = []
 report_text events (Violated at) =
     codes "{\"at\":" ++ (decimal at ++ (codes ",\"events\":" ++ (decimal events ++ codes ",\"verdict\":\"violated\"}\n")))
 report_text events (Undecided at why) =
@@ -25,12 +26,48 @@ report_text events (Undecided at why) =
 report_text events (Malformed at) =
     codes "{\"at\":" ++ (decimal at ++ (codes ",\"events\":" ++ (decimal events ++ codes ",\"verdict\":\"malformed\"}\n")))
 
--- the exit status that goes with it
+-- the line where the criterion is strict serializability: it names the criterion, and opaque so far has none
+abbrev pub strict_text : ℕ → Verdict → List ℕ
+strict_text events OpaqueSoFar = []
+strict_text events StrictSoFar =
+    codes "{\"criterion\":\"strict\",\"events\":" ++ (decimal events ++ codes ",\"verdict\":\"strict so far\"}\n")
+strict_text events (Violated at) =
+    codes "{\"at\":" ++ (decimal at ++ (codes ",\"criterion\":\"strict\",\"events\":" ++ (decimal events ++ codes ",\"verdict\":\"violated\"}\n")))
+strict_text events (Undecided at why) =
+    codes "{\"at\":"
+    ++ (decimal at
+    ++ (codes ",\"criterion\":\"strict\",\"events\":"
+    ++ (decimal events ++ (codes ",\"verdict\":\"undecided\",\"why\":\"" ++ (reason_text why ++ codes "\"}\n")))))
+strict_text events (Malformed at) =
+    codes "{\"at\":" ++ (decimal at ++ (codes ",\"criterion\":\"strict\",\"events\":" ++ (decimal events ++ codes ",\"verdict\":\"malformed\"}\n")))
+
+-- the exit status that goes with a verdict
 abbrev pub verdict_status : Verdict → ℕ
 verdict_status OpaqueSoFar = 0
+verdict_status StrictSoFar = 0
 verdict_status (Violated at) = 1
 verdict_status (Undecided at why) = 2
 verdict_status (Malformed at) = 3
+
+abbrev pub is_malformed : Verdict → Bool
+is_malformed (Malformed at) = true
+is_malformed _ = false
+
+abbrev pub is_violated : Verdict → Bool
+is_violated (Violated at) = true
+is_violated _ = false
+
+abbrev pub is_undecided : Verdict → Bool
+is_undecided (Undecided at why) = true
+is_undecided _ = false
+
+-- the exit status that goes with the two verdicts by both criteria: 3 where either is malformed, else 1 where either is violated,
+-- else 2 where either is undecided, else 0
+abbrev pub both_status : Verdict → Verdict → ℕ
+both_status opacity strict =
+    if is_malformed opacity || is_malformed strict
+    then 3
+    else (if is_violated opacity || is_violated strict then 1 else (if is_undecided opacity || is_undecided strict then 2 else 0))
 
 -- the end of an object and of its line
 abbrev pub line_end : List ℕ

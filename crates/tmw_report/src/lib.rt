@@ -6,6 +6,7 @@ mod fault;
 mod fault_line;
 mod report_line;
 mod status;
+mod strict_line;
 #[cfg(test)]
 mod tests;
 
@@ -13,4 +14,5 @@ pub use answer::{answer_fault, fault_of};
 pub use fault::Fault;
 pub use fault_line::write_fault;
 pub use report_line::report_text;
-pub use status::{FAULT_STATUS, status_of};
+pub use status::{FAULT_STATUS, both_status, status_of};
+pub use strict_line::report_strict;

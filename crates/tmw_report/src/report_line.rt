@@ -1,6 +1,6 @@
-ghost use Rattle.std.specs.Prelude.{◌≡◌, IfOk, string_bytes};
+ghost use Rattle.std.specs.Prelude.{◌≡◌, ◌≢◌, IfOk, string_bytes};
 ghost use Rattle.serde_json.specs.View.{view};
-ghost use Rattle.tmw_defs.specs.declared.verdict.Verdict.TheVariants.{OpaqueSoFar, Undecided};
+ghost use Rattle.tmw_defs.specs.declared.verdict.Verdict.TheVariants.{OpaqueSoFar, StrictSoFar, Undecided};
 ghost use Rattle.tmw_report.specs.Lines.{reason_text, report_text};
 ghost use Rattle.tmw_report.specs.ReportObject.{report_object, settled_object};
 
@@ -8,9 +8,10 @@ use serde_json::{Value, json};
 use std::alloc::{AllocError, Global};
 use tmw_defs::{Verdict, Why};
 
-/// The line that reports a verdict on a history of `events` events: an object in compact JSON, with its keys in byte order
-/// and then a line feed. It fails only where memory is refused.
+/// The line that reports a verdict on a history of `events` events, where the criterion is opacity: an object in compact JSON,
+/// with its keys in byte order and then a line feed. It fails only where memory is refused.
 pub fn report_text(alloc: Global, events: u64, verdict: &Verdict) -> Result<String, AllocError>
+    requires { verdict.now ≢ StrictSoFar }
     ensures { IfOk result (λ line. string_bytes line ≡ report_text events verdict.now) }
 {
     let mut line = object_of(alloc, events, verdict)?.to_string(alloc)?;
@@ -20,10 +21,12 @@ pub fn report_text(alloc: Global, events: u64, verdict: &Verdict) -> Result<Stri
 
 /// The object that reports a verdict.
 fn object_of(alloc: Global, events: u64, verdict: &Verdict) -> Result<Value, AllocError>
+    requires { verdict.now ≢ StrictSoFar }
     ensures { IfOk result (λ object. view object ≡ report_object events verdict.now) }
 {
     match *verdict {
         Verdict::OpaqueSoFar => opaque_object(alloc, events),
+        Verdict::StrictSoFar => unreachable!(),
         Verdict::Violated(at) => settled_object(alloc, events, at, "violated"),
         Verdict::Undecided(at, why) => undecided_object(alloc, events, at, why),
         Verdict::Malformed(at) => settled_object(alloc, events, at, "malformed"),
@@ -52,7 +55,7 @@ fn undecided_object(alloc: Global, events: u64, at: u64, why: Why) -> Result<Val
 }
 
 /// The word that the object has for the bound that was passed.
-const fn reason_of(why: Why) -> &'static str
+pub const fn reason_of(why: Why) -> &'static str
     ensures { result.now ≡ reason_text why }
 {
     match why {

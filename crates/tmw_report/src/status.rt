@@ -1,19 +1,33 @@
 ghost use Rattle.std.specs.Prelude.{◌≡◌};
-ghost use Rattle.tmw_report.specs.Lines.{verdict_status};
+ghost use Rattle.tmw_report.specs.Lines.{both_status, verdict_status};
 
 use tmw_defs::Verdict;
 
 /// The exit status of each fault.
 pub const FAULT_STATUS: u8 = 4;
 
-/// The exit status that goes with a verdict: 0 for opaque so far, 1 for violated, 2 for undecided, 3 for malformed.
+/// The exit status that goes with a verdict: 0 for opaque so far and for strict so far, 1 for violated, 2 for undecided, 3 for
+/// malformed.
 pub const fn status_of(verdict: &Verdict) -> u8
     ensures { result ≡ verdict_status verdict.now }
 {
     match *verdict {
-        Verdict::OpaqueSoFar => 0,
+        Verdict::OpaqueSoFar | Verdict::StrictSoFar => 0,
         Verdict::Violated(_) => 1,
         Verdict::Undecided(_, _) => 2,
         Verdict::Malformed(_) => 3,
+    }
+}
+
+/// The exit status that goes with the two verdicts by both criteria: 3 where either is malformed, else 1 where either is
+/// violated, else 2 where either is undecided, else 0.
+pub const fn both_status(opacity: &Verdict, strict: &Verdict) -> u8
+    ensures { result ≡ both_status opacity.now strict.now }
+{
+    match (*opacity, *strict) {
+        (Verdict::Malformed(_), _) | (_, Verdict::Malformed(_)) => 3,
+        (Verdict::Violated(_), _) | (_, Verdict::Violated(_)) => 1,
+        (Verdict::Undecided(_, _), _) | (_, Verdict::Undecided(_, _)) => 2,
+        _ => 0,
     }
 }

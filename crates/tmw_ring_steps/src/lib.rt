@@ -2,6 +2,8 @@
 #![tactic(auto)]
 
 mod reading;
+#[cfg(test)]
+mod refused;
 mod ring_state;
 #[cfg(test)]
 mod seeded;

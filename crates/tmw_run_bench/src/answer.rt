@@ -1,4 +1,5 @@
-ghost use Rattle.std.specs.Prelude.{◌≡◌, ◌++◌, ◌⊎◌, IfOk, length, string_bytes};
+ghost use Rattle.std.specs.Prelude.{◌≡◌, ◌≢◌, ◌++◌, ◌⊎◌, IfOk, length, string_bytes};
+ghost use Rattle.tmw_defs.specs.declared.verdict.Verdict.TheVariants.{StrictSoFar};
 ghost use Rattle.tmw_report.specs.Lines.{fault_line, report_text};
 ghost use Rattle.tmw_report.specs.Putting.{IsPut};
 ghost use Rattle.tmw_report.specs.Streams.{to_sink};
@@ -17,6 +18,7 @@ use tmw_streams::Sink;
 /// Writes the log's trace, where it is asked for, the report's line and the line of the ends, and answers the exit status. The
 /// two lines are made before anything is written: where memory for them is refused, that fault stands in place of all.
 pub fn answer_run<K: Sink>(alloc: Global, sink: &mut K, run: &BenchRun, trace: bool) -> u8
+    requires { run.now.driven.outcome.verdict ≢ StrictSoFar }
     ensures { IsPut (to_sink K.took K.holds K.failures) sink.old sink.new (bench_text trace run.now) (bench_status run.now) result
         ⊎ IsPut (to_sink K.took K.holds K.failures) sink.old sink.new (fault_line Memory) 4 result }
 {
@@ -32,6 +34,7 @@ pub fn answer_run<K: Sink>(alloc: Global, sink: &mut K, run: &BenchRun, trace: b
 
 /// The report's line, and behind it the line of the ends.
 fn lines_of(alloc: Global, outcome: &Outcome) -> Result<String, AllocError>
+    requires { outcome.now.verdict ≢ StrictSoFar }
     ensures { IfOk result (λ lines. string_bytes lines
         ≡ report_text (length outcome.now.log.items) outcome.now.verdict ++ ends_line outcome.now.ends.items) }
 {

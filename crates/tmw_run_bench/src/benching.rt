@@ -29,8 +29,9 @@ pub fn bench_source<S: Source, R: Threads + Wait>(
         × AnswersBench (gives memory.now) settings (S.ended source.new) bytes result }
     ensures failures { S.failures source.new ≡ failures_after_answer result (S.failures source.old) }
 {
-    match read_all(alloc, source) {
-        Ok(bytes) => bench_bytes(rt, alloc, &bytes, memory, settings),
+    let mut bytes = Vec::new(alloc);
+    match read_all(source, &mut bytes) {
+        Ok(()) => bench_bytes(rt, alloc, &bytes, memory, settings),
         Err(ReadFault::Io) => Err(Fault::Io),
         Err(ReadFault::Memory) => Err(Fault::Memory),
     }

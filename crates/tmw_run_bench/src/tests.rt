@@ -350,28 +350,68 @@ fn a_workload_of_more_registers_than_the_memory_has(rt: HostRuntime) {
 }
 
 #[test]
-fn reads_that_fail(rt: HostRuntime) {
-    for call in 1..WRITE.len() as u64 + 2 {
-        let mut source = MemorySource::limited(WRITE, 1, Some(call));
-        let mut sink = MemorySink::new(rt.alloc());
-        let answered = run_bench_cmd(&rt, rt.alloc(), &mut source, &mut sink, &Seven, true, USUAL);
-        assert_eq!(rt; answered, FAULT, "at {call}");
-        assert_eq!(rt;
-            sink.bytes(),
-            b"{\"fault\":\"io\"}\n".as_slice(),
-            "at {call}"
+fn texts_that_are_cut(rt: HostRuntime) {
+    // Before its last brace no beginning of an object is JSON.
+    for size in 0..WRITE.len() {
+        expect(
+            &rt,
+            &WRITE[..size],
+            true,
+            USUAL,
+            b"{\"fault\":\"json\"}\n",
+            FAULT,
         );
     }
 }
 
 #[test]
+fn reads_that_fail(rt: HostRuntime) {
+    for told in 0..WRITE.len() + 1 {
+        let behind_one = if told == 0 { 1 } else { 2 };
+        // The bytes before are told a byte a call, or all by one call.
+        for (most, fails_at) in [(1, told as u64 + 1), (told, behind_one)] {
+            let mut source = MemorySource::limited(WRITE, most, Some(fails_at));
+            let mut sink = MemorySink::new(rt.alloc());
+            let answered = run_bench_cmd(
+                &rt,
+                rt.alloc(),
+                &mut source,
+                &mut sink,
+                &Seven,
+                true,
+                USUAL,
+            );
+            assert_eq!(rt;
+                sink.bytes(),
+                b"{\"fault\":\"io\"}\n".as_slice(),
+                "after {told} by {most}"
+            );
+            assert_eq!(rt; answered, FAULT, "after {told} by {most}");
+        }
+    }
+}
+
+#[test]
 fn writes_that_fail(rt: HostRuntime) {
-    for sent in 0..WRITE_TRACE.len() {
-        let mut source = MemorySource::new(WRITE);
-        let mut sink = MemorySink::limited(rt.alloc(), 1, Some(sent as u64 + 1));
-        let answered = run_bench_cmd(&rt, rt.alloc(), &mut source, &mut sink, &Seven, true, USUAL);
-        assert_eq!(rt; answered, FAULT, "after {sent}");
-        assert_eq!(rt; sink.bytes(), &WRITE_TRACE[..sent], "after {sent}");
+    let lines = b"{\"events\":4,\"verdict\":\"opaque so far\"}\n{\"ends\":[\"done\"]}\n".as_slice();
+    for (trace, written) in [(true, WRITE_TRACE), (false, lines)] {
+        // The last of these calls is never made.
+        for sent in 0..written.len() + 1 {
+            let mut source = MemorySource::new(WRITE);
+            let mut sink = MemorySink::limited(rt.alloc(), 1, Some(sent as u64 + 1));
+            let answered = run_bench_cmd(
+                &rt,
+                rt.alloc(),
+                &mut source,
+                &mut sink,
+                &Seven,
+                trace,
+                USUAL,
+            );
+            assert_eq!(rt; sink.bytes(), &written[..sent], "after {sent}");
+            let want = if sent == written.len() { OPAQUE } else { FAULT };
+            assert_eq!(rt; answered, want, "after {sent}");
+        }
     }
 }
 

@@ -1,4 +1,5 @@
-ghost use Rattle.std.specs.Prelude.{◌≡◌, ◌++◌, ◌⊎◌, OnOk, OnErr};
+ghost use Rattle.std.specs.Prelude.{◌≡◌, ◌≢◌, ◌++◌, ◌⊎◌, OnOk, OnErr};
+ghost use Rattle.tmw_defs.specs.declared.verdict.Verdict.TheVariants.{StrictSoFar};
 ghost use Rattle.tmw_report.specs.Lines.{fault_line};
 ghost use Rattle.tmw_report.specs.Putting.{IsPut};
 ghost use Rattle.tmw_report.specs.Streams.{to_sink};
@@ -15,6 +16,7 @@ use tmw_trace::write_trace;
 /// Writes the log's trace, where it is asked for, and the report's line, and answers the exit status. The line is made before
 /// anything is written: where memory for it is refused, that fault stands in place of all.
 pub fn answer_driven<K: Sink>(alloc: Global, sink: &mut K, driven: &Driven, trace: bool) -> u8
+    requires { driven.now.outcome.verdict ≢ StrictSoFar }
     ensures { IsPut (to_sink K.took K.holds K.failures) sink.old sink.new (driven_text trace driven.now) (driven_status driven.now) result
         ⊎ IsPut (to_sink K.took K.holds K.failures) sink.old sink.new (fault_line Memory) 4 result }
 {

@@ -23,8 +23,9 @@ pub fn drive_source<S: Source>(
         × AnswersWorkload (gives memory.now) bounds (S.ended source.new) bytes result }
     ensures failures { S.failures source.new ≡ failures_after_answer result (S.failures source.old) }
 {
-    match read_all(alloc, source) {
-        Ok(bytes) => drive_text(alloc, &bytes, memory, bounds),
+    let mut bytes = Vec::new(alloc);
+    match read_all(source, &mut bytes) {
+        Ok(()) => drive_text(alloc, &bytes, memory, bounds),
         Err(ReadFault::Io) => Err(Fault::Io),
         Err(ReadFault::Memory) => Err(Fault::Memory),
     }

@@ -145,27 +145,55 @@ fn texts_that_are_no_workloads(rt: HostRuntime) {
 }
 
 #[test]
-fn reads_that_fail(rt: HostRuntime) {
-    for call in 1..READS.len() as u64 + 2 {
-        let mut source = MemorySource::limited(READS, 1, Some(call));
-        let mut sink = MemorySink::new(rt.alloc());
-        let answered = run_drive(rt.alloc(), &mut source, &mut sink, &Seven, true, WIDEST);
-        assert_eq!(rt; answered, FAULT, "at {call}");
-        assert_eq!(rt;
-            sink.bytes(),
-            b"{\"fault\":\"io\"}\n".as_slice(),
-            "at {call}"
+fn texts_that_are_cut(rt: HostRuntime) {
+    // Before its last brace no beginning of an object is JSON.
+    for size in 0..READS.len() {
+        expect(
+            &rt,
+            &READS[..size],
+            true,
+            WIDEST,
+            b"{\"fault\":\"json\"}\n",
+            FAULT,
         );
     }
 }
 
 #[test]
+fn reads_that_fail(rt: HostRuntime) {
+    for told in 0..READS.len() + 1 {
+        let behind_one = if told == 0 { 1 } else { 2 };
+        // The bytes before are told a byte a call, or all by one call.
+        for (most, fails_at) in [(1, told as u64 + 1), (told, behind_one)] {
+            let mut source = MemorySource::limited(READS, most, Some(fails_at));
+            let mut sink = MemorySink::new(rt.alloc());
+            let answered = run_drive(rt.alloc(), &mut source, &mut sink, &Seven, true, WIDEST);
+            assert_eq!(rt;
+                sink.bytes(),
+                b"{\"fault\":\"io\"}\n".as_slice(),
+                "after {told} by {most}"
+            );
+            assert_eq!(rt; answered, FAULT, "after {told} by {most}");
+        }
+    }
+}
+
+#[test]
 fn writes_that_fail(rt: HostRuntime) {
-    for sent in 0..READS_TRACE.len() {
-        let mut source = MemorySource::new(READS);
-        let mut sink = MemorySink::limited(rt.alloc(), 1, Some(sent as u64 + 1));
-        let answered = run_drive(rt.alloc(), &mut source, &mut sink, &Seven, true, WIDEST);
-        assert_eq!(rt; answered, FAULT, "after {sent}");
-        assert_eq!(rt; sink.bytes(), &READS_TRACE[..sent], "after {sent}");
+    let line = b"{\"at\":2,\"events\":6,\"verdict\":\"violated\"}\n".as_slice();
+    for (trace, written) in [(true, READS_TRACE), (false, line)] {
+        // The last of these calls is never made.
+        for sent in 0..written.len() + 1 {
+            let mut source = MemorySource::new(READS);
+            let mut sink = MemorySink::limited(rt.alloc(), 1, Some(sent as u64 + 1));
+            let answered = run_drive(rt.alloc(), &mut source, &mut sink, &Seven, trace, WIDEST);
+            assert_eq!(rt; sink.bytes(), &written[..sent], "after {sent}");
+            let want = if sent == written.len() {
+                VIOLATED
+            } else {
+                FAULT
+            };
+            assert_eq!(rt; answered, want, "after {sent}");
+        }
     }
 }

@@ -1,12 +1,19 @@
 -- The ends of all of a window's transactions, where they are blind.
-use Rattle.std.proofs.Common.{◌≡◌, ◌+◌, ◌-◌, ◌^◌, ◌<◌, ◌≤◌, ℕ, zero, suc, Bool, List, [], length, replicate, None, IsTrue, refl, sym, ap, subst, ◌∙◌, inl, inr, arith}
+use Rattle.std.proofs.Common.{◌≡◌, ◌+◌, ◌-◌, ◌^◌, ◌<◌, ◌≤◌, ℕ, zero, suc, Bool, List, [], ◌∷◌, length, map, replicate, None, IsTrue, refl, sym, ap, subst, ◌∙◌, inl, inr, arith}
 use Rattle.std.specs.List.{Contains, list_all}
 use Rattle.std.proofs.Math.Pow.{pow_mono}
 use Rattle.std.proofs.lemmas.Nat.Bits.{bit_at_ones}
+use Rattle.std.proofs.lemmas.Bool.{and_parts, and_from}
 use Rattle.std.proofs.lemmas.List.Folds.{list_all-map}
 use Rattle.std.proofs.lemmas.Option.{slice_get_within}
 use Rattle.tmw_search.specs.BlindTransactions.{is_blind, put_from, EndsBefore}
-use Rattle.tmw_defs.specs.History.{Txn, transactions}
+use Rattle.tmw_search.specs.ForcedTransactions.{is_committed}
+use Rattle.tmw_defs.specs.declared.criterion.Criterion.{Criterion}
+use Rattle.tmw_defs.specs.declared.criterion.Criterion.TheVariants.{Opacity, Strict}
+use Rattle.tmw_defs.specs.declared.status.Status.{Status}
+use Rattle.tmw_defs.specs.declared.status.Status.TheVariants.{Live, Pending, Committed, Aborted}
+use Rattle.tmw_defs.specs.Criteria.{EndsBy}
+use Rattle.tmw_defs.specs.History.{Txn, is_over, status_of, transactions}
 use Rattle.tmw_defs.specs.Opaque.{State}
 use Rattle.tmw_defs.specs.Outcomes.{Ends}
 use Rattle.tmw_search.proofs.LayersProof.{layer-last}
@@ -24,6 +31,7 @@ use Rattle.tmw_search.specs.ShownTransactions.{ShowsTransactions, NoneBeforeItse
 use Rattle.tmw_cuts.proofs.FirstMembers.{contains_none}
 use Rattle.tmw_search.proofs.WindowViews.{shows-views_of, none_before_itself}
 use Rattle.tmw_search.proofs.AddedEnds.{adds-as}
+use Rattle.tmw_search.proofs.SameEnds.{committed-ends, committed_ends}
 
 -- all of them
 past-all : (xs : List View) (ts : List Txn) → ShowsTransactions xs ts → NoneBeforeItself ts → IsTrue (list_all is_blind ts)
@@ -86,14 +94,54 @@ blind-few xs starts above n cap done old ends all count none a few is = λ ts sh
     let adds = adds-all xs starts above n done old (members ends) all count none a ts shows self blind in
     (few, λ e. (added_end done (members ends) (Ends (Contains starts) ts) adds e, λ end. adds.all is e end))
 
+-- members of the one set are those of the other
+are-members_as : (cap : ℕ) (P Q : State → Type 0) (ends : EndStates) → ((e : State) → P e → Q e) → ((e : State) → Q e → P e)
+    → AreMembers cap P ends → AreMembers cap Q ends
+are-members_as cap P Q (Few states) to from (few, each) = (few, λ e. (λ has. to e ((each e).0 has), λ q. (each e).1 (from e q)))
+are-members_as cap P Q Many to from (some, rising, more, each) = (some, rising, more, λ e has. to e (each e has))
+
+-- blind ones that each order has are blind, and for strict serializability they have committed
+blind_by : (criterion : Criterion) (xs : List View) → IsTrue (list_all (shows_blind criterion) xs)
+    → IsTrue (list_all (shows_blind Opacity) xs)
+blind_by Opacity xs all = all
+blind_by Strict [] all = refl
+blind_by Strict (x ∷ xs) all =
+    let (here, rest) = and_parts (shows_blind Strict x) _ all in
+    let (committed, writes) = and_parts (is_committed x.status) _ here in
+    and_from (shows_blind Opacity x) _ (and_from (is_over x.status) _ (over x.status committed) writes) (blind_by Strict xs rest)
+  where
+    over : (status : Status) → IsTrue (is_committed status) → IsTrue (is_over status)
+    over Committed is = refl
+    over Live is = absurd (cc)
+    over Pending is = absurd (cc)
+    over Aborted is = absurd (cc)
+
+committed_all : (xs : List View) → IsTrue (list_all (shows_blind Strict) xs) → IsTrue (list_all (λ x. is_committed x.status) xs)
+committed_all [] all = refl
+committed_all (x ∷ xs) all =
+    let (here, rest) = and_parts (shows_blind Strict x) _ all in
+    and_from (is_committed x.status) _ (and_parts (is_committed x.status) _ here).0 (committed_all xs rest)
+
+members-by : (criterion : Criterion) (xs : List View) (ts : List Txn) (S : State → Type 0) (cap : ℕ) (ends : EndStates)
+    → xs ≡ map (view_of ts) ts → IsTrue (list_all (shows_blind criterion) xs) → AreMembers cap (Ends S ts) ends
+    → AreMembers cap (EndsBy criterion S ts) ends
+members-by Opacity xs ts S cap ends shown blind are = are
+members-by Strict xs ts S cap ends shown blind are =
+    let committed : IsTrue (list_all (λ t. is_committed (status_of t.text)) ts) =
+    sym (list_all-map (λ x. is_committed x.status) (view_of ts) ts)
+    ∙ subst (λ (v : List View). IsTrue (list_all (λ x. is_committed x.status) v)) shown (committed_all xs blind) in
+    are-members_as cap (Ends S ts) (EndsBy Strict S ts) ends (λ e. committed-ends S ts e committed) (λ e. committed_ends S ts e committed) are
+
 -- the ends of what a window shows are those of its events
-pub blind-ends : (states : States) (window : Window) (xs : List View) (start : List State) (cap : ℕ) (ends : EndStates)
-    → xs ≡ views window → start ≡ members states → IsTrue (list_all shows_blind xs) → AreBlindEnds xs start cap ends
-    → AreEnds states window cap ends
-blind-ends states window xs start cap ends shown same blind are = λ events stands.
+pub blind-ends : (criterion : Criterion) (states : States) (window : Window) (xs : List View) (start : List State) (cap : ℕ) (ends : EndStates)
+    → xs ≡ views window → start ≡ members states → IsTrue (list_all (shows_blind criterion) xs) → AreBlindEnds xs start cap ends
+    → AreEnds criterion states window cap ends
+blind-ends criterion states window xs start cap ends shown same blind are = λ events stands.
     let ts = transactions events in
     let is : xs ≡ views_of events = shown ∙ stands.shows in
     let shows : ShowsTransactions xs ts = subst (λ (v : List View). ShowsTransactions v ts) (sym is) (shows-views_of events) in
     let all : IsTrue (list_all is_blind ts) =
-    sym (list_all-map shows_blind (view_of ts) ts) ∙ subst (λ (v : List View). IsTrue (list_all shows_blind v)) is blind in
-    subst (λ (s : List State). AreMembers cap (Ends (Contains s) ts) ends) same (are ts shows (none_before_itself events) all)
+    sym (list_all-map (shows_blind Opacity) (view_of ts) ts)
+    ∙ subst (λ (v : List View). IsTrue (list_all (shows_blind Opacity) v)) is (blind_by criterion xs blind) in
+    subst (λ (s : List State). AreMembers cap (EndsBy criterion (Contains s) ts) ends) same
+    (members-by criterion xs ts (Contains start) cap ends is blind (are ts shows (none_before_itself events) all))

@@ -7,6 +7,7 @@ use Rattle.std.specs.Prelude.{slice_get, slice_set}
 use Rattle.std.proofs.lemmas.Bool.{and_parts, cases_Bool, cases_lt}
 use Rattle.std.proofs.lemmas.List.{set_comm, set-set, length-set}
 use Rattle.std.proofs.lemmas.Nat.Bits.{bit_at-zero, bit_at_above}
+use Rattle.tmw_defs.specs.declared.criterion.Criterion.TheVariants.{Opacity}
 use Rattle.tmw_defs.specs.declared.op.Op.{Op}
 use Rattle.tmw_defs.specs.declared.op.Op.TheVariants.{Read, Write, Add}
 use Rattle.tmw_search.specs.BlindTransactions.{is_write, is_blind, blind_after, put_from, fix_from, fixed_by, Reaches}
@@ -200,7 +201,7 @@ pub record HasLast (S : State → Type 0) (ts : List Txn) (above : ℕ) (u : Sta
   pub reaches : Reaches S ts (above - 2 ^ place) before
   pub to : u ≡ blind_after before txn
 
-has_last : (S : State → Type 0) (ts : List Txn) (k above : ℕ) (u : State) → IsTrue (list_all is_blind ts) → IsStepped S ts k above u
+has_last : (S : State → Type 0) (ts : List Txn) (k above : ℕ) (u : State) → IsTrue (list_all is_blind ts) → IsStepped Opacity S ts k above u
     → HasLast S ts above u
 has_last S ts k above u blind e =
     let x = e.step in
@@ -232,7 +233,7 @@ pub last-taken : (S : State → Type 0) (ts : List Txn) (above place : ℕ) (t :
 last-taken S ts above place t r blind closed at one (k, l) =
     let less = less_of above place one in
     let (ended, writes) = and_parts (is_ended t.text) _ (blind_at ts place t blind at) in
-    let step : IsStep ts (above - 2 ^ place) r above (blind_after r t) = record {
+    let step : IsStep Opacity ts (above - 2 ^ place) r above (blind_after r t) = record {
       place = place;
       placed = record { txn = t; held = is_committed (status_of t.text) };
       at = at;
@@ -274,7 +275,7 @@ pub record MayGoLast (ts : List Txn) (f : State → State) (c : Txn) (mask : ℕ
 -- the same with another of the mask's placed last
 absorbed-step : (S : State → Type 0) (ts : List Txn) (f : State → State) (place : ℕ) (c : Txn) (k mask less : ℕ) (r u : State)
     → IsTrue (list_all is_blind ts) → slice_get ts place ≡ Some c → bit_at mask place ≡ 0 → MayGoLast ts f c mask
-    → (x : IsStep ts (less + 2 ^ place) r (mask + 2 ^ place) u) → bit_at less place ≡ 0 → (x.place ≡ place → ⊥)
+    → (x : IsStep Opacity ts (less + 2 ^ place) r (mask + 2 ^ place) u) → bit_at less place ≡ 0 → (x.place ≡ place → ⊥)
     → IsAbsorbed S ts f c k less r → IsAbsorbed S ts f c (k + 1) mask u
 absorbed-step S ts f place c k mask less r u blind at new g x new_less apart a =
     let p = x.placed in
@@ -285,7 +286,7 @@ absorbed-step S ts f place c k mask less r u blind at new g x new_less apart a =
     let in_x : bit_at mask x.place ≡ 1 = ap (λ (m : ℕ). bit_at m x.place) is ∙ bit_at-more_same less x.place new_x in
     let blind_p = blind_at ts x.place p.txn blind x.at in
     let (ended, writes) = and_parts (is_ended p.txn.text) _ blind_p in
-    let step : IsStep ts less a.before mask (after a.before p) = record {
+    let step : IsStep Opacity ts less a.before mask (after a.before p) = record {
       place = x.place;
       placed = p;
       at = x.at;
@@ -325,7 +326,7 @@ may_go-less ts f c mask less place new is g =
 
 -- the last one placed is it
 absorbed-here : (S : State → Type 0) (ts : List Txn) (f : State → State) (place : ℕ) (c : Txn) (k mask : ℕ) (u : State)
-    → IsTrue (list_all is_blind ts) → slice_get ts place ≡ Some c → (e : IsStepped S ts k (mask + 2 ^ place) u) → e.step.place ≡ place
+    → IsTrue (list_all is_blind ts) → slice_get ts place ≡ Some c → (e : IsStepped Opacity S ts k (mask + 2 ^ place) u) → e.step.place ≡ place
     → IsAbsorbed S ts f c k mask u
 absorbed-here S ts f place c k mask u blind at e same =
     let x = e.step in
@@ -392,11 +393,11 @@ absorb S ts f place c (suc k) mask u blind at new g l =
   where
     absorbed_again : (S : State → Type 0) (ts : List Txn) (f : State → State) (place : ℕ) (c : Txn) (k mask : ℕ) (u : State) (from : ℕ) (r : State)
         (less : ℕ) → IsTrue (list_all is_blind ts) → slice_get ts place ≡ Some c → bit_at mask place ≡ 0 → MayGoLast ts f c mask
-        → (x : IsStep ts from r (mask + 2 ^ place) u) → bit_at less place ≡ 0 → from ≡ less + 2 ^ place → (x.place ≡ place → ⊥)
+        → (x : IsStep Opacity ts from r (mask + 2 ^ place) u) → bit_at less place ≡ 0 → from ≡ less + 2 ^ place → (x.place ≡ place → ⊥)
         → IsAbsorbed S ts f c k less r → IsAbsorbed S ts f c (suc k) mask u
     absorbed_again S ts f place c k mask u from r less blind at new g x new_less whole apart a =
         let more : k + 1 ≡ suc k = omega arith in
-        let step : IsStep ts (less + 2 ^ place) r (mask + 2 ^ place) u = record {
+        let step : IsStep Opacity ts (less + 2 ^ place) r (mask + 2 ^ place) u = record {
           place = x.place;
           placed = x.placed;
           at = x.at;

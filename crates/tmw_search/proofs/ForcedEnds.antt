@@ -3,11 +3,12 @@ use Rattle.std.proofs.Common.{◌≡◌, ◌⊎◌, ◌+◌, ◌<◌, ◌≤◌,
 use Rattle.std.specs.List.{Contains}
 use Rattle.std.proofs.Math.Seq.{drop-cons}
 use Rattle.tmw_events.specs.declared.event.Event.{Event}
+use Rattle.tmw_defs.specs.declared.criterion.Criterion.{Criterion}
+use Rattle.tmw_defs.specs.Criteria.{EndsBy}
 use Rattle.tmw_defs.specs.Cuts.{is_cut}
 use Rattle.tmw_defs.specs.History.{transactions}
 use Rattle.tmw_defs.specs.Opaque.{State}
-use Rattle.tmw_defs.specs.Outcomes.{Ends}
-use Rattle.tmw_search.proofs.ForcedProof.{forced-end}
+use Rattle.tmw_search.proofs.SameEnds.{forced-end_by}
 use Rattle.tmw_cuts.specs.declared.states.States.{States}
 use Rattle.tmw_cuts.specs.declared.window.Window.{Window}
 use Rattle.tmw_cuts.specs.Members.{members, AddsMember}
@@ -24,25 +25,25 @@ use Rattle.tmw_cuts.proofs.FirstMembers.{contains_here, contains_later, contains
 use Rattle.tmw_search.proofs.WindowViews.{shows-views_of}
 
 -- an end of the list was found from the state
-pub record HasEnd (xs : List View) (ends : List State) (s : State) : Type 0 where
+pub record HasEnd (criterion : Criterion) (xs : List View) (ends : List State) (s : State) : Type 0 where
   pub end : State
   pub within : Contains ends end
-  pub leads : LeadsAll xs s end
+  pub leads : LeadsAll criterion xs s end
 
 -- the end was found from a state of the list
-pub record HasStart (xs : List View) (start : List State) (e : State) : Type 0 where
+pub record HasStart (criterion : Criterion) (xs : List View) (start : List State) (e : State) : Type 0 where
   pub begun : State
   pub within : Contains start begun
-  pub leads : LeadsAll xs begun e
+  pub leads : LeadsAll criterion xs begun e
 
-pub record Finds (xs : List View) (ends left start : List State) : Type 0 where
-  pub only : (e : State) → Contains ends e → HasStart xs start e
+pub record Finds (criterion : Criterion) (xs : List View) (ends left start : List State) : Type 0 where
+  pub only : (e : State) → Contains ends e → HasStart criterion xs start e
   pub within : (s : State) → Contains left s → Contains start s
-  pub each : (s : State) → Contains start s → HasEnd xs ends s ⊎ Contains left s
+  pub each : (s : State) → Contains start s → HasEnd criterion xs ends s ⊎ Contains left s
 
-finds-more : (xs : List View) (ends more : List State) (s e : State) (left start : List State) → Finds xs ends (s ∷ left) start
-    → LeadsAll xs s e → AddsMember ends more e → Finds xs more left start
-finds-more xs ends more s e left start f leads adds = record {
+finds-more : (criterion : Criterion) (xs : List View) (ends more : List State) (s e : State) (left start : List State) → Finds criterion xs ends (s ∷ left) start
+    → LeadsAll criterion xs s e → AddsMember ends more e → Finds criterion xs more left start
+finds-more criterion xs ends more s e left start f leads adds = record {
   only = λ z has. elim ((adds z).0 has) [
     | inl is ↦ record { begun = s; within = f.within s (contains_here s left); leads = rw is leads }
     | inr old ↦ f.only z old
@@ -57,41 +58,41 @@ finds-more xs ends more s e left start f leads adds = record {
   ];
 }
 
-pub finds-next : (xs : List View) (ends more : List State) (i : ℕ) (start : List State) (e : State) → i < length start
-    → Finds xs ends (drop i start) start → LeadsAll xs (get_or start i []) e → AddsMember ends more e
-    → Finds xs more (drop (i + 1) start) start
-finds-next xs ends more i start e within f leads adds =
+pub finds-next : (criterion : Criterion) (xs : List View) (ends more : List State) (i : ℕ) (start : List State) (e : State) → i < length start
+    → Finds criterion xs ends (drop i start) start → LeadsAll criterion xs (get_or start i []) e → AddsMember ends more e
+    → Finds criterion xs more (drop (i + 1) start) start
+finds-next criterion xs ends more i start e within f leads adds =
     let s : State = get_or start i [] in
     let same : suc i ≡ i + 1 = omega arith in
     let left : drop i start ≡ s ∷ drop (i + 1) start =
     drop-cons start i [] within ∙ ap (λ (n : ℕ). s ∷ drop n start) same in
-    finds-more xs ends more s e (drop (i + 1) start) start (subst (λ (l : List State). Finds xs ends l start) left f) leads adds
+    finds-more criterion xs ends more s e (drop (i + 1) start) start (subst (λ (l : List State). Finds criterion xs ends l start) left f) leads adds
 
-pub found-many : (xs : List View) (cap : ℕ) (ends : States) (left start : List State) → Finds xs (members ends) left start
-    → cap < length (members ends) → AreForcedEnds xs start cap Many
-found-many xs cap ends left start f more = λ ts shows forced ended.
+pub found-many : (criterion : Criterion) (xs : List View) (cap : ℕ) (ends : States) (left start : List State) → Finds criterion xs (members ends) left start
+    → cap < length (members ends) → AreForcedEnds criterion xs start cap Many
+found-many criterion xs cap ends left start f more = λ ts shows forced ended.
     (members ends, ends.rising, more, λ e has. let h = f.only e has in (h.begun, h.within, h.leads ts shows))
 
-pub found-few : (xs : List View) (cap : ℕ) (ends : States) (left start : List State) → Finds xs (members ends) left start → left ≡ []
-    → length (members ends) ≤ cap → AreForcedEnds xs start cap (Few ends)
-found-few xs cap ends left start f none few = λ ts shows forced ended. (
+pub found-few : (criterion : Criterion) (xs : List View) (cap : ℕ) (ends : States) (left start : List State) → Finds criterion xs (members ends) left start → left ≡ []
+    → length (members ends) ≤ cap → AreForcedEnds criterion xs start cap (Few ends)
+found-few criterion xs cap ends left start f none few = λ ts shows forced ended. (
   few,
   λ e. (
     λ has. let h = f.only e has in (h.begun, h.within, h.leads ts shows),
     λ (s, within, leads). elim (f.each s within) [
-      | inl h ↦ subst (λ (z : State). Contains (members ends) z) (forced-end s h.end e ts forced ended (h.leads ts shows) leads) h.within
+      | inl h ↦ subst (λ (z : State). Contains (members ends) z) (forced-end_by criterion s h.end e ts forced ended (h.leads ts shows) leads) h.within
       | inr later ↦ absurd (contains_none s (rw none at later))
     ],
   ),
 )
 
 -- the ends that were found from what a window shows are those of its events
-pub forced-ends : (states : States) (window : Window) (xs : List View) (start : List State) (cap : ℕ) (ends : EndStates)
+pub forced-ends : (criterion : Criterion) (states : States) (window : Window) (xs : List View) (start : List State) (cap : ℕ) (ends : EndStates)
     → xs ≡ views window → start ≡ members states → ((events : List Event) → StandsFor window events → true ≡ is_cut events)
-    → AreForced xs → AreForcedEnds xs start cap ends → AreEnds states window cap ends
-forced-ends states window xs start cap ends shown same cut forced are = λ events stands.
+    → AreForced xs → AreForcedEnds criterion xs start cap ends → AreEnds criterion states window cap ends
+forced-ends criterion states window xs start cap ends shown same cut forced are = λ events stands.
     let ts = transactions events in
     let is = shown ∙ stands.shows in
     let shows : ShowsTransactions xs ts = subst (λ (v : List View). ShowsTransactions v ts) (sym is) (shows-views_of events) in
     let only_one = is-forced ts ts (subst (λ (v : List View). AreForced v) is forced) in
-    subst (λ (s : List State). AreMembers cap (Ends (Contains s) ts) ends) same (are ts shows only_one (sym (cut events stands)))
+    subst (λ (s : List State). AreMembers cap (EndsBy criterion (Contains s) ts) ends) same (are ts shows only_one (sym (cut events stands)))

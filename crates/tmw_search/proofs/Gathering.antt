@@ -4,6 +4,7 @@ use Rattle.std.specs.List.{Contains}
 use Rattle.std.specs.Prelude.{slice_index_or}
 use Rattle.std.proofs.Math.Seq.{drop-cons}
 use Rattle.tmw_events.specs.declared.event.Event.{Event}
+use Rattle.tmw_defs.specs.declared.criterion.Criterion.{Criterion}
 use Rattle.tmw_defs.specs.History.{transactions}
 use Rattle.tmw_defs.specs.Opaque.{State}
 use Rattle.tmw_cuts.specs.declared.states.States.{States}
@@ -11,7 +12,7 @@ use Rattle.tmw_cuts.specs.declared.window.Window.{Window}
 use Rattle.tmw_cuts.specs.Members.{members, AddsMember}
 use Rattle.tmw_cuts.specs.Standing.{StandsFor, views}
 use Rattle.tmw_search.specs.declared.end_states.EndStates.TheVariants.{Few, Many}
-use Rattle.tmw_search.specs.Ended.{EndsOf, AreLayer, AreEnds}
+use Rattle.tmw_search.specs.Ended.{EndsOf, AreLayerBy, AreEnds}
 use Rattle.tmw_cuts.proofs.FirstMembers.{contains_here, contains_later, contains_cases, contains_none}
 use Rattle.tmw_search.proofs.WindowLayers.{last_layer, last-layer}
 
@@ -64,29 +65,29 @@ gathers-next ends more i all d within g adds =
     (subst (λ (l : List (ℕ × State)). Gathers ends l all) left g) adds
 
 -- the gathered states of the last layer are end states of the window
-pub gathered-end : (states : States) (window : Window) (k : ℕ) (all left : List (ℕ × State)) (ends : List State) (events : List Event)
-    → AreLayer states window k all → k ≡ length (views window) → Gathers ends left all → StandsFor window events
-    → (s : State) → Contains ends s → EndsOf states events s
-gathered-end states window k all left ends events are count g stands s has =
+pub gathered-end : (criterion : Criterion) (states : States) (window : Window) (k : ℕ) (all left : List (ℕ × State)) (ends : List State) (events : List Event)
+    → AreLayerBy criterion states window k all → k ≡ length (views window) → Gathers ends left all → StandsFor window events
+    → (s : State) → Contains ends s → EndsOf criterion states events s
+gathered-end criterion states window k all left ends events are count g stands s has =
     let h = g.only s has in
-    subst (λ (r : State). EndsOf states events r) h.is (last_layer states window k all events are count stands h.pair h.within)
+    subst (λ (r : State). EndsOf criterion states events r) h.is (last_layer criterion states window k all events are count stands h.pair h.within)
 
-pub gathered-more : (states : States) (window : Window) (k cap : ℕ) (all left : List (ℕ × State)) (ends : States)
-    → AreLayer states window k all → k ≡ length (views window) → Gathers (members ends) left all → cap < length (members ends)
-    → AreEnds states window cap Many
-gathered-more states window k cap all left ends are count g more = λ events stands.
-    (members ends, ends.rising, more, gathered-end states window k all left (members ends) events are count g stands)
+pub gathered-more : (criterion : Criterion) (states : States) (window : Window) (k cap : ℕ) (all left : List (ℕ × State)) (ends : States)
+    → AreLayerBy criterion states window k all → k ≡ length (views window) → Gathers (members ends) left all → cap < length (members ends)
+    → AreEnds criterion states window cap Many
+gathered-more criterion states window k cap all left ends are count g more = λ events stands.
+    (members ends, ends.rising, more, gathered-end criterion states window k all left (members ends) events are count g stands)
 
-pub gathered-few : (states : States) (window : Window) (k cap : ℕ) (all left : List (ℕ × State)) (ends : States)
-    → AreLayer states window k all → k ≡ length (views window) → Gathers (members ends) left all → left ≡ []
-    → length (members ends) ≤ cap → AreEnds states window cap (Few ends)
-gathered-few states window k cap all left ends are count g none few = λ events stands. (
+pub gathered-few : (criterion : Criterion) (states : States) (window : Window) (k cap : ℕ) (all left : List (ℕ × State)) (ends : States)
+    → AreLayerBy criterion states window k all → k ≡ length (views window) → Gathers (members ends) left all → left ≡ []
+    → length (members ends) ≤ cap → AreEnds criterion states window cap (Few ends)
+gathered-few criterion states window k cap all left ends are count g none few = λ events stands. (
   few,
   λ s. (
-    gathered-end states window k all left (members ends) events are count g stands s,
+    gathered-end criterion states window k all left (members ends) events are count g stands s,
     λ end.
         let pair : ℕ × State = (2 ^ length (transactions events) - 1, s) in
         gathers-all (members ends) all s (subst (λ (l : List (ℕ × State)). Gathers (members ends) l all) none g)
-        (record { pair = pair; within = last-layer states window k all events are count stands s end; is = refl }),
+        (record { pair = pair; within = last-layer criterion states window k all events are count stands s end; is = refl }),
   ),
 )

@@ -40,24 +40,30 @@ places-last (q ∷ order) us i p at (j, there, rest) =
     let s = taken_swap us i j p.txn q.txn at there in
     (s.other, s.at_other, places-last order (remove us s.other) s.one p s.at_one (rw s.same rest))
 
-pub leads-last : (s r : State) (us : List Txn) (i : ℕ) (p : Placed) → slice_get us i ≡ Some p.txn → Leads s (remove us i) r
-    → IsTrue (list_all (λ t. not (precedes p.txn t)) (remove us i)) → IsTrue (may_be p)
-    → IsTrue (reads_hold r (operations p.txn.text)) → Leads s us (after r p)
-leads-last s r us i p at (order, a, is_r) none may reads =
+pub explains-last : (s : State) (us : List Txn) (i : ℕ) (p : Placed) (order : List Placed) → slice_get us i ≡ Some p.txn
+    → Explains s (remove us i) order → IsTrue (list_all (λ t. not (precedes p.txn t)) (remove us i)) → IsTrue (may_be p)
+    → IsTrue (reads_hold (end_state s order) (operations p.txn.text)) → Explains s us (order ++ p ∷ [])
+explains-last s us i p order at a none may reads =
     let each = list_all-mono (λ t. not (precedes p.txn t)) (λ t. none_precedes (p ∷ []) t) (λ t h. and_from _ true h refl)
     (remove us i) none in
     let across : IsTrue (list_all (λ q. none_precedes (p ∷ []) q.txn) order) =
     rw (list_all-places (λ t. none_precedes (p ∷ []) t) (remove us i) order a.each) each in
-    let legal : IsTrue (is_legal (end_state s order) (p ∷ [])) = rw is_r (and_from _ true reads refl) in (
-      order ++ p ∷ [],
-      record {
-        each = places-last order us i p at a.each;
-        kept = keeps-append order (p ∷ []) a.kept refl across;
-        completed = rw (list_all-append may_be order (p ∷ [])) (and_from _ _ a.completed (and_from _ true may refl));
-        legal = rw (is_legal-append s order (p ∷ [])) (and_from _ _ a.legal legal);
-      },
-      end_state-append s order (p ∷ []) ∙ ap (λ m. after m p) is_r,
-    )
+    let legal : IsTrue (is_legal (end_state s order) (p ∷ [])) = and_from _ true reads refl in
+    record {
+      each = places-last order us i p at a.each;
+      kept = keeps-append order (p ∷ []) a.kept refl across;
+      completed = rw (list_all-append may_be order (p ∷ [])) (and_from _ _ a.completed (and_from _ true may refl));
+      legal = rw (is_legal-append s order (p ∷ [])) (and_from _ _ a.legal legal);
+    }
+
+pub leads-last : (s r : State) (us : List Txn) (i : ℕ) (p : Placed) → slice_get us i ≡ Some p.txn → Leads s (remove us i) r
+    → IsTrue (list_all (λ t. not (precedes p.txn t)) (remove us i)) → IsTrue (may_be p)
+    → IsTrue (reads_hold r (operations p.txn.text)) → Leads s us (after r p)
+leads-last s r us i p at (order, a, is_r) none may reads = (
+  order ++ p ∷ [],
+  explains-last s us i p order at a none may (rw is_r reads),
+  end_state-append s order (p ∷ []) ∙ ap (λ m. after m p) is_r,
+)
 
 -- where the last of an order stands, and the order of the others
 record HasLast (us : List Txn) (front : List Placed) (last : Placed) : Type 0 where
@@ -72,17 +78,18 @@ places_last (q ∷ front) us last (j, at, rest) =
     let s = taken_swap us j l.place q.txn last.txn at l.at in
     record { place = s.other; at = s.at_other; others = (s.one, s.at_one, rw s.same l.others) }
 
--- an order of transactions, of which the last is this one
-pub record EndsWith (s u : State) (us : List Txn) : Type 0 where
+-- the order of transactions, of which the last is this one
+pub record EndsWith (s u : State) (us : List Txn) (order : List Placed) : Type 0 where
   pub place : ℕ
   pub placed : Placed
-  pub before : State
+  pub front : List Placed
+  pub whole : order ≡ front ++ placed ∷ []
   pub at : slice_get us place ≡ Some placed.txn
-  pub leads : Leads s (remove us place) before
+  pub explains : Explains s (remove us place) front
   pub none : IsTrue (list_all (λ t. not (precedes placed.txn t)) (remove us place))
   pub may : IsTrue (may_be placed)
-  pub reads : IsTrue (reads_hold before (operations placed.txn.text))
-  pub to : u ≡ after before placed
+  pub reads : IsTrue (reads_hold (end_state s front) (operations placed.txn.text))
+  pub to : u ≡ after (end_state s front) placed
 
 last_of : (xs : List Placed) (x : Placed) → (front : List Placed) × (last : Placed) × (x ∷ xs ≡ front ++ last ∷ [])
 last_of [] x = ([], x, refl)
@@ -99,7 +106,7 @@ keeps_front (p ∷ front) last kept =
     (and_from _ _ here rest.0, and_from _ _ later rest.1)
 
 ends_with : (s u : State) (us : List Txn) (front : List Placed) (last : Placed) → Explains s us (front ++ last ∷ [])
-    → end_state s (front ++ last ∷ []) ≡ u → EndsWith s u us
+    → end_state s (front ++ last ∷ []) ≡ u → EndsWith s u us (front ++ last ∷ [])
 ends_with s u us front last a is_u =
     let l = places_last front us last a.each in
     let kept = keeps_front front last a.kept in
@@ -109,9 +116,10 @@ ends_with s u us front last a is_u =
     record {
       place = l.place;
       placed = last;
-      before = end_state s front;
+      front = front;
+      whole = refl;
       at = l.at;
-      leads = (front, record { each = l.others; kept = kept.0; completed = completed.0; legal = legal.0 }, refl);
+      explains = record { each = l.others; kept = kept.0; completed = completed.0; legal = legal.0 };
       none = list_all-mono (λ t. none_precedes (last ∷ []) t) (λ t. not (precedes last.txn t))
           (λ t h. (and_parts (not (precedes last.txn t)) _ h).0) (remove us l.place) across;
       may = (and_parts (may_be last) _ completed.1).0;
@@ -119,9 +127,10 @@ ends_with s u us front last a is_u =
       to = sym is_u ∙ end_state-append s front (last ∷ []);
     }
 
-pub leads_last : (s u : State) (us : List Txn) → 0 < length us → Leads s us u → EndsWith s u us
+pub leads_last : (s u : State) (us : List Txn) → 0 < length us → (l : Leads s us u) → EndsWith s u us l.0
 leads_last s u us some ([], a, is_u) = absurd (omega (arith, some, ap length a.each))
 leads_last s u us some (p ∷ order, a, is_u) =
     let l = last_of order p in
-    ends_with s u us l.0 l.1 (subst (λ (xs : List Placed). Explains s us xs) l.2 a)
-    (subst (λ (xs : List Placed). end_state s xs ≡ u) l.2 is_u)
+    subst (λ (xs : List Placed). EndsWith s u us xs) (sym l.2)
+    (ends_with s u us l.0 l.1 (subst (λ (xs : List Placed). Explains s us xs) l.2 a)
+    (subst (λ (xs : List Placed). end_state s xs ≡ u) l.2 is_u))

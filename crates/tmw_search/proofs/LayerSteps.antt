@@ -7,119 +7,119 @@ use Rattle.std.proofs.lemmas.Bool.{and_parts, and_from, cases_Bool}
 use Rattle.std.proofs.lemmas.List.Elements.{Contains-append_left, Contains-append_right, Contains-append_cases}
 use Rattle.std.proofs.Math.Pow.{pow_mono}
 use Rattle.std.proofs.lemmas.Option.{slice_get_within}
-use Rattle.tmw_defs.specs.declared.status.Status.{Status}
-use Rattle.tmw_defs.specs.declared.status.Status.TheVariants.{Live, Pending, Committed, Aborted}
+use Rattle.tmw_defs.specs.declared.criterion.Criterion.{Criterion}
 use Rattle.tmw_defs.specs.History.{Txn, operations}
-use Rattle.tmw_search.specs.Layers.{IsStep}
-use Rattle.tmw_defs.specs.Opaque.{State, precedes, may_hold, reads_hold, after, after_writes}
+use Rattle.tmw_search.specs.Layers.{reads_asked, IsStep}
+use Rattle.tmw_defs.specs.Opaque.{State, precedes, may_hold, after, after_writes}
 use Rattle.tmw_cuts.specs.Views.{View}
-use Rattle.tmw_search.specs.Nexts.{is_next, ways, next_at, nexts_from}
+use Rattle.tmw_search.specs.Nexts.{is_next, end_at, way, ways, next_at, nexts_from}
 use Rattle.tmw_search.specs.ShownTransactions.{ShowsTransaction, ShowsTransactions}
 use Rattle.tmw_search.proofs.LayersProof.{same_place}
 use Rattle.tmw_search.proofs.MaskBits.{mask-set}
 use Rattle.tmw_search.proofs.FreeNext.{next_free, free-next}
 use Rattle.tmw_cuts.proofs.FirstMembers.{contains_here, contains_later, contains_cases, contains_none}
 
--- a way to place a transaction: held where the completion may hold it, or left out
-pub record IsWay (status : Status) (above : ℕ) (held left_out : State) (p : ℕ × State) : Type 0 where
+-- a way to place a transaction, held or left out, where a completion may do so and what is asked of its reads holds
+pub record IsWay (criterion : Criterion) (x : View) (above : ℕ) (s : State) (p : ℕ × State) : Type 0 where
   pub by : Bool
-  pub may : IsTrue (may_hold status by)
+  pub may : IsTrue (may_hold x.status by)
+  pub reads : IsTrue (reads_asked criterion by s x.ops)
   pub mask : p.0 ≡ above
-  pub state : p.1 ≡ (if by then held else left_out)
+  pub state : p.1 ≡ end_at x s by
 
-way-held : (status : Status) (above : ℕ) (held left_out : State) (p : ℕ × State) → IsTrue (may_hold status true)
-    → (let r : ℕ × State = (above, held) in r) ≡ p → IsWay status above held left_out p
-way-held status above held left_out p may is =
-    record { by = true; may = may; mask = ap (λ (q : ℕ × State). q.0) (sym is); state = ap (λ (q : ℕ × State). q.1) (sym is) }
-
-way-left_out : (status : Status) (above : ℕ) (held left_out : State) (p : ℕ × State) → IsTrue (may_hold status false)
-    → (let r : ℕ × State = (above, left_out) in r) ≡ p → IsWay status above held left_out p
-way-left_out status above held left_out p may is =
-    record { by = false; may = may; mask = ap (λ (q : ℕ × State). q.0) (sym is); state = ap (λ (q : ℕ × State). q.1) (sym is) }
-
-way_of : (status : Status) (above : ℕ) (held left_out : State) (p : ℕ × State) → Contains (ways status above held left_out) p
-    → IsWay status above held left_out p
-way_of Committed above held left_out p has =
-    elim (contains_cases _ p [] has) [ inl is ↦ way-held Committed above held left_out p refl is | inr none ↦ absurd (contains_none p none) ]
-way_of Pending above held left_out p has =
-    let last : List (ℕ × State) = (above, left_out) ∷ [] in
-    elim (contains_cases _ p last has) [
-      | inl is ↦ way-held Pending above held left_out p refl is
-      | inr rest ↦ elim (contains_cases _ p [] rest)
-          [ inl is ↦ way-left_out Pending above held left_out p refl is | inr none ↦ absurd (contains_none p none) ]
+way_is : (criterion : Criterion) (x : View) (above : ℕ) (s : State) (by : Bool) (p : ℕ × State) → Contains (way criterion x above s by) p
+    → IsWay criterion x above s p
+way_is criterion x above s by p has =
+    elim (cases_Bool (may_hold x.status by && reads_asked criterion by s x.ops)) [
+      | inl is ↦
+          let (may, reads) = and_parts (may_hold x.status by) _ is in
+          let r : ℕ × State = (above, end_at x s by) in
+          let one : Contains (r ∷ []) p = rw is at has in
+          elim (contains_cases r p [] one) [
+            | inl same ↦ record {
+              by = by;
+              may = may;
+              reads = reads;
+              mask = ap (λ (q : ℕ × State). q.0) (sym same);
+              state = ap (λ (q : ℕ × State). q.1) (sym same);
+            }
+            | inr none ↦ absurd (contains_none p none)
+          ]
+      | inr other ↦ absurd (contains_none p (rw other at has))
     ]
-way_of Live above held left_out p has =
-    elim (contains_cases _ p [] has) [ inl is ↦ way-left_out Live above held left_out p refl is | inr none ↦ absurd (contains_none p none) ]
-way_of Aborted above held left_out p has =
-    elim (contains_cases _ p [] has) [ inl is ↦ way-left_out Aborted above held left_out p refl is | inr none ↦ absurd (contains_none p none) ]
 
-way-in : (status : Status) (above : ℕ) (held left_out : State) (by : Bool) → IsTrue (may_hold status by)
-    → Contains (ways status above held left_out) (let r : ℕ × State = (above, if by then held else left_out) in r)
-way-in Committed above held left_out true may = contains_here _ []
-way-in Committed above held left_out false may = absurd (cc)
-way-in Pending above held left_out true may =
-    let last : List (ℕ × State) = (above, left_out) ∷ [] in contains_here _ last
-way-in Pending above held left_out false may =
-    let last : List (ℕ × State) = (above, left_out) ∷ [] in contains_later _ _ last (contains_here _ [])
-way-in Live above held left_out true may = absurd (cc)
-way-in Live above held left_out false may = contains_here _ []
-way-in Aborted above held left_out true may = absurd (cc)
-way-in Aborted above held left_out false may = contains_here _ []
+way_of : (criterion : Criterion) (x : View) (above : ℕ) (s : State) (p : ℕ × State) → Contains (ways criterion x above s) p
+    → IsWay criterion x above s p
+way_of criterion x above s p has =
+    elim (Contains-append_cases (way criterion x above s true) (way criterion x above s false) p has) [
+      | inl held ↦ way_is criterion x above s true p held
+      | inr left_out ↦ way_is criterion x above s false p left_out
+    ]
+
+is-way : (criterion : Criterion) (x : View) (above : ℕ) (s : State) (by : Bool) → IsTrue (may_hold x.status by)
+    → IsTrue (reads_asked criterion by s x.ops) → Contains (way criterion x above s by) (let r : ℕ × State = (above, end_at x s by) in r)
+is-way criterion x above s by may reads =
+    let is = and_from (may_hold x.status by) (reads_asked criterion by s x.ops) may reads in
+    let r : ℕ × State = (above, end_at x s by) in
+    rw is (contains_here r [])
+
+way-in : (criterion : Criterion) (x : View) (above : ℕ) (s : State) (by : Bool) → IsTrue (may_hold x.status by)
+    → IsTrue (reads_asked criterion by s x.ops) → Contains (ways criterion x above s) (let r : ℕ × State = (above, end_at x s by) in r)
+way-in criterion x above s true may reads =
+    Contains-append_left (way criterion x above s true) (way criterion x above s false) _ (is-way criterion x above s true may reads)
+way-in criterion x above s false may reads =
+    Contains-append_right (way criterion x above s true) (way criterion x above s false) _ (is-way criterion x above s false may reads)
 
 -- members of the whole come from one place
-pub record ComesFrom (base : ℕ) (xs : List View) (p q : ℕ × State) : Type 0 where
+pub record ComesFrom (criterion : Criterion) (base : ℕ) (xs : List View) (p q : ℕ × State) : Type 0 where
   pub place : ℕ
   pub shown : View
   pub at : slice_get xs place ≡ Some shown
-  pub made : Contains (next_at shown (base + place) p) q
+  pub made : Contains (next_at criterion shown (base + place) p) q
 
-pub comes_from : (base : ℕ) (xs : List View) (p q : ℕ × State) → Contains (nexts_from base xs p) q → ComesFrom base xs p q
-comes_from base [] p q has = absurd (contains_none q has)
-comes_from base (x ∷ xs) p q has =
-    elim (Contains-append_cases (next_at x base p) (nexts_from (base + 1) xs p) q has) [
+pub comes_from : (criterion : Criterion) (base : ℕ) (xs : List View) (p q : ℕ × State) → Contains (nexts_from criterion base xs p) q → ComesFrom criterion base xs p q
+comes_from criterion base [] p q has = absurd (contains_none q has)
+comes_from criterion base (x ∷ xs) p q has =
+    elim (Contains-append_cases (next_at criterion x base p) (nexts_from criterion (base + 1) xs p) q has) [
       | inl here ↦
           let same : base + 0 ≡ base = omega arith in
           record { place = zero; shown = x; at = refl; made = rw same here }
       | inr later ↦
-          let c = comes_from (base + 1) xs p q later in
+          let c = comes_from criterion (base + 1) xs p q later in
           let same : base + suc c.place ≡ base + 1 + c.place = omega arith in
           record { place = suc c.place; shown = c.shown; at = c.at; made = rw same c.made }
     ]
 
-pub comes-from : (base : ℕ) (xs : List View) (p q : ℕ × State) (place : ℕ) (x : View) → slice_get xs place ≡ Some x
-    → Contains (next_at x (base + place) p) q → Contains (nexts_from base xs p) q
-comes-from base [] p q place x at made = absurd (cc)
-comes-from base (y ∷ xs) p q zero x at made =
+pub comes-from : (criterion : Criterion) (base : ℕ) (xs : List View) (p q : ℕ × State) (place : ℕ) (x : View) → slice_get xs place ≡ Some x
+    → Contains (next_at criterion x (base + place) p) q → Contains (nexts_from criterion base xs p) q
+comes-from criterion base [] p q place x at made = absurd (cc)
+comes-from criterion base (y ∷ xs) p q zero x at made =
     let is : y ≡ x = cc in
     let same : base + 0 ≡ base = omega arith in
-    Contains-append_left (next_at y base p) (nexts_from (base + 1) xs p) q (rw (is, ← same) made)
-comes-from base (y ∷ xs) p q (suc place) x at made =
+    Contains-append_left (next_at criterion y base p) (nexts_from criterion (base + 1) xs p) q (rw (is, ← same) made)
+comes-from criterion base (y ∷ xs) p q (suc place) x at made =
     let same : base + suc place ≡ base + 1 + place = omega arith in
-    Contains-append_right (next_at y base p) (nexts_from (base + 1) xs p) q
-    (comes-from (base + 1) xs p q place x at (rw same at made))
+    Contains-append_right (next_at criterion y base p) (nexts_from criterion (base + 1) xs p) q
+    (comes-from criterion (base + 1) xs p q place x at (rw same at made))
 
 -- what is made at a place, where it is made
-pub record IsMade (x : View) (place : ℕ) (p q : ℕ × State) : Type 0 where
+pub record IsMade (criterion : Criterion) (x : View) (place : ℕ) (p q : ℕ × State) : Type 0 where
   pub next : IsTrue (is_next x place p.0)
-  pub reads : IsTrue (reads_hold p.1 x.ops)
-  pub way : IsWay x.status (bit_or p.0 (1 * 2 ^ place % 2 ^ 8)) (after_writes p.1 x.ops) p.1 q
+  pub way : IsWay criterion x (bit_or p.0 (1 * 2 ^ place % 2 ^ 8)) p.1 q
 
-made_of : (x : View) (place : ℕ) (p q : ℕ × State) → Contains (next_at x place p) q → IsMade x place p q
-made_of x place p q has =
-    elim (cases_Bool (is_next x place p.0 && reads_hold p.1 x.ops)) [
-      | inl is ↦
-          let (next, reads) = and_parts (is_next x place p.0) _ is in
-          record { next = next; reads = reads; way = way_of x.status _ _ _ q (rw is at has) }
+made_of : (criterion : Criterion) (x : View) (place : ℕ) (p q : ℕ × State) → Contains (next_at criterion x place p) q
+    → IsMade criterion x place p q
+made_of criterion x place p q has =
+    elim (cases_Bool (is_next x place p.0)) [
+      | inl is ↦ record { next = is; way = way_of criterion x _ p.1 q (rw is at has) }
       | inr other ↦ absurd (contains_none q (rw other at has))
     ]
 
-made-in : (x : View) (place : ℕ) (p : ℕ × State) (by : Bool) → IsTrue (is_next x place p.0) → IsTrue (reads_hold p.1 x.ops)
-    → IsTrue (may_hold x.status by)
-    → Contains (next_at x place p)
-    (let r : ℕ × State = (bit_or p.0 (1 * 2 ^ place % 2 ^ 8), if by then after_writes p.1 x.ops else p.1) in r)
-made-in x place p by next reads may =
-    let is = and_from (is_next x place p.0) _ next reads in
-    rw is (way-in x.status (bit_or p.0 (1 * 2 ^ place % 2 ^ 8)) (after_writes p.1 x.ops) p.1 by may)
+made-in : (criterion : Criterion) (x : View) (place : ℕ) (p : ℕ × State) (by : Bool) → IsTrue (is_next x place p.0)
+    → IsTrue (may_hold x.status by) → IsTrue (reads_asked criterion by p.1 x.ops)
+    → Contains (next_at criterion x place p) (let r : ℕ × State = (bit_or p.0 (1 * 2 ^ place % 2 ^ 8), end_at x p.1 by) in r)
+made-in criterion x place p by next may reads =
+    rw next (way-in criterion x (bit_or p.0 (1 * 2 ^ place % 2 ^ 8)) p.1 by may reads)
 
 -- a place of the one list is one of the other
 pub slice_get_some : {A : Type 0} (xs : List A) (i : ℕ) → i < length xs → (x : A) × (slice_get xs i ≡ Some x)
@@ -131,13 +131,13 @@ eight_bits : (n bound : ℕ) → bound ≤ 8 → n < 2 ^ bound → n < 2 ^ 8
 eight_bits n bound few fits = omega (arith, fits, pow_mono few)
 
 after-way : (r : State) (x : View) (t : Txn) (by : Bool) → x.ops ≡ operations t.text
-    → (if by then after_writes r x.ops else r) ≡ after r (record { txn = t; held = by })
+    → end_at x r by ≡ after r (record { txn = t; held = by })
 after-way r x t true ops = ap (after_writes r) ops
 after-way r x t false ops = refl
 
-pub step-made_at : (ts : List Txn) (x : View) (t : Txn) (place mask above : ℕ) (r u : State) → ShowsTransaction ts x t → slice_get ts place ≡ Some t
-    → length ts ≤ 8 → mask < 2 ^ length ts → IsMade x place (mask, r) (above, u) → IsStep ts mask r above u
-step-made_at ts x t place mask above r u one at few fits made =
+pub step-made_at : (criterion : Criterion) (ts : List Txn) (x : View) (t : Txn) (place mask above : ℕ) (r u : State) → ShowsTransaction ts x t → slice_get ts place ≡ Some t
+    → length ts ≤ 8 → mask < 2 ^ length ts → IsMade criterion x place (mask, r) (above, u) → IsStep criterion ts mask r above u
+step-made_at criterion ts x t place mask above r u one at few fits made =
     let free = next_free ts x t place mask few one (eight_bits mask (length ts) few fits) (eight_bits x.before (length ts) few one.fits)
     made.next in
     record {
@@ -148,25 +148,25 @@ step-made_at ts x t place mask above r u one at few fits made =
       is = made.way.mask ∙ mask-set mask place (omega (arith, slice_get_within ts place t at, few)) free.0;
       free = λ i v apart there out. free.1 i v there out;
       may = rw one.status at made.way.may;
-      reads = rw one.ops at made.reads;
+      reads = rw one.ops at made.way.reads;
       to = made.way.state ∙ after-way r x t made.way.by one.ops;
     }
 
 -- what is made of a pair is a step from it
-pub step_of : (xs : List View) (ts : List Txn) (mask above : ℕ) (r u : State) → ShowsTransactions xs ts → length ts ≤ 8 → mask < 2 ^ length ts
-    → Contains (nexts_from 0 xs (mask, r)) (above, u) → IsStep ts mask r above u
-step_of xs ts mask above r u shows few fits has =
-    let c = comes_from 0 xs (mask, r) (above, u) has in
+pub step_of : (criterion : Criterion) (xs : List View) (ts : List Txn) (mask above : ℕ) (r u : State) → ShowsTransactions xs ts → length ts ≤ 8 → mask < 2 ^ length ts
+    → Contains (nexts_from criterion 0 xs (mask, r)) (above, u) → IsStep criterion ts mask r above u
+step_of criterion xs ts mask above r u shows few fits has =
+    let c = comes_from criterion 0 xs (mask, r) (above, u) has in
     let within = slice_get_within xs c.place c.shown c.at in
     let there = slice_get_some ts c.place (omega (arith, shows.same_length)) in
     let same : 0 + c.place ≡ c.place = omega arith in
-    step-made_at ts c.shown there.0 c.place mask above r u (shows.each c.place c.shown there.0 c.at there.1) there.1 few fits
-    (made_of c.shown c.place (mask, r) (above, u) (rw same at c.made))
+    step-made_at criterion ts c.shown there.0 c.place mask above r u (shows.each c.place c.shown there.0 c.at there.1) there.1 few fits
+    (made_of criterion c.shown c.place (mask, r) (above, u) (rw same at c.made))
 
-step-in : (ts : List Txn) (x : View) (mask above : ℕ) (r u : State) (s : IsStep ts mask r above u) → ShowsTransaction ts x s.placed.txn
-    → length ts ≤ 8 → mask < 2 ^ length ts → ((i : ℕ) (t : Txn) → slice_get ts i ≡ Some t → precedes t t ≡ false)
-    → Contains (next_at x s.place (mask, r)) (above, u)
-step-in ts x mask above r u s one few fits none_self =
+step-in : (criterion : Criterion) (ts : List Txn) (x : View) (mask above : ℕ) (r u : State) (s : IsStep criterion ts mask r above u)
+    → ShowsTransaction ts x s.placed.txn → length ts ≤ 8 → mask < 2 ^ length ts
+    → ((i : ℕ) (t : Txn) → slice_get ts i ≡ Some t → precedes t t ≡ false) → Contains (next_at criterion x s.place (mask, r)) (above, u)
+step-in criterion ts x mask above r u s one few fits none_self =
     let t = s.placed.txn in
     let free : (i : ℕ) (v : Txn) → slice_get ts i ≡ Some v → bit_at mask i ≡ 0 → precedes v t ≡ false = λ i v at out.
     elim (same_place i s.place) [
@@ -175,25 +175,25 @@ step-in ts x mask above r u s one few fits none_self =
     ] in
     let next = free-next ts x t s.place mask few one (eight_bits mask (length ts) few fits)
     (eight_bits x.before (length ts) few one.fits) s.new free in
-    let reads : IsTrue (reads_hold r x.ops) = rw one.ops s.reads in
+    let reads : IsTrue (reads_asked criterion s.placed.held r x.ops) = rw one.ops s.reads in
     let may : IsTrue (may_hold x.status s.placed.held) = rw one.status s.may in
     let within = slice_get_within ts s.place t s.at in
-    let made = made-in x s.place (mask, r) s.placed.held next reads may in
+    let made = made-in criterion x s.place (mask, r) s.placed.held next may reads in
     let mask_is : bit_or mask (1 * 2 ^ s.place % 2 ^ 8) ≡ above =
     mask-set mask s.place (omega (arith, within, few)) s.new ∙ sym s.is in
-    let state_is : (if s.placed.held then after_writes r x.ops else r) ≡ u = after-way r x t s.placed.held one.ops ∙ sym s.to in
-    let one_is = subst (λ (m : ℕ). Contains (next_at x s.place (mask, r)) (m, if s.placed.held then after_writes r x.ops else r)) mask_is made in
-    subst (λ (z : State). Contains (next_at x s.place (mask, r)) (above, z)) state_is one_is
+    let state_is : end_at x r s.placed.held ≡ u = after-way r x t s.placed.held one.ops ∙ sym s.to in
+    let one_is = subst (λ (m : ℕ). Contains (next_at criterion x s.place (mask, r)) (m, end_at x r s.placed.held)) mask_is made in
+    subst (λ (z : State). Contains (next_at criterion x s.place (mask, r)) (above, z)) state_is one_is
 
 -- and each step from it is made
-pub step-made : (xs : List View) (ts : List Txn) (mask above : ℕ) (r u : State) → ShowsTransactions xs ts → length ts ≤ 8 → mask < 2 ^ length ts
-    → ((i : ℕ) (t : Txn) → slice_get ts i ≡ Some t → precedes t t ≡ false) → IsStep ts mask r above u
-    → Contains (nexts_from 0 xs (mask, r)) (above, u)
-step-made xs ts mask above r u shows few fits none_self s =
+pub step-made : (criterion : Criterion) (xs : List View) (ts : List Txn) (mask above : ℕ) (r u : State) → ShowsTransactions xs ts
+    → length ts ≤ 8 → mask < 2 ^ length ts → ((i : ℕ) (t : Txn) → slice_get ts i ≡ Some t → precedes t t ≡ false)
+    → IsStep criterion ts mask r above u → Contains (nexts_from criterion 0 xs (mask, r)) (above, u)
+step-made criterion xs ts mask above r u shows few fits none_self s =
     let within = slice_get_within ts s.place s.placed.txn s.at in
     let there = slice_get_some xs s.place (omega (arith, shows.same_length)) in
     let one = shows.each s.place there.0 s.placed.txn there.1 s.at in
     let same : s.place ≡ 0 + s.place = omega arith in
-    comes-from 0 xs (mask, r) (above, u) s.place there.0 there.1
-    (subst (λ (k : ℕ). Contains (next_at there.0 k (mask, r)) (above, u)) same
-    (step-in ts there.0 mask above r u s one few fits none_self))
+    comes-from criterion 0 xs (mask, r) (above, u) s.place there.0 there.1
+    (subst (λ (k : ℕ). Contains (next_at criterion there.0 k (mask, r)) (above, u)) same
+    (step-in criterion ts there.0 mask above r u s one few fits none_self))

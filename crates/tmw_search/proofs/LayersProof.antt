@@ -7,15 +7,17 @@ use Rattle.std.proofs.lemmas.Bool.{and_parts, and_from, cases_lt, not-true, not_
 use Rattle.std.proofs.lemmas.List.Edits.{length-remove}
 use Rattle.std.proofs.lemmas.Nat.Bits.{bit_at-zero, bit_at-lt, bit_at-suc, bit_at_lowest, bit_at_ones}
 use Rattle.std.proofs.lemmas.Option.{slice_get_within}
+use Rattle.tmw_defs.specs.declared.criterion.Criterion.{Criterion}
+use Rattle.tmw_defs.specs.declared.criterion.Criterion.TheVariants.{Opacity}
 use Rattle.tmw_defs.specs.History.{Txn}
-use Rattle.tmw_search.specs.Layers.{chosen, LeavesNone, InLayer, IsStep}
+use Rattle.tmw_search.specs.Layers.{chosen, LeavesNone, InLayer, InLayerBy, IsStep}
 use Rattle.tmw_defs.specs.Opaque.{State, Placed, precedes, after}
-use Rattle.tmw_defs.specs.Outcomes.{Leads, Ends}
+use Rattle.tmw_defs.specs.Outcomes.{end_state, Leads, Ends}
 use Rattle.tmw_search.proofs.LastOfOrder.{EndsWith, leads-last, leads_last}
 use Rattle.tmw_search.proofs.Masks.{HasBit, chosen-set, chosen_unset, chosen_has, chosen-here, chosen-past, low_bit, bit_at-more_same, bit_at-more_other, bit_at-less_same, more_fits, chosen-zero, chosen_none, chosen_all, chosen-full, pow_some}
 
 -- what holds of each whose bit is set holds of each that is chosen
-list_all-chosen : (p : Txn → Bool) (ts : List Txn) (mask : ℕ)
+pub list_all-chosen : (p : Txn → Bool) (ts : List Txn) (mask : ℕ)
     → ((j : ℕ) (t : Txn) → slice_get ts j ≡ Some t → bit_at mask j ≡ 1 → p t ≡ true) → IsTrue (list_all p (chosen mask ts))
 list_all-chosen p [] mask each = refl
 list_all-chosen p (t ∷ ts) mask each =
@@ -43,17 +45,31 @@ same_place i j =
       | inr above ↦ elim (cases_lt j i) [ inl past ↦ inr (λ same. absurd (omega arith)) | inr within ↦ inl (omega arith) ]
     ]
 
+-- one more is chosen
+pub chosen-more : (ts : List Txn) (mask place k : ℕ) (t : Txn) → bit_at mask place ≡ 0 → slice_get ts place ≡ Some t
+    → length (chosen mask ts) ≡ k → length (chosen (mask + 2 ^ place) ts) ≡ k + 1
+chosen-more ts mask place k t new at size =
+    let set = chosen-set ts mask place t new at in
+    let here = slice_get_within (chosen (mask + 2 ^ place) ts) set.place t set.at in
+    let less : length (remove (chosen (mask + 2 ^ place) ts) set.place) + 1 ≡ length (chosen (mask + 2 ^ place) ts) =
+    length-remove (chosen (mask + 2 ^ place) ts) set.place here in
+    omega (arith, less, ap length set.others, size)
+
+-- and one less
+pub chosen-less : (ts : List Txn) (above i k : ℕ) (t : Txn) → slice_get (chosen above ts) i ≡ Some t → (h : HasBit ts above i t)
+    → length (chosen above ts) ≡ k + 1 → length (chosen (above - 2 ^ h.place) ts) ≡ k
+chosen-less ts above i k t at h size =
+    let here = slice_get_within (chosen above ts) i t at in
+    let less : length (remove (chosen above ts) i) + 1 ≡ length (chosen above ts) = length-remove (chosen above ts) i here in
+    omega (arith, less, ap length h.others, size)
+
 -- a step leads from each layer to the next
 pub layer-step : (S : State → Type 0) (ts : List Txn) (k mask above : ℕ) (r u : State) → InLayer S ts k mask r
-    → IsStep ts mask r above u → InLayer S ts (k + 1) above u
+    → IsStep Opacity ts mask r above u → InLayer S ts (k + 1) above u
 layer-step S ts k mask above r u l x =
     let t = x.placed.txn in
     let within = slice_get_within ts x.place t x.at in
     let set = chosen-set ts mask x.place t x.new x.at in
-    let here = slice_get_within (chosen (mask + 2 ^ x.place) ts) set.place t set.at in
-    let less : length (remove (chosen (mask + 2 ^ x.place) ts) set.place) + 1 ≡ length (chosen (mask + 2 ^ x.place) ts) =
-    length-remove (chosen (mask + 2 ^ x.place) ts) set.place here in
-    let size : length (chosen (mask + 2 ^ x.place) ts) ≡ k + 1 = omega (arith, less, ap length set.others, l.size) in
     let free : IsTrue (list_all (λ v. not (precedes t v)) (chosen mask ts)) =
     list_all-chosen (λ v. not (precedes t v)) ts mask
     (λ j v at bit. not_from_false (precedes t v) (l.closed x.place j t v x.at at x.new bit)) in
@@ -62,7 +78,7 @@ layer-step S ts k mask above r u l x =
     leads-last s r (chosen (mask + 2 ^ x.place) ts) set.place x.placed set.at (rw set.others leads) (rw set.others free) x.may x.reads in
     rw (x.is, x.to) record {
       fits = more_fits (length ts) mask x.place l.fits within x.new;
-      size = size;
+      size = chosen-more ts mask x.place k t x.new x.at l.size;
       closed = closed-step ts mask x.place x.placed x.at x.new x.free l.closed;
       ends = (s, is, all);
     }
@@ -79,37 +95,35 @@ layer-step S ts k mask above r u l x =
         ]
 
 -- each member of a layer but the first is a step from one of the layer before
-pub record IsStepped (S : State → Type 0) (ts : List Txn) (k above : ℕ) (u : State) : Type 0 where
+pub record IsStepped (criterion : Criterion) (S : State → Type 0) (ts : List Txn) (k above : ℕ) (u : State) : Type 0 where
   pub mask : ℕ
   pub before : State
-  pub within : InLayer S ts k mask before
-  pub step : IsStep ts mask before above u
+  pub within : InLayerBy criterion S ts k mask before
+  pub step : IsStep criterion ts mask before above u
 
-pub layer_step : (S : State → Type 0) (ts : List Txn) (k above : ℕ) (u : State) → InLayer S ts (k + 1) above u → IsStepped S ts k above u
+pub layer_step : (S : State → Type 0) (ts : List Txn) (k above : ℕ) (u : State) → InLayer S ts (k + 1) above u → IsStepped Opacity S ts k above u
 layer_step S ts k above u l =
     let (s, is, leads) = l.ends in
     let e = leads_last s u (chosen above ts) (omega (arith, l.size)) leads in
     let h = chosen_unset ts above e.place e.placed.txn e.at in
-    stepped S ts k above u l s is e h
+    stepped S ts k above u l s is leads.0 e h
   where
     stepped : (S : State → Type 0) (ts : List Txn) (k above : ℕ) (u : State) (l : InLayer S ts (k + 1) above u) (s : State) → S s
-        → (e : EndsWith s u (chosen above ts)) → HasBit ts above e.place e.placed.txn → IsStepped S ts k above u
-    stepped S ts k above u l s is e h =
+        → (order : List Placed) → (e : EndsWith s u (chosen above ts) order) → HasBit ts above e.place e.placed.txn → IsStepped Opacity S ts k above u
+    stepped S ts k above u l s is order e h =
         let t = e.placed.txn in
         let mask = above - 2 ^ h.place in
         let new : bit_at mask h.place ≡ 0 = bit_at-less_same above h.place h.bit h.small in
         let whole : above ≡ mask + 2 ^ h.place = omega (arith, h.small) in
         let other : (i : ℕ) → (i ≡ h.place → ⊥) → bit_at above i ≡ bit_at mask i =
         λ i apart. ap (λ m. bit_at m i) whole ∙ bit_at-more_other mask h.place i new apart in
-        let here = slice_get_within (chosen above ts) e.place t e.at in
-        let less : length (remove (chosen above ts) e.place) + 1 ≡ length (chosen above ts) = length-remove (chosen above ts) e.place here in
         let none = rw h.others at e.none in
         record {
           mask = mask;
-          before = e.before;
+          before = end_state s e.front;
           within = record {
             fits = omega (arith, l.fits);
-            size = omega (arith, less, ap length h.others, l.size);
+            size = chosen-less ts above e.place k t e.at h l.size;
             closed = λ i j v w at_i at_j out chosen_j.
                 let j_apart : j ≡ h.place → ⊥ = λ same. absurd (let b = rw same at chosen_j in omega (arith, b, new)) in
                 elim (same_place i h.place) [
@@ -119,7 +133,7 @@ layer_step S ts k above u l =
                       rw is_t (not-true (precedes t w) (list_all_at (λ x. not (precedes t x)) (chosen mask ts) has.0 w has.1 none))
                   | inr apart ↦ l.closed i j v w at_i at_j (other i apart ∙ out) (other j j_apart ∙ chosen_j)
                 ];
-            ends = (s, is, rw h.others at e.leads);
+            ends = (s, is, rw h.others at (let l : Leads s (remove (chosen above ts) e.place) (end_state s e.front) = (e.front, e.explains, refl) in l));
           };
           step = record {
             place = h.place;

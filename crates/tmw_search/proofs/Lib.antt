@@ -9,14 +9,19 @@ mod ForcedProof
 mod Forcing
 mod FreeNext
 mod Gathering
+mod Holding
 mod LastOfMask
 mod LastOfOrder
 mod LayerLists
-mod LayerSteps
-mod LayersProof
+pub mod LayerSteps
+mod LayersBy
+pub mod LayersProof
 mod MaskBits
-mod Masks
+pub mod Masks
+mod SameEnds
+mod Setting
 mod Sorting
+mod StrictSteps
 mod Walking
 mod WindowLayers
-mod WindowViews
+pub mod WindowViews

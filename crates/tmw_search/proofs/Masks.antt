@@ -205,3 +205,58 @@ chosen-full (t ∷ ts) =
     let odd : (2 ^ suc (length ts) - 1) % 2 ≡ 1 = omega (arith, double, some) in
     let half : (2 ^ suc (length ts) - 1) / 2 ≡ 2 ^ length ts - 1 = omega (arith, double, some) in
     chosen-here (2 ^ suc (length ts) - 1) t ts odd ∙ ap (λ m. t ∷ chosen m ts) half ∙ ap (λ xs. t ∷ xs) (chosen-full ts)
+
+-- where the bit of each is set, all are chosen
+pub chosen_bits : (ts : List Txn) (mask : ℕ) → ((j : ℕ) → j < length ts → bit_at mask j ≡ 1) → chosen mask ts ≡ ts
+chosen_bits [] mask each = refl
+chosen_bits (t ∷ ts) mask each =
+    let one : mask % 2 ≡ 1 = sym (bit_at_lowest mask) ∙ each 0 (omega arith) in
+    chosen-here mask t ts one
+    ∙ ap (λ xs. t ∷ xs) (chosen_bits ts (mask / 2) (λ j within. sym (bit_at-suc mask j) ∙ each (suc j) (omega (arith, within))))
+
+-- a mask that chooses all that another does chooses no fewer
+pub chosen-le : (ts : List Txn) (a b : ℕ) → ((i : ℕ) (t : Txn) → slice_get ts i ≡ Some t → bit_at a i ≡ 1 → bit_at b i ≡ 1)
+    → length (chosen a ts) ≤ length (chosen b ts)
+chosen-le [] a b each = omega arith
+chosen-le (t ∷ ts) a b each =
+    let rest = chosen-le ts (a / 2) (b / 2) (λ i u at one. sym (bit_at-suc b i) ∙ each (suc i) u at (bit_at-suc a i ∙ one)) in
+    elim (low_bit a) [
+      | inl one ↦
+          let too : b % 2 ≡ 1 = sym (bit_at_lowest b) ∙ each zero t refl (bit_at_lowest a ∙ one) in
+          omega (arith, ap length (chosen-here a t ts one), ap length (chosen-here b t ts too), rest)
+      | inr even ↦ elim (low_bit b) [
+        | inl more ↦ omega (arith, ap length (chosen-past a t ts even), ap length (chosen-here b t ts more), rest)
+        | inr none ↦ omega (arith, ap length (chosen-past a t ts even), ap length (chosen-past b t ts none), rest)
+      ]
+    ]
+
+-- and is the same where it chooses no more
+pub chosen_same : (ts : List Txn) (a b : ℕ) → a < 2 ^ length ts → b < 2 ^ length ts
+    → ((i : ℕ) (t : Txn) → slice_get ts i ≡ Some t → bit_at a i ≡ 1 → bit_at b i ≡ 1)
+    → length (chosen b ts) ≤ length (chosen a ts) → b ≡ a
+chosen_same [] a b fits_a fits_b each few = omega (arith, fits_a, fits_b)
+chosen_same (t ∷ ts) a b fits_a fits_b each few =
+    let halves : (i : ℕ) (u : Txn) → slice_get ts i ≡ Some u → bit_at (a / 2) i ≡ 1 → bit_at (b / 2) i ≡ 1 =
+    λ i u at one. sym (bit_at-suc b i) ∙ each (suc i) u at (bit_at-suc a i ∙ one) in
+    let half_a : a / 2 < 2 ^ length ts = omega (arith, pow-suc 2 (length ts), fits_a) in
+    let half_b : b / 2 < 2 ^ length ts = omega (arith, pow-suc 2 (length ts), fits_b) in
+    elim (low_bit a) [
+      | inl one ↦
+          let too : b % 2 ≡ 1 = sym (bit_at_lowest b) ∙ each zero t refl (bit_at_lowest a ∙ one) in
+          let fewer : length (chosen (b / 2) ts) ≤ length (chosen (a / 2) ts) =
+          omega (arith, ap length (chosen-here a t ts one), ap length (chosen-here b t ts too), few) in
+          omega (arith, one, too, chosen_same ts (a / 2) (b / 2) half_a half_b halves fewer)
+      | inr even ↦ elim (low_bit b) [
+        | inl more ↦ absurd (omega (
+          arith,
+          ap length (chosen-past a t ts even),
+          ap length (chosen-here b t ts more),
+          few,
+          chosen-le ts (a / 2) (b / 2) halves,
+        ))
+        | inr none ↦
+            let fewer : length (chosen (b / 2) ts) ≤ length (chosen (a / 2) ts) =
+            omega (arith, ap length (chosen-past a t ts even), ap length (chosen-past b t ts none), few) in
+            omega (arith, even, none, chosen_same ts (a / 2) (b / 2) half_a half_b halves fewer)
+      ]
+    ]

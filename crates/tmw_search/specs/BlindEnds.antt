@@ -2,6 +2,8 @@
 use Rattle.std.specs.Prelude.{◌≡◌, ◌==◌, ◌&&◌, ◌||◌, ◌⊎◌, ◌+◌, ◌-◌, ◌^◌, ◌<◌, ℕ, Bool, true, not, List, [], ◌∷◌, length, Option, Some, None, IsTrue, slice_get, get_or, is_some, bit_or, if◌then◌else◌}
 use Rattle.std.specs.Int.{bit_at}
 use Rattle.std.specs.List.{Contains, list_all}
+use Rattle.tmw_defs.specs.declared.criterion.Criterion.{Criterion}
+use Rattle.tmw_defs.specs.declared.criterion.Criterion.TheVariants.{Opacity, Strict}
 use Rattle.tmw_defs.specs.declared.op.Op.{Op}
 use Rattle.tmw_defs.specs.declared.op.Op.TheVariants.{Read, Write, Add}
 use Rattle.tmw_search.specs.BlindTransactions.{is_write, is_blind, put_from, fix_from, fixed_by, EndsBefore}
@@ -15,8 +17,10 @@ use Rattle.tmw_search.specs.declared.end_states.EndStates.{EndStates}
 use Rattle.tmw_search.specs.Ended.{AreMembers}
 use Rattle.tmw_search.specs.ShownTransactions.{ShowsTransactions, NoneBeforeItself}
 
-abbrev pub shows_blind : View → Bool
-shows_blind x = is_over x.status && list_all is_write x.ops
+-- it has ended and does nothing but write, and each serial order of the criterion has it
+abbrev pub shows_blind : Criterion → View → Bool
+shows_blind Opacity x = is_over x.status && list_all is_write x.ops
+shows_blind Strict x = is_committed x.status && list_all is_write x.ops
 
 abbrev pub fixed_with : List (Option ℕ) → View → List (Option ℕ)
 fixed_with fixed x = if is_committed x.status then fix_from fixed fixed x.ops else fixed

@@ -5,10 +5,11 @@ use Rattle.std.specs.List.{Contains}
 use Rattle.std.specs.List.Sorted.{IsStrictlySortedBy}
 use Rattle.std.specs.Ordering.{nat_cmp}
 use Rattle.tmw_events.specs.declared.event.Event.{Event}
+use Rattle.tmw_defs.specs.declared.criterion.Criterion.{Criterion}
+use Rattle.tmw_defs.specs.Criteria.{EndsBy}
 use Rattle.tmw_defs.specs.History.{transactions}
-use Rattle.tmw_search.specs.Layers.{InLayer}
+use Rattle.tmw_search.specs.Layers.{InLayer, InLayerBy}
 use Rattle.tmw_defs.specs.Opaque.{State}
-use Rattle.tmw_defs.specs.Outcomes.{Ends}
 use Rattle.tmw_cuts.specs.declared.states.States.{States}
 use Rattle.tmw_cuts.specs.declared.window.Window.{Window}
 use Rattle.tmw_cuts.specs.Members.{members}
@@ -17,8 +18,8 @@ use Rattle.tmw_search.specs.declared.end_states.EndStates.{EndStates}
 use Rattle.tmw_search.specs.declared.end_states.EndStates.TheVariants.{Few, Many}
 
 -- The end states, from the states of the set, of the transactions of the events.
-abbrev pub EndsOf : States → List Event → State → Type 0
-EndsOf states events = Ends (Contains (members states)) (transactions events)
+abbrev pub EndsOf : Criterion → States → List Event → State → Type 0
+EndsOf criterion states events = EndsBy criterion (Contains (members states)) (transactions events)
 
 -- The pairs are those of a set of k transactions of the window and a state in which some legal order of just that set ends,
 -- which keeps the real-time order and leaves out none that precedes a member.
@@ -26,10 +27,15 @@ abbrev pub AreLayer : States → Window → ℕ → List (ℕ × State) → Type
 AreLayer states window k pairs = (events : List Event) → StandsFor window events → (p : ℕ × State)
     → Contains pairs p ↔ InLayer (Contains (members states)) (transactions events) k p.0 p.1
 
+-- The same of the criterion.
+abbrev pub AreLayerBy : Criterion → States → Window → ℕ → List (ℕ × State) → Type 0
+AreLayerBy criterion states window k pairs = (events : List Event) → StandsFor window events → (p : ℕ × State)
+    → Contains pairs p ↔ InLayerBy criterion (Contains (members states)) (transactions events) k p.0 p.1
+
 -- It tells whether the window's transactions have an end state.
-abbrev pub TellsEnd : States → Window → Bool → Type 0
-TellsEnd states window answer = (events : List Event) → StandsFor window events
-    → IsTrue answer ↔ ((end : State) × EndsOf states events end)
+abbrev pub TellsEnd : Criterion → States → Window → Bool → Type 0
+TellsEnd criterion states window answer = (events : List Event) → StandsFor window events
+    → IsTrue answer ↔ ((end : State) × EndsOf criterion states events end)
 
 -- The set has more than so many members.
 abbrev pub HasMoreThan : ℕ → (State → Type 0) → Type 0
@@ -41,5 +47,6 @@ abbrev pub AreMembers : ℕ → (State → Type 0) → EndStates → Type 0
 AreMembers cap S (Few states) = (length (members states) ≤ cap) × ((s : State) → Contains (members states) s ↔ S s)
 AreMembers cap S Many = HasMoreThan cap S
 
-abbrev pub AreEnds : States → Window → ℕ → EndStates → Type 0
-AreEnds states window cap ends = (events : List Event) → StandsFor window events → AreMembers cap (EndsOf states events) ends
+abbrev pub AreEnds : Criterion → States → Window → ℕ → EndStates → Type 0
+AreEnds criterion states window cap ends =
+    (events : List Event) → StandsFor window events → AreMembers cap (EndsOf criterion states events) ends

@@ -2,12 +2,13 @@
 use Rattle.std.specs.Prelude.{◌==◌, ◌&&◌, ◌||◌, ◌≤◌, ◌⊎◌, ◌*◌, ◌%◌, ◌^◌, ℕ, Bool, not, List, [], ◌∷◌, IsTrue, bit_and, bit_or, if◌then◌else◌}
 use Rattle.std.specs.Int.{bit_at}
 use Rattle.std.specs.List.{Contains, list_all, count_by}
+use Rattle.tmw_defs.specs.declared.criterion.Criterion.{Criterion}
 use Rattle.tmw_defs.specs.declared.op.Op.{Op}
 use Rattle.tmw_defs.specs.declared.op.Op.TheVariants.{Read, Write, Add}
 use Rattle.tmw_search.specs.ForcedTransactions.{is_committed, writes, writes_blindly, IsForced}
+use Rattle.tmw_defs.specs.Criteria.{EndsBy}
 use Rattle.tmw_defs.specs.History.{Txn, is_ended}
 use Rattle.tmw_defs.specs.Opaque.{State}
-use Rattle.tmw_defs.specs.Outcomes.{Ends}
 use Rattle.tmw_cuts.specs.Views.{View}
 use Rattle.tmw_search.specs.declared.end_states.EndStates.{EndStates}
 use Rattle.tmw_search.specs.Ended.{AreMembers}
@@ -49,6 +50,6 @@ AreForced xs = (r : ℕ) → (count_by (λ x. is_committed x.status && writes r 
     ⊎ IsTrue (list_all (λ x. not (is_committed x.status && writes_blindly r x.ops)) xs)
 
 -- Whatever transactions the list shows, where they have ended and the end state is forced, these are their end states.
-abbrev pub AreForcedEnds : List View → List State → ℕ → EndStates → Type 0
-AreForcedEnds xs states cap ends = (ts : List Txn) → ShowsTransactions xs ts → IsForced ts → IsTrue (list_all (λ t. is_ended t.text) ts)
-    → AreMembers cap (Ends (Contains states) ts) ends
+abbrev pub AreForcedEnds : Criterion → List View → List State → ℕ → EndStates → Type 0
+AreForcedEnds criterion xs states cap ends = (ts : List Txn) → ShowsTransactions xs ts → IsForced ts → IsTrue (list_all (λ t. is_ended t.text) ts)
+    → AreMembers cap (EndsBy criterion (Contains states) ts) ends

@@ -9,7 +9,7 @@ ghost use Rattle.tmw_search.specs.BlindEnds.{shows_blind, fixed_with, fixes_none
 use crate::end_states::EndStates;
 use std::alloc::{AllocError, Global};
 use tmw_cuts::{State, States, Txn};
-use tmw_defs::{Op, Status};
+use tmw_defs::{Criterion, Op, Status};
 
 /// The values that registers end with, where they are known.
 type Fixed = [Option<u64>; 8];
@@ -40,21 +40,23 @@ fn are_writes(ops: &[Op]) -> bool
     ops.iter().all(|op| is_write(*op))
 }
 
-/// Whether it has ended and does nothing but write.
-fn is_blind(item: &Txn) -> bool
-    ensures { result ≡ shows_blind (view item.now) }
+/// Whether it has ended and does nothing but write, and each serial order of the criterion has it.
+fn is_blind(criterion: Criterion, item: &Txn) -> bool
+    ensures { result ≡ shows_blind criterion (view item.now) }
 {
     match item.status {
-        Status::Committed | Status::Aborted => are_writes(&item.ops),
+        Status::Committed => are_writes(&item.ops),
+        Status::Aborted => criterion == Criterion::Opacity && are_writes(&item.ops),
         Status::Live | Status::Pending => false,
     }
 }
 
-/// Whether all of them have ended and do nothing but write: each of their serial orders is then legal.
-pub fn are_blind(items: &[Txn]) -> bool
-    ensures { result ≡ list_all (λ item. shows_blind (view item)) items.now }
+/// Whether all of them have ended and do nothing but write, and each serial order of the criterion has all of them: each is then
+/// legal.
+pub fn are_blind(criterion: Criterion, items: &[Txn]) -> bool
+    ensures { result ≡ list_all (λ item. shows_blind criterion (view item)) items.now }
 {
-    items.iter().all(|item| is_blind(item))
+    items.iter().all(|item| is_blind(criterion, item))
 }
 
 /// The state with these values in place of its own.

@@ -1,9 +1,10 @@
 ghost use Rattle.std.specs.Prelude.{◌≡◌, ◌≤◌, IfOk};
 ghost use Rattle.std.specs.List.Sorted.{IsStrictlySortedBy};
 ghost use Rattle.tmw_cuts.specs.Standing.{count_of};
-ghost use Rattle.tmw_search.specs.Ended.{AreLayer, TellsEnd, AreEnds};
+ghost use Rattle.tmw_search.specs.Ended.{AreLayer, AreLayerBy, TellsEnd, AreEnds};
 ghost use Rattle.tmw_search.specs.Pairs.{pair_cmp};
 
+use crate::aside::{Aside, set_aside};
 use crate::blind::{are_blind, find_blind_ends};
 use crate::end_states::EndStates;
 use crate::forced::{find_ends, is_forced};
@@ -12,6 +13,7 @@ use crate::nexts::Reached;
 use crate::walk::finds_end;
 use std::alloc::{AllocError, Global};
 use tmw_cuts::{States, Window};
+use tmw_defs::Criterion;
 
 /// What can be reached from the states by `k` of the window's transactions: in rising order and each once, the pairs of a set
 /// of `k` of them, as a mask whose bit j stands for transaction j, and a state in which some order of just that set ends. The
@@ -26,45 +28,82 @@ pub fn layer(
     ensures rises { IfOk result (λ pairs. IsStrictlySortedBy pair_cmp pairs.items) }
     ensures exact { IfOk result (λ pairs. AreLayer states.now window.now k pairs.items) }
 {
-    layer_of(alloc, states.states(), window.transactions(), k as usize)
+    let none = Aside { mask: 0, count: 0 };
+    let items = window.transactions();
+    layer_of(
+        Criterion::Opacity,
+        alloc,
+        states.states(),
+        items,
+        &none,
+        k as usize,
+    )
 }
 
-/// Whether the window's transactions have a legal serial order, for some completion, from one of the states.
-pub fn possible(alloc: Global, states: &States, window: &Window) -> Result<bool, AllocError>
-    ensures { IfOk result (TellsEnd states.now window.now) }
+/// What can be reached from the states by all of the window's transactions.
+fn last_layer(
+    criterion: Criterion,
+    alloc: Global,
+    states: &States,
+    window: &Window,
+) -> Result<Vec<Reached>, AllocError>
+    ensures { IfOk result (λ pairs. AreLayerBy criterion states.now window.now (count_of window.now) pairs.items) }
+{
+    let items = window.transactions();
+    let aside = set_aside(criterion, items);
+    layer_of(
+        criterion,
+        alloc,
+        states.states(),
+        items,
+        &aside,
+        items.len(),
+    )
+}
+
+/// Whether the window's transactions have a legal serial order, for some completion, from one of the states: an order of all of
+/// them for opacity, and of those that the completion holds for strict serializability.
+pub fn possible(
+    criterion: Criterion,
+    alloc: Global,
+    states: &States,
+    window: &Window,
+) -> Result<bool, AllocError>
+    ensures { IfOk result (TellsEnd criterion states.now window.now) }
 {
     // Mostly an order is found at once, and then no memory is needed.
-    if finds_end(window.transactions(), states.states()) {
+    if finds_end(criterion, window.transactions(), states.states()) {
         return Ok(true);
     }
-    let last = layer(alloc, states, window, window.count())?;
+    let last = last_layer(criterion, alloc, states, window)?;
     Ok(!last.is_empty())
 }
 
 /// The states in which the window's transactions may end, over all legal serial orders and completions, from one of the
 /// states: `Few`, where they are at most `cap`.
 pub fn outcomes(
+    criterion: Criterion,
     alloc: Global,
     states: &States,
     window: &Window,
     cap: u8,
 ) -> Result<EndStates, AllocError>
-    ensures { IfOk result (AreEnds states.now window.now cap) }
+    ensures { IfOk result (AreEnds criterion states.now window.now cap) }
 {
     let items = window.transactions();
     if window.is_cut() && is_forced(items) {
         // All orders from a state end in one, so that one of them tells the end.
-        if let Some(ends) = find_ends(alloc, items, states.states(), cap)? {
+        if let Some(ends) = find_ends(criterion, alloc, items, states.states(), cap)? {
             return Ok(ends);
         }
     }
-    if are_blind(items) {
+    if are_blind(criterion, items) {
         if let Some(ends) = find_blind_ends(alloc, items, states.states(), cap)? {
             return Ok(ends);
         }
     }
     let mut ends = States::empty(alloc);
-    let last = layer(alloc, states, window, window.count())?;
+    let last = last_layer(criterion, alloc, states, window)?;
     for (_all, state) in &last {
         ends.insert(*state)?;
         if ends.len() > cap as usize {
@@ -76,5 +115,9 @@ pub fn outcomes(
 
 #[cfg(test)]
 mod compared;
+#[cfg(test)]
+mod compared_strictly;
+#[cfg(test)]
+mod strictly;
 #[cfg(test)]
 mod tests;

@@ -7,7 +7,7 @@ use crate::end_states::EndStates;
 use crate::walk::find_end;
 use std::alloc::{AllocError, Global};
 use tmw_cuts::{State, States, Txn};
-use tmw_defs::{Op, Status};
+use tmw_defs::{Criterion, Op, Status};
 
 /// The registers that the operations write, as a mask.
 fn written_by(ops: &[Op]) -> u8
@@ -84,18 +84,19 @@ pub fn is_forced(items: &[Txn]) -> bool
 /// The states in which the transactions can end that began in one of these, where those from one state all end in one: the
 /// ends that a search finds, where it finds one from each.
 pub fn find_ends(
+    criterion: Criterion,
     alloc: Global,
     items: &[Txn],
     states: &[State],
     cap: u8,
 ) -> Result<Option<EndStates>, AllocError>
     requires { length items.now ≤ 8 }
-    ensures { IfOk result (λ found. IfSome found (λ ends. AreForcedEnds (map view items.now) states.now cap ends)) }
+    ensures { IfOk result (λ found. IfSome found (λ ends. AreForcedEnds criterion (map view items.now) states.now cap ends)) }
 {
     let mut ends = States::empty(alloc);
     for state in states {
         let mut fuel = 64;
-        let Some(end) = find_end(items, state, &mut fuel) else {
+        let Some(end) = find_end(criterion, items, state, &mut fuel) else {
             return Ok(None);
         };
         ends.insert(end)?;

@@ -1,6 +1,7 @@
 //! The end states of a window, by a search for one serial order and by layers.
 #![tactic(auto)]
 
+mod aside;
 mod blind;
 mod end_states;
 mod ends;
@@ -13,4 +14,4 @@ mod walk;
 
 pub use end_states::EndStates;
 pub use ends::{layer, outcomes, possible};
-pub use tmw_plain_check::{Whole, WholeFault, judge_whole, judge_whole_from};
+pub use tmw_plain_check::{Whole, WholeFault, judge_whole, judge_whole_for, judge_whole_from};

@@ -1,13 +1,26 @@
-ghost use Rattle.std.specs.Prelude.{◌≡◌, ◌<◌, ◌≤◌, ◌++◌, OnOk, length, flat_map, map};
+ghost use Rattle.std.specs.Prelude.{◌≡◌, ◌<◌, ◌≤◌, ◌++◌, OnOk, IfSome, IsTrue, length, flat_map, map};
 ghost use Rattle.tmw_cuts.specs.Views.{view};
-ghost use Rattle.tmw_search.specs.Nexts.{is_next, ways, next_at, nexts_from};
+ghost use Rattle.tmw_defs.specs.Opaque.{may_hold};
+ghost use Rattle.tmw_search.specs.Layers.{reads_asked};
+ghost use Rattle.tmw_search.specs.Nexts.{is_next, end_at, ways, next_at, nexts_from};
 
 use std::alloc::AllocError;
 use tmw_cuts::{State, Txn};
-use tmw_defs::Status;
+use tmw_defs::{Criterion, Status};
 
 /// The transactions that were placed, as a mask, and the state that they have led to.
 pub type Reached = (u8, State);
+
+/// Whether a completion may hold a transaction of this status, or leave it out.
+pub fn may_hold(status: Status, held: bool) -> bool
+    ensures { result ≡ may_hold status held }
+{
+    match status {
+        Status::Committed => held,
+        Status::Pending => true,
+        Status::Live | Status::Aborted => !held,
+    }
+}
 
 /// Whether the transaction at the place isn't placed, and no other that isn't precedes it.
 pub fn is_next(item: &Txn, place: usize, mask: u8) -> bool
@@ -17,67 +30,89 @@ pub fn is_next(item: &Txn, place: usize, mask: u8) -> bool
     mask >> place & 1 == 0 && item.before & !mask == 0
 }
 
+/// The state in which it leaves the memory, held or left out, where what is asked of its reads holds.
+pub fn end_of(criterion: Criterion, item: &Txn, held: bool, state: &State) -> Option<State>
+    ensures { IfSome result (λ end. IsTrue (reads_asked criterion held state.now item.now.ops.items) × (end ≡ end_at (view item.now) state.now held)) }
+{
+    if criterion == Criterion::Strict && !held {
+        return Some(*state);
+    }
+    let Some(after) = item.after(state) else {
+        return None;
+    };
+    Some(if held { after } else { *state })
+}
+
 /// Adds what placing the transaction makes of what was reached: nothing, one way, or both ways of a commit-pending one.
 fn push_next(
+    criterion: Criterion,
     nexts: &mut Vec<Reached>,
     item: &Txn,
     place: usize,
     reached: &Reached,
 ) -> Result<(), AllocError>
     requires { place < 8 }
-    ensures { OnOk result (nexts.new.items ≡ nexts.old.items ++ next_at (view item.now) place reached.now) }
+    ensures { OnOk result (nexts.new.items ≡ nexts.old.items ++ next_at criterion (view item.now) place reached.now) }
 {
     let (mask, state) = *reached;
     if !is_next(item, place, mask) {
         return Ok(());
     }
-    let Some(held) = item.after(&state) else {
-        return Ok(());
-    };
-    push_ways(nexts, item.status, mask | 1 << place, held, state)
+    push_ways(criterion, nexts, item, mask | 1 << place, &state)
 }
 
-/// Adds the states in which a transaction of this status may leave the memory.
+/// Adds the states in which the transaction may leave the memory: held, where it read what the state has, and left out, where
+/// it did, or where nothing is asked of what it read then.
 fn push_ways(
+    criterion: Criterion,
     nexts: &mut Vec<Reached>,
-    status: Status,
+    item: &Txn,
     above: u8,
-    held: State,
-    left_out: State,
+    state: &State,
 ) -> Result<(), AllocError>
-    ensures { OnOk result (nexts.new.items ≡ nexts.old.items ++ ways status above held left_out) }
+    ensures { OnOk result (nexts.new.items ≡ nexts.old.items ++ ways criterion (view item.now) above state.now) }
 {
-    if status == Status::Committed || status == Status::Pending {
-        nexts.push((above, held))?;
+    let after = item.after(state);
+    let left_out = criterion == Criterion::Strict || after.is_some();
+    if let Some(held) = after {
+        if may_hold(item.status, true) {
+            nexts.push((above, held))?;
+        }
     }
-    if status != Status::Committed {
-        nexts.push((above, left_out))?;
+    if left_out && may_hold(item.status, false) {
+        nexts.push((above, *state))?;
     }
     Ok(())
 }
 
 /// Adds what placing each transaction makes of what was reached.
-fn push_nexts(nexts: &mut Vec<Reached>, items: &[Txn], reached: &Reached) -> Result<(), AllocError>
+fn push_nexts(
+    criterion: Criterion,
+    nexts: &mut Vec<Reached>,
+    items: &[Txn],
+    reached: &Reached,
+) -> Result<(), AllocError>
     requires { length items.now ≤ 8 }
-    ensures { OnOk result (nexts.new.items ≡ nexts.old.items ++ nexts_from 0 (map view items.now) reached.now) }
+    ensures { OnOk result (nexts.new.items ≡ nexts.old.items ++ nexts_from criterion 0 (map view items.now) reached.now) }
 {
     for (place, item) in items.iter().enumerate() {
-        push_next(nexts, item, place, reached)?;
+        push_next(criterion, nexts, item, place, reached)?;
     }
     Ok(())
 }
 
 /// Adds what placing one transaction more makes of all of a layer.
 pub fn push_all(
+    criterion: Criterion,
     nexts: &mut Vec<Reached>,
     items: &[Txn],
     layer: &[Reached],
 ) -> Result<(), AllocError>
     requires { length items.now ≤ 8 }
-    ensures { OnOk result (nexts.new.items ≡ nexts.old.items ++ flat_map (nexts_from 0 (map view items.now)) layer.now) }
+    ensures { OnOk result (nexts.new.items ≡ nexts.old.items ++ flat_map (nexts_from criterion 0 (map view items.now)) layer.now) }
 {
     for reached in layer {
-        push_nexts(nexts, items, reached)?;
+        push_nexts(criterion, nexts, items, reached)?;
     }
     Ok(())
 }

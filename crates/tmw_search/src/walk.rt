@@ -1,11 +1,11 @@
 ghost use Rattle.std.specs.Prelude.{◌≡◌, ◌<◌, ◌≤◌, IfSome, IsTrue, length, map};
-ghost use Rattle.tmw_defs.specs.Opaque.{may_hold};
 ghost use Rattle.tmw_cuts.specs.Views.{view};
 ghost use Rattle.tmw_search.specs.Walks.{GoesOnTo, LeadsAll, HaveEnd};
 
-use crate::nexts::is_next;
+use crate::aside::set_aside;
+use crate::nexts::{end_of, is_next, may_hold};
 use tmw_cuts::{State, Txn};
-use tmw_defs::Status;
+use tmw_defs::{Criterion, Status};
 
 /// Which transactions are to be tried next. It is a guess of what succeeds: nothing is claimed of it.
 #[derive(Drop)]
@@ -43,7 +43,7 @@ fn is_alone(items: &[Txn], mask: u8, place: usize, state: &State, held: &State) 
 
 /// Which transactions to try, other than those in `tried`. Where that is empty, one that has committed and changes no value
 /// that another has read is taken at once.
-fn trial_of(items: &[Txn], mask: u8, tried: u8, state: &State) -> Trial {
+fn trial_of(criterion: Criterion, items: &[Txn], mask: u8, tried: u8, state: &State) -> Trial {
     let mut trial = Trial {
         next: None,
         alone: false,
@@ -51,6 +51,8 @@ fn trial_of(items: &[Txn], mask: u8, tried: u8, state: &State) -> Trial {
         first: 0,
         later: 0,
     };
+    // For strict serializability, a commit-pending one that read what the state has not: it is left out once no other is left.
+    let mut idle = None;
     for (place, item) in items.iter().enumerate() {
         if place < 8 && tried >> place & 1 == 0 && is_next(item, place, mask) {
             if let Some(held) = item.after(state) {
@@ -67,8 +69,14 @@ fn trial_of(items: &[Txn], mask: u8, tried: u8, state: &State) -> Trial {
                 } else {
                     trial.first |= 1 << place;
                 }
+            } else if criterion == Criterion::Strict && item.status == Status::Pending {
+                idle = Some(place);
             }
         }
+    }
+    if trial.first | trial.later == 0 {
+        trial.next = idle;
+        trial.alone = true;
     }
     trial
 }
@@ -80,20 +88,10 @@ fn is_committed(items: &[Txn], place: usize) -> bool {
         .is_some_and(|item| item.status == Status::Committed)
 }
 
-/// Whether a completion may hold a transaction of this status, or leave it out.
-fn may_hold(status: Status, held: bool) -> bool
-    ensures { result ≡ may_hold status held }
-{
-    match status {
-        Status::Committed => held,
-        Status::Pending => true,
-        Status::Live | Status::Aborted => !held,
-    }
-}
-
 /// Places the transaction, held or left out, and then the rest: a state in which all of them can end, where one is found.
 #[cycle(walks)]
 fn place_one(
+    criterion: Criterion,
     items: &[Txn],
     place: usize,
     held: bool,
@@ -104,7 +102,7 @@ fn place_one(
 ) -> Option<State>
     requires few { length items.now ≤ 8 }
     requires some { 0 < left }
-    ensures { IfSome result (λ end. GoesOnTo (map view items.now) mask left state.now end) }
+    ensures { IfSome result (λ end. GoesOnTo criterion (map view items.now) mask left state.now end) }
 {
     let Some(item) = items.get(place) else {
         return None;
@@ -112,17 +110,17 @@ fn place_one(
     if *fuel == 0 || !is_next(item, place, mask) || !may_hold(item.status, held) {
         return None;
     }
-    let Some(after) = item.after(state) else {
+    let Some(end) = end_of(criterion, item, held, state) else {
         return None;
     };
     *fuel -= 1;
-    let end = if held { after } else { *state };
-    walk(items, mask | 1 << place, left - 1, &end, fuel)
+    walk(criterion, items, mask | 1 << place, left - 1, &end, fuel)
 }
 
 /// Places one of those in `tried`, held or left out, and then the rest.
 #[cycle(walks)]
 fn place_each(
+    criterion: Criterion,
     items: &[Txn],
     tried: u8,
     held: bool,
@@ -133,11 +131,11 @@ fn place_each(
 ) -> Option<State>
     requires few { length items.now ≤ 8 }
     requires some { 0 < left }
-    ensures { IfSome result (λ end. GoesOnTo (map view items.now) mask left state.now end) }
+    ensures { IfSome result (λ end. GoesOnTo criterion (map view items.now) mask left state.now end) }
 {
     for place in 0..items.len() {
         if tried >> place & 1 == 1 {
-            if let Some(end) = place_one(items, place, held, mask, left, state, fuel) {
+            if let Some(end) = place_one(criterion, items, place, held, mask, left, state, fuel) {
                 return Some(end);
             }
         }
@@ -147,23 +145,31 @@ fn place_each(
 
 /// Places the transactions that are left: a state in which all of them can end, where one is found.
 #[cycle(walks)]
-fn walk(items: &[Txn], mask: u8, left: usize, state: &State, fuel: &mut u32) -> Option<State>
+fn walk(
+    criterion: Criterion,
+    items: &[Txn],
+    mask: u8,
+    left: usize,
+    state: &State,
+    fuel: &mut u32,
+) -> Option<State>
     requires few { length items.now ≤ 8 }
-    ensures { IfSome result (λ end. GoesOnTo (map view items.now) mask left state.now end) }
+    ensures { IfSome result (λ end. GoesOnTo criterion (map view items.now) mask left state.now end) }
 {
     if left == 0 {
         return Some(*state);
     }
-    let mut trial = trial_of(items, mask, 0, state);
+    let mut trial = trial_of(criterion, items, mask, 0, state);
     if let Some(place) = trial.next {
         let held = is_committed(items, place);
-        let found = place_one(items, place, held, mask, left, state, fuel);
+        let found = place_one(criterion, items, place, held, mask, left, state, fuel);
         if trial.alone || found.is_some() {
             return found;
         }
-        trial = trial_of(items, mask, trial.tried, state);
+        trial = trial_of(criterion, items, mask, trial.tried, state);
         if let Some(other) = trial.next {
             return place_one(
+                criterion,
                 items,
                 other,
                 is_committed(items, other),
@@ -174,13 +180,14 @@ fn walk(items: &[Txn], mask: u8, left: usize, state: &State, fuel: &mut u32) -> 
             );
         }
     }
-    if let Some(end) = place_each(items, trial.first, true, mask, left, state, fuel) {
+    if let Some(end) = place_each(criterion, items, trial.first, true, mask, left, state, fuel) {
         return Some(end);
     }
-    if let Some(end) = place_each(items, trial.later, true, mask, left, state, fuel) {
+    if let Some(end) = place_each(criterion, items, trial.later, true, mask, left, state, fuel) {
         return Some(end);
     }
     place_each(
+        criterion,
         items,
         trial.first | trial.later,
         false,
@@ -193,21 +200,30 @@ fn walk(items: &[Txn], mask: u8, left: usize, state: &State, fuel: &mut u32) -> 
 
 /// A state in which the transactions can end that began in this one, where a search finds one that places at most `fuel`
 /// transactions.
-pub fn find_end(items: &[Txn], state: &State, fuel: &mut u32) -> Option<State>
+pub fn find_end(criterion: Criterion, items: &[Txn], state: &State, fuel: &mut u32) -> Option<State>
     requires { length items.now ≤ 8 }
-    ensures { IfSome result (λ end. LeadsAll (map view items.now) state.now end) }
+    ensures { IfSome result (λ end. LeadsAll criterion (map view items.now) state.now end) }
 {
-    walk(items, 0, items.len(), state, fuel)
+    let aside = set_aside(criterion, items);
+    walk(
+        criterion,
+        items,
+        aside.mask,
+        items.len() - aside.count,
+        state,
+        fuel,
+    )
 }
 
 /// Whether a search finds a state in which the transactions can end that began in one of these.
-pub fn finds_end(items: &[Txn], states: &[State]) -> bool
+pub fn finds_end(criterion: Criterion, items: &[Txn], states: &[State]) -> bool
     requires { length items.now ≤ 8 }
-    ensures { IsTrue result → HaveEnd (map view items.now) states.now }
+    ensures { IsTrue result → HaveEnd criterion (map view items.now) states.now }
 {
-    let mut fuel = 64;
     for state in states {
-        if find_end(items, state, &mut fuel).is_some() {
+        // A state from which no order leads must not keep the others from being tried.
+        let mut fuel = 64;
+        if find_end(criterion, items, state, &mut fuel).is_some() {
             return true;
         }
     }

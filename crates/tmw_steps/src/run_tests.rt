@@ -157,22 +157,76 @@ fn faults_of_the_text(rt: HostRuntime) {
     }
 }
 
+/// What so many of the steps of two writers are answered: a reply each, and how many places were claimed and events taken.
+fn first_replies(alloc: Global, count: usize) -> Result<Vec<u8>, AllocError> {
+    let mut text = Vec::new(alloc);
+    let (mut places, mut events) = (0u64, 0u64);
+    for reply in TWO_WRITERS_REPLIES.split(", ").take(count) {
+        if reply.starts_with("place") {
+            places = places.saturating_add(1);
+        }
+        if reply.starts_with("event") {
+            events = events.saturating_add(1);
+        }
+        text.extend_from_slice(reply.as_bytes())?;
+        text.push(b'\n')?;
+    }
+    let last = format!(in alloc; "log {places} taken {events}\n")?;
+    text.extend_from_slice(last.as_bytes())?;
+    Ok(text)
+}
+
+#[test]
+fn texts_that_are_cut(rt: HostRuntime) -> Result<(), Fail> {
+    let whole = lines(rt.alloc(), TWO_WRITERS)?;
+    for size in 0..whole.len() + 1 {
+        let told = &whole[..size];
+        let count = told.iter().filter(|byte| **byte == b'\n').count();
+        match told.last() {
+            None => expect_bytes(&rt, told, b"{\"fault\":\"bad header\"}\n", 4),
+            Some(b'\n') => {
+                let replies = first_replies(rt.alloc(), count.saturating_sub(1))?;
+                expect_bytes(&rt, told, &replies, 0);
+            }
+            Some(_) => {
+                let line = format!(in rt.alloc();
+                    "{{\"fault\":\"cut\",\"line\":{}}}\n",
+                    count + 1
+                )?;
+                expect_bytes(&rt, told, line.as_bytes(), 4);
+            }
+        }
+    }
+    Ok(())
+}
+
+/// Runs a text of which so many bytes are told, a byte a call or all by one call, before a read fails.
+fn expect_after(rt: &(impl Abort + AllocGlobal), text: &[u8], told: usize, line: &str) {
+    let behind_one = if told == 0 { 1 } else { 2 };
+    for (most, fails_at) in [(1, (told as u64).saturating_add(1)), (told, behind_one)] {
+        let mut source = MemorySource::limited(text, most, Some(fails_at));
+        let mut sink = MemorySink::new(rt.alloc());
+        let answered = run_steps(rt.alloc(), &mut source, &mut sink);
+        assert_eq!(rt; sink.bytes(), line.as_bytes(), "after {told} by {most}");
+        assert_eq!(rt; answered, 4, "after {told} by {most}");
+    }
+}
+
 #[test]
 fn reads_that_fail(rt: HostRuntime) -> Result<(), Fail> {
     let text = lines(rt.alloc(), TWO_WRITERS)?;
-    for call in 1..text.len() as u64 + 2 {
-        let mut source = MemorySource::limited(&text, 1, Some(call));
-        let mut sink = MemorySink::new(rt.alloc());
-        assert_eq!(rt;
-            run_steps(rt.alloc(), &mut source, &mut sink),
-            4,
-            "at {call}"
-        );
-        assert_eq!(rt;
-            sink.bytes(),
-            b"{\"fault\":\"io\"}\n".as_slice(),
-            "at {call}"
-        );
+    for told in 0..text.len() + 1 {
+        expect_after(&rt, &text, told, "{\"fault\":\"io\"}\n");
+    }
+    // A line that is bad is answered once it was told to its end, and no read behind it is asked for.
+    let bad = b"ring-steps 1 4 2 9\nfront 8 T\npeek\n";
+    for told in 0..bad.len() + 1 {
+        let line = if told < 29 {
+            "{\"fault\":\"io\"}\n"
+        } else {
+            "{\"fault\":\"bad line\",\"line\":2}\n"
+        };
+        expect_after(&rt, bad, told, line);
     }
     Ok(())
 }

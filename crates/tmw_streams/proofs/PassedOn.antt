@@ -1,5 +1,5 @@
 -- Bytes that a sink took a front of, and more behind those that are held.
-use Rattle.std.proofs.Common.{◌≡◌, ℕ, Option, List, [], ◌++◌, refl, sym, ap, ◌∙◌, subst, append_assoc, append-nil}
+use Rattle.std.proofs.Common.{◌≡◌, ℕ, Option, List, [], ◌++◌, sym, ap, ◌∙◌, subst, append_assoc, append-nil}
 use Rattle.tmw_streams.proofs.Beginnings.{TakesBeginning-more}
 use Rattle.tmw_streams.proofs.ToldBytes.{Takes-none, Takes-more}
 use Rattle.tmw_streams.specs.PassedOn.{PassesOn}

@@ -1,5 +1,6 @@
 -- What reading all the bytes of a source leaves where it fails.
-use Rattle.std.specs.Prelude.{ℕ}
+use Rattle.std.specs.Global.{Vec}
+use Rattle.std.specs.Prelude.{◌≡◌, ℕ, length, vec_capacity}
 use Rattle.tmw_streams.specs.Told.{one_more}
 use Rattle.tmw_streams.specs.declared.read_fault.ReadFault.{ReadFault}
 use Rattle.tmw_streams.specs.declared.read_fault.ReadFault.TheVariants.{Io, Memory}
@@ -13,3 +14,8 @@ failures_behind_read Memory count = count
 abbrev pub NoEndAfter : Type 0 → ReadFault → Type 0
 NoEndAfter Ended Io = Ended → ⊥
 NoEndAfter Ended Memory = Unit {0}
+
+-- memory is wanted only where there is no room for one byte more
+abbrev pub IsFullAfter : Vec ℕ → ReadFault → Type 0
+IsFullAfter bytes Io = Unit {0}
+IsFullAfter bytes Memory = vec_capacity bytes ≡ length bytes.items

@@ -1,5 +1,5 @@
 -- What a source tells and a sink takes: byte lists that grow, the bytes still to tell, and those held, where these are known.
-use Rattle.std.specs.Prelude.{ℕ, ◌+◌, ◌-◌, ◌^◌, ◌<◌, Option, List, ◌++◌, length, take, min}
+use Rattle.std.specs.Prelude.{◌≡◌, ℕ, ◌+◌, ◌-◌, ◌^◌, ◌<◌, Option, List, ◌++◌, length, take, min}
 use Rattle.std.specs.Io.KnownBytes.{Consumes, Appends}
 
 -- from the one state to the other, what was told or taken so far grew by these bytes
@@ -21,3 +21,10 @@ TakesBeginning Took holds old bytes new = (count : ℕ) × (count < length bytes
 -- one more, up to the greatest 64-bit number
 abbrev pub one_more : ℕ → ℕ
 one_more n = min (n + 1) (2 ^ 64 - 1)
+
+-- what the source told came behind the bytes that were held, and is held too
+pub record Reads {S : Type 0} (Told : S → List ℕ → Type 0) (remaining : S → Option (List ℕ)) (old new : S)
+    (before after : List ℕ) : Type 0 where
+  pub bytes : List ℕ
+  pub told : Tells Told remaining old bytes new
+  pub is : after ≡ before ++ bytes

@@ -1,34 +1,57 @@
-ghost use Rattle.std.specs.Prelude.{◌≡◌, ℕ, List, IfOk, IfErr, OnOk, OnErr};
-ghost use Rattle.tmw_streams.specs.Reading.{NoEndAfter, failures_behind_read};
-ghost use Rattle.tmw_streams.specs.Told.{Tells};
+ghost use Rattle.std.specs.Prelude.{◌≡◌, ◌<◌, ◌≤◌, ◌+◌, ◌++◌, length, vec_capacity, IfOk, IfErr, OnOk, OnErr};
+ghost use Rattle.tmw_streams.specs.Reading.{NoEndAfter, IsFullAfter, failures_behind_read};
+ghost use Rattle.tmw_streams.specs.Told.{Reads};
 
 use crate::read_fault::ReadFault;
 use crate::source::Source;
-use std::alloc::Global;
+use std::alloc::AllocError;
 
-/// Reads all the bytes that the source has still to tell, up to its end. `Io` answers a failed read, and `Memory` want of
-/// memory for the bytes, and only tests show that a growth was refused. Nothing is read after either; of a refused growth no
-/// clause says so. After a fault the bytes that were read are dropped.
-pub fn read_all<S: Source>(alloc: Global, source: &mut S) -> Result<Vec<u8>, ReadFault>
-    // The bytes are those told, up to the end.
-    ensures bytes { IfOk result (λ bytes. Tells S.told S.remaining source.old bytes.items source.new) }
+/// The most bytes that one read may tell.
+const MOST_READ: usize = 4096;
+
+/// Reads all the bytes that the source has still to tell, up to its end, and holds them behind those that are there. Room is
+/// made before each read, so that `bytes` holds all that was told, whatever the answer: `Io` after a failed read, or `Memory` for
+/// want of memory, which comes only where `bytes` is full; only tests show that a growth was refused. Nothing is read after either.
+pub fn read_all<S: Source>(source: &mut S, bytes: &mut Vec<u8>) -> Result<(), ReadFault>
+    // Each byte told is held, so that no read was made for which there was no memory.
+    ensures held { Reads S.told S.remaining source.old source.new bytes.old.items bytes.new.items }
     ensures ended { OnOk result (S.ended source.new) }
-    ensures told { OnErr result ((bytes : List ℕ) × Tells S.told S.remaining source.old bytes source.new) }
     ensures no_end { IfErr result (NoEndAfter (S.ended source.new)) }
+    ensures full { IfErr result (IsFullAfter bytes.new) }
     ensures well { OnOk result (S.failures source.new ≡ S.failures source.old) }
     ensures failed { IfErr result (λ fault. S.failures source.new ≡ failures_behind_read fault (S.failures source.old)) }
 {
-    let mut bytes = Vec::new(alloc);
-    let mut buffer = [0; 4096];
+    let mut buffer = [0; MOST_READ];
     'reads: loop {
-        match source.read(&mut buffer) {
+        let Ok(room) = room_for_more(bytes) else {
+            return Err(ReadFault::Memory);
+        };
+        match source.read(&mut buffer[..room]) {
             Err(_) => return Err(ReadFault::Io),
-            Ok(0) => return Ok(bytes),
-            Ok(count) => {
-                let Ok(()) = bytes.extend_from_slice(&buffer[..count]) else {
-                    return Err(ReadFault::Memory);
-                };
-            }
+            Ok(0) => return Ok(()),
+            Ok(count) => hold(bytes, &buffer[..count]),
         }
     }
+}
+
+/// Makes room behind the bytes where there is none, and tells how much there is for one read.
+fn room_for_more(bytes: &mut Vec<u8>) -> Result<usize, AllocError>
+    ensures same { bytes.new.items ≡ bytes.old.items }
+    ensures some { IfOk result (λ room. 0 < room) }
+    ensures most { IfOk result (λ room. room ≤ 4096) }
+    ensures room { IfOk result (λ room. length bytes.new.items + room ≤ vec_capacity bytes.new) }
+    ensures full { OnErr result (vec_capacity bytes.new ≡ length bytes.new.items) }
+{
+    if bytes.len() == bytes.capacity() {
+        bytes.reserve(MOST_READ)?;
+    }
+    Ok((bytes.capacity() - bytes.len()).min(MOST_READ))
+}
+
+/// Holds bytes for which there is room.
+fn hold(bytes: &mut Vec<u8>, more: &[u8])
+    requires { length bytes.old.items + length more.now ≤ vec_capacity bytes.old }
+    ensures { bytes.new.items ≡ bytes.old.items ++ more.now }
+{
+    let _held = bytes.extend_from_slice(more);
 }

@@ -7,6 +7,7 @@ use clap::error::ErrorKind;
 use std::alloc::{AllocError, Global};
 use std::process::Abort;
 use std::test::Fail;
+use tmw_defs::Asked;
 use tmw_monitor::Bounds;
 
 #[test]
@@ -33,9 +34,40 @@ fn bounds_of_judge(rt: HostRuntime) {
         (["--window", "judge"].as_slice(), 8, 64),
     ] {
         match parse(rt.alloc(), words) {
-            Ok(Order::Judge { bounds }) => {
+            Ok(Order::Judge { bounds, asked }) => {
+                assert_eq!(rt; asked, Asked::Opacity, "of {words:?}");
                 assert_eq!(rt; bounds.window, window, "of {words:?}");
                 assert_eq!(rt; bounds.states, states, "of {words:?}");
+            }
+            Ok(order) => assert!(rt; false, "{words:?} was read as {order:?}"),
+            Err(error) => assert!(rt; false, "{words:?} was refused: {error}"),
+        }
+    }
+}
+
+#[test]
+fn criteria_of_judge(rt: HostRuntime) {
+    for (words, criteria) in [
+        (
+            ["tmwatch", "judge", "--criterion", "opacity"].as_slice(),
+            Asked::Opacity,
+        ),
+        (
+            ["tmwatch", "judge", "--criterion=strict"].as_slice(),
+            Asked::Strict,
+        ),
+        (
+            ["tmwatch", "judge", "--window=3", "--criterion", "both"].as_slice(),
+            Asked::Both,
+        ),
+        (
+            ["--criterion", "judge", "--criterion=both", "--states=1"].as_slice(),
+            Asked::Both,
+        ),
+    ] {
+        match parse(rt.alloc(), words) {
+            Ok(Order::Judge { bounds: _, asked }) => {
+                assert_eq!(rt; asked, criteria, "of {words:?}");
             }
             Ok(order) => assert!(rt; false, "{words:?} was read as {order:?}"),
             Err(error) => assert!(rt; false, "{words:?} was refused: {error}"),
@@ -269,6 +301,12 @@ fn words_that_are_refused(rt: HostRuntime) -> Result<(), Fail> {
             ErrorKind::InvalidValue,
             [
                 "tmwatch judge --window",
+                "tmwatch judge --criterion",
+                "tmwatch judge --criterion serial",
+                "tmwatch judge --criterion Strict",
+                "tmwatch judge --criterion=stric",
+                "tmwatch judge --criterion=",
+                "tmwatch judge --criterion opacity,strict",
                 "tmwatch drive --memory",
                 "tmwatch drive --memory norec2",
                 "tmwatch drive --memory NoRec",
@@ -281,6 +319,7 @@ fn words_that_are_refused(rt: HostRuntime) -> Result<(), Fail> {
             ErrorKind::ArgumentConflict,
             [
                 "tmwatch judge --window 3 --window 3",
+                "tmwatch judge --criterion strict --criterion opacity",
                 "tmwatch drive --memory lock --memory lock",
                 "tmwatch drive --trace --trace",
                 "tmwatch drive --states 1 --states=2",
@@ -300,6 +339,10 @@ fn words_that_are_refused(rt: HostRuntime) -> Result<(), Fail> {
             ErrorKind::UnknownArgument,
             [
                 "tmwatch judge extra",
+                "tmwatch judge strict",
+                "tmwatch drive --criterion strict",
+                "tmwatch bench --criterion strict",
+                "tmwatch steps --criterion strict",
                 "tmwatch judge --bound 3",
                 "tmwatch --window 3 judge",
                 "tmwatch steps --window 3",

@@ -13,10 +13,17 @@ use tmw_report::Fault;
 use tmw_streams::{MemorySink, MemorySource};
 use tmw_tm::Tm;
 
+mod streams;
+
 /// A transaction reads what another, not yet commit-pending, has written.
 const TRACE: &[u8] = b"opacity-trace 1 1\n0 W 0 1\n0 K\n1 R 0\n1 V 1\n0 T\n0 C\n1 T\n1 C\n";
 
 const VIOLATED: &str = "{\"at\":4,\"events\":8,\"verdict\":\"violated\"}\n";
+
+const STRICT: &str = "{\"criterion\":\"strict\",\"events\":8,\"verdict\":\"strict so far\"}\n";
+
+const BOTH: &str =
+    "{\"at\":4,\"events\":8,\"verdict\":\"violated\"}\n{\"criterion\":\"strict\",\"events\":8,\"verdict\":\"strict so far\"}\n";
 
 /// A writer of a ring of four cells sees room and claims a place.
 const STEPS: &[u8] = b"ring-steps 1 4 2 100\nfront 0 T\ntail 0\nclaim 0\n";
@@ -35,6 +42,9 @@ const ADDED: &str =
 
 /// A transaction writes to a register.
 const WRITE: &[u8] = b"{\"registers\":1,\"scripts\":[[[\"W 0 5\",\"T\"]]],\"order\":[]}";
+
+const WRITTEN: &str =
+    "opacity-trace 1 1\n0 W 0 5\n0 K\n0 T\n0 C\n{\"events\":4,\"verdict\":\"opaque so far\"}\n{\"ends\":[\"done\"]}\n";
 
 const USAGE: &str = "{\"fault\":\"usage\"}\n";
 
@@ -99,6 +109,23 @@ fn orders(rt: HostRuntime) -> Result<(), Fail> {
         2,
     )?;
     expect(&rt, "tmwatch judge --window=3", TRACE, VIOLATED, 1)?;
+    expect(&rt, "tmwatch judge --criterion opacity", TRACE, VIOLATED, 1)?;
+    expect(&rt, "tmwatch judge --criterion strict", TRACE, STRICT, 0)?;
+    expect(&rt, "tmwatch judge --criterion=both", TRACE, BOTH, 1)?;
+    expect(
+        &rt,
+        "tmwatch judge --window 1 --criterion=both",
+        TRACE,
+        "{\"at\":3,\"events\":8,\"verdict\":\"undecided\",\"why\":\"transactions\"}\n{\"at\":3,\"criterion\":\"strict\",\"events\":8,\"verdict\":\"undecided\",\"why\":\"transactions\"}\n",
+        2,
+    )?;
+    expect(
+        &rt,
+        "tmwatch judge --criterion both",
+        STEPS,
+        "{\"fault\":\"bad header\"}\n",
+        4,
+    )?;
     expect(
         &rt,
         "tmwatch judge",
@@ -178,12 +205,7 @@ fn orders_to_drive(rt: HostRuntime) -> Result<(), Fail> {
 #[test]
 fn orders_to_bench(rt: HostRuntime) -> Result<(), Fail> {
     for (line, input, output, status) in [
-        (
-            "tmwatch bench --trace",
-            WRITE,
-            "opacity-trace 1 1\n0 W 0 5\n0 K\n0 T\n0 C\n{\"events\":4,\"verdict\":\"opaque so far\"}\n{\"ends\":[\"done\"]}\n",
-            0,
-        ),
+        ("tmwatch bench --trace", WRITE, WRITTEN, 0),
         (
             "tmwatch bench --memory torn --rounds=25 --ring 1 --patience=1000000000",
             WRITE,
@@ -250,6 +272,14 @@ fn wrong_command_lines(rt: HostRuntime) -> Result<(), Fail> {
             "error: unexpected argument '--trace' found",
         ),
         (
+            "tmwatch judge --criterion serial",
+            "error: invalid value 'serial' for '--criterion <CRITERION>'",
+        ),
+        (
+            "tmwatch drive --criterion strict",
+            "error: unexpected argument '--criterion' found",
+        ),
+        (
             "tmwatch bench --ring 0",
             "error: invalid value '0' for '--ring <N>': 0 is not in 1..=4096",
         ),
@@ -280,6 +310,11 @@ fn requests_for_help(rt: HostRuntime) -> Result<(), Fail> {
         ("tmwatch help", "Usage: tmwatch <COMMAND>\n"),
         ("tmwatch judge --help", "Usage: tmwatch judge [OPTIONS]\n"),
         ("tmwatch help judge", "Usage: tmwatch judge [OPTIONS]\n"),
+        (
+            "tmwatch judge --help",
+            "[possible values: opacity, strict, both]",
+        ),
+        ("tmwatch judge --help", "[default: opacity]"),
         ("tmwatch drive --help", "Usage: tmwatch drive [OPTIONS]\n"),
         (
             "tmwatch drive --help",
@@ -316,59 +351,4 @@ fn words_that_cannot_be_had(rt: HostRuntime) {
         assert_eq!(rt; errors.bytes(), b"".as_slice());
         assert_eq!(rt; exit, 4);
     }
-}
-
-#[test]
-fn writes_that_fail(rt: HostRuntime) -> Result<(), Fail> {
-    for (line, output) in [
-        ("tmwatch judge", VIOLATED),
-        ("tmwatch drive", "{\"fault\":\"json\"}\n"),
-        ("tmwatch bench", "{\"fault\":\"json\"}\n"),
-        ("tmwatch steps", "{\"fault\":\"bad header\"}\n"),
-        ("tmwatch replay", USAGE),
-    ] {
-        for sent in 0..output.len() {
-            let mut source = MemorySource::new(TRACE);
-            let mut sink = MemorySink::limited(rt.alloc(), 1, Some(sent as u64 + 1));
-            let mut errors = MemorySink::new(rt.alloc());
-            let words = parted(rt.alloc(), line)?;
-            let exit = run(&rt, Ok(words), &mut source, &mut sink, &mut errors);
-            assert_eq!(rt;
-                sink.bytes(),
-                &output.as_bytes()[..sent],
-                "of {line} after {sent}"
-            );
-            assert_eq!(rt; exit, 4, "of {line} after {sent}");
-        }
-    }
-    Ok(())
-}
-
-#[test]
-fn help_that_is_cut_short(rt: HostRuntime) -> Result<(), Fail> {
-    for call in [1, 2, 40] {
-        let mut source = MemorySource::new(TRACE);
-        let mut sink = MemorySink::limited(rt.alloc(), 1, Some(call));
-        let mut errors = MemorySink::new(rt.alloc());
-        let words = parted(rt.alloc(), "tmwatch --help")?;
-        let exit = run(&rt, Ok(words), &mut source, &mut sink, &mut errors);
-        assert_eq!(rt; sink.bytes().len() as u64 + 1, call);
-        assert_eq!(rt; exit, 4, "at {call}");
-    }
-    Ok(())
-}
-
-#[test]
-fn a_failing_sink_for_errors_keeps_no_line(rt: HostRuntime) -> Result<(), Fail> {
-    for call in [1, 2] {
-        let mut source = MemorySource::new(TRACE);
-        let mut sink = MemorySink::new(rt.alloc());
-        let mut errors = MemorySink::limited(rt.alloc(), 5, Some(call));
-        let words = parted(rt.alloc(), "tmwatch replay")?;
-        let exit = run(&rt, Ok(words), &mut source, &mut sink, &mut errors);
-        assert_eq!(rt; sink.bytes(), USAGE.as_bytes(), "at {call}");
-        assert_eq!(rt; errors.bytes().len() as u64, 5 * (call - 1));
-        assert_eq!(rt; exit, 4, "at {call}");
-    }
-    Ok(())
 }

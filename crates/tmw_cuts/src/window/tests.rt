@@ -87,3 +87,30 @@ fn one_more_begins_after_both(rt: HostRuntime) -> Result<(), Fail> {
     );
     Ok(())
 }
+
+/// Whether this event of the first thread is quiet, by opacity and by strict serializability.
+fn is_quiet(window: &Window, kind: Kind) -> [bool; 2] {
+    [Criterion::Opacity, Criterion::Strict].map(|criterion| {
+        window.is_quiet(
+            criterion,
+            Event {
+                thread: FIRST,
+                kind,
+            },
+        )
+    })
+}
+
+#[test]
+fn quiet_events(rt: HostRuntime) -> Result<(), Fail> {
+    let mut window = Window::open(rt.alloc(), ONE);
+    assert_eq!(rt; is_quiet(&window, Kind::R(FIRST)), [true, true]);
+    push(&mut window, FIRST, Kind::R(FIRST))?;
+    assert_eq!(rt; is_quiet(&window, Kind::V(1)), [false, true]);
+    assert_eq!(rt; is_quiet(&window, Kind::A), [true, true]);
+    push(&mut window, FIRST, Kind::V(1))?;
+    push(&mut window, FIRST, Kind::T)?;
+    assert_eq!(rt; is_quiet(&window, Kind::C), [false, false]);
+    assert_eq!(rt; is_quiet(&window, Kind::A), [false, false]);
+    Ok(())
+}

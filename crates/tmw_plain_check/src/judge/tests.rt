@@ -40,9 +40,24 @@ fn history(alloc: Global, calls: &[(Ix, Call)]) -> Result<Vec<Event>, AllocError
     Ok(events)
 }
 
-/// The verdict on that history.
+/// The verdict on that history, by opacity.
 fn judged(alloc: Global, registers: Registers, calls: &[(Ix, Call)]) -> Result<Whole, WholeFault> {
     judge_whole(alloc, registers, &history(alloc, calls)?)
+}
+
+/// The verdict on that history, by strict serializability.
+fn judged_strictly(
+    alloc: Global,
+    registers: Registers,
+    calls: &[(Ix, Call)],
+) -> Result<Whole, WholeFault> {
+    judge_whole_for(
+        Criterion::Strict,
+        alloc,
+        registers,
+        &[0; 8],
+        &history(alloc, calls)?,
+    )
 }
 
 #[test]
@@ -54,6 +69,7 @@ fn dirty_read_is_violated_before_its_writer_asks_to_commit(rt: HostRuntime) {
         (SECOND, COMMITS),
     ];
     assert_eq!(rt; judged(rt.alloc(), ONE, &calls), Ok(Whole::Violated(4)));
+    assert_eq!(rt; judged_strictly(rt.alloc(), ONE, &calls), Ok(Whole::Strict));
 }
 
 #[test]
@@ -80,6 +96,62 @@ fn aborted_reader_counts(rt: HostRuntime) {
         (FIRST, (Kind::T, Some(Kind::A))),
     ];
     assert_eq!(rt; judged(rt.alloc(), TWO, &calls), Ok(Whole::Violated(10)));
+    assert_eq!(rt; judged_strictly(rt.alloc(), TWO, &calls), Ok(Whole::Strict));
+}
+
+#[test]
+fn reader_may_commit_only_what_its_writer_may_still_commit(rt: HostRuntime) {
+    let calls = [
+        (FIRST, WRITES_1),
+        (FIRST, (Kind::T, None)),
+        (SECOND, READS_1),
+        (SECOND, COMMITS),
+        (FIRST, (Kind::A, None)),
+    ];
+    assert_eq!(rt;
+        judged_strictly(rt.alloc(), ONE, &calls[..4]),
+        Ok(Whole::Strict)
+    );
+    assert_eq!(rt;
+        judged_strictly(rt.alloc(), ONE, &calls),
+        Ok(Whole::Violated(8))
+    );
+}
+
+#[test]
+fn reader_that_commits_may_not_miss_what_was_committed_before(rt: HostRuntime) {
+    let calls = [
+        (FIRST, WRITES_1),
+        (FIRST, COMMITS),
+        (SECOND, READS_0),
+        (SECOND, COMMITS),
+    ];
+    assert_eq!(rt;
+        judged_strictly(rt.alloc(), ONE, &calls[..3]),
+        Ok(Whole::Strict)
+    );
+    // Its request to commit may still be answered by an abort.
+    assert_eq!(rt;
+        judged_strictly(rt.alloc(), ONE, &calls),
+        Ok(Whole::Violated(8))
+    );
+}
+
+#[test]
+fn lost_update_is_violated_by_both(rt: HostRuntime) {
+    let calls = [
+        (FIRST, READS_0),
+        (SECOND, READS_0),
+        (FIRST, WRITES_1),
+        (SECOND, WRITES_1),
+        (FIRST, COMMITS),
+        (SECOND, COMMITS),
+    ];
+    assert_eq!(rt; judged(rt.alloc(), ONE, &calls), Ok(Whole::Violated(12)));
+    assert_eq!(rt;
+        judged_strictly(rt.alloc(), ONE, &calls),
+        Ok(Whole::Violated(12))
+    );
 }
 
 #[test]
@@ -133,6 +205,10 @@ fn ninth_transaction_is_one_too_many(rt: HostRuntime) {
     assert_eq!(rt; judged(rt.alloc(), ONE, &calls[..8]), Ok(Whole::Opaque));
     calls[8] = (SECOND, (Kind::T, None));
     assert_eq!(rt; judged(rt.alloc(), ONE, &calls), Err(WholeFault::Ninth(16)));
+    assert_eq!(rt;
+        judged_strictly(rt.alloc(), ONE, &calls),
+        Err(WholeFault::Ninth(16))
+    );
 }
 
 #[test]
@@ -140,6 +216,10 @@ fn answer_without_a_call_is_ill_formed(rt: HostRuntime) {
     let calls = [(FIRST, (Kind::V(1), None))];
     assert_eq!(rt;
         judged(rt.alloc(), ONE, &calls),
+        Err(WholeFault::IllFormed(1))
+    );
+    assert_eq!(rt;
+        judged_strictly(rt.alloc(), ONE, &calls),
         Err(WholeFault::IllFormed(1))
     );
 }

@@ -35,7 +35,7 @@ fn eight_writers_leave_what_each_of_them_writes(rt: HostRuntime) -> Result<(), F
         push_from_each(&mut events, kind)?;
     }
     let window = window_of(rt.alloc(), TWO, &events)?.expect(&rt, "well-formed");
-    assert!(rt; are_blind(window.transactions()));
+    assert!(rt; are_blind(Criterion::Opacity, window.transactions()));
     let states = three_states(rt.alloc())?;
     let found = find_blind_ends(rt.alloc(), window.transactions(), states.states(), 8)?;
     let ends = few(&found).expect(&rt, "at most eight");
@@ -56,7 +56,7 @@ fn what_was_written_last_stays(rt: HostRuntime) -> Result<(), Fail> {
         &[write(SECOND, 4), write(FIRST, 3)],
         Kind::C,
     )?;
-    assert!(rt; are_blind(of_two.transactions()));
+    assert!(rt; are_blind(Criterion::Opacity, of_two.transactions()));
     let ends = found(alloc, &of_two)?;
     assert_eq!(rt; few(&ends), Some([holding(1, 2), holding(3, 4)].as_slice()));
     let of_one = window_of_two(
@@ -90,7 +90,7 @@ fn one_that_completed_before_another_is_not_the_last(rt: HostRuntime) -> Result<
 #[test]
 fn what_an_aborted_writer_writes_is_not_kept(rt: HostRuntime) -> Result<(), Fail> {
     let window = window_of_two(rt.alloc(), &[write(FIRST, 1)], &[write(FIRST, 2)], Kind::A)?;
-    assert!(rt; are_blind(window.transactions()));
+    assert!(rt; are_blind(Criterion::Opacity, window.transactions()));
     let ends = found(rt.alloc(), &window)?;
     assert_eq!(rt; few(&ends), Some([holding(1, 0)].as_slice()));
     Ok(())
@@ -117,7 +117,12 @@ fn registers_that_none_writes_stay_as_they_were(rt: HostRuntime) -> Result<(), F
     assert_eq!(rt; few(&found), Some(expected.as_slice()));
     let more = find_blind_ends(rt.alloc(), window.transactions(), states.states(), 5)?;
     assert!(rt; is_many(&more));
-    assert!(rt; matches!(outcomes(rt.alloc(), &states, &window, 5)?, EndStates::Many));
+    assert!(rt;
+        matches!(
+            outcomes(Criterion::Opacity, rt.alloc(), &states, &window, 5)?,
+            EndStates::Many
+        )
+    );
     Ok(())
 }
 
@@ -134,10 +139,10 @@ fn one_that_reads_or_has_not_ended_is_not_blind(rt: HostRuntime) -> Result<(), F
     let alloc = rt.alloc();
     let one = write(FIRST, 1);
     let reads = window_of_two(alloc, &[one], &[one, read(FIRST, 1)], Kind::C)?;
-    assert!(rt; !are_blind(reads.transactions()));
+    assert!(rt; !are_blind(Criterion::Opacity, reads.transactions()));
     let adds = window_of_two(alloc, &[add(FIRST, 1, 0)], &[one], Kind::C)?;
-    assert!(rt; !are_blind(adds.transactions()));
+    assert!(rt; !are_blind(Criterion::Opacity, adds.transactions()));
     let live = window_of_calls(alloc, TWO, &[(FIRST, one)])?;
-    assert!(rt; !are_blind(live.transactions()));
+    assert!(rt; !are_blind(Criterion::Opacity, live.transactions()));
     Ok(())
 }

@@ -32,7 +32,7 @@ fn draw_event(seed: &mut Seed, far: Ix) -> Event {
 }
 
 /// A well-formed history of at most five transactions.
-fn draw_events(
+pub fn draw_events(
     alloc: Global,
     seed: &mut Seed,
     registers: Registers,
@@ -91,7 +91,7 @@ fn kinds_of(events: &[Event]) -> u16 {
 /// How many events the history has before the one that violates it, if one does.
 fn events_before(verdict: Whole, events: &[Event]) -> usize {
     match verdict {
-        Whole::Opaque => events.len(),
+        Whole::Opaque | Whole::Strict => events.len(),
         Whole::Violated(at) => at.saturating_sub(1) as usize,
     }
 }
@@ -109,7 +109,7 @@ fn are_possible(
         let Some(window) = window_of(alloc, registers, front)? else {
             return Ok(false);
         };
-        if !possible(alloc, &zeros, &window)? {
+        if !possible(Criterion::Opacity, alloc, &zeros, &window)? {
             return Ok(false);
         }
     }
@@ -117,7 +117,7 @@ fn are_possible(
 }
 
 /// The window of the longest prefix up to this length at which no transaction is live, and that length.
-fn last_cut(
+pub fn last_cut(
     alloc: Global,
     registers: Registers,
     events: &[Event],
@@ -209,7 +209,7 @@ fn layers_agree_with_the_plain_check(rt: HostRuntime) -> Result<(), Fail> {
             &rt,
             "length 0 is a cut",
         );
-        let ends = outcomes(alloc, &zeros, &window, 64)?;
+        let ends = outcomes(Criterion::Opacity, alloc, &zeros, &window, 64)?;
         let front = events.get(..length).unwrap_or(&events);
         assert!(rt; are_read(alloc, registers, front, far, &ends)?);
         let whole = window_of(alloc, registers, &events)?.expect(&rt, "well-formed");

@@ -22,7 +22,7 @@ fn ends_of(
     window: &Window,
     cap: u8,
 ) -> Result<Option<EndStates>, AllocError> {
-    Ok(Some(outcomes(alloc, states, window, cap)?))
+    Ok(Some(outcomes(Criterion::Opacity, alloc, states, window, cap)?))
 }
 
 /// Each thread reads 0 in register 7, writes 1 to another and asks to commit.
@@ -70,11 +70,11 @@ fn a_read_leaves_the_states_that_it_may_have_read(rt: HostRuntime) -> Result<(),
     )?;
     let mut both = States::only(rt.alloc(), holding(1, 0))?;
     both.insert(holding(2, 0))?;
-    assert!(rt; possible(rt.alloc(), &both, &window)?);
+    assert!(rt; possible(Criterion::Opacity, rt.alloc(), &both, &window)?);
     let ends = ends_of(rt.alloc(), &both, &window, 2)?;
     assert_eq!(rt; few(&ends), Some([holding(2, 0)].as_slice()));
     let other = States::only(rt.alloc(), holding(1, 0))?;
-    assert!(rt; !possible(rt.alloc(), &other, &window)?);
+    assert!(rt; !possible(Criterion::Opacity, rt.alloc(), &other, &window)?);
     let none = ends_of(rt.alloc(), &other, &window, 0)?;
     assert_eq!(rt; few(&none), Some([].as_slice()));
     Ok(())
@@ -102,7 +102,7 @@ fn eight_writers_leave_one_of_eight_states(rt: HostRuntime) -> Result<(), Fail> 
     }
     let window = window_of(rt.alloc(), ONE, &events)?.expect(&rt, "well-formed");
     let zeros = States::zeros(rt.alloc())?;
-    assert!(rt; possible(rt.alloc(), &zeros, &window)?);
+    assert!(rt; possible(Criterion::Opacity, rt.alloc(), &zeros, &window)?);
     let found = ends_of(rt.alloc(), &zeros, &window, 8)?;
     let ends = few(&found).expect(&rt, "at most eight");
     assert_eq!(rt; ends.len(), 8);

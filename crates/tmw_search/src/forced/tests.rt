@@ -8,13 +8,19 @@ use tmw_events::Kind;
 /// The ends that the search finds from zeros, asked for one.
 fn found(alloc: Global, window: &Window) -> Result<Option<EndStates>, AllocError> {
     let zeros = States::zeros(alloc)?;
-    find_ends(alloc, window.transactions(), zeros.states(), 1)
+    find_ends(
+        Criterion::Opacity,
+        alloc,
+        window.transactions(),
+        zeros.states(),
+        1,
+    )
 }
 
 /// The ends that there are from zeros, asked for at most two.
 fn ends_of(alloc: Global, window: &Window) -> Result<Option<EndStates>, AllocError> {
     let zeros = States::zeros(alloc)?;
-    Ok(Some(outcomes(alloc, &zeros, window, 2)?))
+    Ok(Some(outcomes(Criterion::Opacity, alloc, &zeros, window, 2)?))
 }
 
 #[test]
@@ -79,12 +85,18 @@ fn forced_ends_from_more_states_are_counted(rt: HostRuntime) -> Result<(), Fail>
     let mut states = States::only(rt.alloc(), holding(4, 0))?;
     states.insert(holding(3, 5))?;
     states.insert(holding(5, 5))?;
-    let ends = Some(outcomes(rt.alloc(), &states, &window, 2)?);
+    let ends = Some(outcomes(Criterion::Opacity, rt.alloc(), &states, &window, 2)?);
     assert_eq!(rt; few(&ends), Some([holding(1, 0), holding(1, 5)].as_slice()));
-    let found = find_ends(rt.alloc(), window.transactions(), states.states(), 1)?;
+    let found = find_ends(
+        Criterion::Opacity,
+        rt.alloc(),
+        window.transactions(),
+        states.states(),
+        1,
+    )?;
     assert_eq!(rt; few(&found), None);
     assert!(rt; found.is_some());
-    let none = Some(outcomes(rt.alloc(), &states, &window, 0)?);
+    let none = Some(outcomes(Criterion::Opacity, rt.alloc(), &states, &window, 0)?);
     assert_eq!(rt; few(&none), None);
     Ok(())
 }
@@ -95,10 +107,10 @@ fn a_state_with_no_end_leaves_the_answer_to_the_layers(rt: HostRuntime) -> Resul
     assert!(rt; is_forced(window.transactions()));
     assert!(rt; found(rt.alloc(), &window)?.is_none());
     let mut states = States::zeros(rt.alloc())?;
-    let none = Some(outcomes(rt.alloc(), &states, &window, 1)?);
+    let none = Some(outcomes(Criterion::Opacity, rt.alloc(), &states, &window, 1)?);
     assert_eq!(rt; few(&none), Some([].as_slice()));
     states.insert(holding(1, 0))?;
-    let ends = Some(outcomes(rt.alloc(), &states, &window, 1)?);
+    let ends = Some(outcomes(Criterion::Opacity, rt.alloc(), &states, &window, 1)?);
     assert_eq!(rt; few(&ends), Some([holding(1, 2)].as_slice()));
     Ok(())
 }

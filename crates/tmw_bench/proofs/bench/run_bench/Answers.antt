@@ -1,4 +1,4 @@
-use Rattle.std.proofs.Common.{◌≡◌, ◌++◌, ℕ, List, Option, length, map, sym, ap, ◌∙◌, subst, append_assoc, arith}
+use Rattle.std.proofs.Common.{◌≡◌, ◌++◌, ℕ, List, Option, length, map, refl, sym, ap, ◌∙◌, subst, append_assoc, arith}
 use Rattle.std.proofs.lemmas.List.{length-map}
 use Rattle.tmw_bench.proofs.OpaqueRounds.{all_opaque-append}
 use Rattle.tmw_bench.proofs.RoundsOver.{are_endings-map, over-log}
@@ -70,6 +70,6 @@ returns-clause-ok g c =
     (subst (λ (n : ℕ). HasNumbers settings.cells n settings.limit ring.size) (sized ∙ threads) c.in-Ok.ensures.ok.sized) come whole after.played
     (subst (AllOpaque rules begun.bounds) (sym begins)
     (all_opaque-append rules begun.bounds front.judged.items (listed front.held ++ rest.settled) after.opaque))
-    endings headline begun.counted played.within
-    (λ fewer. over-log rules scripts stops ends.items front (listed front.held ++ rest.settled) log.items writers verdict after.stop_count endings
+    endings (judged.verdict rules fits) headline begun.counted played.within
+    (λ fewer. over-log rules scripts stops ends.items front (listed front.held ++ rest.settled) log.items writers verdict refl after.stop_count endings
     begins after.fits.judged headline (played.over fewer))

@@ -1,16 +1,20 @@
 -- The memory and the flag that were read are those of the words, and where one was not read the words lack it.
+use Rattle.std.proofs.Common.{codes}
 use Rattle.clap.specs.Words.{found_of}
-use Rattle.tmw_command.proofs.DriveValues.{other-NamesMemory, read-HasTrace, read-NamesMemory, unread-HasTrace, unread-NamesMemory}
+use Rattle.tmw_command.specs.Program.{memory_name}
+use Rattle.tmw_command.proofs.OptionValues.{other-first, read-HasTrace, read-first, unread-HasTrace, unread-first}
 use Rattle.tmw_command.proofs.parse.memory_and_trace_of.Goals as goal
 
 pub returns-in_default-clause-none : goal.returns-in_default-clause-none
 returns-in_default-clause-none c =
-    λ memory trace named traced. unread-NamesMemory (found_of c.args.matches.now) c.get_str.result c.get_str.ensures c.in_default.is memory named
+    λ memory trace named traced.
+    unread-first (found_of c.args.matches.now) (codes "memory") c.get_str.result (memory_name memory) c.get_str.ensures c.in_default.is named
 
 pub returns-in_default-named-clause-none : goal.returns-in_default-named-clause-none
 returns-in_default-named-clause-none c =
     λ memory trace named traced.
-    other-NamesMemory (found_of c.args.matches.now) c.get_str.result c.in-Some.name c.get_str.ensures c.in-Some.is c.in_default-named.ensures.none memory named
+    other-first (found_of c.args.matches.now) (codes "memory") c.get_str.result c.in-Some.name (memory_name memory) c.get_str.ensures c.in-Some.is
+    (c.in_default-named.ensures.none memory) named
 
 pub returns-in_default-get_one-clause-none : goal.returns-in_default-get_one-clause-none
 returns-in_default-get_one-clause-none c =
@@ -18,6 +22,7 @@ returns-in_default-get_one-clause-none c =
 
 pub returns-clause-some : goal.returns-clause-some
 returns-clause-some c = (
-  read-NamesMemory (found_of c.args.matches.now) c.get_str.result c.in-Some.name c.in-Some-named.memory c.get_str.ensures c.in-Some.is c.in-Some-named.ensures.some,
+  read-first (found_of c.args.matches.now) (codes "memory") c.get_str.result c.in-Some.name (memory_name c.in-Some-named.memory) c.get_str.ensures
+      c.in-Some.is c.in-Some-named.ensures.some,
   read-HasTrace (found_of c.args.matches.now) c.in-Some-get_one.trace c.in-Some-get_one.ensures.none (λ t e. c.in-Some-get_one.ensures.value t e),
 )

@@ -5,7 +5,7 @@ use Rattle.clap.specs.Simple.{app_of_fields}
 use Rattle.clap.specs.Walk.{texts}
 use Rattle.clap.specs.Words.{App, app_of, new_app, with_subcommand}
 use Rattle.clap.proofs.SimpleLemmas.{plain_fields}
-use Rattle.tmw_command.specs.Program.{memory_names, wanting}
+use Rattle.tmw_command.specs.Program.{criteria_names, memory_names, wanting}
 use Rattle.tmw_command.proofs.program.new_program.Goals as goal
 
 abbrev needing : App → App
@@ -30,7 +30,14 @@ returns c =
     let first = c.in_ok-subcommand.ensures.shape judge_local.globals ∙ ap₂ with_subcommand top (ap (λ (app : App). app.top) judges) in
     let second = c.in_ok-subcommand-2.ensures.shape drive_local.globals ∙ ap₂ with_subcommand first (ap (λ (app : App). app.top) drives) in
     let third = c.in_ok-subcommand-3.ensures.shape bench_local.globals ∙ ap₂ with_subcommand second (ap (λ (app : App). app.top) benches) in
-    let names : texts c.as_slice-memories.result.now ≡ memory_names = search rules in
+    let criteria_are : texts c.as_slice-criteria.result.now ≡ criteria_names = search rules in
+    let memories_are : texts c.as_slice-memories.result.now ≡ memory_names = search rules in
     IfOk-weaker c.subcommand-4.result _ _
-    (λ command added. (c.as_slice-memories.result, names, added.shape steps_local.globals ∙ ap₂ with_subcommand third (ap (λ (app : App). app.top) takes_steps)))
+    (λ command added. record {
+      criteria = c.as_slice-criteria.result;
+      memories = c.as_slice-memories.result;
+      criteria_are = criteria_are;
+      memories_are = memories_are;
+      is = added.shape steps_local.globals ∙ ap₂ with_subcommand third (ap (λ (app : App). app.top) takes_steps);
+    })
     c.subcommand-4.ensures

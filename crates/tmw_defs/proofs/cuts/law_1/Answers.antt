@@ -1,4 +1,4 @@
-use Rattle.tmw_defs.proofs.CutsProof.{cut_law}
+use Rattle.tmw_defs.proofs.CutLaws.{cut_law}
 use Rattle.tmw_defs.proofs.cuts.law_1.Goals as goal
 
 pub returns : goal.returns

@@ -1,4 +1,4 @@
-use Rattle.tmw_defs.proofs.QuietProof.{quiet_law}
+use Rattle.tmw_defs.proofs.QuietLaws.{quiet_law}
 use Rattle.tmw_defs.proofs.quiet.law_2.Goals as goal
 
 pub returns : goal.returns

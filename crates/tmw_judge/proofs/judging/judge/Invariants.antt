@@ -1,4 +1,4 @@
--- What was told so far is what the reader of lines has read, and the monitor was fed its events.
+-- What was told so far is what the reader of lines has read, and each monitor was fed its events.
 use Rattle.std.proofs.Common.{◌≡◌, ◌+◌}
 use Rattle.tmw_lines.specs.Lines.{unread}
 use Rattle.tmw_judge.proofs.Taken.{HasFed}
@@ -6,7 +6,7 @@ use Rattle.tmw_judge.proofs.judging.judge.Given as goal
 
 abbrev pub invariant-lines : goal.invariant-lines
 invariant-lines g l =
-    HasFed g.S.Source.told g.S.Source.remaining l.fn.source l.source l.lines l.fn.bounds l.monitor
+    HasFed g.S.Source.told g.S.Source.remaining l.fn.source l.source l.lines l.fn.bounds l.fn.asked l.monitors
     × (g.S.Source.failures l.source ≡ g.S.Source.failures l.fn.source)
 
 abbrev pub decreases-lines : goal.decreases-lines

@@ -1,15 +1,5 @@
--- The monitor was fed one event more.
-use Rattle.std.proofs.Common.{◌≡◌, ◌+◌, List, [], ◌∷◌, ◌++◌, take, subst, sym, ap, ◌∙◌}
-use Rattle.std.proofs.lemmas.List.{take_more}
-use Rattle.tmw_events.specs.declared.event.Event.{Event}
-use Rattle.tmw_monitor.specs.Fitting.{Fits, rules_of}
+-- Opacity is one of the criteria.
 use Rattle.tmw_monitor.proofs.judging.judge_from.Goals as goal
 
-pub loop-event-preserved : goal.loop-event-preserved
-loop-event-preserved c =
-    let judged_by = rules_of c.args.registers c.args.start.now c.args.bounds in
-    let before = take c.loop-event.event-index c.args.events.now in
-    let next : before ++ c.event-item.result ∷ [] ≡ take (c.loop-event.event-index + 1) c.args.events.now =
-    ap (λ e. before ++ e ∷ []) c.event-item.is
-    ∙ sym (take_more c.args.events.now c.loop-event.event-index c.event-item.result c.loop-event-test.true) in
-    subst (λ (h : List Event). Fits judged_by h c.feed.new.self) next (c.in_ok-feed.ensures.ok judged_by before c.loop-event.invariant)
+pub returns : goal.returns
+returns c = c.judge_for.ensures

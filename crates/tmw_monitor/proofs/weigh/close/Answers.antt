@@ -21,4 +21,4 @@ pub returns-in-Few-2-clause-ok : goal.returns-in-Few-2-clause-ok
 returns-in-Few-2-clause-ok c quiet events stands cut =
     let found = rw c.in-Few.is at (c.in_ok-outcomes.ensures events stands) in
     let (end, some) = first_of (members c.in-Few.ends) (λ empty. let bad : false ≡ true = sym c.if-is_empty.false ∙ c.is_empty.ensures.1 empty in absurd (cc)) in
-    inr (record { cut = cut; exact = found.1; end = end; some = some; few = found.0; stands = c.clear.ensures.stands })
+    inr (record { cut = cut; exact = found.1; end = end; some = some; few = found.0; stands = c.clear.ensures.stands; witness = c.begin_again.ensures })

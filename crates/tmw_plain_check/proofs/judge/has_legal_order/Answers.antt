@@ -1,11 +1,22 @@
 -- The search decides.
-use Rattle.std.proofs.Common.{◌≤◌, length, ap, arith}
-use Rattle.tmw_plain_check.proofs.Weighing.{weighs_shown}
+use Rattle.std.proofs.Common.{◌≤◌, Ok, length, ap, sym, subst, arith}
+use Rattle.tmw_defs.specs.declared.criterion.Criterion.{Criterion}
+use Rattle.tmw_plain_check.specs.Verdict.{Weighs}
+use Rattle.tmw_plain_check.proofs.Weighing.{weighs_explained, weighs_completed}
 use Rattle.tmw_plain_check.proofs.judge.has_legal_order.Goals as goal
+
+pub returns-in-Opacity : goal.returns-in-Opacity
+returns-in-Opacity c =
+    let few : length c.in_ok-list.list.items ≤ 8 = omega (arith, ap length c.deref.ensures.value) in
+    let found = rw c.deref.ensures.value at c.in_ok-is_explained-in-Opacity.ensures in
+    subst (λ (k : Criterion). Weighs k c.args.start.now c.args.events.now (Ok c.in_ok-is_explained-in-Opacity.field-0)) (sym c.in-Opacity.is)
+    (weighs_explained c.args.start.now c.args.events.now c.in_ok-list.list.items c.in_ok-is_explained-in-Opacity.field-0
+    c.in_ok-list.ensures few found)
 
 pub returns : goal.returns
 returns c =
-    let few : length c.in_ok-list.list.items ≤ 8 = omega (arith, ap length c.deref.ensures.value) in
-    let explained = rw c.deref.ensures.value at c.in_ok-is_explained.ensures in
-    weighs_shown c.args.start.now c.args.events.now c.in_ok-list.list.items c.in_ok-is_explained.field-0
-    c.in_ok-list.ensures few explained
+    let few : length c.in_ok-list.list.items ≤ 8 = omega (arith, ap length c.deref-in-Strict.ensures.value) in
+    let found = rw c.deref-in-Strict.ensures.value at c.in_ok-has_completion-in-Strict.ensures in
+    subst (λ (k : Criterion). Weighs k c.args.start.now c.args.events.now (Ok c.in_ok-has_completion-in-Strict.field-0)) (sym c.in-Strict.is)
+    (weighs_completed c.args.start.now c.args.events.now c.in_ok-list.list.items c.in_ok-has_completion-in-Strict.field-0
+    c.in_ok-list.ensures few found)

@@ -2,6 +2,11 @@ use Rattle.std.proofs.Common.{sym, subst}
 use Rattle.tmw_pump.specs.Headline.{IsLogOf}
 use Rattle.tmw_recorded.proofs.pumping.judge_rest.Goals as goal
 
+pub returns-clause-verdict : goal.returns-clause-verdict
+returns-clause-verdict c by fits =
+    let after = c.in_ok-pump.ensures.ok.counted.judged.fits by fits in
+    rw (c.finish.ensures.judged, c.finish.ensures.verdict) after.judged
+
 pub returns-clause-headline : goal.returns-clause-headline
 returns-clause-headline c by log writers fits one_log =
     let rested = c.in_ok-pump.ensures.ok.counted in

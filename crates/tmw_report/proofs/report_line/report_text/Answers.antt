@@ -7,4 +7,4 @@ pub returns : goal.returns
 unfolding lib.Utf8.encode
 returns c =
     c.in_ok-push.ensures.bytes
-    ∙ report_object-line c.args.events c.args.verdict.now _ _ c.in_ok-object_of.ensures c.in_ok-line.ensures.text
+    ∙ report_object-line c.args.events c.args.verdict.now _ _ c.requires c.in_ok-object_of.ensures c.in_ok-line.ensures.text

@@ -1,18 +1,20 @@
 -- What answers the bytes that were read answers the source, which has ended.
-use Rattle.std.proofs.Common.{ℕ, List, ◌∙◌, sym, subst}
+use Rattle.std.proofs.Common.{rules, ◌≡◌, ℕ, List, [], ◌∙◌, sym, subst}
 use Rattle.tmw_run_drive.proofs.Answering.{answers-ended, failures-same}
 use Rattle.tmw_run_drive.specs.Running.{AnswersWorkload}
+use Rattle.tmw_streams.proofs.ToldBytes.{Tells-held}
 use Rattle.tmw_tm.specs.Answers.{Call, Answer}
 use Rattle.tmw_run_drive.proofs.driving.drive_source.Goals as goal
 
 pub returns-in-Ok-clause-right : goal.returns-in-Ok-clause-right
 returns-in-Ok-clause-right g c =
-    let bytes = c.in-Ok.bytes.items in
+    let bytes = c.read_all.new.bytes.items in
+    let none : c.new-bytes.result.items ≡ [] = search rules in
     let gives : Call → Answer → Type 0 = λ call answer. (goal.Tm-dyn g c.args.memory.now).gives c.args.memory.now.1 call answer in
     let right = subst (λ (xs : List ℕ). AnswersWorkload gives c.args.bounds (Unit {0}) xs c.drive_text.result) c.deref.ensures.value c.drive_text.ensures in (
       bytes,
-      c.in-Ok.ensures.bytes,
-      answers-ended gives c.args.bounds bytes (g.S.Source.ended c.read_all.new.source) c.drive_text.result c.in-Ok.ensures.ended right,
+      Tells-held g.S.Source.told g.S.Source.remaining c.args.source.now c.read_all.new.source c.new-bytes.result.items bytes none c.read_all.ensures.held,
+      answers-ended gives c.args.bounds bytes (g.S.Source.ended c.read_all.new.source) c.drive_text.result (c.in-Ok.ensures.ended) right,
     )
 
 pub returns-in-Ok-clause-failures : goal.returns-in-Ok-clause-failures

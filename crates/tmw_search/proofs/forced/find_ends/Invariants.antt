@@ -6,4 +6,4 @@ use Rattle.tmw_search.proofs.forced.find_ends.Given as goal
 
 abbrev pub invariant-loop-state : goal.invariant-loop-state
 invariant-loop-state l =
-    Finds (map view l.items) (members l.ends) (drop l.state-index l.states) l.states × (length (members l.ends) ≤ l.cap)
+    Finds l.criterion (map view l.items) (members l.ends) (drop l.state-index l.states) l.states × (length (members l.ends) ≤ l.cap)

@@ -5,5 +5,5 @@ use Rattle.tmw_search.proofs.nexts.push_all.Given as goal
 
 abbrev pub invariant-loop-reached : goal.invariant-loop-reached
 invariant-loop-reached l =
-    l.nexts.items ++ flat_map (nexts_from 0 (map view l.items)) (drop l.reached-index l.layer)
-    ≡ l.fn.nexts.items ++ flat_map (nexts_from 0 (map view l.items)) l.layer
+    l.nexts.items ++ flat_map (nexts_from l.criterion 0 (map view l.items)) (drop l.reached-index l.layer)
+    ≡ l.fn.nexts.items ++ flat_map (nexts_from l.criterion 0 (map view l.items)) l.layer

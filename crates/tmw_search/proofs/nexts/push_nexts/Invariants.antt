@@ -5,5 +5,5 @@ use Rattle.tmw_search.proofs.nexts.push_nexts.Given as goal
 
 abbrev pub invariant-loop-place : goal.invariant-loop-place
 invariant-loop-place l =
-    l.nexts.items ++ nexts_from l.place (map view (drop l.place l.items)) l.reached
-    ≡ l.fn.nexts.items ++ nexts_from 0 (map view l.items) l.reached
+    l.nexts.items ++ nexts_from l.criterion l.place (map view (drop l.place l.items)) l.reached
+    ≡ l.fn.nexts.items ++ nexts_from l.criterion 0 (map view l.items) l.reached

@@ -9,4 +9,4 @@ returns-then-is_some c = λ _.
     let states = c.args.states.now in
     let at = c.loop-state.state-index in
     let found = found_some c.find_end.result _ (sym c.if-is_some.ensures) c.find_end.ensures in
-    have-end (map view c.args.items.now) states (get_or states at []) found.0 (Contains-get_or states at [] c.loop-state-test.true) found.1
+    have-end c.args.criterion (map view c.args.items.now) states (get_or states at []) found.0 (Contains-get_or states at [] c.loop-state-test.true) found.1

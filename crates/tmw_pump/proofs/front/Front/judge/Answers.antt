@@ -9,6 +9,7 @@ use Rattle.tmw_pump.specs.Held.{listed, WasFed}
 pub invariant_of-self : goal.invariant_of-self
 invariant_of-self c = let old = c.args.self.now in
     record {
+      opacity = old.opacity;
       fed = subst (λ (items : List Event). ∥ WasFed items old.monitor ∥₁) (sym c.reserve.ensures.items) old.fed;
       few = subst (λ (items : List Event). length items + length (listed old.held) ≤ 2 ^ 40) (sym c.reserve.ensures.items) old.few;
     }
@@ -21,6 +22,7 @@ pub invariant_of-self-in-Break-branch-2 : goal.invariant_of-self-in-Break-branch
 invariant_of-self-in-Break-branch-2 c = let old = c.args.self.now in
     let same = sym c.reserve.ensures.items in
     record {
+      opacity = c.feed.ensures.criterion ∙ old.opacity;
       fed = fed_on old.judged.items c.reserve.new.self.items old.monitor c.feed.new.self old.fed (λ by fits.
           subst (λ (items : List Event). Fits by items c.feed.new.self) same (c.in_err-feed.ensures.err by old.judged.items fits));
       few = subst (λ (items : List Event). length items + length (listed old.held) ≤ 2 ^ 40) same old.few;
@@ -32,6 +34,7 @@ invariant_of-self-2 c = let old = c.args.self.now in
     let size = ap (λ (l : List Event). length l) items ∙ length_push old.judged.items c.args.event in
     let room = few-held old.judged.items old.held c.args.event c.requires old.few in
     record {
+      opacity = c.feed.ensures.criterion ∙ old.opacity;
       fed = fed_on old.judged.items c.push_reserved.new.self.items old.monitor c.feed.new.self old.fed (λ by fits.
           subst (λ (l : List Event). Fits by l c.feed.new.self) (sym items) (c.in_ok-feed.ensures.ok by old.judged.items fits));
       few = omega (arith, size, room);

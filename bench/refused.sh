@@ -1,0 +1,236 @@
+#!/usr/bin/env bash
+# Refuses each growth of memory in turn, and fails each read, each write and each start of a thread, of the built program; and
+# refuses each growth of the tests that allow it.
+#
+#   bench/refused.sh
+#
+# bench/refused.c is loaded with the program, and refuses the call of one number: the first, then the second, up to a run that has
+# no such call. Reads and writes move few bytes each, so that there are many. (`rt try --fail-alloc` refuses the same growths, but
+# builds the program anew for each run.) Of a command line
+# - a run that was refused a growth, that one alone or all from it on, has to write the line of the fault `memory` alone, with
+#   status 4: of `spawn`, where the growth was for the start of a thread, or where the start failed;
+# - a run with a failed read has to write the line of the fault `io` alone, with status 4;
+# - a run with a failed write has to leave a beginning of what the plain run writes, and not all of it, with status 4;
+# - a run with an interrupted read or write, or with no call refused, has to write what the plain run writes, with its status;
+# - nothing may be read after a call that was refused or failed.
+# Of the tests of all crates those whose name has `refused_growth` have to pass, or to answer that there is no memory for what they
+# begin with, and to pass at some growth at least; a test that allows no refusal has to fail at each.
+#
+# A line for each row tells how many calls of each kind were refused. The last line is `N passed, M failed`, of all runs, and the
+# exit status is 1 where M is above 0. A row that was refused nothing has failed.
+# Environment: CC (cc), LIMIT (20), the seconds that a run may take.
+set -eu
+ulimit -c 0
+top=$(cd "$(dirname "${BASH_SOURCE[0]}")/.." && pwd)
+folder=$(mktemp -d)
+trap 'rm -rf "$folder"' EXIT
+"${CC:-cc}" -O2 -shared -fPIC -o "$folder/refused.so" "$top/bench/refused.c" -ldl
+for fault in memory io spawn; do echo "{\"fault\":\"$fault\"}" >"$folder/$fault"; done
+passed=0 failed=0
+
+# Counts a run, and tells what it did where that isn't what it has to do.
+count() {
+    if [ "$1" -eq 0 ]; then
+        passed=$((passed + 1))
+    else
+        failed=$((failed + 1))
+        echo "$name: $2: status $status, told '${told[*]}', wrote '$(head -qc 150 "$folder/output" "$folder/errors" | tr '\n' ' ')'"
+    fi
+}
+
+# Runs these words with the call of this kind and number refused.
+run() {
+    : >"$folder/told"
+    status=0
+    timeout "${LIMIT:-20}" env LD_PRELOAD="$folder/refused.so" TOLD="$folder/told" REFUSE="$1" AT="$2" BYTES="$bytes" "${@:3}" \
+        <"$input" >"$folder/output" 2>"$folder/errors" || status=$?
+    mapfile -t told <"$folder/told"
+}
+
+was_told() {
+    case " ${told[*]} " in *" $1 "*) true ;; *) false ;; esac
+}
+
+# Whether the run has left these bytes and ended with this status, and has read nothing after what was refused.
+has_left() {
+    [ "$status" -eq "$2" ] && ! was_told read && cmp -s "$folder/output" "$1"
+}
+
+# The same, of a beginning of what the plain run writes.
+has_left_beginning() {
+    local size
+    size=$(stat -c %s "$folder/output")
+    head -c "$size" "$folder/plain" >"$folder/beginning"
+    [ "$size" -lt "$(stat -c %s "$folder/plain")" ] && has_left "$folder/beginning" 4
+}
+
+# Whether the run did what it has to where the call of this kind and number was refused.
+is_right() {
+    case $1 in
+    growth | growths)
+        case " $starts " in
+        *" $2 "*) has_left "$folder/spawn" 4 ;;
+        *) has_left "$folder/memory" 4 ;;
+        esac
+        ;;
+    thread) has_left "$folder/spawn" 4 ;;
+    read) has_left "$folder/io" 4 ;;
+    write) has_left_beginning ;;
+    interrupted_*) has_left "$folder/plain" "$plain_status" ;;
+    esac
+}
+
+# Refuses each call of this kind in turn, up to a run that has no such call: their number is then in `refused`.
+sweep() {
+    local wrong
+    refused=0
+    run "$1" 1 "${words[@]}"
+    while was_told refused; do
+        refused=$((refused + 1)) wrong=0
+        is_right "$1" "$refused" || wrong=1
+        count $wrong "$1 $refused"
+        run "$1" $((refused + 1)) "${words[@]}"
+    done
+    wrong=0
+    [ "$refused" -gt 0 ] && has_left "$folder/plain" "$plain_status" || wrong=1
+    count $wrong "no $1 after $refused"
+}
+
+# A command line: its name, the status of its plain run, the bytes that a read or a write moves, its input, and its words.
+row() {
+    name=$1 plain_status=$2 bytes=$3 input=$4 words=("$program" "${@:5}")
+    local kind line='' wrong=0
+    run '' 0 "${words[@]}"
+    starts=$(sed -n 's/^start //p' "$folder/told" | tr '\n' ' ')
+    "${words[@]}" <"$input" >"$folder/plain" 2>/dev/null || true
+    has_left "$folder/plain" "$plain_status" || wrong=1
+    count $wrong 'nothing refused'
+    for kind in $kinds; do
+        sweep "$kind"
+        line="$line, $refused $kind"
+    done
+    echo "$name: ${line#, }"
+}
+
+# Windows of two writers that overlap, so that there are two outcomes, each followed by a reader that tells which it is.
+many_windows() {
+    echo 'opacity-trace 2 2 7 0'
+    for value in $(seq "$1"); do
+        printf '%s\n' "0 W 0 $value" '0 K' '1 W 0 0' '1 K' '0 T' '1 T' '0 C' '1 C'
+        printf '%s\n' '2 N 1 1' "2 V $((value - 1))" '2 R 0' "2 V $value" '2 T' '2 C'
+    done
+}
+
+# The calls of seven writers, each of which writes one register with the thread before it and one with the thread behind it: by
+# their orders there are 64 outcomes.
+many_writes() {
+    echo 'opacity-trace 1 7'
+    for thread in {0..6}; do
+        [ "$thread" -eq 0 ] || printf '%s\n' "$thread W $((thread - 1)) $((thread + 1))" "$thread K"
+        [ "$thread" -eq 6 ] || printf '%s\n' "$thread W $thread $((thread + 1))" "$thread K"
+    done
+}
+
+# A transaction that reads these values in the registers 0 and 5. After the writers the first of them holds 1 or 2, the other 6 or 7.
+reader() {
+    printf '%s\n' '7 R 0' "7 V $1" '7 R 5' "7 V $2" '7 T' '7 C'
+}
+
+# Steps of a ring of one cell, whose writer records so many events, each of which is taken before the next.
+many_steps() {
+    echo 'ring-steps 1 1 1 1000'
+    for value in $(seq "$1"); do
+        printf '%s\n' "front 0 W 0 $value" 'tail 0' 'claim 0' 'fill 0' 'publish 0' peek read free
+    done
+}
+
+# The tests of this crate, as the gate or `rt test` built them: anew where a source is newer.
+tests_of() {
+    tests=$top/crates/$1/out/$1_tests
+    if [ ! -x "$tests" ] || [ -n "$(find "$top"/crates.txt "$top"/crates/*/{src,specs,proofs} -newer "$tests" -print -quit)" ]; then
+        echo "refused.sh: proving and building the tests of $1" >&2
+        (cd "$top/crates/$1" && rt test) >"$folder/build" 2>&1 || { tail -n 40 "$folder/build" >&2 && exit 125; }
+    fi
+}
+
+# Whether a test has failed because there was no memory for what it begins with, and not by an assertion.
+has_not_begun() {
+    [ "$status" -eq 101 ] && grep -Eqx 'error: (Memory|AllocError)' "$folder/errors"
+}
+
+# A test, by its crate and its name, each growth of which is refused: it `allows` that and passes, or is `strict` and fails.
+test_row() {
+    name="$1, $2" bytes=1 input=/dev/null
+    local refused=0 allowed=0 wrong
+    run growth 1 "$tests" "$2" 2>/dev/null
+    while was_told refused; do
+        refused=$((refused + 1)) wrong=0
+        [ "$status" -ne 0 ] || allowed=$((allowed + 1))
+        case $3 in
+        allows) [ "$status" -eq 0 ] || has_not_begun || wrong=1 ;;
+        strict) [ "$status" -eq 101 ] || [ "$status" -eq 134 ] || wrong=1 ;;
+        esac
+        count $wrong "growth $refused"
+        run growth $((refused + 1)) "$tests" "$2" 2>/dev/null
+    done
+    wrong=0
+    [ "$refused" -gt 0 ] && [ "$status" -eq 0 ] || wrong=1
+    [ "$3" != allows ] || [ "$allowed" -gt 0 ] || wrong=1
+    count $wrong "no growth after $refused, with $allowed of which it passed"
+    echo "$name: $refused growth, with $allowed of which it passed"
+}
+
+"$top/tmwatch" judge <"$top/examples/dirty_read.trace" >/dev/null || [ $? -eq 1 ]
+program=$top/crates/tmwatch/out/tmwatch
+many_windows 20 >"$folder/windows"
+{ many_writes && printf '%s\n' {0..6}' T' {0..6}' C'; } >"$folder/outcomes"
+{ cat "$folder/outcomes" && reader 1 6; } >"$folder/narrowed"
+{ many_writes && reader 0 0 && printf '%s\n' {0..6}' T' {0..6}' C'; } >"$folder/layers"
+{ cat "$folder/outcomes" && reader 3 6; } >"$folder/impossible"
+printf '%s\n' 'opacity-trace 1 1' '0 V 1' '0 T' >"$folder/malformed"
+printf '%s\n' 'opacity-trace 1 1' '0 R 01' '0 V 0' >"$folder/bad_line"
+many_steps 20 >"$folder/steps"
+echo '{"registers":1,"scripts":[[["W 0 5","R 0","T"],["N 0 1","X"]]],"order":[]}' >"$folder/worker"
+echo '{"registers":3,"scripts":[[["R 0","W 0 1","T"]],[["R 1","W 1 1","T"]],[["R 2","W 2 1","T"]]],"order":[]}' >"$folder/workers"
+
+kinds='growth growths read interrupted_read write interrupted_write'
+row 'judge, one window' 0 1 "$top/examples/own_write.trace" judge
+row 'judge, many windows' 0 16 "$folder/windows" judge
+row 'judge, violated' 1 4 "$top/examples/dirty_read.trace" judge
+row 'judge, too many transactions' 2 4 "$top/examples/left_open.trace" judge
+row 'judge, malformed' 3 4 "$folder/malformed" judge
+row 'judge, a bad line' 4 1 "$folder/bad_line" judge
+row 'judge, 64 outcomes' 0 4 "$folder/outcomes" judge --states 64
+row 'judge, 64 outcomes and 63 allowed' 2 4 "$folder/outcomes" judge --states 63
+row 'judge, 64 outcomes and a reader of one' 0 4 "$folder/narrowed" judge
+row 'judge, 64 outcomes and a reader of none' 1 4 "$folder/impossible" judge
+row 'judge, 64 outcomes by layers' 0 4 "$folder/layers" judge
+row 'steps, a late claim' 0 4 "$top/examples/late_claim.steps" steps
+row 'steps, many' 0 16 "$folder/steps" steps
+for memory in norec lock torn; do
+    wanted=0
+    [ "$memory" != torn ] || wanted=1
+    row "drive, $memory" $wanted 8 "$top/examples/reader_among_writers.json" drive --memory $memory
+    row "drive, $memory, with the trace" $wanted 8 "$top/examples/reader_among_writers.json" drive --memory $memory --trace
+done
+kinds="$kinds thread"
+row 'bench' 0 4 "$folder/worker" bench
+row 'bench, with the trace' 0 4 "$folder/worker" bench --trace
+row 'bench, three rounds over one cell' 0 4 "$folder/worker" bench --memory lock --ring 1 --patience 1000000000 --rounds 3
+row 'bench, three workers' 0 4 "$folder/workers" bench --memory torn
+kinds='growth growths write interrupted_write'
+row 'help' 0 16 /dev/null help judge
+row 'a wrong word' 4 4 /dev/null judge --window 9
+# To find a word like this one, a list asks for room at once, and where that is refused, for less: the run is then the plain one.
+kinds='growths write interrupted_write'
+row 'a word that is like a command' 4 4 /dev/null jugde
+
+for crate in $(grep -rl 'fn .*refused_growth' "$top"/crates/*/src | sed "s|^$top/crates/||; s|/.*||" | sort -u); do
+    tests_of "$crate"
+    for test in $("$tests" --list | sed -n 's/^\(.*refused_growth.*\): test$/\1/p'); do test_row "$crate" "$test" allows; done
+done
+tests_of tmw_pump
+test_row tmw_pump tests::a_dirty_read_is_judged_as_it_comes strict
+
+echo "$passed passed, $failed failed"
+[ "$failed" -eq 0 ]

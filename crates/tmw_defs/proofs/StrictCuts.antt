@@ -1,0 +1,89 @@
+-- Over a cut, serial orders of what a completion of a history holds are those of what went before followed by those of what follows.
+use Rattle.std.proofs.Common.{List, ◌++◌, length, IsTrue, refl, sym, ap, ◌∙◌}
+use Rattle.std.specs.List.{list_all}
+use Rattle.std.proofs.lemmas.Bool.{and_parts, and_from}
+use Rattle.std.proofs.lemmas.List.Folds.{list_all-append}
+use Rattle.tmw_events.specs.declared.event.Event.{Event}
+use Rattle.tmw_defs.specs.declared.criterion.Criterion.TheVariants.{Strict}
+use Rattle.tmw_defs.specs.Criteria.{LeadsBy}
+use Rattle.tmw_defs.specs.Cuts.{is_cut}
+use Rattle.tmw_defs.specs.History.{Txn, transactions}
+use Rattle.tmw_defs.specs.Opaque.{State, Explains}
+use Rattle.tmw_defs.specs.Outcomes.{end_state}
+use Rattle.tmw_defs.proofs.Along.{Pairs, Keeps, explains-along}
+use Rattle.tmw_defs.proofs.Apart.{explains_split}
+use Rattle.tmw_defs.proofs.Before.{is_before, explains-append, end_state-append}
+use Rattle.tmw_defs.proofs.CutsProof.{keeps-later, keeps-earlier, pairs-flip, behind, behind-later, comes_apart, transactions-cut}
+use Rattle.tmw_defs.proofs.Held.{held-append, held_split, held-along, is_before-held, all_held-along}
+use Rattle.tmw_defs.proofs.Places.{IsLater}
+
+pub strict_leads-append : (s m r : State) (ts us : List Txn) → IsTrue (is_before ts us) → LeadsBy Strict s ts m → LeadsBy Strict m us r
+    → LeadsBy Strict s (ts ++ us) r
+strict_leads-append s m r ts us before (one, a, is_m) (two, b, is_r) = (
+  one ++ two,
+  record {
+    members = a.members ++ b.members;
+    are = held-append ts us a.members b.members a.are b.are;
+    explains = explains-append s a.members b.members one two (is_before-held ts us a.members b.members a.are b.are before)
+        a.explains (rw is_m b.explains);
+    held = rw (list_all-append (λ p. p.held) one two) (and_from _ _ a.held b.held);
+  },
+  end_state-append s one two ∙ ap (λ x. end_state x two) is_m ∙ is_r,
+)
+
+pub strict_leads_split : (s r : State) (ts us : List Txn) → IsTrue (is_before ts us) → LeadsBy Strict s (ts ++ us) r
+    → (m : State) × LeadsBy Strict s ts m × LeadsBy Strict m us r
+strict_leads_split s r ts us before (order, a, is_r) =
+    let parts = held_split ts us a.members a.are in
+    let apart = is_before-held ts us parts.one parts.two parts.first parts.others before in
+    let explains : Explains s (parts.one ++ parts.two) order = rw parts.joined at a.explains in
+    let split = explains_split s parts.one parts.two order apart explains in
+    let (one_held, two_held) = and_parts (list_all (λ p. p.held) split.one) _
+    (rw (split.joined, list_all-append (λ p. p.held) split.one split.two) at a.held) in (
+      end_state s split.one,
+      (
+        split.one,
+        record { members = parts.one; are = parts.first; explains = split.first; held = one_held },
+        refl,
+      ),
+      (
+        split.two,
+        record { members = parts.two; are = parts.others; explains = split.others; held = two_held },
+        sym (end_state-append s split.one split.two) ∙ ap (end_state s) (sym split.joined) ∙ is_r,
+      ),
+    )
+
+-- where the ones lead, others that are pairwise like them do
+pub strict_leads-along : (Rel : Txn → Txn → Type 0) → Keeps Rel → (ts us : List Txn) → Pairs Rel ts us → (s r : State)
+    → LeadsBy Strict s ts r → LeadsBy Strict s us r
+strict_leads-along Rel keeps ts us pairs s r (order, a, is_r) =
+    let held = held-along Rel keeps ts us a.members pairs a.are in
+    let along = explains-along Rel keeps a.members held.other held.pairs s order a.explains in (
+      along.other,
+      record {
+        members = held.other;
+        are = held.are;
+        explains = along.explains;
+        held = all_held-along Rel order along.other along.alike a.held;
+      },
+      sym along.end ∙ is_r,
+    )
+
+pub strict_leads_over : (s r : State) (past rest : List Event) → IsTrue (is_cut past) → LeadsBy Strict s (transactions (past ++ rest)) r
+    → (m : State) × LeadsBy Strict s (transactions past) m × LeadsBy Strict m (transactions rest) r
+strict_leads_over s r past rest cut leads =
+    let split = strict_leads_split s r (transactions past) (behind past rest) (comes_apart past rest cut)
+    (rw (transactions-cut past rest cut) at leads) in (
+      split.0,
+      split.1,
+      strict_leads-along (IsLater (length past)) (keeps-later (length past)) (behind past rest) (transactions rest)
+          (behind-later past rest) split.0 r split.2,
+    )
+
+pub strict_leads-over : (s m r : State) (past rest : List Event) → IsTrue (is_cut past) → LeadsBy Strict s (transactions past) m
+    → LeadsBy Strict m (transactions rest) r → LeadsBy Strict s (transactions (past ++ rest)) r
+strict_leads-over s m r past rest cut one two =
+    rw (transactions-cut past rest cut)
+    (strict_leads-append s m r (transactions past) (behind past rest) (comes_apart past rest cut) one
+    (strict_leads-along (λ t u. IsLater (length past) u t) (keeps-earlier (length past)) (transactions rest) (behind past rest)
+    (pairs-flip (IsLater (length past)) (behind past rest) (transactions rest) (behind-later past rest)) m r two))

@@ -1,0 +1,35 @@
+ghost use Rattle.std.specs.Prelude.{◌≡◌, IfOk, string_bytes};
+ghost use Rattle.tmw_judge.specs.ByCriterion.{Each};
+ghost use Rattle.tmw_judge.specs.Judging.{IsOwnVerdict, report_lines, report_status};
+
+use crate::by_criterion::ByCriterion;
+use crate::report::Report;
+use std::alloc::{AllocError, Global};
+use tmw_report::{both_status, report_strict, report_text, status_of};
+
+/// The lines that tell what was found, a line for each report, and that by opacity first.
+pub fn report_lines(alloc: Global, reports: &ByCriterion<Report>) -> Result<String, AllocError>
+    requires { Each IsOwnVerdict reports.now }
+    ensures { IfOk result (λ lines. string_bytes lines ≡ report_lines reports.now) }
+{
+    match reports {
+        ByCriterion::Opacity(report) => report_text(alloc, report.events, &report.verdict),
+        ByCriterion::Strict(report) => report_strict(alloc, report.events, &report.verdict),
+        ByCriterion::Both(opacity, strict) => {
+            let mut lines = report_text(alloc, opacity.events, &opacity.verdict)?;
+            let second = report_strict(alloc, strict.events, &strict.verdict)?;
+            lines.push_str(second.as_str())?;
+            Ok(lines)
+        }
+    }
+}
+
+/// The exit status that goes with them.
+pub const fn status_of_reports(reports: &ByCriterion<Report>) -> u8
+    ensures { result ≡ report_status reports.now }
+{
+    match reports {
+        ByCriterion::Opacity(report) | ByCriterion::Strict(report) => status_of(&report.verdict),
+        ByCriterion::Both(opacity, strict) => both_status(&opacity.verdict, &strict.verdict),
+    }
+}

@@ -1,0 +1,101 @@
+//! The monitors that a trace is judged by: for each criterion that is asked for one.
+ghost use Rattle.std.specs.Prelude.{◌<◌, ◌^◌, List, [], ◌∷◌, ◌++◌, IfOk, OnOk};
+ghost use Rattle.tmw_defs.specs.Verdict.{Rules};
+ghost use Rattle.tmw_defs.specs.declared.criterion.Asked.{Asked};
+ghost use Rattle.tmw_events.specs.declared.event.Event.{Event};
+ghost use Rattle.tmw_monitor.specs.Fitting.{Fits};
+ghost use Rattle.tmw_monitor.specs.declared.bounds.Bounds.{Bounds};
+ghost use Rattle.tmw_trace.specs.declared.header.Header.{Header};
+ghost use Rattle.tmw_judge.specs.ByCriterion.{Each};
+ghost use Rattle.tmw_judge.specs.Judging.{AreFed, AreReports, IsReportOn, trace_rules};
+
+use crate::by_criterion::ByCriterion;
+use crate::report::Report;
+use std::alloc::{AllocError, Global};
+use tmw_defs::{Asked, Criterion};
+use tmw_events::Event;
+use tmw_monitor::{Bounds, Monitor};
+use tmw_trace::Header;
+
+/// Monitors for the history of a trace with this header, before its first event.
+pub fn monitors_for(
+    alloc: Global,
+    header: Header,
+    bounds: Bounds,
+    asked: Asked,
+) -> Result<ByCriterion<Monitor>, AllocError>
+    ensures { IfOk result (AreFed header bounds asked []) }
+{
+    match asked {
+        Asked::Opacity => {
+            let opacity = monitor_for(alloc, Criterion::Opacity, header, bounds)?;
+            Ok(ByCriterion::Opacity(opacity))
+        }
+        Asked::Strict => {
+            let strict = monitor_for(alloc, Criterion::Strict, header, bounds)?;
+            Ok(ByCriterion::Strict(strict))
+        }
+        Asked::Both => {
+            let opacity = monitor_for(alloc, Criterion::Opacity, header, bounds)?;
+            let strict = monitor_for(alloc, Criterion::Strict, header, bounds)?;
+            Ok(ByCriterion::Both(opacity, strict))
+        }
+    }
+}
+
+/// The one for this criterion.
+fn monitor_for(
+    alloc: Global,
+    criterion: Criterion,
+    header: Header,
+    bounds: Bounds,
+) -> Result<Monitor, AllocError>
+    ensures { IfOk result (λ monitor. Fits (trace_rules header bounds criterion) [] monitor) }
+{
+    Monitor::for_criterion(alloc, criterion, header.registers, header.initial, bounds)
+}
+
+/// Feeds an event to each of them. Where memory is refused some may have taken it, and others not.
+pub fn feed_each(monitors: &mut ByCriterion<Monitor>, event: Event) -> Result<(), AllocError>
+    requires { Each (λ _ monitor. monitor.count < 2 ^ 40) monitors.old }
+    ensures { OnOk result ((header : Header) (bounds : Bounds) (asked : Asked) (history : List Event)
+        → AreFed header bounds asked history monitors.old → AreFed header bounds asked (history ++ event ∷ []) monitors.new) }
+{
+    match monitors {
+        ByCriterion::Opacity(monitor) => {
+            monitor.feed(event)?;
+        }
+        ByCriterion::Strict(monitor) => {
+            monitor.feed(event)?;
+        }
+        ByCriterion::Both(opacity, strict) => {
+            opacity.feed(event)?;
+            strict.feed(event)?;
+        }
+    }
+    Ok(())
+}
+
+/// What they report of the history that they have been fed.
+pub fn reports_of(monitors: &ByCriterion<Monitor>) -> ByCriterion<Report>
+    ensures { (header : Header) (bounds : Bounds) (asked : Asked) (history : List Event) → AreFed header bounds asked history monitors.now
+        → AreReports header bounds asked history result }
+{
+    match monitors {
+        ByCriterion::Opacity(monitor) => ByCriterion::Opacity(report_of(monitor)),
+        ByCriterion::Strict(monitor) => ByCriterion::Strict(report_of(monitor)),
+        ByCriterion::Both(opacity, strict) => {
+            ByCriterion::Both(report_of(opacity), report_of(strict))
+        }
+    }
+}
+
+/// What one reports.
+fn report_of(monitor: &Monitor) -> Report
+    ensures { (rules : Rules) (history : List Event) → Fits rules history monitor.now → IsReportOn rules history result }
+{
+    Report {
+        events: monitor.fed(),
+        verdict: monitor.verdict(),
+    }
+}

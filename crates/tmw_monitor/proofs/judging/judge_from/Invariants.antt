@@ -1,7 +1,0 @@
--- The monitor has been fed the events so far.
-use Rattle.std.proofs.Common.{take}
-use Rattle.tmw_monitor.specs.Fitting.{Fits, rules_of}
-use Rattle.tmw_monitor.proofs.judging.judge_from.Given as goal
-
-abbrev pub invariant-loop-event : goal.invariant-loop-event
-invariant-loop-event l = Fits (rules_of l.fn.registers l.fn.start l.fn.bounds) (take l.event-index l.events) l.monitor

@@ -1,0 +1,15 @@
+-- The window takes the event, a serial order that is known goes on with it, and what is then weighed tells.
+use Rattle.std.proofs.Common.{◌≡◌, ◌++◌, ◌∷◌, [], Result, Ok, Err, IfOk}
+use Rattle.tmw_cuts.specs.Members.{members}
+use Rattle.tmw_monitor.proofs.taken.take_weighed.Goals as goal
+
+if_ok : {X E : Type 0} (r : Result X E) (P Q : X → Type 0) → IfOk r P → ((x : X) → P x → Q x) → IfOk r Q
+if_ok (Ok x) P Q holds step = step x holds
+if_ok (Err e) P Q holds step = holds
+
+pub returns-else-is_err-clause-ok : goal.returns-else-is_err-clause-ok
+returns-else-is_err-clause-ok c =
+    if_ok c.weigh-weighed.result _ _ c.weigh-weighed.ensures.ok (λ found told quiet events stands notes cut was.
+    let pushed = c.in_ok-push.ensures.ok events stands notes in
+    told quiet (events ++ c.args.event ∷ []) pushed cut
+    (c.follow.ensures (members c.args.kept.now.states) events pushed (c.open_place-place.ensures events stands) was))

@@ -1,0 +1,99 @@
+ghost use Rattle.std.specs.Prelude.{◌≡◌, ◌<◌, ◌++◌, ◌∷◌, [], List, IfOk, OnErr, IsTrue, IsFalse, Bool, ℕ, true, false};
+ghost use Rattle.tmw_events.specs.declared.event.Event.{Event};
+ghost use Rattle.tmw_defs.specs.declared.criterion.Criterion.{Criterion};
+ghost use Rattle.tmw_defs.specs.Criteria.{is_quiet_by};
+ghost use Rattle.tmw_defs.specs.Cuts.{is_cut};
+ghost use Rattle.tmw_defs.specs.History.{transactions};
+ghost use Rattle.tmw_wellformed.specs.Notes.{Notes};
+ghost use Rattle.tmw_cuts.specs.Members.{members};
+ghost use Rattle.tmw_cuts.specs.Standing.{StandsFor, count_of, views_of};
+ghost use Rattle.tmw_witness.specs.Witnessing.{Witnesses};
+ghost use Rattle.tmw_monitor.specs.Weighing.{Tells};
+
+use crate::open::Open;
+use crate::weigh::weigh;
+use crate::weighed::Weighed;
+use std::alloc::{AllocError, Global};
+use tmw_defs::Criterion;
+use tmw_events::Event;
+use tmw_wellformed::Note;
+
+/// Takes the next event of a well-formed history into its window, and weighs the window's events from the outcomes at its
+/// beginning. Told is whether they are at a cut with it. Where memory is refused, all is as before, but that no serial order is known.
+pub fn take_event(
+    criterion: Criterion,
+    alloc: Global,
+    kept: &mut Open,
+    cap: u8,
+    cut: bool,
+    event: Event,
+    note: Note,
+) -> Result<Weighed, AllocError>
+    requires room { IsTrue note.begins → count_of kept.old.window < 8 }
+    ensures ok { IfOk result (λ found. (events : List Event) → StandsFor kept.old.window events → Notes events event note
+        → cut ≡ is_cut (events ++ event ∷ []) → Witnesses (members kept.old.states) (views_of events) kept.old.witness
+        → Tells criterion kept.old.states cap (is_quiet_by criterion (transactions events) event.thread.number event.kind)
+        (events ++ event ∷ []) kept.new found) }
+    ensures tracker { kept.new.tracker ≡ kept.old.tracker }
+    ensures states { OnErr result (members kept.new.states ≡ members kept.old.states) }
+    ensures window { OnErr result ((events : List Event) → StandsFor kept.old.window events → Notes events event note
+        → StandsFor kept.new.window events) }
+    ensures witness { OnErr result (kept.new.witness.known ≡ false) }
+{
+    let taken = if !cut && kept.window.is_quiet(criterion, event) {
+        take_quiet(kept, event, note)
+    } else {
+        take_weighed(criterion, alloc, kept, cap, cut, event, note)
+    };
+    if taken.is_err() {
+        kept.witness.forget();
+    }
+    taken
+}
+
+/// The same of an event that is quiet and at no cut: nothing is searched, so that nothing can fail once the event is taken.
+fn take_quiet(kept: &mut Open, event: Event, note: Note) -> Result<Weighed, AllocError>
+    requires room { IsTrue note.begins → count_of kept.old.window < 8 }
+    ensures ok { IfOk result (λ found. (criterion : Criterion) (cap : ℕ) (events : List Event) → StandsFor kept.old.window events
+        → Notes events event note → IsFalse (is_cut (events ++ event ∷ []))
+        → Witnesses (members kept.old.states) (views_of events) kept.old.witness
+        → Tells criterion kept.old.states cap true (events ++ event ∷ []) kept.new found) }
+    ensures tracker { kept.new.tracker ≡ kept.old.tracker }
+    ensures states { OnErr result (members kept.new.states ≡ members kept.old.states) }
+    ensures window { OnErr result ((events : List Event) → StandsFor kept.old.window events → StandsFor kept.new.window events) }
+{
+    let place = kept.window.open_place(event.thread);
+    kept.window.push(event, note)?;
+    kept.witness.follow(&kept.window, place, event);
+    Ok(Weighed::Outcome)
+}
+
+/// The same of any other event: the window is weighed with it, and where memory is refused the event is taken back.
+fn take_weighed(
+    criterion: Criterion,
+    alloc: Global,
+    kept: &mut Open,
+    cap: u8,
+    cut: bool,
+    event: Event,
+    note: Note,
+) -> Result<Weighed, AllocError>
+    requires room { IsTrue note.begins → count_of kept.old.window < 8 }
+    ensures ok { IfOk result (λ found. (quiet : Bool) (events : List Event) → StandsFor kept.old.window events → Notes events event note
+        → cut ≡ is_cut (events ++ event ∷ []) → Witnesses (members kept.old.states) (views_of events) kept.old.witness
+        → Tells criterion kept.old.states cap quiet (events ++ event ∷ []) kept.new found) }
+    ensures tracker { kept.new.tracker ≡ kept.old.tracker }
+    ensures states { OnErr result (members kept.new.states ≡ members kept.old.states) }
+    ensures window { OnErr result ((events : List Event) → StandsFor kept.old.window events → Notes events event note
+        → StandsFor kept.new.window events) }
+{
+    let place = kept.window.open_place(event.thread);
+    let mark = kept.window.mark(event.thread);
+    kept.window.push(event, note)?;
+    kept.witness.follow(&kept.window, place, event);
+    let weighed = weigh(criterion, alloc, kept, cap, cut);
+    if weighed.is_err() {
+        kept.window.take_back(mark);
+    }
+    weighed
+}

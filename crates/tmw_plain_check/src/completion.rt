@@ -1,0 +1,59 @@
+ghost use Rattle.std.specs.Prelude.{◌≡◌, ◌∷◌, ◌++◌, [], IfOk};
+ghost use Rattle.tmw_plain_check.specs.Completions.{goes_with, has_completion};
+ghost use Rattle.tmw_plain_check.specs.TransactionViews.{txn_of, txns_of, shown};
+
+use crate::order::has_order;
+use crate::text::status_of;
+use crate::transaction::Transaction;
+use std::alloc::{AllocError, Global};
+use tmw_defs::Status;
+
+/// Whether what some completion of these transactions holds has a legal serial order of its own, from the start.
+pub fn has_completion(
+    alloc: Global,
+    list: &[Transaction],
+    start: &[u64; 8],
+) -> Result<bool, AllocError>
+    ensures { IfOk result (λ has. has ≡ has_completion start.now (txns_of list.now)) }
+{
+    goes_with(alloc, &[], list, start)
+}
+
+/// The same of a completion that holds these members, and of the transactions behind them any that it may.
+#[cycle(completions)]
+fn goes_with<'a>(
+    alloc: Global,
+    members: &[&'a Transaction],
+    behind: &'a [Transaction],
+    start: &[u64; 8],
+) -> Result<bool, AllocError>
+    ensures { IfOk result (λ goes. goes ≡ goes_with start.now (shown members.now) (txns_of behind.now)) }
+{
+    let [next, rest @ ..] = behind else {
+        return has_order(alloc, members, start);
+    };
+    match status_of(&next.text) {
+        Status::Committed => goes_on_with(alloc, members, next, rest, start),
+        Status::Pending => Ok(
+            goes_on_with(alloc, members, next, rest, start)?
+                || goes_with(alloc, members, rest, start)?,
+        ),
+        Status::Live | Status::Aborted => goes_with(alloc, members, rest, start),
+    }
+}
+
+/// The same of a completion that holds the next transaction too.
+#[cycle(completions)]
+fn goes_on_with<'a>(
+    alloc: Global,
+    members: &[&'a Transaction],
+    next: &'a Transaction,
+    rest: &'a [Transaction],
+    start: &[u64; 8],
+) -> Result<bool, AllocError>
+    ensures { IfOk result (λ goes. goes ≡ goes_with start.now (shown members.now ++ txn_of next.now ∷ []) (txns_of rest.now)) }
+{
+    let mut more = members.to_vec(alloc)?;
+    more.push(next)?;
+    goes_with(alloc, &more, rest, start)
+}

@@ -1,0 +1,91 @@
+-- Where all transactions have ended, their ends by strict serializability are those of the committed ones by opacity.
+use Rattle.std.proofs.Common.{◌≡◌, ◌↔◌, ◌==◌, ◌&&◌, ◌+◌, ◌≤◌, ℕ, Bool, true, false, not, List, [], ◌∷◌, length, IsTrue, cond, refl, sym, ap, subst, ◌∙◌, inl, inr, arith}
+use Rattle.std.specs.Prelude.{if◌then◌else◌}
+use Rattle.std.specs.List.{list_all, count_by}
+use Rattle.std.proofs.lemmas.Bool.{and_parts, and_from, cases_Bool}
+use Rattle.std.proofs.lemmas.List.Sums.{sum_by-cons}
+use Rattle.tmw_defs.specs.declared.criterion.Criterion.{Criterion}
+use Rattle.tmw_defs.specs.declared.criterion.Criterion.TheVariants.{Opacity, Strict}
+use Rattle.tmw_defs.specs.declared.status.Status.{Status}
+use Rattle.tmw_defs.specs.declared.status.Status.TheVariants.{Live, Pending, Committed, Aborted}
+use Rattle.tmw_defs.specs.Criteria.{LeadsBy, EndsBy}
+use Rattle.tmw_defs.specs.History.{Txn, is_ended, status_of}
+use Rattle.tmw_defs.specs.Opaque.{State, Placed, may_be, may_hold, PlacesEach, Explains}
+use Rattle.tmw_defs.specs.Outcomes.{end_state, Leads, Ends}
+use Rattle.tmw_defs.specs.Strict.{AreHeld, ExplainsStrictly}
+use Rattle.tmw_defs.proofs.Held.{list_all-held}
+use Rattle.tmw_defs.proofs.Removals.{list_all-places}
+use Rattle.tmw_search.specs.ForcedTransactions.{is_committed, is_writer, is_blind_writer, IsForced}
+use Rattle.tmw_search.proofs.ForcedProof.{forced-end}
+use Rattle.tmw_search.proofs.Holding.{most_held, ended-held, committed-held, committed_held}
+
+-- one of these statuses is held
+committed-may : (p : Placed) → IsTrue (is_committed (status_of p.txn.text)) → IsTrue (may_be p) → IsTrue p.held
+committed-may p is may = of_status (status_of p.txn.text) p.held is may
+  where
+    of_status : (status : Status) (held : Bool) → IsTrue (is_committed status) → IsTrue (may_hold status held) → IsTrue held
+    of_status Committed held is may = may
+    of_status Live held is may = absurd (cc)
+    of_status Pending held is may = absurd (cc)
+    of_status Aborted held is may = absurd (cc)
+
+all-held : (order : List Placed) → IsTrue (list_all (λ p. is_committed (status_of p.txn.text)) order) → IsTrue (list_all may_be order)
+    → IsTrue (list_all (λ p. p.held) order)
+all-held [] committed may = refl
+all-held (p ∷ order) committed may =
+    let (here, rest) = and_parts (is_committed (status_of p.txn.text)) _ committed in
+    let (may_p, may_rest) = and_parts (may_be p) _ may in
+    and_from p.held _ (committed-may p here may_p) (all-held order rest may_rest)
+
+-- where all have committed, both criteria have the same ends
+pub committed_ends : (S : State → Type 0) (ts : List Txn) (r : State) → IsTrue (list_all (λ t. is_committed (status_of t.text)) ts)
+    → EndsBy Strict S ts r → Ends S ts r
+committed_ends S ts r committed (s, is, (order, e, is_r)) =
+    (s, is, (order, subst (λ (ms : List Txn). Explains s ms order) (committed_held ts e.members committed e.are) e.explains, is_r))
+
+pub committed-ends : (S : State → Type 0) (ts : List Txn) (r : State) → IsTrue (list_all (λ t. is_committed (status_of t.text)) ts)
+    → Ends S ts r → EndsBy Strict S ts r
+committed-ends S ts r committed (s, is, (order, e, is_r)) =
+    let each = list_all-places (λ t. is_committed (status_of t.text)) ts order e.each ∙ committed in (
+      s,
+      is,
+      (
+        order,
+        record { members = ts; are = committed-held ts committed; explains = e; held = all-held order each e.completed },
+        is_r,
+      ),
+    )
+
+-- members of what has few writers of a register are few
+abbrev flag : Bool → ℕ
+flag b = cond b 1 0
+
+count_among : (p : Txn → Bool) (us members : List Txn) → AreHeld us members → count_by p members ≤ count_by p us
+count_among p [] members none = rw none (omega arith)
+count_among p (t ∷ us) members (inl (may_not, rest)) =
+    let one : count_by p (t ∷ us) ≡ flag (p t) + count_by p us = sum_by-cons (λ u. flag (p u)) t us in
+    let fewer = count_among p us members rest in
+    omega (arith, one, fewer)
+count_among p (t ∷ us) members (inr (may, more, is, rest)) =
+    let one : count_by p (t ∷ us) ≡ flag (p t) + count_by p us = sum_by-cons (λ u. flag (p u)) t us in
+    let two : count_by p (t ∷ more) ≡ flag (p t) + count_by p more = sum_by-cons (λ u. flag (p u)) t more in
+    let fewer = count_among p us more rest in
+    rw is (omega (arith, one, two, fewer))
+
+forced-among : (us members : List Txn) → IsForced us → AreHeld us members → IsForced members
+forced-among us members forced are = λ r.
+    elim (forced r) [
+      | inl few ↦ inl (omega (arith, few, count_among (is_writer r) us members are))
+      | inr none ↦ inr (list_all-held (λ t. not (is_blind_writer r t)) us members are none)
+    ]
+
+-- a forced end is forced by each criterion
+pub forced-end_by : (criterion : Criterion) (s a b : State) (ts : List Txn) → IsForced ts → IsTrue (list_all (λ t. is_ended t.text) ts)
+    → LeadsBy criterion s ts a → LeadsBy criterion s ts b → a ≡ b
+forced-end_by Opacity s a b ts forced ended l m = forced-end s a b ts forced ended l m
+forced-end_by Strict s a b ts forced ended (one, e, is_a) (two, f, is_b) =
+    let most = most_held ts in
+    let same : e.members ≡ f.members = ended-held ts e.members ended e.are ∙ sym (ended-held ts f.members ended f.are) in
+    let l : Leads s f.members a = (one, subst (λ (ms : List Txn). Explains s ms one) same e.explains, is_a) in
+    let m : Leads s f.members b = (two, f.explains, is_b) in
+    forced-end s a b f.members (forced-among ts f.members forced f.are) (list_all-held (λ t. is_ended t.text) ts f.members f.are ended) l m

@@ -1,0 +1,32 @@
+use Rattle.std.proofs.Common.{◌≡◌, ◌++◌, ◌+◌, [], ◌∷◌, length, map, refl, sym, ap, ◌∙◌, arith}
+use Rattle.std.proofs.lemmas.List.{length-append, length-map}
+use Rattle.std.proofs.lemmas.Bool.{ltb-true}
+use Rattle.tmw_cuts.specs.Standing.{views_of}
+use Rattle.tmw_cuts.specs.Views.{View, view, new_view, completed_mask}
+use Rattle.tmw_search.proofs.WindowViews.{shown_at}
+use Rattle.tmw_witness.proofs.Pushed.{turns-pushed, begun-pushed, completed-within}
+use Rattle.tmw_witness.proofs.witness.Witness.follow.Goals as goal
+
+pub returns-in-None : goal.returns-in-None
+returns-in-None c = λ starts events stands found was.
+    let nowhere = sym c.in-None.is ∙ found in
+    let xs = views_of events in
+    let y : View = new_view c.args.event.thread.number c.args.event.kind (completed_mask xs) in
+    let begun = begun-pushed events c.args.event nowhere in
+    let shown : map view c.transactions-items.result.now ≡ xs ++ y ∷ [] = c.transactions-items.ensures.stands (events ++ c.args.event ∷ []) stands ∙ begun in
+    let size : length xs + 1 ≡ length c.transactions-items.result.now =
+    (let one = length-map c.transactions-items.result.now view in let two = ap length shown in let more = length-append xs (y ∷ []) in
+    omega (arith, one, two, more)) in
+    rw begun (c.begin.ensures starts xs y size refl refl (λ j one. completed-within xs j one) was)
+
+pub returns-in-Some-get : goal.returns-in-Some-get
+returns-in-Some-get c = λ starts events stands found was.
+    let here = sym c.in-Some.is ∙ found in
+    let shown = c.transactions-items.ensures.stands (events ++ c.args.event ∷ []) stands in
+    let items = c.transactions-items.result.now in
+    let look = c.in-Some-get.ensures.lookup in
+    let at = rw shown at (shown_at items c.in-Some.place c.in-Some-get.item.now (ltb-true c.in-Some.place (length items) (sym look.0)) look.1) in
+    let (x, turns, next) = turns-pushed events c.args.event c.in-Some.place (view c.in-Some-get.item.now) here at in
+    let size : length (views_of (events ++ c.args.event ∷ [])) ≡ length items =
+    (let one = length-map items view in let two = ap length shown in omega (arith, one, two)) in
+    c.go_on.ensures starts (views_of events) (views_of (events ++ c.args.event ∷ [])) x turns next size was

@@ -1,0 +1,234 @@
+ghost use Rattle.std.specs.Prelude.{◌≡◌, ◌+◌, ◌≤◌, ◌<◌, ℕ, [], ◌∷◌, ◌++◌, List, IfSome, IsTrue, IsFalse, length, false, true, Some};
+ghost use Rattle.tmw_defs.specs.History.{status_after};
+ghost use Rattle.std.specs.Int.{bit_at};
+ghost use Rattle.tmw_defs.specs.Opaque.{State, may_hold, reads_hold, after_writes};
+ghost use Rattle.tmw_defs.specs.declared.status.Status.TheVariants.{Pending, Committed, Aborted};
+ghost use Rattle.tmw_cuts.specs.Views.{View, view, bit};
+
+use crate::witness::Witness;
+use tmw_cuts::{State, Txn, Window};
+use tmw_events::{Event, Kind};
+
+impl Witness {
+    ghost use Rattle.tmw_witness.specs.Witnessing.{Witnesses, rank_of, held_of, state_of};
+    ghost use Rattle.tmw_witness.specs.Turns.{TurnsAt};
+    ghost use Rattle.tmw_events.specs.declared.event.Event.{Event};
+    ghost use Rattle.tmw_cuts.specs.Standing.{StandsFor, views_of};
+    ghost use Rattle.tmw_cuts.specs.Views.{next_view, is_open_for};
+    ghost use Rattle.std.specs.Prelude.{position};
+
+    /// Takes in that a transaction begins with an event of this kind, with which there are so many.
+    fn begin(&mut self, count: usize, kind: Kind)
+        ensures { (starts : List State) (xs : List View) (y : View) → length xs + 1 ≡ count → y.ops ≡ []
+            → y.status ≡ status_after (Some kind) → ((j : ℕ) → bit_at y.before j ≡ 1 → j < length xs)
+            → Witnesses starts xs self.old → Witnesses starts (xs ++ y ∷ []) self.new }
+    {
+        if kind == Kind::C || count == 0 || count > 8 {
+            self.known = false;
+            return;
+        }
+        self.ranks[count - 1] = self.top;
+        self.held[count - 1] = false;
+    }
+
+    /// The rank above the transaction: the next, where it is held.
+    fn above(&self, place: usize) -> u32
+        requires { place < 8 }
+        ensures { result ≡ rank_of self.now place + bit (held_of self.now place) }
+    {
+        let rank = u32::from(self.ranks[place]);
+        if self.held[place] { rank + 1 } else { rank }
+    }
+
+    /// The lowest rank at which a transaction may stand that these precede.
+    fn lowest(&self, before: u8) -> u32
+        ensures { (j : ℕ) → j < 8 → bit_at before j ≡ 1 → rank_of self.now j + bit (held_of self.now j) ≤ result }
+    {
+        let mut low = 0u32;
+        for place in 0..8 {
+            if before >> place & 1 == 1 {
+                low = low.max(self.above(place));
+            }
+        }
+        low
+    }
+
+    /// Whether the transaction's reads hold in the state of the rank.
+    fn holds_at(&self, item: &Txn, rank: u8) -> bool
+        ensures { IsTrue result → IsTrue (reads_hold (state_of self.now rank) item.now.ops.items) }
+    {
+        self.states
+            .get(usize::from(rank))
+            .is_some_and(|state| item.fits(state))
+    }
+
+    /// A rank at which the transaction's reads hold, and above those that precede it.
+    fn other_rank(&self, item: &Txn) -> Option<u8>
+        ensures { IfSome result (λ rank. (rank ≤ self.now.top) × (rank < 9) × IsTrue (reads_hold (state_of self.now rank) item.now.ops.items)
+            × ((j : ℕ) → j < 8 → bit_at item.now.before j ≡ 1 → rank_of self.now j + bit (held_of self.now j) ≤ rank)) }
+    {
+        let low = self.lowest(item.before);
+        for rank in 0..9u8 {
+            if low <= u32::from(rank) && rank <= self.top && self.holds_at(item, rank) {
+                return Some(rank);
+            }
+        }
+        None
+    }
+
+    /// Takes in that a read or an add of the transaction was answered: it stands where it stood, or at another rank.
+    fn answer(&mut self, item: &Txn, place: usize)
+        ensures { (starts : List State) (xs ys : List View) (x : View) → TurnsAt xs ys place x (view item.now)
+            → IsTrue (may_hold item.now.status false) → Witnesses starts xs self.old → Witnesses starts ys self.new }
+    {
+        if place >= 8 || self.held[place] {
+            self.known = false;
+            return;
+        }
+        if self.holds_at(item, self.ranks[place]) {
+            return;
+        }
+        match self.other_rank(item) {
+            Some(rank) => self.ranks[place] = rank,
+            None => self.known = false,
+        }
+    }
+
+    /// Puts the transaction, which was left out, at the end and holds it, where its reads hold there.
+    fn hold(&mut self, item: &Txn, place: usize) -> bool
+        ensures held { IsTrue result → (starts : List State) (xs ys : List View) (x : View) → TurnsAt xs ys place x (view item.now)
+            → IsTrue (may_hold item.now.status true) → Witnesses starts xs self.old → Witnesses starts ys self.new }
+        ensures left { IsFalse result → self.new ≡ self.old }
+    {
+        let rank = usize::from(self.top);
+        if place >= 8 || rank >= 8 || self.held[place] {
+            return false;
+        }
+        let Some(end) = item.after(&self.states[rank]) else {
+            return false;
+        };
+        self.ranks[place] = self.top;
+        self.held[place] = true;
+        self.states[rank + 1] = end;
+        self.top += 1;
+        true
+    }
+
+    /// Takes in an event after which the transaction stands as before, and is to be left out.
+    fn keep(&mut self, place: usize)
+        ensures { (starts : List State) (xs ys : List View) (x y : View) → TurnsAt xs ys place x y → IsTrue (may_hold y.status false)
+            → ((s : State) → IsTrue (reads_hold s x.ops) → IsTrue (reads_hold s y.ops))
+            → Witnesses starts xs self.old → Witnesses starts ys self.new }
+    {
+        if place >= 8 || self.held[place] {
+            self.known = false;
+        }
+    }
+
+    /// Takes in that the transaction has asked to commit: it goes to the end, where its reads hold there.
+    fn ask(&mut self, item: &Txn, place: usize)
+        ensures { (starts : List State) (xs ys : List View) (x : View) → TurnsAt xs ys place x (view item.now)
+            → item.now.status ≡ Pending → item.now.ops.items ≡ x.ops → Witnesses starts xs self.old → Witnesses starts ys self.new }
+    {
+        if !self.hold(item, place) {
+            self.keep(place);
+        }
+    }
+
+    /// Whether the transaction's operations leave the state of its rank as it is.
+    fn leaves_state(&self, item: &Txn, place: usize) -> bool
+        requires { place < 8 }
+        ensures { IsTrue result → after_writes (state_of self.now (rank_of self.now place)) item.now.ops.items
+            ≡ state_of self.now (rank_of self.now place) }
+    {
+        let rank = usize::from(self.ranks[place]);
+        if rank >= 9 {
+            return false;
+        }
+        item.after(&self.states[rank]) == Some(self.states[rank])
+    }
+
+    /// Takes in that the transaction has committed: it is held, or can be, or its operations leave the state as it is.
+    fn commit(&mut self, item: &Txn, place: usize)
+        ensures { (starts : List State) (xs ys : List View) (x : View) → TurnsAt xs ys place x (view item.now)
+            → item.now.status ≡ Committed → item.now.ops.items ≡ x.ops → Witnesses starts xs self.old → Witnesses starts ys self.new }
+    {
+        if place >= 8 {
+            self.known = false;
+            return;
+        }
+        if self.held[place] {
+            return;
+        }
+        if self.hold(item, place) {
+            return;
+        }
+        if !self.leaves_state(item, place) {
+            self.known = false;
+        }
+    }
+
+    /// Whether none of so many transactions stands at the highest rank.
+    fn none_at_top(&self, count: usize) -> bool
+        ensures { IsTrue result → (i : ℕ) → i < 8 → i < count → rank_of self.now i < self.now.top }
+    {
+        for place in 0..8 {
+            if place < count && self.ranks[place] >= self.top {
+                return false;
+            }
+        }
+        true
+    }
+
+    /// Takes in that the transaction has aborted: it is left out, or can be, where it was the last that was held.
+    fn abort(&mut self, place: usize, count: usize)
+        ensures { (starts : List State) (xs ys : List View) (x y : View) → TurnsAt xs ys place x y → y.status ≡ Aborted → y.ops ≡ x.ops
+            → length ys ≡ count → Witnesses starts xs self.old → Witnesses starts ys self.new }
+    {
+        if place >= 8 || count > 8 {
+            self.known = false;
+            return;
+        }
+        if !self.held[place] {
+            return;
+        }
+        if u32::from(self.ranks[place]) + 1 != u32::from(self.top) || !self.none_at_top(count) {
+            self.known = false;
+            return;
+        }
+        self.held[place] = false;
+        self.top -= 1;
+    }
+
+    /// Takes in that the transaction at the place has an event of this kind more.
+    fn go_on(&mut self, item: &Txn, place: usize, count: usize, kind: Kind)
+        ensures { (starts : List State) (xs ys : List View) (x : View) → TurnsAt xs ys place x (view item.now)
+            → view item.now ≡ next_view kind x → length ys ≡ count → Witnesses starts xs self.old → Witnesses starts ys self.new }
+    {
+        match kind {
+            Kind::V(_) => self.answer(item, place),
+            Kind::T => self.ask(item, place),
+            Kind::C => self.commit(item, place),
+            Kind::A => self.abort(place, count),
+            Kind::R(_) | Kind::W(_, _) | Kind::N(_, _) | Kind::X | Kind::K => self.keep(place),
+        }
+    }
+
+    /// Takes in the event that the window has taken last: that of the transaction at this place, which was open for its thread, or the
+    /// first of another.
+    pub fn follow(&mut self, window: &Window, place: Option<usize>, event: Event)
+        ensures { (starts : List State) (events : List Event) → StandsFor window.now (events ++ event ∷ [])
+            → place ≡ position (is_open_for event.thread.number) (views_of events) → Witnesses starts (views_of events) self.old
+            → Witnesses starts (views_of (events ++ event ∷ [])) self.new }
+    {
+        let items = window.transactions();
+        let count = items.len();
+        match place {
+            None => self.begin(count, event.kind),
+            Some(place) => match items.get(place) {
+                Some(item) => self.go_on(item, place, count, event.kind),
+                None => self.known = false,
+            },
+        }
+    }
+}

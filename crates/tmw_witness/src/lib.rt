@@ -1,0 +1,9 @@
+//! A serial order of the open window's transactions, kept as its events come, so that nothing is searched that is known.
+#![tactic(auto)]
+
+mod following;
+#[cfg(test)]
+mod tests;
+mod witness;
+
+pub use witness::Witness;

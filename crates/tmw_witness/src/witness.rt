@@ -1,0 +1,67 @@
+ghost use Rattle.std.specs.Prelude.{◌≡◌, [], List, IsTrue, false};
+ghost use Rattle.std.specs.List.{Contains};
+ghost use Rattle.tmw_events.specs.declared.event.Event.{Event};
+ghost use Rattle.tmw_defs.specs.History.{transactions};
+ghost use Rattle.tmw_defs.specs.Opaque.{State};
+ghost use Rattle.tmw_defs.specs.Outcomes.{Ends};
+ghost use Rattle.tmw_cuts.specs.Standing.{views_of};
+
+use tmw_cuts::State;
+
+/// A serial order of the transactions of a window, told by ranks. Those that a completion holds lead one after the other from the state
+/// of each rank to that of the next; the others read the state of their rank.
+#[derive(Clone, Copy, Debug)]
+pub struct Witness {
+    /// Whether such an order is known. Where it is not, the rest tells nothing.
+    pub known: bool,
+    /// The rank of each transaction.
+    pub ranks: [u8; 8],
+    /// Whether the completion holds it, so that it leads to the next rank.
+    pub held: [bool; 8],
+    /// The state at each rank.
+    pub states: [State; 9],
+    /// The highest rank.
+    pub top: u8,
+}
+
+impl Witness {
+    ghost use Rattle.tmw_witness.specs.Witnessing.{Witnesses};
+
+    /// That of a window without a transaction, from this state.
+    pub fn new(start: State) -> Witness
+        ensures { (starts : List State) → Contains starts start → Witnesses starts [] result }
+    {
+        Witness {
+            known: true,
+            ranks: [0; 8],
+            held: [false; 8],
+            states: [start; 9],
+            top: 0,
+        }
+    }
+
+    /// Begins anew, with a window without a transaction, from this state.
+    pub fn restart(&mut self, start: &State)
+        ensures { (starts : List State) → Contains starts start.now → Witnesses starts [] self.new }
+    {
+        self.known = true;
+        self.states[0] = *start;
+        self.top = 0;
+    }
+
+    /// Forgets the order.
+    pub fn forget(&mut self)
+        ensures { self.new.known ≡ false }
+    {
+        self.known = false;
+    }
+
+    /// Whether an order is known. Then the window's transactions have an end state.
+    pub fn is_known(&self) -> bool
+        ensures shown { result ≡ self.now.known }
+        ensures ends { (starts : List State) (events : List Event) → Witnesses starts (views_of events) self.now → IsTrue result
+            → (end : State) × Ends (Contains starts) (transactions events) end }
+    {
+        self.known
+    }
+}
