@@ -16,7 +16,7 @@ folder=$(mktemp -d)
 trap 'rm -rf "$folder"' EXIT
 "${CC:-cc}" -O2 -shared -fPIC -o "$folder/chance.so" "$top/bench/chance.c"
 mkdir "$folder/copy" "$folder/copy/.git"
-cp -a "$top/crates" "$top/crates.txt" "$top/HANDLES" "$folder/copy/"
+tar -C "$top" --exclude=incremental -cf - crates crates.txt HANDLES | tar -C "$folder/copy" -xf -
 text=$folder/copy/crates/tmw_pump/src/stopping_tests.rt
 sed -i 's/^const RUNS: u64 = .*;$/const RUNS: u64 = 10_000;/; s/^const UNMADE: u64 = .*;$/const UNMADE: u64 = 10_000;/' "$text"
 [ "$(grep -c '^const .*: u64 = 10_000;$' "$text")" -eq 2 ] || { echo "the numbers of runs were not found" >&2 && exit 1; }
