@@ -4,6 +4,7 @@ pub mod Before
 pub mod CutLaws
 pub mod CutsProof
 pub mod Criteria
+pub mod CriteriaLawProof
 pub mod DecisionProof
 pub mod Held
 pub mod OneMore
@@ -17,4 +18,5 @@ pub mod StrictQuiet
 pub mod TextsProof
 pub mod VerdictProof
 pub mod WindowsProof
+pub mod Weaker
 mod Worked

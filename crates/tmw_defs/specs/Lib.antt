@@ -1,4 +1,5 @@
 pub mod Criteria
+pub mod CriteriaLaw
 pub mod Cuts
 pub mod Decision
 pub mod History

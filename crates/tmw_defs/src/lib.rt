@@ -2,6 +2,7 @@
 //! opacity and to the verdict, and the laws about them.
 #![tactic(auto)]
 
+mod both_criteria;
 mod criterion;
 mod cuts;
 mod op;
@@ -10,6 +11,7 @@ mod status;
 mod texts;
 mod verdict;
 
+pub use both_criteria::law_criteria;
 pub use criterion::{Asked, Criterion};
 pub use cuts::law_1;
 pub use op::Op;

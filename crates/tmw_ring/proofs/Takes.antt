@@ -28,7 +28,7 @@ use Rattle.tmw_ring.specs.Parts.{Parts, key}
 use Rattle.tmw_ring.specs.Rule.{PartFits, IsReal, ReaderFits, Shown}
 use Rattle.tmw_ring.specs.Seats.{reader_in, IsWaitingReader}
 use Rattle.tmw_ring.specs.Takes.{phase_after, after_look, phase_with, after_read, next_event, after_free, peeking, reading, freeing, IsToldEvent, IsReadyReader, IsToldReader, ReaderMade, StampSeen, ValueRead, PlaceFreed}
-use Rattle.tmw_ring.specs.Words.{cell_words, words_of, front_word, stamp_word, value_word}
+use Rattle.tmw_ring.specs.Words.{cell_words, apart, words_of, front_word, stamp_word, value_word}
 use Rattle.tmw_ring.specs.declared.part.Part.{Part}
 use Rattle.tmw_ring.specs.declared.part.Part.TheVariants.{Writes, Reads}
 use Rattle.tmw_ring.specs.declared.part.ReaderPart.{ReaderPart}
@@ -285,7 +285,7 @@ module _ {S : Type 0} where
         reader_moves size state shown seat front_word (front + 1) (core.front + 1) Waiting (core.taken ++ event ∷ [])
             (part.taken ++ next_event part.phase ∷ []) (freeing (next_event part.phase)) part seated makes sound
             (ap (λ (words : List ℕ). set words front_word (front + 1)) shown.words
-            ∙ ap (λ (n : ℕ). core.tail ∷ (n + 1) ∷ cell_words core.cells) is_front)
+            ∙ ap (λ (n : ℕ). core.tail ∷ apart ((n + 1) ∷ apart (cell_words core.cells))) is_front)
             same,
         record {
           seated = refl;

@@ -12,7 +12,7 @@ use Rattle.tmw_ring_defs.specs.RingCells.{empty_cell, filled, published}
 use Rattle.tmw_ring_defs.specs.RingSteps.{with_cell, cell_at}
 use Rattle.tmw_ring_defs.specs.declared.ring_cell.RingCell.{RingCell}
 use Rattle.tmw_ring_defs.specs.declared.ring_size.RingSize.{RingSize}
-use Rattle.tmw_ring.specs.Words.{cell_words, words_of, word_count, stamp_word, value_word}
+use Rattle.tmw_ring.specs.Words.{cell_words, apart, words_of, word_count, stamp_word, value_word}
 
 length-cell_words : (cells : List RingCell) → length (cell_words cells) ≡ 2 * length cells
 length-cell_words [] = refl
@@ -27,6 +27,10 @@ stamp_word-within cells place any = omega (arith, mod-lt place any)
 
 pub value_word-within : (cells place : ℕ) → 0 < cells → value_word cells place < word_count cells
 value_word-within cells place any = omega (arith, mod-lt place any)
+
+-- sixteen more
+abbrev more : ℕ → ℕ
+more n = suc (suc (suc (suc (suc (suc (suc (suc (suc (suc (suc (suc (suc (suc (suc (suc n)))))))))))))))
 
 -- what stands in the words of the cell with this index
 first_at : (cells : List RingCell) (k : ℕ)
@@ -44,14 +48,14 @@ pub stamp_found : (core : Core) (place : ℕ)
     → slice_index (words_of core) (stamp_word core.size.cells place) ≡ stamped (cell_at core place).stamp (cell_at core place).header
 stamp_found core place =
     let k : ℕ = place % core.size.cells in
-    let e : 2 + 2 * k ≡ suc (suc (2 * k)) = omega arith in
+    let e : 32 + 2 * k ≡ more (more (2 * k)) = omega arith in
     ap (slice_index (words_of core)) e ∙ first_at core.cells k
 
 pub value_found : (core : Core) (place : ℕ)
     → slice_index (words_of core) (value_word core.size.cells place) ≡ (cell_at core place).value
 value_found core place =
     let k : ℕ = place % core.size.cells in
-    let e : 3 + 2 * k ≡ suc (suc (suc (2 * k))) = omega arith in
+    let e : 33 + 2 * k ≡ more (more (suc (2 * k))) = omega arith in
     ap (slice_index (words_of core)) e ∙ second_at core.cells k
 
 -- what a store to the words of the cell with this index leaves
@@ -78,9 +82,9 @@ pub filled_words : (core : Core) (place : ℕ) (kind : Kind)
     ≡ words_of (with_cell place (filled kind (cell_at core place)) core)
 filled_words core place kind =
     let k : ℕ = place % core.size.cells in
-    let e : 3 + 2 * k ≡ suc (suc (suc (2 * k))) = omega arith in
+    let e : 33 + 2 * k ≡ more (more (suc (2 * k))) = omega arith in
     ap (λ (i : ℕ). set (words_of core) i (kind_value kind)) e
-    ∙ ap (λ (words : List ℕ). core.tail ∷ core.front ∷ words) (second_set core.cells k (kind_value kind))
+    ∙ ap (λ (words : List ℕ). core.tail ∷ apart (core.front ∷ apart words)) (second_set core.cells k (kind_value kind))
 
 -- The words after a publish.
 pub published_words : (core : Core) (place : ℕ) (event : Event)
@@ -88,9 +92,9 @@ pub published_words : (core : Core) (place : ℕ) (event : Event)
     ≡ words_of (with_cell place (published place event (cell_at core place)) core)
 published_words core place event =
     let k : ℕ = place % core.size.cells in
-    let e : 2 + 2 * k ≡ suc (suc (2 * k)) = omega arith in
+    let e : 32 + 2 * k ≡ more (more (2 * k)) = omega arith in
     ap (λ (i : ℕ). set (words_of core) i (joined place (packed_header event))) e
-    ∙ ap (λ (words : List ℕ). core.tail ∷ core.front ∷ words) (first_set core.cells k (place + 1) (packed_header event))
+    ∙ ap (λ (words : List ℕ). core.tail ∷ apart (core.front ∷ apart words)) (first_set core.cells k (place + 1) (packed_header event))
 
 cell_words-empty : (count : ℕ) → cell_words (replicate count empty_cell) ≡ replicate (2 * count) 0
 cell_words-empty zero = refl
@@ -101,8 +105,8 @@ cell_words-empty (suc count) =
 -- All words of a new ring are 0.
 pub new_words : (size : RingSize) → replicate (word_count size.cells) 0 ≡ words_of (new_core size)
 new_words size =
-    let e : 2 + 2 * size.cells ≡ suc (suc (2 * size.cells)) = omega arith in
-    ap (λ (count : ℕ). replicate count 0) e ∙ ap (λ (words : List ℕ). 0 ∷ 0 ∷ words) (sym (cell_words-empty size.cells))
+    let e : 32 + 2 * size.cells ≡ more (more (2 * size.cells)) = omega arith in
+    ap (λ (count : ℕ). replicate count 0) e ∙ ap (λ (words : List ℕ). 0 ∷ apart (0 ∷ apart words)) (sym (cell_words-empty size.cells))
 
 -- a word that was read from the words themselves
 pub word_read : (words : List ℕ) (word found : ℕ) → get_elem? words word ≡ some found → slice_index words word ≡ found

@@ -19,7 +19,7 @@ use Rattle.tmw_ring_defs.proofs.RingLooks.{front_keeps, tail_keeps}
 use Rattle.tmw_ring.specs.Parts.{Parts}
 use Rattle.tmw_ring.specs.Rule.{FitsPhase, Shown, WriterFits, IsReal}
 use Rattle.tmw_ring.specs.Seats.{writer_in}
-use Rattle.tmw_ring.specs.Words.{words_of}
+use Rattle.tmw_ring.specs.Words.{words_of, front_word}
 use Rattle.tmw_ring.specs.WriterSteps.{front_seen, tail_seen, front_in, front_look, tail_look, IsSeatOf, HasSeenFront, HasSeenTail, WriterMade}
 use Rattle.tmw_ring.specs.declared.part.Part.TheVariants.{Writes}
 use Rattle.tmw_ring.specs.declared.part.WriterPart.{WriterPart}
@@ -84,7 +84,7 @@ tail_goes kind front core part run sound real fits looked =
 
 module _ {S : Type 0} where
   front_allowed : (size : RingSize) (slots seat : ℕ) (kind : Kind) (part : WriterPart) → part.phase ≡ Idle → FitsKind kind
-      → Allows {S = S} {V = Parts} (Shown size) slots seat (Writes part ∷ [], []) 1 (λ found. found)
+      → Allows {S = S} {V = Parts} (Shown size) slots seat (Writes part ∷ [], []) front_word (λ found. found)
       (HasSeenFront kind (Writes part ∷ [], []))
   front_allowed size slots seat kind part idle fits_kind state shown none_lent seated small =
       let fits = writer_fits size state shown seat part seated in
@@ -93,23 +93,23 @@ module _ {S : Type 0} where
       let goes = front_goes kind shown.core part run shown.sound shown.real fits idle fits_kind in
       let next : Core = with_phase part.number.number (Looked kind shown.core.front) shown.core in
       let made = writer_made size state shown seat part next (front_look kind shown.core.front part) seated makes in
-      let found : slice_index state.words 1 ≡ shown.core.front = ap (λ (words : List ℕ). slice_index words 1) shown.words in
-      let words : set state.words 1 (slice_index state.words 1) ≡ words_of next =
-      ap (λ (words : List ℕ). set words 1 (slice_index words 1)) shown.words in
-      let new : WriterPart = front_seen kind (slice_index state.words 1) run part in (
+      let found : slice_index state.words front_word ≡ shown.core.front = ap (λ (words : List ℕ). slice_index words front_word) shown.words in
+      let words : set state.words front_word (slice_index state.words front_word) ≡ words_of next =
+      ap (λ (words : List ℕ). set words front_word (slice_index words front_word)) shown.words in
+      let new : WriterPart = front_seen kind (slice_index state.words front_word) run part in (
         Writes new ∷ [],
         keeps,
         tt,
-        writer_moves size state shown seat 1 (slice_index state.words 1) part new next (front_look kind shown.core.front part) seated
+        writer_moves size state shown seat front_word (slice_index state.words front_word) part new next (front_look kind shown.core.front part) seated
             words makes refl (subst (λ (front : ℕ). Goes shown.core next part (front_seen kind front run part)) (sym found) goes),
         (refl, subst (λ (front : ℕ). WriterMade part (front_look kind front part) run) (sym found) made),
       )
 
   -- An idle writer may look at front.
   pub sees_front : (size own : RingSize) (slots seat : ℕ) (kind : Kind) (me : Me S Parts) → IsSeatOf own Idle me → FitsKind kind
-      → Allows {S = S} {V = Parts} (Shown size) slots seat me 1 (λ found. found) (HasSeenFront kind me)
+      → Allows {S = S} {V = Parts} (Shown size) slots seat me front_word (λ found. found) (HasSeenFront kind me)
   sees_front size own slots seat kind me is fits_kind =
-      subst (λ (m : Me S Parts). Allows {S = S} {V = Parts} (Shown size) slots seat m 1 (λ found. found) (HasSeenFront kind m)) (sym is.seated)
+      subst (λ (m : Me S Parts). Allows {S = S} {V = Parts} (Shown size) slots seat m front_word (λ found. found) (HasSeenFront kind m)) (sym is.seated)
       (front_allowed size slots seat kind (writer_in me.0) is.phase_is fits_kind)
 
   tail_allowed : (size : RingSize) (slots seat : ℕ) (kind : Kind) (front : ℕ) (part : WriterPart) → part.phase ≡ Looked kind front

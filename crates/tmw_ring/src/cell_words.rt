@@ -18,7 +18,7 @@ pub(crate) fn words_at(cells: u64, place: u64) -> CellWords
     ensures stamp { result.stamp ≡ stamp_word cells place }
     ensures value { result.value ≡ value_word cells place }
 {
-    let stamp = 2 + 2 * (place % cells) as usize;
+    let stamp = 32 + 2 * (place % cells) as usize;
     CellWords {
         place,
         stamp,

@@ -25,7 +25,7 @@ pub fn ring(
     ensures err { IfErr result (IsNoRing cells writers limit) }
 {
     let size = RingSize::new(cells, writers, limit)?;
-    let words = vec![in alloc; 0; 2 + 2 * size.cells as usize]?;
+    let words = vec![in alloc; 0; 32 + 2 * size.cells as usize]?;
     let (table, mut seat) = Table::of_words(alloc, words.as_slice(), &size)?;
     let ring = Ring { table, size };
     let writers = deal(alloc, &ring, &mut seat)?;

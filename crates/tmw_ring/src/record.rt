@@ -83,7 +83,7 @@ fn see_front<C: Choice>(ring: &Ring, seat: &mut RingSeat) -> u64
     ensures table { seat.new.table_id ≡ seat.old.table_id }
     ensures seen { HasSeenFront C.kind seat.old.me result seat.new.me }
 {
-    ring.table.shared.load::<SeesFront<C>>(seat, 1)
+    ring.table.shared.load::<SeesFront<C>>(seat, 16)
 }
 
 /// A writer that has found this front looks at tail.

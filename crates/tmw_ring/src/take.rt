@@ -67,7 +67,7 @@ impl Ring {
         ensures table { seat.new.table_id ≡ seat.old.table_id }
         ensures freed { PlaceFreed seat.old.me seat.new.me }
     {
-        self.table.shared.store::<FreesPlace>(seat, 1, front + 1);
+        self.table.shared.store::<FreesPlace>(seat, 16, front + 1);
     }
 }
 
