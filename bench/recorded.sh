@@ -1,4 +1,6 @@
-# What bench/recorders.sh and bench/libitm.sh have in common: rows of recorded runs that are judged. It is read by them, and not run.
+# shellcheck shell=bash disable=SC2154
+# What bench/recorders.sh and bench/libitm.sh have in common: rows of recorded runs that are judged. They read it, and set top, the
+# repository's folder, and runs and rounds, how many runs a row has and how many rounds a run.
 
 folder=$(mktemp -d)
 trap 'rm -rf "$folder"' EXIT
@@ -63,7 +65,8 @@ row() {
     done
     all_are "$wanted" "${opacity[@]}" && all_are "$wanted_strict" "${strict[@]}" || passes=no
     if [ $passes = yes ]; then passed=$((passed + 1)); else failed=$((failed + 1)); fi
-    printf '%-30s %-11s %-11s %7d %7d %9d %7s %7s  %s\n' "$name" "${opacity[*]}" "${strict[*]}" "$least" "$most" "$events" "$run" "$judged" $passes
+    printf '%-30s %-11s %-11s %7d %7d %9d %7s %7s  %s\n' "$name" "${opacity[*]}" "${strict[*]}" \
+        "$least" "$most" "$events" "$run" "$judged" $passes
 }
 
 finish() {

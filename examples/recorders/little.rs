@@ -129,22 +129,27 @@ fn attempt(memory: &Memory, recorder: &mut Recorder, draws: &mut Draws, script: 
     Ok(())
 }
 
-/// A thread's part of the run. In a round it makes one transaction, in at most ATTEMPTS attempts, and then waits for the others.
+/// A transaction, in at most ATTEMPTS attempts. Each writes a value of its own, from `first` on.
+fn transaction(memory: &Memory, recorder: &mut Recorder, draws: &mut Draws, script: &Script, first: u64) {
+    for fresh in first..first + ATTEMPTS {
+        if attempt(memory, recorder, draws, script, fresh).is_ok() {
+            return;
+        }
+        recorder.record(Kind::Abort);
+        if script.aborts {
+            return;
+        }
+    }
+}
+
+/// A thread's part of the run. In a round it makes one transaction, and then waits for the others.
 fn work(memory: &Memory, barrier: &Barrier, recorder: &mut Recorder, rounds: u64, seed: u64) {
     let mut draws = Draws(seed * THREADS as u64 + recorder.thread as u64);
     for round in 0..rounds {
         let script = draws.script();
         let first = (round * THREADS as u64 + recorder.thread as u64) * ATTEMPTS + 1;
         barrier.wait();
-        for fresh in first..first + ATTEMPTS {
-            if attempt(memory, recorder, &mut draws, &script, fresh).is_ok() {
-                break;
-            }
-            recorder.record(Kind::Abort);
-            if script.aborts {
-                break;
-            }
-        }
+        transaction(memory, recorder, &mut draws, &script, first);
         barrier.wait();
     }
 }

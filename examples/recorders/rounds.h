@@ -74,13 +74,18 @@ static inline void wait_for_all(const struct worker *worker)
     pthread_barrier_wait(&barrier);
 }
 
+static inline void draw_transaction(struct worker *worker)
+{
+    for (int i = 0; i < STEPS; i++)
+        worker->steps[i] = (struct step){draw(worker, REGISTERS), draw(worker, 2) == 0};
+    worker->aborts = draw(worker, 8) == 0;
+}
+
 static inline void *work(void *argument)
 {
     struct worker *worker = argument;
     for (worker->round = 0; worker->round < rounds; worker->round++) {
-        for (int i = 0; i < STEPS; i++)
-            worker->steps[i] = (struct step){draw(worker, REGISTERS), draw(worker, 2) == 0};
-        worker->aborts = draw(worker, 8) == 0;
+        draw_transaction(worker);
         if (worker->round % WAIT_EVERY == 0)
             wait_for_all(worker);
         make_transaction(worker);
