@@ -15,10 +15,13 @@ runs=${RUNS:-10} rounds=${ROUNDS:-5000}
 . "$top/bench/recorded.sh"
 source=$top/examples/recorders
 
-"${CC:-gcc}" -std=gnu11 -O2 -Wall -Wextra -pthread -o "$folder/little" "$source/little.c"
-"${CC:-gcc}" -std=gnu11 -O2 -Wall -Wextra -pthread -DWAIT_EVERY=100 -o "$folder/seldom" "$source/little.c"
+compile=("${CC:-gcc}" -std=gnu11 -O2 -Wall -Wextra -pthread)
+"${compile[@]}" -o "$folder/little" "$source/little.c"
+"${compile[@]}" -DWAIT_EVERY=100 -o "$folder/seldom" "$source/little.c"
+"${compile[@]}" -o "$folder/locks" "$source/locks.c"
+"${compile[@]}" -DEARLY_RELEASE=true -o "$folder/early" "$source/locks.c"
+"${compile[@]}" -o "$folder/cost" "$top/bench/recorder_cost.c"
 "${RUSTC:-rustc}" --edition 2021 -O -o "$folder/little_rs" "$source/little.rs"
-"${CC:-gcc}" -std=gnu11 -O2 -Wall -Wextra -pthread -o "$folder/cost" "$top/bench/recorder_cost.c"
 "${RUSTC:-rustc}" --edition 2021 -O -o "$folder/cost_rs" "$top/bench/recorder_cost.rs"
 
 # A run whose threads have a list of events each, one list behind another.
@@ -33,6 +36,8 @@ row 'C, correct' opaque opaque "$folder/little" none right
 row 'C, no validation of reads' violated opaque "$folder/little" reads right
 row 'C, no validation at commit' violated violated "$folder/little" commit right
 row 'C, writes in place' violated violated "$folder/little" place right
+row 'C, locks' opaque opaque "$folder/locks"
+row 'C, locks given back early' violated violated "$folder/early"
 row 'Rust, correct' opaque opaque "$folder/little_rs" none
 row 'Rust, no validation of reads' violated opaque "$folder/little_rs" reads
 row 'Rust, no validation at commit' violated violated "$folder/little_rs" commit
