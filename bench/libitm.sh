@@ -1,0 +1,55 @@
+#!/usr/bin/env bash
+# Builds examples/libitm and judges its runs: transactions of GCC's libitm by each of its methods, and the same transactions over a
+# little memory in its place, whole and with a part left out.
+#
+#   bench/libitm.sh
+#
+# Rows as of bench/recorders.sh, and after each method's how many attempts were rolled back. The last line is 'N passed, M failed', and
+# the exit status is 1 where one failed, 2 where there is no gcc that compiles and links transactions.
+# Environment: RUNS (5), ROUNDS (1000), CC (gcc). The little memory needs x86-64.
+set -eu
+top=$(cd "$(dirname "${BASH_SOURCE[0]}")/.." && pwd)
+runs=${RUNS:-5} rounds=${ROUNDS:-1000}
+. "$top/bench/recorded.sh"
+source=$top/examples/libitm
+compile=("${CC:-gcc}" -std=gnu11 -O2 -Wall -Wextra -pthread)
+
+if ! echo 'int main(void) { __transaction_atomic { } }' | "${CC:-gcc}" -fgnu-tm -x c -o "$folder/try" - -litm 2>"$folder/told"; then
+    echo "libitm.sh: ${CC:-gcc} builds no transactions: $(tail -n 1 "$folder/told")" >&2
+    exit 2
+fi
+"${compile[@]}" -fgnu-tm -c -o "$folder/transaction.o" "$source/transaction.c"
+"${compile[@]}" -c -o "$folder/run.o" "$source/run.c"
+"${compile[@]}" -DATTEMPTS=1000 -c -o "$folder/unbounded.o" "$source/run.c"
+"${compile[@]}" -o "$folder/libitm" "$folder/run.o" "$folder/transaction.o" -litm
+"${compile[@]}" -o "$folder/unbounded" "$folder/unbounded.o" "$folder/transaction.o" -litm
+for fault in NONE READS COMMIT PLACE; do
+    "${compile[@]}" -DFAULT=$fault -c -o "$folder/memory.o" "$source/memory.c"
+    "${compile[@]}" -o "$folder/$fault" "$folder/run.o" "$folder/transaction.o" "$folder/memory.o"
+done
+
+# A row of one of libitm's methods: the method, the program, and where it records.
+method_row() {
+    local name=$1 wanted=$2 method=$3 program=$4 placing=$5
+    : >"$folder/told"
+    row "$name" "$wanted" any env ITM_DEFAULT_METHOD="$method" timeout 120 "$folder/$program" "$placing"
+    awk '{ n += $1 } END { printf "    %d attempts were rolled back\n", n }' "$folder/told"
+}
+
+"${CC:-gcc}" --version | head -n 1
+write_head
+for method in serialirr serialirr_onwrite serial gl_wt ml_wt; do
+    method_row "$method" opaque "$method" libitm right
+done
+for method in serialirr serial gl_wt ml_wt; do
+    method_row "$method, T behind the block" violated "$method" libitm late-request
+done
+method_row 'ml_wt, C inside the block' violated ml_wt libitm early-commit
+method_row 'gl_wt, no A at a restart' malformed gl_wt libitm no-abort
+method_row 'ml_wt, no A at a restart' malformed ml_wt libitm no-abort
+method_row 'ml_wt, restarts unbounded' undecided ml_wt unbounded right
+row 'little memory' opaque opaque "$folder/NONE" right
+row 'no validation of reads' violated opaque "$folder/READS" right
+row 'no validation at commit' violated violated "$folder/COMMIT" right
+row 'writes in place' violated violated "$folder/PLACE" right
+finish

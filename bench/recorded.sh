@@ -1,0 +1,75 @@
+# shellcheck shell=bash disable=SC2154
+# What bench/recorders.sh and bench/libitm.sh have in common: rows of recorded runs that are judged. They read it, and set top, the
+# repository's folder, and runs and rounds, how many runs a row has and how many rounds a run.
+
+folder=$(mktemp -d)
+trap 'rm -rf "$folder"' EXIT
+passed=0 failed=0
+"$top/tmwatch" judge <"$top/examples/dirty_read.trace" >/dev/null || [ $? -eq 1 ]
+judge=$top/crates/tmwatch/out/tmwatch
+
+write_head() {
+    printf '%-30s %-11s %-11s %7s %7s %9s %7s %7s  %s\n' row opacity strict least most events run judged passed
+    printf '%-30s %-11s %-11s\n' '' 'o v u m' 'o v u m'
+}
+
+# The seconds since a time.
+since() {
+    echo "$1 $(date +%s.%N)" | awk '{ printf "%.2f", $2 - $1 }'
+}
+
+# Counts the verdict of a report's line in the list that is named: opaque or strict so far, violated, undecided, malformed.
+count_verdict() {
+    local -n counts=$1
+    case $2 in
+    *'"verdict":"opaque so far"}' | *'"verdict":"strict so far"}') counts[0]=$((counts[0] + 1)) ;;
+    *'"verdict":"violated"}') counts[1]=$((counts[1] + 1)) ;;
+    *'"verdict":"undecided","why":"transactions"}') counts[2]=$((counts[2] + 1)) ;;
+    *'"verdict":"malformed"}') counts[3]=$((counts[3] + 1)) ;;
+    *) echo "$2" >&2 ;;
+    esac
+}
+
+# Whether all runs have this verdict, by the counts.
+all_are() {
+    case $1 in
+    opaque) [ "$2" -eq "$runs" ] ;;
+    violated) [ "$3" -eq "$runs" ] ;;
+    undecided) [ "$4" -eq "$runs" ] ;;
+    malformed) [ "$5" -eq "$runs" ] ;;
+    any) true ;;
+    esac
+}
+
+# A row: its name, the verdict that each run has to have by opacity and by strict serializability, and the command that writes a
+# run's trace, which is given the number of rounds and a seed.
+row() {
+    local name=$1 wanted=$2 wanted_strict=$3 least=0 most=0 events=0 run=0 judged=0 passes=yes
+    local opacity=(0 0 0 0) strict=(0 0 0 0)
+    shift 3
+    for seed in $(seq "$runs"); do
+        local began
+        began=$(date +%s.%N)
+        "$@" "$rounds" "$seed" >"$folder/trace" 2>>"$folder/told" || passes=no
+        run=$(echo "$run $(since "$began")" | awk '{ printf "%.2f", $1 + $2 }')
+        began=$(date +%s.%N)
+        "$judge" judge --criterion both <"$folder/trace" >"$folder/report" || [ $? -lt 4 ] || passes=no
+        judged=$(echo "$judged $(since "$began")" | awk '{ printf "%.2f", $1 + $2 }')
+        { read -r line && read -r strict_line; } <"$folder/report" || line='' strict_line=''
+        count_verdict opacity "$line"
+        count_verdict strict "$strict_line"
+        events=$((events + $(wc -l <"$folder/trace") - 1))
+        [[ $line =~ \"at\":([0-9]+) ]] || continue
+        [ "$least" -ne 0 ] && [ "$least" -lt "${BASH_REMATCH[1]}" ] || least=${BASH_REMATCH[1]}
+        [ "$most" -gt "${BASH_REMATCH[1]}" ] || most=${BASH_REMATCH[1]}
+    done
+    all_are "$wanted" "${opacity[@]}" && all_are "$wanted_strict" "${strict[@]}" || passes=no
+    if [ $passes = yes ]; then passed=$((passed + 1)); else failed=$((failed + 1)); fi
+    printf '%-30s %-11s %-11s %7d %7d %9d %7s %7s  %s\n' "$name" "${opacity[*]}" "${strict[*]}" \
+        "$least" "$most" "$events" "$run" "$judged" $passes
+}
+
+finish() {
+    echo "$passed passed, $failed failed"
+    [ "$failed" -eq 0 ]
+}

@@ -1,0 +1,112 @@
+/*
+A workload of rounds. In a round each thread makes one transaction, in at most ATTEMPTS attempts, and then all wait for one another. So no
+transaction is live between two rounds, and a round has at most THREADS * ATTEMPTS = 8 transactions, since each attempt is one.
+*/
+#ifndef ROUNDS_H
+#define ROUNDS_H
+
+#include "recorder.h"
+#include <pthread.h>
+#include <sched.h>
+#include <stdbool.h>
+
+#ifndef ATTEMPTS
+#define ATTEMPTS 2
+#endif
+
+/* The threads wait for one another after so many rounds. */
+#ifndef WAIT_EVERY
+#define WAIT_EVERY 1
+#endif
+
+enum { THREADS = 4, REGISTERS = 3, STEPS = 3 };
+
+/* Reads the register, and then, where `writes` is set, writes it. */
+struct step {
+    unsigned reg;
+    bool writes;
+};
+
+/* A thread and its transaction of this round: its steps, and whether it asks to abort or to commit at their end. */
+struct worker {
+    unsigned thread;
+    uint64_t draws, round;
+    struct step steps[STEPS];
+    bool aborts;
+};
+
+static uint64_t rounds, seed;
+static pthread_barrier_t barrier;
+
+/* Makes the worker's transaction of the round. */
+static void make_transaction(struct worker *worker);
+
+/* A number below `below` (Steele, Lea and Flood, OOPSLA 2014). */
+static inline unsigned draw(struct worker *worker, unsigned below)
+{
+    uint64_t word = worker->draws += 0x9E3779B97F4A7C15;
+    word = (word ^ word >> 30) * 0xBF58476D1CE4E5B9;
+    word = (word ^ word >> 27) * 0x94D049BB133111EB;
+    return (word ^ word >> 31) % below;
+}
+
+/* Waits a little, one time in two, and lets others run, one time in 64, so that transactions overlap also on few processors. */
+static inline void pause_sometimes(struct worker *worker)
+{
+    for (volatile unsigned turns = draw(worker, 2) * draw(worker, 100); turns > 0; turns--)
+        ;
+    if (draw(worker, 64) == 0)
+        sched_yield();
+}
+
+/* What the worker's attempt writes: no other attempt of the run writes it. */
+static inline uint64_t fresh_value(const struct worker *worker, unsigned attempt)
+{
+    return (worker->round * THREADS + worker->thread) * ATTEMPTS + attempt + 1;
+}
+
+/* Thread 0 writes what was recorded, while no thread records. */
+static inline void wait_for_all(const struct worker *worker)
+{
+    pthread_barrier_wait(&barrier);
+    if (worker->thread == 0)
+        write_events();
+    pthread_barrier_wait(&barrier);
+}
+
+static inline void draw_transaction(struct worker *worker)
+{
+    for (int i = 0; i < STEPS; i++)
+        worker->steps[i] = (struct step){draw(worker, REGISTERS), draw(worker, 2) == 0};
+    worker->aborts = draw(worker, 8) == 0;
+}
+
+static inline void *work(void *argument)
+{
+    struct worker *worker = argument;
+    for (worker->round = 0; worker->round < rounds; worker->round++) {
+        draw_transaction(worker);
+        if (worker->round % WAIT_EVERY == 0)
+            wait_for_all(worker);
+        make_transaction(worker);
+    }
+    wait_for_all(worker);
+    return NULL;
+}
+
+static inline void run_rounds(void)
+{
+    pthread_t threads[THREADS];
+    static struct worker workers[THREADS];
+    write_header(REGISTERS);
+    pthread_barrier_init(&barrier, NULL, THREADS);
+    for (unsigned i = 0; i < THREADS; i++) {
+        workers[i] = (struct worker){.thread = i, .draws = seed * THREADS + i};
+        if (pthread_create(&threads[i], NULL, work, &workers[i]) != 0)
+            abort();
+    }
+    for (unsigned i = 0; i < THREADS; i++)
+        pthread_join(threads[i], NULL);
+}
+
+#endif
