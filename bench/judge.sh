@@ -1,47 +1,58 @@
 #!/usr/bin/env bash
-# Times `tmwatch judge` on five kinds of run, beside another program of the same bytes, and compares their lines and statuses.
+# Times `tmwatch judge` on five kinds of run, beside `cat` and `wc -l` of the same trace, and beside another program of the same bytes
+# where there is one, whose lines and statuses are compared with ours.
 #
-#   PEER=PROGRAM bench/judge.sh [EVENTS]
+#   [PEER=PROGRAM] bench/judge.sh [EVENTS]
 #
-# PEER is the plain Rust program to compare with; `PEER gen PROFILE SEED EVENTS` writes the traces. A line a profile comes out:
-# its events, the seconds of each program (the best of RUNS runs), events a second, the ratio of the seconds, the peak memory of
-# each in KiB, and whether their lines and statuses are the same. The exit status is 1 where they differ.
-# Environment: PROFILES, SEED, RUNS (3).
+# The traces are made by bench/traces.c, whatever stands beside. PEER is a program that is called like ours. A line a profile comes out:
+# its events, the seconds of each program (the best of RUNS runs), our events a second, the ratio of our seconds to those of each, the
+# peak memory in KiB, and whether PEER's line and status are ours. The exit status is 1 where they differ.
+# Environment: PEER, PROFILES, SEED (1), RUNS (3), CC (cc), TRACES (a program that is called as bench/traces.c says, in its place).
 set -eu
 top=$(cd "$(dirname "${BASH_SOURCE[0]}")/.." && pwd)
-peer=${PEER:?set PEER to the plain Rust program}
+peer=${PEER:-}
 events=${1:-1000000}
 folder=$(mktemp -d)
 trap 'rm -rf "$folder"' EXIT
 "$top/tmwatch" judge <"$top/examples/dirty_read.trace" >/dev/null || [ $? -eq 1 ]
 program=$top/crates/tmwatch/out/tmwatch
+traces=${TRACES:-$folder/traces}
+[ -n "${TRACES:-}" ] || "${CC:-cc}" -O2 "$top/bench/traces.c" -o "$traces"
 
-# The least seconds and the peak memory of a program's runs on the trace, and its line and status.
+# The least seconds and the peak memory of these words' runs on the trace, and their line and status.
 measure() {
     local least=999999 memory=0 status
     for _ in $(seq "${RUNS:-3}"); do
         status=0
-        /usr/bin/time -q -o "$folder/time" -f '%e %M' "$1" judge <"$folder/trace" >"$folder/line" 2>/dev/null || status=$?
+        /usr/bin/time -q -o "$folder/time" -f '%e %M' "$@" <"$folder/trace" >"$folder/line" 2>/dev/null || status=$?
         read -r seconds kib <"$folder/time"
         least=$(echo "$least $seconds" | awk '{ print ($2 < $1) ? $2 : $1 }')
         memory=$((kib > memory ? kib : memory))
     done
-    echo "$least $memory $status $(cat "$folder/line")"
+    echo "$least $memory $status $(head -c 200 "$folder/line" | head -n 1)"
 }
 
 differ=0
-printf '%-8s %10s %9s %9s %10s %7s %8s %8s  %s\n' profile events seconds peer events/s ratio KiB peer same
+printf '%-8s %10s %8s %10s %8s %6s %8s %6s %8s %6s %8s  %s\n' profile events seconds events/s cat ratio 'wc -l' ratio peer ratio KiB same
 for profile in ${PROFILES:-serial calm wide long blind}; do
-    "$peer" gen "$profile" "${SEED:-1}" "$events" >"$folder/trace"
-    read -r ours our_memory our_answer <<<"$(measure "$program")"
-    read -r theirs their_memory their_answer <<<"$(measure "$peer")"
-    same=yes
-    [ "$our_answer" = "$their_answer" ] || { same=no differ=1; }
+    "$traces" "$profile" "${SEED:-1}" "$events" >"$folder/trace"
+    read -r ours memory answer <<<"$(measure "$program" judge)"
+    # (through a pipe, since `cat` and `wc` may skip what they read or write where they can)
+    read -r cats _ <<<"$(measure sh -c 'cat | cat >/dev/null')"
+    read -r counts _ <<<"$(measure sh -c 'cat | wc -l')"
+    theirs=0 same=-
+    if [ -n "$peer" ]; then
+        read -r theirs _ their_answer <<<"$(measure "$peer" judge)"
+        same=yes
+        [ "$answer" = "$their_answer" ] || { same=no differ=1; }
+    fi
     count=$(($(wc -l <"$folder/trace") - 1))
-    awk -v profile="$profile" -v count="$count" -v ours="$ours" -v theirs="$theirs" -v our_memory="$our_memory" \
-        -v their_memory="$their_memory" -v same="$same" 'BEGIN {
-            ours = ours > 0 ? ours : 0.01; theirs = theirs > 0 ? theirs : 0.01
-            printf "%-8s %10d %9.2f %9.2f %10d %7.1f %8d %8d  %s\n", profile, count, ours, theirs, count / ours, ours / theirs, our_memory, their_memory, same
+    awk -v profile="$profile" -v count="$count" -v ours="$ours" -v cats="$cats" -v counts="$counts" -v theirs="$theirs" \
+        -v memory="$memory" -v same="$same" 'function beside(other) { return sprintf("%8.2f %6.1f", other, ours / (other > 0 ? other : 0.01)) }
+        BEGIN {
+            ours = ours > 0 ? ours : 0.01
+            printf "%-8s %10d %8.2f %10d %s %s %s %8d  %s\n", profile, count, ours, count / ours, beside(cats), beside(counts), \
+                same == "-" ? sprintf("%8s %6s", "-", "-") : beside(theirs), memory, same
         }'
 done
 exit $differ

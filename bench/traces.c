@@ -1,0 +1,146 @@
+/* Writes a trace of a run that is opaque, for bench/judge.sh.
+ *
+ *   traces PROFILE SEED EVENTS
+ *
+ * The run is that of a memory that keeps what a transaction writes until it commits, and aborts it where a value that it has read is
+ * another by then. Some threads run a transaction each, step by step in turns that are drawn; when all have ended the next ones begin.
+ * The trace ends behind the first such round that has brought it to so many events.
+ */
+#include <inttypes.h>
+#include <stdbool.h>
+#include <stdio.h>
+#include <stdlib.h>
+#include <string.h>
+
+/* What runs: from `least` to `most` threads at a time, from `fewest` to `greatest` operations a transaction, over so many registers;
+ * of ten operations so many read, and the others write one of so many values. */
+struct profile {
+    const char *name;
+    unsigned least, most, fewest, greatest, registers, reads, values;
+};
+
+/* The last two numbers of wide and of blind keep the outcomes at a cut below 64. */
+static const struct profile profiles[] = {
+    {"serial", 1, 1, 1, 4, 8, 5, 1000000},
+    {"calm", 2, 4, 1, 4, 8, 5, 1000000},
+    {"wide", 8, 8, 2, 4, 8, 8, 1000000},
+    {"long", 2, 4, 64, 64, 8, 8, 1000000},
+    {"blind", 8, 8, 1, 2, 3, 0, 3},
+};
+
+enum step { CALLS, IS_ANSWERED, ASKS, COMMITS, HAS_ENDED };
+
+struct transaction {
+    enum step step;
+    unsigned left;
+    unsigned reg;
+    uint64_t value;
+    bool reads;
+    bool has_read[8], has_written[8];
+    uint64_t read[8], written[8];
+};
+
+static uint64_t state, memory[8], events;
+
+static unsigned draw(unsigned below) {
+    state ^= state << 13;
+    state ^= state >> 7;
+    state ^= state << 17;
+    return (unsigned)((state >> 33) % below);
+}
+
+/* Whether each register that it has read still holds what it read there. */
+static bool is_valid(const struct transaction *t) {
+    for (unsigned r = 0; r < 8; r++)
+        if (t->has_read[r] && t->read[r] != memory[r]) return false;
+    return true;
+}
+
+static void end(struct transaction *t, unsigned thread, char kind) {
+    printf("%u %c\n", thread, kind);
+    t->step = HAS_ENDED;
+}
+
+/* An operation's answer: a read gives the transaction's own value, or the memory's, where all that was read before still stands. */
+static void answer(struct transaction *t, unsigned thread) {
+    unsigned r = t->reg;
+    if (!t->reads) {
+        t->has_written[r] = true;
+        t->written[r] = t->value;
+        printf("%u K\n", thread);
+    } else if (t->has_written[r]) {
+        printf("%u V %" PRIu64 "\n", thread, t->written[r]);
+    } else if (is_valid(t)) {
+        t->has_read[r] = true;
+        t->read[r] = memory[r];
+        printf("%u V %" PRIu64 "\n", thread, memory[r]);
+    } else {
+        end(t, thread, 'A');
+        return;
+    }
+    t->left--;
+    t->step = t->left ? CALLS : ASKS;
+}
+
+/* The end of a commit: what it has written shows at once. */
+static void commit(struct transaction *t, unsigned thread) {
+    if (!is_valid(t)) {
+        end(t, thread, 'A');
+        return;
+    }
+    for (unsigned r = 0; r < 8; r++)
+        if (t->has_written[r]) memory[r] = t->written[r];
+    end(t, thread, 'C');
+}
+
+static void go_on(struct transaction *t, unsigned thread, const struct profile *p) {
+    events++;
+    switch (t->step) {
+    case CALLS:
+        t->reg = draw(p->registers);
+        t->reads = draw(10) < p->reads;
+        t->value = draw(p->values);
+        t->step = IS_ANSWERED;
+        if (t->reads) printf("%u R %u\n", thread, t->reg);
+        else printf("%u W %u %" PRIu64 "\n", thread, t->reg, t->value);
+        break;
+    case IS_ANSWERED: answer(t, thread); break;
+    case ASKS:
+        printf("%u T\n", thread);
+        t->step = COMMITS;
+        break;
+    default: commit(t, thread);
+    }
+}
+
+static void run_round(const struct profile *p) {
+    struct transaction all[8];
+    unsigned going[8], count = p->least + draw(p->most - p->least + 1);
+    memset(all, 0, sizeof all);
+    for (unsigned k = 0; k < count; k++) {
+        going[k] = k;
+        all[k].left = p->fewest + draw(p->greatest - p->fewest + 1);
+        /* All begin before any ends. */
+        go_on(&all[k], k, p);
+    }
+    while (count) {
+        unsigned at = draw(count), thread = going[at];
+        go_on(&all[thread], thread, p);
+        if (all[thread].step == HAS_ENDED) going[at] = going[--count];
+    }
+}
+
+int main(int count, char **words) {
+    const struct profile *p = NULL;
+    for (size_t k = 0; count == 4 && k < sizeof profiles / sizeof *profiles; k++)
+        if (!strcmp(profiles[k].name, words[1])) p = &profiles[k];
+    if (!p) {
+        fprintf(stderr, "usage: traces serial|calm|wide|long|blind SEED EVENTS\n");
+        return 2;
+    }
+    state = strtoull(words[2], NULL, 10) * 2654435769u + 88172645463325252u;
+    uint64_t most = strtoull(words[3], NULL, 10);
+    puts("opacity-trace 1 8");
+    while (events < most) run_round(p);
+    return ferror(stdout) || fflush(stdout) ? 1 : 0;
+}
