@@ -1,6 +1,6 @@
 mod FirstLines
 mod HeldBytes
-mod HeldLines
+pub mod HeldLines
 mod LinesRead
 mod LongLines
 mod NextLines

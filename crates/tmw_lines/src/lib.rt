@@ -1,6 +1,7 @@
 //! Lines of a text, read from a source, of which at most 4,096 bytes are held: a header's line, then a line for each item.
 #![tactic(auto)]
 
+mod first_item;
 mod first_line;
 mod held;
 mod line_format;

@@ -1,4 +1,5 @@
 mod EventLines
+mod FirstNumbers
 mod HeaderLines
 mod Spoken
 pub mod ValueParts

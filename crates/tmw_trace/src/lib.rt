@@ -2,6 +2,10 @@
 #![tactic(auto)]
 
 mod event_line;
+mod first_event;
+#[cfg(test)]
+mod first_event_tests;
+mod first_number;
 mod header;
 mod header_line;
 mod header_text;

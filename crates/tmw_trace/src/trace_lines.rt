@@ -3,6 +3,7 @@ ghost use Rattle.tmw_trace.specs.Lengths.{long_no_header, long_no_event};
 ghost use Rattle.tmw_trace.specs.TextNames.{trace_naming};
 
 use crate::event_line::event_of;
+use crate::first_event::first_event;
 use crate::header::Header;
 use crate::version::Version;
 use tmw_events::Event;
@@ -31,6 +32,10 @@ impl LineFormat for Version {
 
     fn item_of(self, bytes: &[u8]) -> Option<Event> {
         event_of(self, bytes)
+    }
+
+    fn first_item(self, bytes: &[u8]) -> Option<(Event, usize)> {
+        first_event(self, bytes)
     }
 
     ghost naming = { trace_naming };
