@@ -5,6 +5,7 @@ ghost use Rattle.tmw_ring.specs.Settling.{AreInOrder};
 
 use super::*;
 use std::alloc::Global;
+use std::sync::atomic::{AtomicBool, Ordering};
 use std::sync::{Mutex, Wait};
 use std::test::Fail;
 use std::thread;
@@ -44,7 +45,13 @@ struct Memory {
 }
 
 /// Adds one to the register in a transaction, whose events are recorded while the register is held, and tells whether all were.
-fn add_one(ring: &Ring, writer: &mut Writer, register: &mut u64, forgets: bool) -> bool
+fn add_one(
+    ring: &Ring,
+    writer: &mut Writer,
+    register: &mut u64,
+    forgets: bool,
+    given_up: &AtomicBool,
+) -> bool
     requires { WriterOf ring.now writer.old }
     ensures of_ring { WriterOf ring.now writer.new }
     ensures number { writer.new.number ≡ writer.old.number }
@@ -63,7 +70,7 @@ fn add_one(ring: &Ring, writer: &mut Writer, register: &mut u64, forgets: bool) 
         Kind::T,
         Kind::C,
     ] {
-        if !record_soon(ring, writer, kind) {
+        if !record_soon(ring, writer, kind, given_up) {
             return false;
         }
     }
@@ -71,7 +78,13 @@ fn add_one(ring: &Ring, writer: &mut Writer, register: &mut u64, forgets: bool) 
 }
 
 /// Makes its transactions, one after another, and gives the writer back.
-fn record_run<R: Wait>(rt: &R, memory: &Memory, ring: &Ring, mut writer: Writer) -> Writer
+fn record_run<R: Wait>(
+    rt: &R,
+    memory: &Memory,
+    ring: &Ring,
+    mut writer: Writer,
+    given_up: &AtomicBool,
+) -> Writer
     requires { WriterOf ring.now writer }
     ensures of_ring { WriterOf ring.now result }
     ensures number { result.number ≡ writer.number }
@@ -79,7 +92,7 @@ fn record_run<R: Wait>(rt: &R, memory: &Memory, ring: &Ring, mut writer: Writer)
     for done in 0..EACH {
         let forgets = memory.broken && done % 10 == 9;
         let mut register = memory.register.lock(rt);
-        if !add_one(ring, &mut writer, &mut register, forgets) {
+        if !add_one(ring, &mut writer, &mut register, forgets, given_up) {
             return writer;
         }
     }
@@ -103,7 +116,8 @@ fn pump_running(ring: &Ring, pump: &mut Pump)
     }
 }
 
-/// Lets the writers record while their events are judged, and gives all back when the threads have ended.
+/// Lets the writers record while their events are judged, and gives all back when the threads have ended. Where a thread cannot
+/// be started, those that were give up.
 fn run<'s, E, R: Threads + Wait + Sync>(
     rt: &'s R,
     scope: &Scope<'s, E>,
@@ -112,6 +126,7 @@ fn run<'s, E, R: Threads + Wait + Sync>(
     ring: &'s Ring,
     mut pump: Pump,
     writers: Vec<Writer>,
+    given_up: &'s AtomicBool,
 ) -> Option<(Pump, Vec<Writer>)>
     requires reader { ReaderOf ring.now pump.reader }
     requires writers { All (WriterOf ring.now) writers.items }
@@ -121,9 +136,13 @@ fn run<'s, E, R: Threads + Wait + Sync>(
     ensures count { IfSome result (λ back. length back.1.items ≡ length writers.items) }
     ensures order { IfSome result (λ back. AreInOrder back.1.items) }
 {
-    let handles = start_all(scope, alloc, ring, writers, move |writer| {
-        record_run(rt, memory, ring, writer)
-    })?;
+    let started = start_all(scope, alloc, ring, writers, move |writer| {
+        record_run(rt, memory, ring, writer, given_up)
+    });
+    let Some(handles) = started else {
+        given_up.store(true, Ordering::SeqCst);
+        return None;
+    };
     pump_running(ring, &mut pump);
     let Ok(writers) = thread::join_promised(rt, handles) else {
         return None;
@@ -169,7 +188,8 @@ fn judged_run<R: Threads + Wait + Sync>(
         broken,
     };
     let (ring, writers, pump) = new_pump(alloc)?;
-    let (within, shared) = (&memory, &ring);
+    let not_started = AtomicBool::new(false);
+    let (within, shared, given_up) = (&memory, &ring, &not_started);
     let back = thread::scope(
         thread::scope_env(),
         rt,
@@ -181,7 +201,7 @@ fn judged_run<R: Threads + Wait + Sync>(
             ensures writers { IfSome result (λ back. All (WriterOf shared.entry.now) back.1.items) }
             ensures count { IfSome result (λ back. length back.1.items ≡ length writers.items) }
             ensures order { IfSome result (λ back. AreInOrder back.1.items) }
-        { run(rt, scope, alloc, within, shared, pump, writers) },
+        { run(rt, scope, alloc, within, shared, pump, writers, given_up) },
     );
     let Some((pump, writers)) = back else {
         return None;

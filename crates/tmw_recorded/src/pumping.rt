@@ -1,10 +1,10 @@
 //! The pump of a ring: while its writers record, and after them.
-ghost use Rattle.std.specs.Prelude.{◌≡◌, IfOk, OnOk};
+ghost use Rattle.std.specs.Prelude.{◌≡◌, IfOk, OnOk, OnErr};
 ghost use Rattle.tmw_defs.specs.Verdict.{IsVerdict, Rules};
 ghost use Rattle.tmw_monitor.specs.Fitting.{Fits};
 ghost use Rattle.tmw_pump.specs.Headline.{GivesHeadline};
 ghost use Rattle.tmw_pump.specs.Resting.{all_of};
-ghost use Rattle.tmw_recorded.specs.Pumping.{GoesOn};
+ghost use Rattle.tmw_recorded.specs.Pumping.{GoesOn, HasJudgedFound, HoldsUnjudged};
 ghost use Rattle.tmw_ring.specs.Ends.{ReaderOf};
 
 use crate::signals::Signals;
@@ -19,7 +19,8 @@ use tmw_ring::Ring;
 /// So many events are judged at once before it is asked whether threads still record.
 const TURN: u64 = 64;
 
-/// Judges the events of the running ring as they come, until so many threads have ended.
+/// Judges the events of the running ring as they come, until so many threads have ended and the next place is not published.
+/// Where a growth of memory is refused, the event that was to be judged is held; those judged before it stay judged.
 pub fn pump_running<R: Wait>(
     rt: &R,
     ring: &Ring,
@@ -28,19 +29,25 @@ pub fn pump_running<R: Wait>(
     threads: u64,
 ) -> Result<(), AllocError>
     requires { ReaderOf ring.now pump.old.reader }
-    ensures of_ring { OnOk result (ReaderOf ring.now pump.new.reader) }
-    ensures goes_on { OnOk result (GoesOn pump.old.front pump.new.front) }
+    ensures of_ring { ReaderOf ring.now pump.new.reader }
+    ensures goes_on { GoesOn pump.old.front pump.new.front }
+    ensures ok { OnOk result (HasJudgedFound pump.old pump.new) }
+    ensures err { OnErr result (HoldsUnjudged pump.old pump.new) }
+    ensures headline { GivesHeadline pump.old.front pump.new.reader.taken pump.new.front.judged.items pump.new.front.monitor.verdict }
 {
     for _ in rt.forever() {
-        if signals.ended() == threads {
-            break;
-        }
+        // Asked before the pump looks, so that the look comes behind all that the threads have recorded.
+        let ended = signals.ended() == threads;
         let pumped = pump.pump(ring, TURN)?;
-        if pumped.judged == 0 {
-            thread::yield_now();
+        if pumped.judged > 0 {
+            continue;
         }
+        if ended {
+            return Ok(());
+        }
+        thread::yield_now();
     }
-    Ok(())
+    unreachable!()
 }
 
 /// Judges all that the settled ring has left, and gives all events with the verdict on them.
@@ -53,3 +60,6 @@ pub fn judge_rest(mut rest: Rest) -> Result<(Vec<Event>, Verdict), AllocError>
     rest.pump(u64::MAX)?;
     Ok(rest.finish())
 }
+
+#[cfg(test)]
+mod tests;

@@ -48,3 +48,6 @@ impl Signals {
         self.given_up.load(Ordering::SeqCst)
     }
 }
+
+#[cfg(test)]
+mod tests;

@@ -122,16 +122,3 @@ fn no_ring_has_so_many_writers_or_so_few_places(rt: HostRuntime) -> Result<(), F
     }
     Ok(())
 }
-
-#[test]
-fn threads_that_begin_and_that_end_are_counted(rt: HostRuntime) {
-    let signals = Signals::new();
-    signals.begin();
-    signals.begin();
-    signals.end();
-    assert_eq!(rt; signals.begun(), 2);
-    assert_eq!(rt; signals.ended(), 1);
-    assert!(rt; !signals.is_given_up());
-    signals.give_up();
-    assert!(rt; signals.is_given_up());
-}

@@ -5,6 +5,7 @@ ghost use Rattle.tmw_ring.specs.Settling.{AreInOrder};
 
 use super::*;
 use std::alloc::Global;
+use std::sync::atomic::{AtomicBool, Ordering};
 use std::test::Fail;
 use std::thread;
 use std::thread::{Scope, Threads};
@@ -17,13 +18,13 @@ fn nth(count: u64) -> Kind {
 }
 
 /// Records so many events, one after another, and gives the writer back.
-fn record_all(ring: &Ring, mut writer: Writer, count: u64) -> Writer
+fn record_all(ring: &Ring, mut writer: Writer, count: u64, given_up: &AtomicBool) -> Writer
     requires { WriterOf ring.now writer }
     ensures of_ring { WriterOf ring.now result }
     ensures number { result.number ≡ writer.number }
 {
     for done in 0..count {
-        if !record_soon(ring, &mut writer, nth(done)) {
+        if !record_soon(ring, &mut writer, nth(done), given_up) {
             return writer;
         }
     }
@@ -57,13 +58,13 @@ const fn in_order(counts: [u64; 8]) -> Came {
 }
 
 /// Takes so many events of the running ring, as they come.
-fn take_all(ring: &Ring, reader: &mut Reader, count: u64) -> Came
+fn take_all(ring: &Ring, reader: &mut Reader, count: u64, given_up: &AtomicBool) -> Came
     requires { ReaderOf ring.now reader.old }
     ensures { ReaderOf ring.now reader.new }
 {
     let mut came = in_order([0; 8]);
     for _ in 0..count {
-        let Some(event) = take_soon(ring, reader) else {
+        let Some(event) = take_soon(ring, reader, given_up) else {
             break;
         };
         came.add(event);
@@ -71,7 +72,8 @@ fn take_all(ring: &Ring, reader: &mut Reader, count: u64) -> Came
     came
 }
 
-/// Lets each writer record so many events while some are taken, and gives the ends back when all threads have ended.
+/// Lets each writer record so many events while some are taken, and gives the ends back when all threads have ended. Where a
+/// thread cannot be started, those that were give up.
 fn run<'s, E, R: Threads>(
     rt: &R,
     scope: &Scope<'s, E>,
@@ -81,6 +83,7 @@ fn run<'s, E, R: Threads>(
     writers: Vec<Writer>,
     each: u64,
     taken: u64,
+    given_up: &'s AtomicBool,
 ) -> Option<(Came, Reader, Vec<Writer>)>
     requires reader { ReaderOf ring.now reader }
     requires writers { All (WriterOf ring.now) writers.items }
@@ -90,10 +93,14 @@ fn run<'s, E, R: Threads>(
     ensures count { IfSome result (λ back. length back.2.items ≡ length writers.items) }
     ensures order { IfSome result (λ back. AreInOrder back.2.items) }
 {
-    let handles = start_all(scope, alloc, ring, writers, move |writer| {
-        record_all(ring, writer, each)
-    })?;
-    let came = take_all(ring, &mut reader, taken);
+    let started = start_all(scope, alloc, ring, writers, move |writer| {
+        record_all(ring, writer, each, given_up)
+    });
+    let Some(handles) = started else {
+        given_up.store(true, Ordering::SeqCst);
+        return None;
+    };
+    let came = take_all(ring, &mut reader, taken, given_up);
     let Ok(writers) = thread::join_promised(rt, handles) else {
         return None;
     };
@@ -104,7 +111,8 @@ fn run<'s, E, R: Threads>(
 fn two_writers_and_the_reader_in_three_threads(rt: HostRuntime) -> Result<(), Fail> {
     let alloc = rt.alloc();
     let (ring, writers, mut reader) = ring(alloc, 4, 2, 100_000)?;
-    let shared = &ring;
+    let not_started = AtomicBool::new(false);
+    let (shared, given_up) = (&ring, &not_started);
     let came = thread::scope(
         thread::scope_env(),
         &rt,
@@ -117,12 +125,13 @@ fn two_writers_and_the_reader_in_three_threads(rt: HostRuntime) -> Result<(), Fa
                 .spawn(
                     move || -> Came
                         requires { ReaderOf shared.now reader }
-                    { take_all(shared, &mut reader, 2_000) },
+                    { take_all(shared, &mut reader, 2_000, given_up) },
                 )
                 .ok()?;
-            start_all(scope, alloc, shared, writers, move |writer| {
-                record_all(shared, writer, 1_000)
-            })?;
+            let started = start_all(scope, alloc, shared, writers, move |writer| {
+                record_all(shared, writer, 1_000, given_up)
+            });
+            given_up.store(started.is_none(), Ordering::SeqCst);
             Some(taking.join(&rt))
         },
     );
@@ -134,7 +143,8 @@ fn two_writers_and_the_reader_in_three_threads(rt: HostRuntime) -> Result<(), Fa
 fn seven_writers_drained_meanwhile(rt: HostRuntime) -> Result<(), Fail> {
     let alloc = rt.alloc();
     let (ring, writers, mut reader) = ring(alloc, 8, 7, 1 << 40)?;
-    let shared = &ring;
+    let not_started = AtomicBool::new(false);
+    let (shared, given_up) = (&ring, &not_started);
     let came = thread::scope(
         thread::scope_env(),
         &rt,
@@ -143,10 +153,11 @@ fn seven_writers_drained_meanwhile(rt: HostRuntime) -> Result<(), Fail> {
             requires order { AreInOrder writers.items }
             requires reader { ReaderOf shared.now reader }
         {
-            start_all(scope, alloc, shared, writers, move |writer| {
-                record_all(shared, writer, 10_000)
-            })?;
-            let came = take_all(shared, &mut reader, 70_000);
+            let started = start_all(scope, alloc, shared, writers, move |writer| {
+                record_all(shared, writer, 10_000, given_up)
+            });
+            given_up.store(started.is_none(), Ordering::SeqCst);
+            let came = take_all(shared, &mut reader, 70_000, given_up);
             shared.take(&mut reader).is_none().then_some(came)
         },
     );
@@ -163,7 +174,8 @@ fn seven_writers_drained_meanwhile(rt: HostRuntime) -> Result<(), Fail> {
 fn seven_writers_come_back_and_the_ring_is_settled(rt: HostRuntime) -> Result<(), Fail> {
     let alloc = rt.alloc();
     let (ring, writers, reader) = ring(alloc, 8, 7, 1 << 40)?;
-    let shared = &ring;
+    let not_started = AtomicBool::new(false);
+    let (shared, given_up) = (&ring, &not_started);
     let back = thread::scope(
         thread::scope_env(),
         &rt,
@@ -175,7 +187,11 @@ fn seven_writers_come_back_and_the_ring_is_settled(rt: HostRuntime) -> Result<()
             ensures writers { IfSome result (λ back. All (WriterOf shared.entry.now) back.2.items) }
             ensures count { IfSome result (λ back. length back.2.items ≡ length writers.items) }
             ensures order { IfSome result (λ back. AreInOrder back.2.items) }
-        { run(&rt, scope, alloc, shared, reader, writers, 10_000, 69_998) },
+        {
+            run(
+                &rt, scope, alloc, shared, reader, writers, 10_000, 69_998, given_up,
+            )
+        },
     );
     let Some((mut came, reader, writers)) = back else {
         panic!(rt; "no thread or no memory");

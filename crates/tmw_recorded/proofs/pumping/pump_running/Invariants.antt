@@ -1,7 +1,11 @@
--- The front goes on.
-use Rattle.tmw_recorded.specs.Pumping.{GoesOn}
+-- The reader has only looked, and the front goes on.
+use Rattle.std.proofs.Common.{List, Option}
+use Rattle.tmw_events.specs.declared.event.Event.{Event}
+use Rattle.tmw_recorded.specs.Pumping.{GoesOn, HasLooked}
 use Rattle.tmw_ring.specs.Ends.{ReaderOf}
 use Rattle.tmw_recorded.proofs.pumping.pump_running.Given as goal
 
 abbrev pub invariant-loop : goal.invariant-loop
-invariant-loop g l = ReaderOf l.ring l.pump.reader × GoesOn l.fn.pump.front l.pump.front
+invariant-loop g l =
+    ReaderOf l.ring l.pump.reader × GoesOn l.fn.pump.front l.pump.front
+    × ((looks : List (Option Event)) × HasLooked l.fn.pump.reader looks l.pump.reader)
