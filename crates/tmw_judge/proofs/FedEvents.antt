@@ -1,121 +1,156 @@
--- Judging a trace as it is read: what was told is what the reader of lines has read, and its events are what each monitor was fed.
-use Rattle.std.proofs.Common.{◌≡◌, ◌+◌, ◌<◌, ◌^◌, ℕ, Option, List, [], ◌∷◌, ◌++◌, length, Ok, Err, refl, ◌∙◌, arith, length-append}
-use Rattle.tmw_lines.specs.Lines.{GivesItem, GivesEnd, GivesFault}
-use Rattle.tmw_lines.specs.TextFault.{failures_after}
-use Rattle.tmw_trace.specs.Text.{trace_grammar}
-use Rattle.tmw_streams.specs.Told.{Tells}
-use Rattle.tmw_events.specs.declared.event.Event.{Event}
-use Rattle.tmw_trace.specs.declared.header.Header.{Header}
-use Rattle.tmw_trace.specs.declared.version.Version.{Version}
+-- Reading on to the end: the monitors have been fed the events of the lines read so far.
+use Rattle.std.proofs.Common.{◌≡◌, ◌+◌, ◌<◌, ◌^◌, ℕ, Option, List, [], ◌∷◌, ◌++◌, length, Ok, Err, sym, ◌∙◌, append_assoc, append-nil, length-append, arith}
+use Rattle.tmw_lines.specs.ItemsRead.{FailsBehind}
+use Rattle.tmw_lines.specs.Lines.{IsReading, HasRead, GivesItem, GivesEnd, FailsAtLine}
+use Rattle.tmw_lines.specs.declared.lines.Lines.{Lines}
 use Rattle.tmw_lines.specs.declared.text_fault.TextFault.{TextFault}
 use Rattle.tmw_lines.specs.declared.text_fault.TextFault.TheVariants.{BadHeader, BadLine, Cut, Memory, Io, TooLong}
-use Rattle.tmw_lines.specs.declared.lines.Lines.{Lines}
-use Rattle.tmw_streams.proofs.ToldBytes.{Tells-more}
-use Rattle.tmw_lines.proofs.TextsRead.{HasTaken, HasTaken-push, soon-taken}
+use Rattle.tmw_lines.proofs.LinesRead.{fails-behind}
+use Rattle.tmw_streams.specs.Told.{Tells}
+use Rattle.tmw_streams.proofs.ToldBytes.{Tells-none, Tells-more}
+use Rattle.tmw_events.specs.declared.event.Event.{Event}
+use Rattle.tmw_trace.specs.Text.{trace_grammar}
+use Rattle.tmw_trace.specs.declared.header.Header.{Header}
+use Rattle.tmw_trace.specs.declared.version.Version.{Version}
 use Rattle.tmw_defs.specs.declared.criterion.Asked.{Asked}
 use Rattle.tmw_monitor.specs.declared.bounds.Bounds.{Bounds}
 use Rattle.tmw_monitor.specs.declared.monitor.Monitor.{Monitor}
 use Rattle.tmw_monitor.specs.Fitting.{Fits}
-use Rattle.tmw_report.specs.declared.fault.Fault.{Fault}
-use Rattle.tmw_report.specs.declared.fault.Fault.TheVariants.{Memory as WantsMemory}
 use Rattle.tmw_judge.specs.declared.by_criterion.ByCriterion.{ByCriterion}
-use Rattle.tmw_judge.specs.declared.report.Report.{Report}
-use Rattle.tmw_report.specs.Putting.{fault_of}
-use Rattle.tmw_report.specs.CommandRun.{failures_after_answer}
 use Rattle.tmw_judge.specs.ByCriterion.{Each}
-use Rattle.tmw_judge.specs.Judging.{AnswersTrace, AreFed, AreReports, trace_rules}
+use Rattle.tmw_judge.specs.Feeding.{AreFedAllRead, AreReadAndFed, FeedsEvents, LackEvent}
+use Rattle.tmw_judge.specs.Judging.{AreFed, trace_rules}
 use Rattle.tmw_judge.proofs.Each.{each-weaker}
 
-pub record HasFed {S : Type 0} (Told : S → List ℕ → Type 0) (remaining : S → Option (List ℕ)) (old new : S) (lines : Lines Version) (bounds : Bounds)
-    (asked : Asked) (monitors : ByCriterion Monitor) : Type 0 where
-  pub header : Header
-  pub history : List Event
-  pub taken : HasTaken trace_grammar Told remaining old new lines header history
-  pub fed : AreFed header bounds asked history monitors
+-- where the monitors had been fed all that was read before, they have been fed these events too
+pub record HasFed {S : Type 0} (Told : S → List ℕ → Type 0) (remaining : S → Option (List ℕ)) (old new : S)
+    (lines lines_after : Lines Version) (monitors monitors_after : ByCriterion Monitor) : Type 0 where
+  pub bytes : List ℕ
+  pub events : List Event
+  pub told : Tells Told remaining old bytes new
+  pub read : (header : Header) (given : List Event) (before : List ℕ) → HasRead trace_grammar lines header given before
+      → HasRead trace_grammar lines_after header (given ++ events) (before ++ bytes)
+  pub fed : (header : Header) (bounds : Bounds) (asked : Asked) (given : List Event) → AreFed header bounds asked given monitors
+      → AreFed header bounds asked (given ++ events) monitors_after
 
--- each monitor has room for an event that was read
-pub fed_room : {S : Type 0} (Told : S → List ℕ → Type 0) (remaining : S → Option (List ℕ)) (a b : S) (old new : Lines Version) (bounds : Bounds) (asked : Asked)
-    (monitors : ByCriterion Monitor) (event : Event) (bytes : List ℕ) → HasFed Told remaining a b old bounds asked monitors
-    → GivesItem trace_grammar old new bytes event → Each (λ _ monitor. monitor.count < 2 ^ 40) monitors
-fed_room Told remaining a b old new bounds asked monitors event bytes fed gives =
-    let read = gives fed.header fed.history fed.taken.bytes fed.taken.read in
-    let counted = read.counted in
-    let few = new.few in
-    let longer : length (fed.history ++ event ∷ []) ≡ length fed.history + 1 = length-append fed.history (event ∷ []) in
-    each-weaker (λ criterion. Fits (trace_rules fed.header bounds criterion) fed.history) (λ _ monitor. monitor.count < 2 ^ 40) monitors
-    (λ criterion monitor fits. let was = fits.counted in omega (arith, counted, few, was, longer)) fed.fed.each
+-- how a fault of the line behind the events fed answers
+fault-behind : (Done : Type 0) (Ended : Type 0) (lines : Lines Version) (header : Header) (bounds : Bounds) (asked : Asked)
+    (history : List Event) (bytes : List ℕ) (monitors : ByCriterion Monitor) (fault : TextFault)
+    → FailsBehind trace_grammar Ended header history bytes fault → AreFed header bounds asked history monitors
+    → AreReadAndFed {Done = Done} Ended lines header bounds asked history bytes monitors (Err fault)
+fault-behind Done Ended lines header bounds asked history bytes monitors BadHeader f fed = (f, fed)
+fault-behind Done Ended lines header bounds asked history bytes monitors (BadLine number) f fed = (f, fed)
+fault-behind Done Ended lines header bounds asked history bytes monitors (Cut number) f fed = (f, fed)
+fault-behind Done Ended lines header bounds asked history bytes monitors Memory f fed = absurd f.line
+fault-behind Done Ended lines header bounds asked history bytes monitors Io f fed = (f, fed)
+fault-behind Done Ended lines header bounds asked history bytes monitors TooLong f fed = (f, fed)
 
--- an event more was read
-pub taken-push : {S : Type 0} (Told : S → List ℕ → Type 0) (remaining : S → Option (List ℕ)) (a b c : S) (old new : Lines Version) (bounds : Bounds) (asked : Asked)
-    (monitors : ByCriterion Monitor) (event : Event) (bytes : List ℕ) → (fed : HasFed Told remaining a b old bounds asked monitors)
-    → Tells Told remaining b bytes c → GivesItem trace_grammar old new bytes event
-    → HasTaken trace_grammar Told remaining a c new fed.header (fed.history ++ event ∷ [])
-taken-push Told remaining a b c old new bounds asked monitors event bytes fed told gives =
-    HasTaken-push trace_grammar Told remaining a b c old new fed.header fed.history (fed.history ++ event ∷ []) event bytes refl fed.taken told gives
+module _ {S : Type 0} (Told : S → List ℕ → Type 0) (remaining : S → Option (List ℕ)) (a : S) (lines : Lines Version)
+    (monitors : ByCriterion Monitor) where
+  pub HasFed-none : HasFed Told remaining a a lines lines monitors monitors
+  HasFed-none = record {
+    bytes = [];
+    events = [];
+    told = Tells-none Told remaining a;
+    read = λ header given before r. rw (append-nil given, append-nil before) r;
+    fed = λ header bounds asked given f. rw (append-nil given) f;
+  }
 
--- and fed
-pub fed-push : {S : Type 0} (Told : S → List ℕ → Type 0) (remaining : S → Option (List ℕ)) (a b c : S) (old new : Lines Version) (bounds : Bounds) (asked : Asked)
-    (monitors more : ByCriterion Monitor) (event : Event) (bytes : List ℕ) → HasFed Told remaining a b old bounds asked monitors
-    → Tells Told remaining b bytes c → GivesItem trace_grammar old new bytes event
-    → ((header : Header) (within : Bounds) (wanted : Asked) (history : List Event) → AreFed header within wanted history monitors
-    → AreFed header within wanted (history ++ event ∷ []) more)
-    → HasFed Told remaining a c new bounds asked more
-fed-push Told remaining a b c old new bounds asked monitors more event bytes fed told gives feeds = record {
-  header = fed.header;
-  history = fed.history ++ event ∷ [];
-  taken = taken-push Told remaining a b c old new bounds asked monitors event bytes fed told gives;
-  fed = feeds fed.header bounds asked fed.history fed.fed;
-}
+  -- no fault was answered yet, and not the end
+  pub reads_on : (b : S) (now : Lines Version) (fed : ByCriterion Monitor) → AreFedAllRead lines monitors
+      → HasFed Told remaining a b lines now monitors fed → IsReading now
+  reads_on b now fed begun h = (h.read begun.header begun.history begun.bytes begun.read).reading
 
--- what was read when memory was refused
-pub wants_memory : {S : Type 0} (Told : S → List ℕ → Type 0) (remaining : S → Option (List ℕ)) (Ended : Type 0) (a b : S) (lines : Lines Version) (header : Header)
-    (history : List Event) (bounds : Bounds) (asked : Asked) → HasTaken trace_grammar Told remaining a b lines header history
-    → (bytes : List ℕ) × Tells Told remaining a bytes b × AnswersTrace bounds asked Ended bytes (Err WantsMemory)
-wants_memory Told remaining Ended a b lines header history bounds asked taken =
-    let soon = soon-taken trace_grammar Told remaining a b lines header history taken in
-    (soon.0, soon.1, (Memory, refl, soon.2))
+  -- one line more was read
+  read-one : (b : S) (now next : Lines Version) (fed : ByCriterion Monitor) (bytes : List ℕ) (event : Event)
+      → (h : HasFed Told remaining a b lines now monitors fed) → GivesItem trace_grammar now next bytes event
+      → (header : Header) (given : List Event) (before : List ℕ) → HasRead trace_grammar lines header given before
+      → HasRead trace_grammar next header ((given ++ h.events) ++ event ∷ []) (before ++ (h.bytes ++ bytes))
+  read-one b now next fed bytes event h gives header given before r =
+      rw (← append_assoc before h.bytes bytes)
+      (gives header (given ++ h.events) (before ++ h.bytes) (h.read header given before r))
 
--- the end was read
-pub reports-end : {S : Type 0} (Told : S → List ℕ → Type 0) (remaining : S → Option (List ℕ)) (Ended : Type 0) (a b c : S) (lines : Lines Version) (bounds : Bounds)
-    (asked : Asked) (monitors : ByCriterion Monitor) (bytes : List ℕ) (reports : ByCriterion Report) → HasFed Told remaining a b lines bounds asked monitors
-    → Tells Told remaining b bytes c → GivesEnd trace_grammar Ended lines bytes
-    → ((header : Header) (within : Bounds) (wanted : Asked) (history : List Event) → AreFed header within wanted history monitors
-    → AreReports header within wanted history reports)
-    → (all : List ℕ) × Tells Told remaining a all c × AnswersTrace bounds asked Ended all (Ok reports)
-reports-end Told remaining Ended a b c lines bounds asked monitors bytes reports fed told ends report =
-    let end = ends fed.header fed.history fed.taken.bytes fed.taken.read in (
-      fed.taken.bytes ++ bytes,
-      Tells-more Told remaining a b c fed.taken.bytes bytes fed.taken.told told,
-      (
-        end.0,
-        record {
-          header = fed.header;
-          history = fed.history;
-          are_events = fed.taken.read.are_lines;
-          text = end.1;
-          tell = report fed.header bounds asked fed.history fed.fed;
-        },
-      ),
-    )
+  -- each monitor has room for its event
+  pub fed_room : (b : S) (now next : Lines Version) (fed : ByCriterion Monitor) (bytes : List ℕ) (event : Event)
+      → AreFedAllRead lines monitors → HasFed Told remaining a b lines now monitors fed → GivesItem trace_grammar now next bytes event
+      → Each (λ _ monitor. monitor.count < 2 ^ 40) fed
+  fed_room b now next fed bytes event begun h gives =
+      let read = read-one b now next fed bytes event h gives begun.header begun.history begun.bytes begun.read in
+      let counted = read.counted in
+      let few = next.few in
+      let longer : length ((begun.history ++ h.events) ++ event ∷ []) ≡ length (begun.history ++ h.events) + 1 =
+      length-append (begun.history ++ h.events) (event ∷ []) in
+      each-weaker (λ criterion. Fits (trace_rules begun.header begun.bounds criterion) (begun.history ++ h.events))
+      (λ _ monitor. monitor.count < 2 ^ 40) fed
+      (λ criterion monitor fits. let was = fits.counted in omega (arith, counted, few, was, longer))
+      (h.fed begun.header begun.bounds begun.asked begun.history begun.fed).each
 
--- a fault was read
-pub answers-fault : {S : Type 0} (Told : S → List ℕ → Type 0) (remaining : S → Option (List ℕ)) (Ended : Type 0) (a b c : S) (lines : Lines Version) (bounds : Bounds)
-    (asked : Asked) (monitors : ByCriterion Monitor) (bytes : List ℕ) (told : TextFault) (fault : Fault)
-    → HasFed Told remaining a b lines bounds asked monitors → Tells Told remaining b bytes c
-    → GivesFault trace_grammar Ended lines bytes told → fault ≡ fault_of told
-    → (all : List ℕ) × Tells Told remaining a all c × AnswersTrace bounds asked Ended all (Err fault)
-answers-fault Told remaining Ended a b c lines bounds asked monitors bytes told fault fed adds gives is = (
-  fed.taken.bytes ++ bytes,
-  Tells-more Told remaining a b c fed.taken.bytes bytes fed.taken.told adds,
-  (told, is, gives fed.header fed.history fed.taken.bytes fed.taken.read),
-)
+  -- and they were fed it
+  pub HasFed-push : (b c : S) (now next : Lines Version) (fed more : ByCriterion Monitor) (bytes : List ℕ) (event : Event)
+      → HasFed Told remaining a b lines now monitors fed → Tells Told remaining b bytes c → GivesItem trace_grammar now next bytes event
+      → ((header : Header) (bounds : Bounds) (asked : Asked) (history : List Event) → AreFed header bounds asked history fed
+      → AreFed header bounds asked (history ++ event ∷ []) more)
+      → HasFed Told remaining a c lines next monitors more
+  HasFed-push b c now next fed more bytes event h told gives feeds = record {
+    bytes = h.bytes ++ bytes;
+    events = h.events ++ event ∷ [];
+    told = Tells-more Told remaining a b c h.bytes bytes h.told told;
+    read = λ header given before r. rw (← append_assoc given h.events (event ∷ []))
+        (read-one b now next fed bytes event h gives header given before r);
+    fed = λ header bounds asked given f. rw (← append_assoc given h.events (event ∷ []))
+        (feeds header bounds asked (given ++ h.events) (h.fed header bounds asked given f));
+  }
 
--- a failed read is counted, and no other fault is
-pub failures_after-fault : (told : TextFault) (fault : Fault) (count : ℕ) → fault ≡ fault_of told
-    → failures_after told count ≡ failures_after_answer {Found = ByCriterion Report} (Err fault) count
-failures_after-fault BadHeader fault count is = rw is refl
-failures_after-fault (BadLine line) fault count is = rw is refl
-failures_after-fault (Cut line) fault count is = rw is refl
-failures_after-fault Memory fault count is = rw is refl
-failures_after-fault Io fault count is = rw is refl
-failures_after-fault TooLong fault count is = rw is refl
+  -- and memory was refused for it
+  pub feeds-memory : (Done : Type 0) (Ended : Type 0) (b c : S) (now next : Lines Version) (fed after : ByCriterion Monitor)
+      (bytes : List ℕ) (event : Event) → HasFed Told remaining a b lines now monitors fed → Tells Told remaining b bytes c
+      → GivesItem trace_grammar now next bytes event
+      → ((header : Header) (bounds : Bounds) (asked : Asked) (history : List Event) → AreFed header bounds asked history fed
+      → LackEvent header bounds asked history event after)
+      → FeedsEvents {Done = Done} Told remaining Ended a c lines next monitors after (Err Memory)
+  feeds-memory Done Ended b c now next fed after bytes event h told gives lacks = record {
+    bytes = h.bytes ++ bytes;
+    events = h.events;
+    told = Tells-more Told remaining a b c h.bytes bytes h.told told;
+    fed = λ header bounds asked given before r f. (
+      record { last = event; read = read-one b now next fed bytes event h gives header given before r },
+      lacks header bounds asked (given ++ h.events) (h.fed header bounds asked given f),
+    );
+  }
+
+  -- the end was read
+  pub feeds-end : {Done : Type 0} (done : Done) (Ended : Type 0) (b c : S) (now next : Lines Version) (fed : ByCriterion Monitor)
+      (bytes : List ℕ) → HasFed Told remaining a b lines now monitors fed → Tells Told remaining b bytes c
+      → GivesEnd trace_grammar Ended now bytes → FeedsEvents Told remaining Ended a c lines next monitors fed (Ok done)
+  feeds-end done Ended b c now next fed bytes h told ends = record {
+    bytes = h.bytes ++ bytes;
+    events = h.events;
+    told = Tells-more Told remaining a b c h.bytes bytes h.told told;
+    fed = λ header bounds asked given before r f.
+        let read = h.read header given before r in
+        let end = ends header (given ++ h.events) (before ++ h.bytes) read in (
+          record {
+            ended = end.0;
+            are_lines = read.are_lines;
+            text = sym (append_assoc before h.bytes bytes) ∙ end.1;
+          },
+          h.fed header bounds asked given f,
+        );
+  }
+
+  -- a fault was read
+  pub feeds-fault : (Done : Type 0) (Ended : Type 0) (b c : S) (now next : Lines Version) (fed : ByCriterion Monitor) (bytes : List ℕ)
+      (fault : TextFault) → HasFed Told remaining a b lines now monitors fed → Tells Told remaining b bytes c
+      → FailsAtLine trace_grammar Ended now bytes fault
+      → FeedsEvents {Done = Done} Told remaining Ended a c lines next monitors fed (Err fault)
+  feeds-fault Done Ended b c now next fed bytes fault h told fails = record {
+    bytes = h.bytes ++ bytes;
+    events = h.events;
+    told = Tells-more Told remaining a b c h.bytes bytes h.told told;
+    fed = λ header bounds asked given before r f.
+        let read = h.read header given before r in
+        fault-behind Done Ended next header bounds asked (given ++ h.events) (before ++ (h.bytes ++ bytes)) fed fault
+        (rw (← append_assoc before h.bytes bytes) (fails-behind trace_grammar Ended now bytes fault (fails read.reading) header
+        (given ++ h.events) (before ++ h.bytes) read))
+        (h.fed header bounds asked given f);
+  }

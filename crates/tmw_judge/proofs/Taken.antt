@@ -1,0 +1,120 @@
+-- Judging a trace: its first line is read, then its events are fed, and what was told is what was read.
+use Rattle.std.proofs.Common.{◌≡◌, ℕ, Option, List, [], ◌++◌, Ok, Err, refl, subst}
+use Rattle.tmw_lines.specs.ItemsRead.{AreReadFor}
+use Rattle.tmw_lines.specs.Lines.{HasRead}
+use Rattle.tmw_lines.specs.TextFault.{HasTextFault, failures_after}
+use Rattle.tmw_lines.specs.declared.lines.Lines.{Lines}
+use Rattle.tmw_lines.specs.declared.text_fault.TextFault.{TextFault}
+use Rattle.tmw_lines.specs.declared.text_fault.TextFault.TheVariants.{BadHeader, BadLine, Cut, Memory, Io, TooLong}
+use Rattle.tmw_lines.proofs.TextsRead.{soon-behind, text_fault-first, text_fault-read}
+use Rattle.tmw_streams.specs.Told.{Tells}
+use Rattle.tmw_streams.proofs.ToldBytes.{Tells-more}
+use Rattle.tmw_events.specs.declared.event.Event.{Event}
+use Rattle.tmw_trace.specs.Text.{trace_grammar}
+use Rattle.tmw_trace.specs.declared.header.Header.{Header}
+use Rattle.tmw_trace.specs.declared.version.Version.{Version}
+use Rattle.tmw_defs.specs.declared.criterion.Asked.{Asked}
+use Rattle.tmw_monitor.specs.declared.bounds.Bounds.{Bounds}
+use Rattle.tmw_monitor.specs.declared.monitor.Monitor.{Monitor}
+use Rattle.tmw_report.specs.declared.fault.Fault.{Fault}
+use Rattle.tmw_report.specs.Putting.{fault_of}
+use Rattle.tmw_report.specs.CommandRun.{failures_after_answer}
+use Rattle.tmw_judge.specs.declared.by_criterion.ByCriterion.{ByCriterion}
+use Rattle.tmw_judge.specs.declared.report.Report.{Report}
+use Rattle.tmw_judge.specs.Feeding.{IsBeginning, ReadsBeginning, AreFedAllRead, AreReadAndFed, FeedsEvents}
+use Rattle.tmw_judge.specs.Judging.{AnswersTrace, AreFed, AreReports}
+
+-- the fault of the first line, or want of memory behind it, is the text's
+first-fault : (Ended : Type 0) (lines : Lines Version) (bounds : Bounds) (asked : Asked) (bytes : List ℕ) (fault : TextFault)
+    → IsBeginning Ended lines bounds asked bytes (Err fault) → HasTextFault trace_grammar Ended bytes fault
+first-fault Ended lines bounds asked bytes BadHeader is = text_fault-first trace_grammar Ended bytes BadHeader is
+first-fault Ended lines bounds asked bytes (BadLine number) is = text_fault-first trace_grammar Ended bytes (BadLine number) is
+first-fault Ended lines bounds asked bytes (Cut number) is = text_fault-first trace_grammar Ended bytes (Cut number) is
+first-fault Ended lines bounds asked bytes Memory is = soon-behind trace_grammar lines is.0 [] bytes is.1
+first-fault Ended lines bounds asked bytes Io is = text_fault-first trace_grammar Ended bytes Io is
+first-fault Ended lines bounds asked bytes TooLong is = text_fault-first trace_grammar Ended bytes TooLong is
+
+-- what was read, whatever was fed of it
+read-of-fed : (Done : Type 0) (Ended : Type 0) (lines : Lines Version) (header : Header) (bounds : Bounds) (asked : Asked)
+    (history : List Event) (bytes : List ℕ) (monitors : ByCriterion Monitor) (fault : TextFault)
+    → AreReadAndFed {Done = Done} Ended lines header bounds asked history bytes monitors (Err fault)
+    → AreReadFor {Done = Done} trace_grammar Ended lines header history bytes (Err fault)
+read-of-fed Done Ended lines header bounds asked history bytes monitors BadHeader is = is.0
+read-of-fed Done Ended lines header bounds asked history bytes monitors (BadLine number) is = is.0
+read-of-fed Done Ended lines header bounds asked history bytes monitors (Cut number) is = is.0
+read-of-fed Done Ended lines header bounds asked history bytes monitors Memory is = is.0
+read-of-fed Done Ended lines header bounds asked history bytes monitors Io is = is.0
+read-of-fed Done Ended lines header bounds asked history bytes monitors TooLong is = is.0
+
+-- no trace was begun
+pub answers-first : {S : Type 0} (Told : S → List ℕ → Type 0) (remaining : S → Option (List ℕ)) (Ended : Type 0) (a b : S)
+    (lines : Lines Version) (bounds : Bounds) (asked : Asked) (told : TextFault) (fault : Fault)
+    → ReadsBeginning Told remaining Ended a b lines bounds asked (Err told) → fault ≡ fault_of told
+    → (bytes : List ℕ) × Tells Told remaining a bytes b × AnswersTrace bounds asked Ended bytes (Err fault)
+answers-first Told remaining Ended a b lines bounds asked told fault reads is =
+    (reads.bytes, reads.told, (told, is, first-fault Ended lines bounds asked reads.bytes told reads.is))
+
+-- a trace was begun
+pub begun-fed : {S : Type 0} (Told : S → List ℕ → Type 0) (remaining : S → Option (List ℕ)) (Ended : Type 0) (a b : S)
+    (lines : Lines Version) (bounds : Bounds) (asked : Asked) (monitors : ByCriterion Monitor)
+    → ReadsBeginning Told remaining Ended a b lines bounds asked (Ok monitors) → AreFedAllRead lines monitors
+begun-fed Told remaining Ended a b lines bounds asked monitors reads = record {
+  header = reads.is.0;
+  bounds = bounds;
+  asked = asked;
+  history = [];
+  bytes = reads.bytes;
+  read = reads.is.1;
+  fed = reads.is.2;
+}
+
+module _ {S : Type 0} (Told : S → List ℕ → Type 0) (remaining : S → Option (List ℕ)) (First Ended : Type 0) (a b c : S)
+    (lines after : Lines Version) (bounds : Bounds) (asked : Asked) (monitors fed : ByCriterion Monitor)
+    (begins : ReadsBeginning Told remaining First a b lines bounds asked (Ok monitors)) where
+  -- and all its events were fed
+  pub answers-end : {Done : Type 0} (done : Done) (reports : ByCriterion Report)
+      → FeedsEvents Told remaining Ended b c lines after monitors fed (Ok done)
+      → ((header : Header) (within : Bounds) (wanted : Asked) (history : List Event) → AreFed header within wanted history fed
+      → AreReports header within wanted history reports)
+      → (all : List ℕ) × Tells Told remaining a all c × AnswersTrace bounds asked Ended all (Ok reports)
+  answers-end done reports feeds report =
+      let end = feeds.fed begins.is.0 bounds asked [] begins.bytes begins.is.1 begins.is.2 in (
+        begins.bytes ++ feeds.bytes,
+        Tells-more Told remaining a b c begins.bytes feeds.bytes begins.told feeds.told,
+        (
+          end.0.ended,
+          record {
+            header = begins.is.0;
+            history = feeds.events;
+            are_events = end.0.are_lines;
+            text = end.0.text;
+            tell = report begins.is.0 bounds asked feeds.events end.1;
+          },
+        ),
+      )
+
+  -- and then came a fault
+  pub answers-fault : (Done : Type 0) (told : TextFault) (fault : Fault)
+      → FeedsEvents {Done = Done} Told remaining Ended b c lines after monitors fed (Err told) → fault ≡ fault_of told
+      → (all : List ℕ) × Tells Told remaining a all c × AnswersTrace bounds asked Ended all (Err fault)
+  answers-fault Done told fault feeds is =
+      let stop = feeds.fed begins.is.0 bounds asked [] begins.bytes begins.is.1 begins.is.2 in (
+        begins.bytes ++ feeds.bytes,
+        Tells-more Told remaining a b c begins.bytes feeds.bytes begins.told feeds.told,
+        (
+          told,
+          is,
+          text_fault-read Done trace_grammar Ended after begins.is.0 feeds.events (begins.bytes ++ feeds.bytes) told
+              (read-of-fed Done Ended after begins.is.0 bounds asked feeds.events (begins.bytes ++ feeds.bytes) fed told stop),
+        ),
+      )
+
+-- a failed read is counted, and no other fault is
+pub failures_after-fault : (told : TextFault) (fault : Fault) (count : ℕ) → fault ≡ fault_of told
+    → failures_after told count ≡ failures_after_answer {Found = ByCriterion Report} (Err fault) count
+failures_after-fault BadHeader fault count is = rw is refl
+failures_after-fault (BadLine line) fault count is = rw is refl
+failures_after-fault (Cut line) fault count is = rw is refl
+failures_after-fault Memory fault count is = rw is refl
+failures_after-fault Io fault count is = rw is refl
+failures_after-fault TooLong fault count is = rw is refl
