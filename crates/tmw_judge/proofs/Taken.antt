@@ -1,7 +1,6 @@
 -- Judging a trace: its first line is read, then its events are fed, and what was told is what was read.
-use Rattle.std.proofs.Common.{◌≡◌, ℕ, Option, List, [], ◌++◌, Ok, Err, refl, subst}
+use Rattle.std.proofs.Common.{◌≡◌, ℕ, Option, List, [], ◌++◌, Ok, Err, refl}
 use Rattle.tmw_lines.specs.ItemsRead.{AreReadFor}
-use Rattle.tmw_lines.specs.Lines.{HasRead}
 use Rattle.tmw_lines.specs.TextFault.{HasTextFault, failures_after}
 use Rattle.tmw_lines.specs.declared.lines.Lines.{Lines}
 use Rattle.tmw_lines.specs.declared.text_fault.TextFault.{TextFault}

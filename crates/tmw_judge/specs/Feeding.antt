@@ -29,7 +29,7 @@ IsFirstFed header bounds asked history event (Both opacity strict) =
     (asked ≡ asks.Both) × Fits (trace_rules header bounds by.Opacity) (history ++ event ∷ []) opacity
     × Fits (trace_rules header bounds by.Strict) history strict
 
--- Each monitor has been fed this history, and the event none, or of two the first alone.
+-- Each monitor has been fed this history, and none of them the event, or of two the first alone.
 abbrev pub LackEvent : Header → Bounds → Asked → List Event → Event → ByCriterion Monitor → Type 0
 LackEvent header bounds asked history event monitors =
     AreFed header bounds asked history monitors ⊎ IsFirstFed header bounds asked history event monitors
@@ -60,7 +60,7 @@ pub record AreFedAllRead (lines : Lines Version) (monitors : ByCriterion Monitor
   pub fed : AreFed header bounds asked history monitors
 
 -- These are the bytes read where the monitors have been fed this history: its text, and behind it nothing up to the end, the line
--- that has the fault, or for want of memory one event's line alone, which not each of the monitors has been fed.
+-- that has the fault, or for want of memory one event's line, which not each of them has been fed, and what the reader holds.
 abbrev pub AreReadAndFed : {Done : Type 0} → Type 0 → Lines Version → Header → Bounds → Asked → List Event → List ℕ → ByCriterion Monitor
     → Result Done TextFault → Type 0
 AreReadAndFed Ended lines header bounds asked history bytes monitors (Ok done) =

@@ -38,7 +38,7 @@ pub record StopsBehind {F H E : Type 0} (grammar : Grammar F H E) (lines : Lines
   pub read : HasRead grammar lines header (items ++ last ∷ []) bytes
 
 -- these are the bytes read where these items are held: their text, and behind it nothing up to the end, the line that has the
--- fault, or for want of memory one line alone, whose item is not held
+-- fault, or for want of memory one line, whose item is not held, and what the reader holds
 abbrev pub AreReadFor : {F H E Done : Type 0} → Grammar F H E → Type 0 → Lines F → H → List E → List ℕ → Result Done TextFault → Type 0
 AreReadFor grammar Ended lines header items bytes (Ok done) = EndsBehind grammar Ended header items bytes
 AreReadFor grammar Ended lines header items bytes (Err Memory) = StopsBehind grammar lines header items bytes
