@@ -1,114 +1,112 @@
--- Judging a trace as it is read: what was told is what the reader of lines has read, and its events are what each monitor was fed.
-use Rattle.std.proofs.Common.{◌≡◌, ◌+◌, ◌<◌, ◌^◌, ℕ, Option, List, [], ◌∷◌, ◌++◌, length, Ok, Err, refl, ◌∙◌, arith, length-append}
-use Rattle.tmw_lines.specs.Lines.{GivesItem, GivesEnd, GivesFault}
-use Rattle.tmw_lines.specs.TextFault.{failures_after}
-use Rattle.tmw_trace.specs.Text.{trace_grammar}
-use Rattle.tmw_streams.specs.Told.{Tells}
-use Rattle.tmw_events.specs.declared.event.Event.{Event}
-use Rattle.tmw_trace.specs.declared.header.Header.{Header}
-use Rattle.tmw_trace.specs.declared.version.Version.{Version}
+-- Judging a trace: its first line is read, then its events are fed, and what was told is what was read.
+use Rattle.std.proofs.Common.{◌≡◌, ℕ, Option, List, [], ◌++◌, Ok, Err, refl}
+use Rattle.tmw_lines.specs.ItemsRead.{AreReadFor}
+use Rattle.tmw_lines.specs.TextFault.{HasTextFault, failures_after}
+use Rattle.tmw_lines.specs.declared.lines.Lines.{Lines}
 use Rattle.tmw_lines.specs.declared.text_fault.TextFault.{TextFault}
 use Rattle.tmw_lines.specs.declared.text_fault.TextFault.TheVariants.{BadHeader, BadLine, Cut, Memory, Io, TooLong}
-use Rattle.tmw_lines.specs.declared.lines.Lines.{Lines}
+use Rattle.tmw_lines.proofs.TextsRead.{soon-behind, text_fault-first, text_fault-read}
+use Rattle.tmw_streams.specs.Told.{Tells}
 use Rattle.tmw_streams.proofs.ToldBytes.{Tells-more}
-use Rattle.tmw_lines.proofs.TextsRead.{HasTaken, HasTaken-push, soon-taken}
+use Rattle.tmw_events.specs.declared.event.Event.{Event}
+use Rattle.tmw_trace.specs.Text.{trace_grammar}
+use Rattle.tmw_trace.specs.declared.header.Header.{Header}
+use Rattle.tmw_trace.specs.declared.version.Version.{Version}
 use Rattle.tmw_defs.specs.declared.criterion.Asked.{Asked}
 use Rattle.tmw_monitor.specs.declared.bounds.Bounds.{Bounds}
 use Rattle.tmw_monitor.specs.declared.monitor.Monitor.{Monitor}
-use Rattle.tmw_monitor.specs.Fitting.{Fits}
 use Rattle.tmw_report.specs.declared.fault.Fault.{Fault}
-use Rattle.tmw_report.specs.declared.fault.Fault.TheVariants.{Memory as WantsMemory}
-use Rattle.tmw_judge.specs.declared.by_criterion.ByCriterion.{ByCriterion}
-use Rattle.tmw_judge.specs.declared.report.Report.{Report}
 use Rattle.tmw_report.specs.Putting.{fault_of}
 use Rattle.tmw_report.specs.CommandRun.{failures_after_answer}
-use Rattle.tmw_judge.specs.ByCriterion.{Each}
-use Rattle.tmw_judge.specs.Judging.{AnswersTrace, AreFed, AreReports, trace_rules}
-use Rattle.tmw_judge.proofs.Each.{each-weaker}
+use Rattle.tmw_judge.specs.declared.by_criterion.ByCriterion.{ByCriterion}
+use Rattle.tmw_judge.specs.declared.report.Report.{Report}
+use Rattle.tmw_judge.specs.Feeding.{IsBeginning, ReadsBeginning, AreFedAllRead, AreReadAndFed, FeedsEvents}
+use Rattle.tmw_judge.specs.Judging.{AnswersTrace, AreFed, AreReports}
 
-pub record HasFed {S : Type 0} (Told : S → List ℕ → Type 0) (remaining : S → Option (List ℕ)) (old new : S) (lines : Lines Version) (bounds : Bounds)
-    (asked : Asked) (monitors : ByCriterion Monitor) : Type 0 where
-  pub header : Header
-  pub history : List Event
-  pub taken : HasTaken trace_grammar Told remaining old new lines header history
-  pub fed : AreFed header bounds asked history monitors
+-- the fault of the first line, or want of memory behind it, is the text's
+first-fault : (Ended : Type 0) (lines : Lines Version) (bounds : Bounds) (asked : Asked) (bytes : List ℕ) (fault : TextFault)
+    → IsBeginning Ended lines bounds asked bytes (Err fault) → HasTextFault trace_grammar Ended bytes fault
+first-fault Ended lines bounds asked bytes BadHeader is = text_fault-first trace_grammar Ended bytes BadHeader is
+first-fault Ended lines bounds asked bytes (BadLine number) is = text_fault-first trace_grammar Ended bytes (BadLine number) is
+first-fault Ended lines bounds asked bytes (Cut number) is = text_fault-first trace_grammar Ended bytes (Cut number) is
+first-fault Ended lines bounds asked bytes Memory is = soon-behind trace_grammar lines is.0 [] bytes is.1
+first-fault Ended lines bounds asked bytes Io is = text_fault-first trace_grammar Ended bytes Io is
+first-fault Ended lines bounds asked bytes TooLong is = text_fault-first trace_grammar Ended bytes TooLong is
 
--- each monitor has room for an event that was read
-pub fed_room : {S : Type 0} (Told : S → List ℕ → Type 0) (remaining : S → Option (List ℕ)) (a b : S) (old new : Lines Version) (bounds : Bounds) (asked : Asked)
-    (monitors : ByCriterion Monitor) (event : Event) (bytes : List ℕ) → HasFed Told remaining a b old bounds asked monitors
-    → GivesItem trace_grammar old new bytes event → Each (λ _ monitor. monitor.count < 2 ^ 40) monitors
-fed_room Told remaining a b old new bounds asked monitors event bytes fed gives =
-    let read = gives fed.header fed.history fed.taken.bytes fed.taken.read in
-    let counted = read.counted in
-    let few = new.few in
-    let longer : length (fed.history ++ event ∷ []) ≡ length fed.history + 1 = length-append fed.history (event ∷ []) in
-    each-weaker (λ criterion. Fits (trace_rules fed.header bounds criterion) fed.history) (λ _ monitor. monitor.count < 2 ^ 40) monitors
-    (λ criterion monitor fits. let was = fits.counted in omega (arith, counted, few, was, longer)) fed.fed.each
+-- what was read, whatever was fed of it
+read-of-fed : (Done : Type 0) (Ended : Type 0) (lines : Lines Version) (header : Header) (bounds : Bounds) (asked : Asked)
+    (history : List Event) (bytes : List ℕ) (monitors : ByCriterion Monitor) (fault : TextFault)
+    → AreReadAndFed {Done = Done} Ended lines header bounds asked history bytes monitors (Err fault)
+    → AreReadFor {Done = Done} trace_grammar Ended lines header history bytes (Err fault)
+read-of-fed Done Ended lines header bounds asked history bytes monitors BadHeader is = is.0
+read-of-fed Done Ended lines header bounds asked history bytes monitors (BadLine number) is = is.0
+read-of-fed Done Ended lines header bounds asked history bytes monitors (Cut number) is = is.0
+read-of-fed Done Ended lines header bounds asked history bytes monitors Memory is = is.0
+read-of-fed Done Ended lines header bounds asked history bytes monitors Io is = is.0
+read-of-fed Done Ended lines header bounds asked history bytes monitors TooLong is = is.0
 
--- an event more was read
-pub taken-push : {S : Type 0} (Told : S → List ℕ → Type 0) (remaining : S → Option (List ℕ)) (a b c : S) (old new : Lines Version) (bounds : Bounds) (asked : Asked)
-    (monitors : ByCriterion Monitor) (event : Event) (bytes : List ℕ) → (fed : HasFed Told remaining a b old bounds asked monitors)
-    → Tells Told remaining b bytes c → GivesItem trace_grammar old new bytes event
-    → HasTaken trace_grammar Told remaining a c new fed.header (fed.history ++ event ∷ [])
-taken-push Told remaining a b c old new bounds asked monitors event bytes fed told gives =
-    HasTaken-push trace_grammar Told remaining a b c old new fed.header fed.history (fed.history ++ event ∷ []) event bytes refl fed.taken told gives
+-- no trace was begun
+pub answers-first : {S : Type 0} (Told : S → List ℕ → Type 0) (remaining : S → Option (List ℕ)) (Ended : Type 0) (a b : S)
+    (lines : Lines Version) (bounds : Bounds) (asked : Asked) (told : TextFault) (fault : Fault)
+    → ReadsBeginning Told remaining Ended a b lines bounds asked (Err told) → fault ≡ fault_of told
+    → (bytes : List ℕ) × Tells Told remaining a bytes b × AnswersTrace bounds asked Ended bytes (Err fault)
+answers-first Told remaining Ended a b lines bounds asked told fault reads is =
+    (reads.bytes, reads.told, (told, is, first-fault Ended lines bounds asked reads.bytes told reads.is))
 
--- and fed
-pub fed-push : {S : Type 0} (Told : S → List ℕ → Type 0) (remaining : S → Option (List ℕ)) (a b c : S) (old new : Lines Version) (bounds : Bounds) (asked : Asked)
-    (monitors more : ByCriterion Monitor) (event : Event) (bytes : List ℕ) → HasFed Told remaining a b old bounds asked monitors
-    → Tells Told remaining b bytes c → GivesItem trace_grammar old new bytes event
-    → ((header : Header) (within : Bounds) (wanted : Asked) (history : List Event) → AreFed header within wanted history monitors
-    → AreFed header within wanted (history ++ event ∷ []) more)
-    → HasFed Told remaining a c new bounds asked more
-fed-push Told remaining a b c old new bounds asked monitors more event bytes fed told gives feeds = record {
-  header = fed.header;
-  history = fed.history ++ event ∷ [];
-  taken = taken-push Told remaining a b c old new bounds asked monitors event bytes fed told gives;
-  fed = feeds fed.header bounds asked fed.history fed.fed;
+-- a trace was begun
+pub begun-fed : {S : Type 0} (Told : S → List ℕ → Type 0) (remaining : S → Option (List ℕ)) (Ended : Type 0) (a b : S)
+    (lines : Lines Version) (bounds : Bounds) (asked : Asked) (monitors : ByCriterion Monitor)
+    → ReadsBeginning Told remaining Ended a b lines bounds asked (Ok monitors) → AreFedAllRead lines monitors
+begun-fed Told remaining Ended a b lines bounds asked monitors reads = record {
+  header = reads.is.0;
+  bounds = bounds;
+  asked = asked;
+  history = [];
+  bytes = reads.bytes;
+  read = reads.is.1;
+  fed = reads.is.2;
 }
 
--- what was read when memory was refused
-pub wants_memory : {S : Type 0} (Told : S → List ℕ → Type 0) (remaining : S → Option (List ℕ)) (Ended : Type 0) (a b : S) (lines : Lines Version) (header : Header)
-    (history : List Event) (bounds : Bounds) (asked : Asked) → HasTaken trace_grammar Told remaining a b lines header history
-    → (bytes : List ℕ) × Tells Told remaining a bytes b × AnswersTrace bounds asked Ended bytes (Err WantsMemory)
-wants_memory Told remaining Ended a b lines header history bounds asked taken =
-    let soon = soon-taken trace_grammar Told remaining a b lines header history taken in
-    (soon.0, soon.1, (Memory, refl, soon.2))
+module _ {S : Type 0} (Told : S → List ℕ → Type 0) (remaining : S → Option (List ℕ)) (First Ended : Type 0) (a b c : S)
+    (lines after : Lines Version) (bounds : Bounds) (asked : Asked) (monitors fed : ByCriterion Monitor)
+    (begins : ReadsBeginning Told remaining First a b lines bounds asked (Ok monitors)) where
+  -- and all its events were fed
+  pub answers-end : {Done : Type 0} (done : Done) (reports : ByCriterion Report)
+      → FeedsEvents Told remaining Ended b c lines after monitors fed (Ok done)
+      → ((header : Header) (within : Bounds) (wanted : Asked) (history : List Event) → AreFed header within wanted history fed
+      → AreReports header within wanted history reports)
+      → (all : List ℕ) × Tells Told remaining a all c × AnswersTrace bounds asked Ended all (Ok reports)
+  answers-end done reports feeds report =
+      let end = feeds.fed begins.is.0 bounds asked [] begins.bytes begins.is.1 begins.is.2 in (
+        begins.bytes ++ feeds.bytes,
+        Tells-more Told remaining a b c begins.bytes feeds.bytes begins.told feeds.told,
+        (
+          end.0.ended,
+          record {
+            header = begins.is.0;
+            history = feeds.events;
+            are_events = end.0.are_lines;
+            text = end.0.text;
+            tell = report begins.is.0 bounds asked feeds.events end.1;
+          },
+        ),
+      )
 
--- the end was read
-pub reports-end : {S : Type 0} (Told : S → List ℕ → Type 0) (remaining : S → Option (List ℕ)) (Ended : Type 0) (a b c : S) (lines : Lines Version) (bounds : Bounds)
-    (asked : Asked) (monitors : ByCriterion Monitor) (bytes : List ℕ) (reports : ByCriterion Report) → HasFed Told remaining a b lines bounds asked monitors
-    → Tells Told remaining b bytes c → GivesEnd trace_grammar Ended lines bytes
-    → ((header : Header) (within : Bounds) (wanted : Asked) (history : List Event) → AreFed header within wanted history monitors
-    → AreReports header within wanted history reports)
-    → (all : List ℕ) × Tells Told remaining a all c × AnswersTrace bounds asked Ended all (Ok reports)
-reports-end Told remaining Ended a b c lines bounds asked monitors bytes reports fed told ends report =
-    let end = ends fed.header fed.history fed.taken.bytes fed.taken.read in (
-      fed.taken.bytes ++ bytes,
-      Tells-more Told remaining a b c fed.taken.bytes bytes fed.taken.told told,
-      (
-        end.0,
-        record {
-          header = fed.header;
-          history = fed.history;
-          are_events = fed.taken.read.are_lines;
-          text = end.1;
-          tell = report fed.header bounds asked fed.history fed.fed;
-        },
-      ),
-    )
-
--- a fault was read
-pub answers-fault : {S : Type 0} (Told : S → List ℕ → Type 0) (remaining : S → Option (List ℕ)) (Ended : Type 0) (a b c : S) (lines : Lines Version) (bounds : Bounds)
-    (asked : Asked) (monitors : ByCriterion Monitor) (bytes : List ℕ) (told : TextFault) (fault : Fault)
-    → HasFed Told remaining a b lines bounds asked monitors → Tells Told remaining b bytes c
-    → GivesFault trace_grammar Ended lines bytes told → fault ≡ fault_of told
-    → (all : List ℕ) × Tells Told remaining a all c × AnswersTrace bounds asked Ended all (Err fault)
-answers-fault Told remaining Ended a b c lines bounds asked monitors bytes told fault fed adds gives is = (
-  fed.taken.bytes ++ bytes,
-  Tells-more Told remaining a b c fed.taken.bytes bytes fed.taken.told adds,
-  (told, is, gives fed.header fed.history fed.taken.bytes fed.taken.read),
-)
+  -- and then came a fault
+  pub answers-fault : (Done : Type 0) (told : TextFault) (fault : Fault)
+      → FeedsEvents {Done = Done} Told remaining Ended b c lines after monitors fed (Err told) → fault ≡ fault_of told
+      → (all : List ℕ) × Tells Told remaining a all c × AnswersTrace bounds asked Ended all (Err fault)
+  answers-fault Done told fault feeds is =
+      let stop = feeds.fed begins.is.0 bounds asked [] begins.bytes begins.is.1 begins.is.2 in (
+        begins.bytes ++ feeds.bytes,
+        Tells-more Told remaining a b c begins.bytes feeds.bytes begins.told feeds.told,
+        (
+          told,
+          is,
+          text_fault-read Done trace_grammar Ended after begins.is.0 feeds.events (begins.bytes ++ feeds.bytes) told
+              (read-of-fed Done Ended after begins.is.0 bounds asked feeds.events (begins.bytes ++ feeds.bytes) fed told stop),
+        ),
+      )
 
 -- a failed read is counted, and no other fault is
 pub failures_after-fault : (told : TextFault) (fault : Fault) (count : ℕ) → fault ≡ fault_of told

@@ -1,2 +1,3 @@
 pub mod ByCriterion
+pub mod Feeding
 pub mod Judging

@@ -1,14 +1,19 @@
-ghost use Rattle.std.specs.Prelude.{◌≡◌, ℕ, List};
+ghost use Rattle.std.specs.Prelude.{◌≡◌, ℕ, List, IfErr, OnOk};
 ghost use Rattle.tmw_streams.specs.Told.{Tells};
+ghost use Rattle.tmw_lines.specs.Lines.{IsNew};
+ghost use Rattle.tmw_lines.specs.TextFault.{failures_after};
+ghost use Rattle.tmw_judge.specs.Feeding.{ReadsBeginning};
 ghost use Rattle.tmw_judge.specs.Judging.{AnswersTrace};
 ghost use Rattle.tmw_report.specs.CommandRun.{failures_after_answer};
 
 use crate::by_criterion::ByCriterion;
-use crate::monitors::{feed_each, monitors_for, reports_of};
+use crate::feeding::feed_events;
+use crate::monitors::{monitors_for, reports_of};
 use crate::report::Report;
 use std::alloc::Global;
 use tmw_defs::Asked;
-use tmw_monitor::Bounds;
+use tmw_lines::TextFault;
+use tmw_monitor::{Bounds, Monitor};
 use tmw_report::{Fault, fault_of};
 use tmw_streams::Source;
 use tmw_trace::TraceLines;
@@ -27,22 +32,36 @@ pub fn judge<S: Source>(
     ensures failures { S.failures source.new ≡ failures_after_answer result (S.failures source.old) }
 {
     let mut lines = TraceLines::new();
-    let header = match lines.header(source) {
-        Ok(header) => header,
+    let mut monitors = match begin(alloc, &mut lines, source, bounds, asked) {
+        Ok(monitors) => monitors,
         Err(fault) => return Err(fault_of(fault)),
     };
-    let Ok(mut monitors) = monitors_for(alloc, header, bounds, asked) else {
-        return Err(Fault::Memory);
-    };
-    'lines: loop {
-        match lines.next(source) {
-            Ok(Some(event)) => {
-                let Ok(()) = feed_each(&mut monitors, event) else {
-                    return Err(Fault::Memory);
-                };
-            }
-            Ok(None) => return Ok(reports_of(&monitors)),
-            Err(fault) => return Err(fault_of(fault)),
-        }
+    match feed_events(&mut lines, source, &mut monitors) {
+        Ok(()) => Ok(reports_of(&monitors)),
+        Err(fault) => Err(fault_of(fault)),
     }
+}
+
+/// Reads a trace's first line, and makes the monitors for its history. `Memory` answers want of memory for them: nothing was read
+/// after that line.
+fn begin<S: Source>(
+    alloc: Global,
+    lines: &mut TraceLines,
+    source: &mut S,
+    bounds: Bounds,
+    asked: Asked,
+) -> Result<ByCriterion<Monitor>, TextFault>
+    requires { IsNew lines.old }
+    ensures begins { ReadsBeginning S.told S.remaining (S.ended source.new) source.old source.new lines.new bounds asked result }
+    ensures well { OnOk result (S.failures source.new ≡ S.failures source.old) }
+    ensures failed { IfErr result (λ fault. S.failures source.new ≡ failures_after fault (S.failures source.old)) }
+{
+    let header = match lines.header(source) {
+        Ok(header) => header,
+        Err(fault) => return Err(fault),
+    };
+    let Ok(monitors) = monitors_for(alloc, header, bounds, asked) else {
+        return Err(TextFault::Memory);
+    };
+    Ok(monitors)
 }

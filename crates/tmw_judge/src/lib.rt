@@ -3,6 +3,7 @@
 #![tactic(auto)]
 
 mod by_criterion;
+mod feeding;
 mod judging;
 mod lines;
 mod monitors;

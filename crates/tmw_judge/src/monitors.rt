@@ -1,5 +1,5 @@
 //! The monitors that a trace is judged by: for each criterion that is asked for one.
-ghost use Rattle.std.specs.Prelude.{◌<◌, ◌^◌, List, [], ◌∷◌, ◌++◌, IfOk, OnOk};
+ghost use Rattle.std.specs.Prelude.{◌<◌, ◌^◌, List, [], ◌∷◌, ◌++◌, IfOk, OnOk, OnErr};
 ghost use Rattle.tmw_defs.specs.Verdict.{Rules};
 ghost use Rattle.tmw_defs.specs.declared.criterion.Asked.{Asked};
 ghost use Rattle.tmw_events.specs.declared.event.Event.{Event};
@@ -7,6 +7,7 @@ ghost use Rattle.tmw_monitor.specs.Fitting.{Fits};
 ghost use Rattle.tmw_monitor.specs.declared.bounds.Bounds.{Bounds};
 ghost use Rattle.tmw_trace.specs.declared.header.Header.{Header};
 ghost use Rattle.tmw_judge.specs.ByCriterion.{Each};
+ghost use Rattle.tmw_judge.specs.Feeding.{LackEvent};
 ghost use Rattle.tmw_judge.specs.Judging.{AreFed, AreReports, IsReportOn, trace_rules};
 
 use crate::by_criterion::ByCriterion;
@@ -55,11 +56,13 @@ fn monitor_for(
     Monitor::for_criterion(alloc, criterion, header.registers, header.initial, bounds)
 }
 
-/// Feeds an event to each of them. Where memory is refused some may have taken it, and others not.
+/// Feeds an event to each of them. Where memory is refused none has taken it, or of two the first alone.
 pub fn feed_each(monitors: &mut ByCriterion<Monitor>, event: Event) -> Result<(), AllocError>
     requires { Each (λ _ monitor. monitor.count < 2 ^ 40) monitors.old }
-    ensures { OnOk result ((header : Header) (bounds : Bounds) (asked : Asked) (history : List Event)
+    ensures fed { OnOk result ((header : Header) (bounds : Bounds) (asked : Asked) (history : List Event)
         → AreFed header bounds asked history monitors.old → AreFed header bounds asked (history ++ event ∷ []) monitors.new) }
+    ensures refused { OnErr result ((header : Header) (bounds : Bounds) (asked : Asked) (history : List Event)
+        → AreFed header bounds asked history monitors.old → LackEvent header bounds asked history event monitors.new) }
 {
     match monitors {
         ByCriterion::Opacity(monitor) => {

@@ -1,7 +1,8 @@
 mod FirstLines
 mod HeldBytes
 pub mod HeldLines
-mod LinesRead
+mod ItemsHeld
+pub mod LinesRead
 mod LongLines
 mod NextLines
 mod Pieces

@@ -5,6 +5,7 @@ use Rattle.std.proofs.lemmas.List.{append-nil}
 use Rattle.std.proofs.lemmas.List.Elements.{All-push}
 use Rattle.tmw_lines.specs.Grammar.{Grammar, items_text, lines_text, AreLines}
 use Rattle.tmw_lines.specs.Held.{bytes_of}
+use Rattle.tmw_lines.specs.ItemsRead.{FailsBehind}
 use Rattle.tmw_lines.specs.LineRead.{IsItemLine, HasLineFault}
 use Rattle.tmw_lines.specs.Lines.{HasRead}
 use Rattle.tmw_lines.specs.Text.{line}
@@ -77,50 +78,68 @@ module _ {F H E : Type 0} (grammar : Grammar F H E) where
     few = few-held lines.held;
   }
 
-  -- what was read has begun, whatever follows
-  begun-read : (lines : Lines F) (header : H) (items : List E) (before bytes : List ℕ)
-      → HasRead grammar lines header items before → HasBegun grammar (before ++ bytes)
-  begun-read lines header items before bytes r = record {
-    header = header;
-    items = items;
+  -- a fault of the line behind what was read
+  pub fails-behind : (Ended : Type 0) (lines : Lines F) (bytes : List ℕ) (fault : TextFault)
+      → HasLineFault grammar Ended lines.format lines.count (bytes_of lines.held ++ bytes) fault
+      → (header : H) (items : List E) (before : List ℕ) → HasRead grammar lines header items before
+      → FailsBehind grammar Ended header items (before ++ bytes) fault
+  fails-behind Ended lines bytes fault h header items before r = record {
     are_lines = r.are_lines;
     rest = bytes_of lines.held ++ bytes;
-    split = read-more lines header items before bytes r;
+    text = read-more lines header items before bytes r;
+    line = rw (r.format, r.counted) at h;
+  }
+
+  -- what stands before it has begun, whatever follows
+  begun-behind : (Ended : Type 0) (header : H) (items : List E) (bytes : List ℕ) (fault : TextFault)
+      → FailsBehind grammar Ended header items bytes fault → HasBegun grammar bytes
+  begun-behind Ended header items bytes fault f = record {
+    header = header;
+    items = items;
+    are_lines = f.are_lines;
+    rest = f.rest;
+    split = f.text;
+  }
+
+  -- it is the text's
+  pub text_fault-behind : (Ended : Type 0) (header : H) (items : List E) (bytes : List ℕ) (fault : TextFault)
+      → FailsBehind grammar Ended header items bytes fault → HasTextFault grammar Ended bytes fault
+  unfolding begun-behind
+  text_fault-behind Ended header items bytes BadHeader f = absurd f.line
+  text_fault-behind Ended header items bytes (BadLine number) f = record {
+    begun = begun-behind Ended header items bytes (BadLine number) f;
+    few = f.line.0;
+    bad = f.line.2;
+    counted = f.line.1;
+  }
+  text_fault-behind Ended header items bytes (Cut number) f = (
+    f.line.2,
+    inr record {
+      begun = begun-behind Ended header items bytes (Cut number) f;
+      few = f.line.0;
+      unbroken = f.line.3;
+      some = f.line.4;
+      counted = f.line.1;
+    },
+  )
+  text_fault-behind Ended header items bytes Memory f = absurd f.line
+  text_fault-behind Ended header items bytes Io f = (
+    f.line.0,
+    inr record {
+      begun = begun-behind Ended header items bytes Io f;
+      unbroken = f.line.1;
+      none = f.line.2;
+    },
+  )
+  text_fault-behind Ended header items bytes TooLong f = record {
+    begun = begun-behind Ended header items bytes TooLong f;
+    many = f.line.0;
+    some = f.line.1;
   }
 
   pub text_fault-line : (Ended : Type 0) (lines : Lines F) (bytes : List ℕ) (fault : TextFault)
       → HasLineFault grammar Ended lines.format lines.count (bytes_of lines.held ++ bytes) fault
       → (header : H) (items : List E) (before : List ℕ) → HasRead grammar lines header items before
       → HasTextFault grammar Ended (before ++ bytes) fault
-  unfolding begun-read
-  text_fault-line Ended lines bytes BadHeader h header items before r = absurd h
-  text_fault-line Ended lines bytes (BadLine number) h header items before r = record {
-    begun = begun-read lines header items before bytes r;
-    few = omega (arith, h.0, r.counted);
-    bad = rw r.format at h.2;
-    counted = omega (arith, h.1, r.counted);
-  }
-  text_fault-line Ended lines bytes (Cut number) h header items before r = (
-    h.2,
-    inr record {
-      begun = begun-read lines header items before bytes r;
-      few = omega (arith, h.0, r.counted);
-      unbroken = h.3;
-      some = h.4;
-      counted = omega (arith, h.1, r.counted);
-    },
-  )
-  text_fault-line Ended lines bytes Memory h header items before r = absurd h
-  text_fault-line Ended lines bytes Io h header items before r = (
-    h.0,
-    inr record {
-      begun = begun-read lines header items before bytes r;
-      unbroken = h.1;
-      none = λ many. h.2 (r.counted ∙ many);
-    },
-  )
-  text_fault-line Ended lines bytes TooLong h header items before r = record {
-    begun = begun-read lines header items before bytes r;
-    many = sym r.counted ∙ h.0;
-    some = h.1;
-  }
+  text_fault-line Ended lines bytes fault h header items before r =
+      text_fault-behind Ended header items (before ++ bytes) fault (fails-behind Ended lines bytes fault h header items before r)

@@ -1,49 +1,16 @@
--- Reading a whole text: what was told so far is what the reader of lines has read.
-use Rattle.std.proofs.Common.{◌≡◌, ℕ, Option, List, [], ◌∷◌, ◌++◌, inl}
-use Rattle.tmw_lines.specs.Grammar.{Grammar}
+-- Reading a whole text: its header, and then the items of all other lines.
+use Rattle.std.proofs.Common.{◌≡◌, ℕ, Option, Ok, Err, List, [], ◌∷◌, ◌++◌, ap, inl, subst, ◌∙◌}
+use Rattle.tmw_lines.specs.Grammar.{Grammar, lines_text, AreLines}
 use Rattle.tmw_lines.specs.Held.{bytes_of}
-use Rattle.tmw_lines.specs.Lines.{HasRead, GivesItem}
+use Rattle.tmw_lines.specs.ItemsRead.{AreReadFor, ReadsItems}
+use Rattle.tmw_lines.specs.Lines.{HasRead}
 use Rattle.tmw_lines.specs.TextFault.{HasTextFault, HasFirstLineFault, EndsSoon}
 use Rattle.tmw_lines.specs.declared.lines.Lines.{Lines}
 use Rattle.tmw_lines.specs.declared.text_fault.TextFault.{TextFault}
 use Rattle.tmw_lines.specs.declared.text_fault.TextFault.TheVariants.{BadHeader, BadLine, Cut, Memory, Io, TooLong}
+use Rattle.tmw_lines.proofs.LinesRead.{text_fault-behind}
 use Rattle.tmw_streams.specs.Told.{Tells}
 use Rattle.tmw_streams.proofs.ToldBytes.{Tells-more}
-
--- the reader has read all that the source told, and given these items
-pub record HasTaken {F H E S : Type 0} (grammar : Grammar F H E) (Told : S → List ℕ → Type 0)
-    (remaining : S → Option (List ℕ)) (old new : S) (lines : Lines F) (header : H) (items : List E) : Type 0 where
-  pub bytes : List ℕ
-  pub told : Tells Told remaining old bytes new
-  pub read : HasRead grammar lines header items bytes
-
-module _ {F H E S : Type 0} (grammar : Grammar F H E) (Told : S → List ℕ → Type 0) (remaining : S → Option (List ℕ)) where
-  pub HasTaken-push : (a b c : S) (old new : Lines F) (header : H) (items pushed : List E) (item : E) (bytes : List ℕ)
-      → pushed ≡ items ++ item ∷ [] → HasTaken grammar Told remaining a b old header items → Tells Told remaining b bytes c
-      → GivesItem grammar old new bytes item → HasTaken grammar Told remaining a c new header pushed
-  HasTaken-push a b c old new header items pushed item bytes is taken told gives = rw is record {
-    bytes = taken.bytes ++ bytes;
-    told = Tells-more Told remaining a b c taken.bytes bytes taken.told told;
-    read = gives header items taken.bytes taken.read;
-  }
-
-  pub soon-taken : (a b : S) (lines : Lines F) (header : H) (items : List E)
-      → HasTaken grammar Told remaining a b lines header items
-      → (bytes : List ℕ) × Tells Told remaining a bytes b × EndsSoon grammar bytes
-  soon-taken a b lines header items taken = (
-    taken.bytes,
-    taken.told,
-    record {
-      begun = record {
-        header = header;
-        items = items;
-        are_lines = taken.read.are_lines;
-        rest = bytes_of lines.held;
-        split = taken.read.text;
-      };
-      soon = taken.read.few;
-    },
-  )
 
 -- a fault of the first line is the text's
 pub text_fault-first : {F H E : Type 0} (grammar : Grammar F H E) (Ended : Type 0) (bytes : List ℕ) (fault : TextFault)
@@ -54,3 +21,55 @@ text_fault-first grammar Ended bytes (Cut number) h = (h.0, inl (h.1, h.2, h.3))
 text_fault-first grammar Ended bytes Memory h = absurd h
 text_fault-first grammar Ended bytes Io h = (h.0, inl h.1)
 text_fault-first grammar Ended bytes TooLong h = absurd h
+
+-- what was read when memory was wanted ends soon behind whole lines
+pub soon-behind : {F H E : Type 0} (grammar : Grammar F H E) (lines : Lines F) (header : H) (items : List E) (bytes : List ℕ)
+    → HasRead grammar lines header items bytes → EndsSoon grammar bytes
+soon-behind grammar lines header items bytes read = record {
+  begun = record {
+    header = header;
+    items = items;
+    are_lines = read.are_lines;
+    rest = bytes_of lines.held;
+    split = read.text;
+  };
+  soon = read.few;
+}
+
+-- the fault that is answered is the text's
+pub text_fault-read : (Done : Type 0) {F H E : Type 0} (grammar : Grammar F H E) (Ended : Type 0) (lines : Lines F) (header : H) (items : List E)
+    (bytes : List ℕ) (fault : TextFault) → AreReadFor {Done = Done} grammar Ended lines header items bytes (Err fault)
+    → HasTextFault grammar Ended bytes fault
+text_fault-read Done grammar Ended lines header items bytes BadHeader f = text_fault-behind grammar Ended header items bytes BadHeader f
+text_fault-read Done grammar Ended lines header items bytes (BadLine number) f =
+    text_fault-behind grammar Ended header items bytes (BadLine number) f
+text_fault-read Done grammar Ended lines header items bytes (Cut number) f = text_fault-behind grammar Ended header items bytes (Cut number) f
+text_fault-read Done grammar Ended lines header items bytes Memory f = soon-behind grammar lines header (items ++ f.last ∷ []) bytes f.read
+text_fault-read Done grammar Ended lines header items bytes Io f = text_fault-behind grammar Ended header items bytes Io f
+text_fault-read Done grammar Ended lines header items bytes TooLong f = text_fault-behind grammar Ended header items bytes TooLong f
+
+-- a whole text: the header was read, and then the items of all other lines
+module _ {F H E S : Type 0} (grammar : Grammar F H E) (Told : S → List ℕ → Type 0) (remaining : S → Option (List ℕ))
+    (Ended : Type 0) (a b c : S) (lines after : Lines F) (header : H) (first : List ℕ) (held items : List E)
+    (told : Tells Told remaining a first b) (read : HasRead grammar lines header [] first) where
+  pub all-ends : {Done : Type 0} (done : Done) → held ≡ []
+      → ReadsItems grammar Told remaining Ended b c lines after held items (Ok done)
+      → Tells Told remaining a (lines_text grammar header items) c × Ended × AreLines grammar header items
+  all-ends done none reads =
+      let all : items ≡ reads.items = reads.is ∙ ap (λ xs. xs ++ reads.items) none in
+      let end = reads.read header [] first read in
+      rw all (
+        subst (λ bytes. Tells Told remaining a bytes c) end.text
+            (Tells-more Told remaining a b c first reads.bytes told reads.told),
+        end.ended,
+        end.are_lines,
+      )
+
+  pub all-fails : (Done : Type 0) (fault : TextFault)
+      → ReadsItems {Done = Done} grammar Told remaining Ended b c lines after held items (Err fault)
+      → (bytes : List ℕ) × Tells Told remaining a bytes c × HasTextFault grammar Ended bytes fault
+  all-fails Done fault reads = (
+    first ++ reads.bytes,
+    Tells-more Told remaining a b c first reads.bytes told reads.told,
+    text_fault-read Done grammar Ended after header reads.items (first ++ reads.bytes) fault (reads.read header [] first read),
+  )

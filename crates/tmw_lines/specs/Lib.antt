@@ -1,5 +1,6 @@
 pub mod Grammar
 pub mod Held
+pub mod ItemsRead
 pub mod LineRead
 pub mod Lines
 pub mod LongLine

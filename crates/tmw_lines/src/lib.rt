@@ -4,6 +4,7 @@
 mod first_item;
 mod first_line;
 mod held;
+mod items;
 mod line_format;
 mod lines;
 #[cfg(test)]
@@ -16,6 +17,7 @@ mod splitting;
 mod text_fault;
 
 pub use held::Held;
+pub use items::read_items;
 pub use line_format::LineFormat;
 pub use lines::Lines;
 pub use long_line::{LineEnd, skip_line};

@@ -4,7 +4,7 @@ ghost use Rattle.std.proofs.Common.{rules, arith};
 ghost use Rattle.std.proofs.lemmas.Bool.Decides.{nat_tests};
 ghost use Rattle.tmw_lines.specs.Grammar.{Grammar};
 
-use crate::{LineFormat, Lines, TextFault, read_lines};
+use crate::{LineFormat, Lines, TextFault, read_items, read_lines};
 use std::cell::Cell;
 use std::test::Fail;
 use tmw_streams::{IoFault, MemorySource, Source};
@@ -160,5 +160,27 @@ fn a_source_is_read_no_more_than_is_needed(rt: HostRuntime) {
             }
         }
         assert_eq!(rt; reads.get(), wanted);
+    }
+}
+
+#[test]
+fn no_line_is_read_behind_an_item_that_is_not_held(rt: HostRuntime) {
+    // One read tells one line.
+    let reads = Cell::new(0);
+    let mut source = Counted {
+        source: MemorySource::limited(b"c\na\nb\nc\na\nb\nc\n", 2, None),
+        reads: &reads,
+    };
+    let mut lines = Lines::<UpTo>::new();
+    let Ok(_) = lines.header(&mut source) else {
+        panic!(rt; "no header")
+    };
+    let mut items = Vec::new(rt.alloc());
+    let answer = read_items(&mut lines, &mut source, &mut items);
+    // The header's line, a line for each item that is held, and one line more or the end.
+    assert_eq!(rt; reads.get() as usize, items.len() + 2);
+    match answer {
+        Ok(()) => assert_eq!(rt; items.as_slice(), b"abcabc".as_slice()),
+        Err(fault) => assert_eq!(rt; fault, TextFault::Memory),
     }
 }

@@ -3,6 +3,7 @@ ghost use Rattle.tmw_lines.specs.Grammar.{lines_text, AreLines};
 ghost use Rattle.tmw_lines.specs.TextFault.{HasTextFault, failures_after};
 ghost use Rattle.tmw_streams.specs.Told.{Tells};
 
+use crate::items::read_items;
 use crate::line_format::LineFormat;
 use crate::lines::Lines;
 use crate::text_fault::TextFault;
@@ -35,15 +36,8 @@ pub fn read_lines<F: LineFormat, S: Source>(
         Err(fault) => return Err(fault),
     };
     let mut items = Vec::new(alloc);
-    'lines: loop {
-        match lines.next(source) {
-            Ok(Some(item)) => {
-                let Ok(()) = items.push(item) else {
-                    return Err(TextFault::Memory);
-                };
-            }
-            Ok(None) => return Ok((header, items)),
-            Err(fault) => return Err(fault),
-        }
+    match read_items(&mut lines, source, &mut items) {
+        Ok(()) => Ok((header, items)),
+        Err(fault) => Err(fault),
     }
 }

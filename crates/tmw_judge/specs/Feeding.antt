@@ -1,0 +1,81 @@
+-- What is read where the events of a trace are fed to its monitors as their lines are read, and what the monitors have taken of it.
+use Rattle.std.specs.Prelude.{◌≡◌, ◌⊎◌, ℕ, Option, Result, Ok, Err, List, [], ◌∷◌, ◌++◌}
+use Rattle.tmw_lines.specs.ItemsRead.{EndsBehind, FailsBehind, StopsBehind}
+use Rattle.tmw_lines.specs.Lines.{HasRead}
+use Rattle.tmw_lines.specs.TextFault.{HasFirstLineFault}
+use Rattle.tmw_lines.specs.declared.lines.Lines.{Lines}
+use Rattle.tmw_lines.specs.declared.text_fault.TextFault.{TextFault}
+use Rattle.tmw_lines.specs.declared.text_fault.TextFault.TheVariants.{Memory}
+use Rattle.tmw_streams.specs.Told.{Tells}
+use Rattle.tmw_events.specs.declared.event.Event.{Event}
+use Rattle.tmw_trace.specs.Text.{trace_grammar}
+use Rattle.tmw_trace.specs.declared.header.Header.{Header}
+use Rattle.tmw_trace.specs.declared.version.Version.{Version}
+use Rattle.tmw_defs.specs.declared.criterion.Asked.{Asked}
+use Rattle.tmw_defs.specs.declared.criterion.Asked.TheVariants as asks
+use Rattle.tmw_defs.specs.declared.criterion.Criterion.TheVariants as by
+use Rattle.tmw_monitor.specs.declared.bounds.Bounds.{Bounds}
+use Rattle.tmw_monitor.specs.declared.monitor.Monitor.{Monitor}
+use Rattle.tmw_monitor.specs.Fitting.{Fits}
+use Rattle.tmw_judge.specs.declared.by_criterion.ByCriterion.{ByCriterion}
+use Rattle.tmw_judge.specs.declared.by_criterion.ByCriterion.TheVariants.{Opacity, Strict, Both}
+use Rattle.tmw_judge.specs.Judging.{AreFed, trace_rules}
+
+-- Of two monitors the first has been fed this history and the event, and the second the history.
+abbrev pub IsFirstFed : Header → Bounds → Asked → List Event → Event → ByCriterion Monitor → Type 0
+IsFirstFed header bounds asked history event (Opacity monitor) = ⊥
+IsFirstFed header bounds asked history event (Strict monitor) = ⊥
+IsFirstFed header bounds asked history event (Both opacity strict) =
+    (asked ≡ asks.Both) × Fits (trace_rules header bounds by.Opacity) (history ++ event ∷ []) opacity
+    × Fits (trace_rules header bounds by.Strict) history strict
+
+-- Each monitor has been fed this history, and none of them the event, or of two the first alone.
+abbrev pub LackEvent : Header → Bounds → Asked → List Event → Event → ByCriterion Monitor → Type 0
+LackEvent header bounds asked history event monitors =
+    AreFed header bounds asked history monitors ⊎ IsFirstFed header bounds asked history event monitors
+
+-- What was read of a trace where its first line alone is asked for. Where there are monitors, and for want of memory, it is that
+-- line, and at most 4,096 bytes that the reader holds; else the line has the fault.
+abbrev pub IsBeginning : Type 0 → Lines Version → Bounds → Asked → List ℕ → Result (ByCriterion Monitor) TextFault → Type 0
+IsBeginning Ended lines bounds asked bytes (Ok monitors) =
+    (header : Header) × HasRead trace_grammar lines header [] bytes × AreFed header bounds asked [] monitors
+IsBeginning Ended lines bounds asked bytes (Err Memory) = (header : Header) × HasRead trace_grammar lines header [] bytes
+IsBeginning Ended lines bounds asked bytes (Err fault) = HasFirstLineFault trace_grammar Ended bytes fault
+
+-- What the source told is what was read so.
+pub record ReadsBeginning {S : Type 0} (Told : S → List ℕ → Type 0) (remaining : S → Option (List ℕ)) (Ended : Type 0) (old new : S)
+    (lines : Lines Version) (bounds : Bounds) (asked : Asked) (result : Result (ByCriterion Monitor) TextFault) : Type 0 where
+  pub bytes : List ℕ
+  pub told : Tells Told remaining old bytes new
+  pub is : IsBeginning Ended lines bounds asked bytes result
+
+-- The monitors have been fed the events of all lines that were read behind the header's.
+pub record AreFedAllRead (lines : Lines Version) (monitors : ByCriterion Monitor) : Type 0 where
+  pub header : Header
+  pub bounds : Bounds
+  pub asked : Asked
+  pub history : List Event
+  pub bytes : List ℕ
+  pub read : HasRead trace_grammar lines header history bytes
+  pub fed : AreFed header bounds asked history monitors
+
+-- These are the bytes read where the monitors have been fed this history: its text, and behind it nothing up to the end, the line
+-- that has the fault, or for want of memory one event's line, which not each of them has been fed, and what the reader holds.
+abbrev pub AreReadAndFed : {Done : Type 0} → Type 0 → Lines Version → Header → Bounds → Asked → List Event → List ℕ → ByCriterion Monitor
+    → Result Done TextFault → Type 0
+AreReadAndFed Ended lines header bounds asked history bytes monitors (Ok done) =
+    EndsBehind trace_grammar Ended header history bytes × AreFed header bounds asked history monitors
+AreReadAndFed Ended lines header bounds asked history bytes monitors (Err Memory) =
+    (stop : StopsBehind trace_grammar lines header history bytes) × LackEvent header bounds asked history stop.last monitors
+AreReadAndFed Ended lines header bounds asked history bytes monitors (Err fault) =
+    FailsBehind trace_grammar Ended header history bytes fault × AreFed header bounds asked history monitors
+
+-- What the source told makes, behind whatever had been read and fed before, lines of events that were fed.
+pub record FeedsEvents {S Done : Type 0} (Told : S → List ℕ → Type 0) (remaining : S → Option (List ℕ)) (Ended : Type 0) (old new : S)
+    (lines lines_after : Lines Version) (monitors monitors_after : ByCriterion Monitor) (result : Result Done TextFault) : Type 0 where
+  pub bytes : List ℕ
+  pub events : List Event
+  pub told : Tells Told remaining old bytes new
+  pub fed : (header : Header) (bounds : Bounds) (asked : Asked) (given : List Event) (before : List ℕ)
+      → HasRead trace_grammar lines header given before → AreFed header bounds asked given monitors
+      → AreReadAndFed Ended lines_after header bounds asked (given ++ events) (before ++ bytes) monitors_after result

@@ -1,0 +1,37 @@
+ghost use Rattle.std.specs.Prelude.{◌≡◌, ◌≤◌, length, vec_capacity, IfErr, OnOk};
+ghost use Rattle.tmw_lines.specs.ItemsRead.{HasBegunToRead, ReadsItems};
+ghost use Rattle.tmw_lines.specs.TextFault.{failures_after};
+ghost use Rattle.tmw_lines.specs.declared.text_fault.TextFault.TheVariants.{Memory};
+
+use crate::line_format::LineFormat;
+use crate::lines::Lines;
+use crate::text_fault::TextFault;
+use tmw_streams::Source;
+
+/// Reads the lines that are left, up to the source's end or the first fault, and holds their items behind those that are there.
+/// `Memory` answers want of memory: the item of the line that was read last is not held, and nothing was read after that line. It
+/// comes only where the items fill the room that there was at first; only tests show that a growth was refused.
+pub fn read_items<F: LineFormat, S: Source>(
+    lines: &mut Lines<F>,
+    source: &mut S,
+    items: &mut Vec<F::Item>,
+) -> Result<(), TextFault>
+    requires { HasBegunToRead F.grammar lines.old }
+    ensures reads { ReadsItems F.grammar S.told S.remaining (S.ended source.new) source.old source.new lines.old lines.new
+        items.old.items items.new.items result }
+    ensures full { IfErr result (λ fault. fault ≡ Memory → vec_capacity items.old ≤ length items.new.items) }
+    ensures well { OnOk result (S.failures source.new ≡ S.failures source.old) }
+    ensures failed { IfErr result (λ fault. S.failures source.new ≡ failures_after fault (S.failures source.old)) }
+{
+    'lines: loop {
+        match lines.next(source) {
+            Ok(Some(item)) => {
+                let Ok(()) = items.push(item) else {
+                    return Err(TextFault::Memory);
+                };
+            }
+            Ok(None) => return Ok(()),
+            Err(fault) => return Err(fault),
+        }
+    }
+}
