@@ -92,6 +92,14 @@ impl States {
         Ok(())
     }
 
+    /// Puts this state in the place of the only one.
+    pub fn put_only(&mut self, state: State)
+        requires { length (members self.old) ≡ 1 }
+        ensures { members self.new ≡ state ∷ [] }
+    {
+        self.items[0] = state;
+    }
+
     /// A set of the same states.
     pub fn copy(&self) -> Result<States, AllocError>
         ensures { IfOk result (λ states. members states ≡ members self.now) }

@@ -1,6 +1,10 @@
-ghost use Rattle.std.specs.Prelude.{◌≡◌, [], Bool, List, IfOk, OnErr, IsTrue};
+ghost use Rattle.std.specs.Prelude.{◌≡◌, [], Bool, List, IfOk, IfSome, OnErr, IsTrue};
+ghost use Rattle.std.specs.List.{Contains};
 ghost use Rattle.tmw_events.specs.declared.event.Event.{Event};
+ghost use Rattle.tmw_defs.specs.Criteria.{EndsBy};
 ghost use Rattle.tmw_defs.specs.Cuts.{is_cut};
+ghost use Rattle.tmw_defs.specs.History.{transactions};
+ghost use Rattle.tmw_defs.specs.Opaque.{State};
 ghost use Rattle.tmw_cuts.specs.Members.{members};
 ghost use Rattle.tmw_cuts.specs.Standing.{StandsFor, views_of};
 ghost use Rattle.tmw_witness.specs.Witnessing.{Witnesses};
@@ -9,9 +13,9 @@ ghost use Rattle.tmw_monitor.specs.Weighing.{Tells};
 use crate::open::Open;
 use crate::weighed::Weighed;
 use std::alloc::{AllocError, Global};
-use tmw_cuts::States;
+use tmw_cuts::{State, States};
 use tmw_defs::Criterion;
-use tmw_search::{EndStates, outcomes, possible};
+use tmw_search::{possible, replace_by_outcomes};
 use tmw_witness::Witness;
 
 /// Weighs the events of a window from the outcomes at its beginning. Told is whether they are at a cut: the set then becomes that
@@ -52,20 +56,33 @@ fn close(
     cap: u8,
 ) -> Result<Weighed, AllocError>
     ensures ok { IfOk result (λ found. (quiet : Bool) (events : List Event) → StandsFor kept.old.window events → IsTrue (is_cut events)
+        → Witnesses (members kept.old.states) (views_of events) kept.old.witness
         → Tells criterion kept.old.states cap quiet events kept.new found) }
     ensures tracker { kept.new.tracker ≡ kept.old.tracker }
     ensures states { OnErr result (members kept.new.states ≡ members kept.old.states) }
     ensures window { OnErr result ((events : List Event) → StandsFor kept.old.window events → StandsFor kept.new.window events) }
 {
-    match outcomes(criterion, alloc, &kept.states, &kept.window, cap)? {
-        EndStates::Many => Ok(Weighed::TooMany),
-        EndStates::Few(ends) if ends.is_empty() => Ok(Weighed::NoOutcome),
-        EndStates::Few(ends) => {
-            begin_again(criterion, &mut kept.witness, &ends);
-            kept.states = ends;
-            kept.window.clear();
-            Ok(Weighed::Outcome)
-        }
+    // An outcome that is known is mostly the only one, and then nothing is searched.
+    let known = known_end(criterion, &kept.witness);
+    if !replace_by_outcomes(criterion, alloc, &mut kept.states, &kept.window, cap, known)? {
+        return Ok(Weighed::TooMany);
+    }
+    if kept.states.is_empty() {
+        return Ok(Weighed::NoOutcome);
+    }
+    begin_again(criterion, &mut kept.witness, &kept.states);
+    kept.window.clear();
+    Ok(Weighed::Outcome)
+}
+
+/// The state in which the serial order ends, where one is kept and known.
+fn known_end(criterion: Criterion, witness: &Witness) -> Option<State>
+    ensures { IfSome result (λ end. (starts : List State) (events : List Event) → Witnesses starts (views_of events) witness.now
+        → EndsBy criterion (Contains starts) (transactions events) end) }
+{
+    match criterion {
+        Criterion::Opacity => witness.known_end(),
+        Criterion::Strict => None,
     }
 }
 

@@ -30,7 +30,7 @@ adds-as done old new P Q to from a = record {
 }
 
 -- no transaction is left
-reaches_none : (S : State → Type 0) (ts : List Txn) (u : State) → Reaches S ts 0 u → S u
+pub reaches_none : (S : State → Type 0) (ts : List Txn) (u : State) → Reaches S ts 0 u → S u
 reaches_none S ts u (zero, l) = (layer_zero S ts 0 u l).1
 reaches_none S ts u (suc k, l) = absurd (omega (arith, l.size, ap length (chosen-zero ts)))
 
@@ -86,7 +86,7 @@ put-none fixed s (Write r v ∷ ops) writes none =
     let (some, rest) = and_parts (is_some (get_or fixed r.number None)) _ none in
     put-none fixed (slice_set s r.number v) ops writes rest ∙ put-set_fixed r.number v fixed s some
 
-fixes_nothing : (fixed : List (Option ℕ)) (s : State) (x : View) (t : Txn) → x.status ≡ status_of t.text → x.ops ≡ operations t.text
+pub fixes_nothing : (fixed : List (Option ℕ)) (s : State) (x : View) (t : Txn) → x.status ≡ status_of t.text → x.ops ≡ operations t.text
     → IsTrue (is_blind t) → IsTrue (fixes_none fixed x) → put_from 0 fixed (blind_after s t) ≡ put_from 0 fixed s
 fixes_nothing fixed s x t status ops blind none =
     let (ended, writes) = and_parts (is_ended t.text) _ blind in

@@ -4,7 +4,7 @@ use Rattle.std.specs.List.{Contains}
 use Rattle.std.proofs.Math.Seq.{drop-cons}
 use Rattle.tmw_events.specs.declared.event.Event.{Event}
 use Rattle.tmw_defs.specs.declared.criterion.Criterion.{Criterion}
-use Rattle.tmw_defs.specs.Criteria.{EndsBy}
+use Rattle.tmw_defs.specs.Criteria.{EndsBy, LeadsBy}
 use Rattle.tmw_defs.specs.Cuts.{is_cut}
 use Rattle.tmw_defs.specs.History.{transactions}
 use Rattle.tmw_defs.specs.Opaque.{State}
@@ -16,7 +16,7 @@ use Rattle.tmw_cuts.specs.Standing.{StandsFor, views}
 use Rattle.tmw_cuts.specs.Views.{View}
 use Rattle.tmw_search.specs.declared.end_states.EndStates.{EndStates}
 use Rattle.tmw_search.specs.declared.end_states.EndStates.TheVariants.{Few, Many}
-use Rattle.tmw_search.specs.Ended.{AreEnds, AreMembers}
+use Rattle.tmw_search.specs.Ended.{AreEnds, AreMembers, EndsOf, Replaces}
 use Rattle.tmw_search.specs.ForcedEnds.{AreForced, AreForcedEnds}
 use Rattle.tmw_search.specs.ShownTransactions.{ShowsTransactions}
 use Rattle.tmw_search.specs.Walks.{LeadsAll}
@@ -96,3 +96,33 @@ forced-ends criterion states window xs start cap ends shown same cut forced are 
     let shows : ShowsTransactions xs ts = subst (λ (v : List View). ShowsTransactions v ts) (sym is) (shows-views_of events) in
     let only_one = is-forced ts ts (subst (λ (v : List View). AreForced v) is forced) in
     subst (λ (s : List State). AreMembers cap (EndsBy criterion (Contains s) ts) ends) same (are ts shows only_one (sym (cut events stands)))
+
+one_member : (xs : List State) (s t : State) → length xs ≡ 1 → Contains xs s → Contains xs t → s ≡ t
+one_member [] s t one has too = absurd (omega (arith, one))
+one_member (x ∷ y ∷ xs) s t one has too = absurd (omega (arith, one))
+one_member (x ∷ []) s t one has too = sym (is s has) ∙ is t too
+  where
+    is : (z : State) → Contains (x ∷ []) z → x ≡ z
+    is z within = elim (contains_cases x z [] within) [ inl same ↦ same | inr later ↦ absurd (contains_none z later) ]
+
+-- an end state that is known is the only one from one state
+pub only-end : (criterion : Criterion) (old new : States) (window : Window) (xs : List View) (cap : ℕ) (end : State) → xs ≡ views window
+    → length (members old) ≡ 1 → members new ≡ end ∷ [] → 0 < cap → ((events : List Event) → StandsFor window events → true ≡ is_cut events)
+    → AreForced xs → (events : List Event) → StandsFor window events → EndsOf criterion old events end
+    → Replaces criterion old cap events new true
+only-end criterion old new window xs cap end shown one is some cut forced = λ events stands known.
+    let ts = transactions events in
+    let only_one = is-forced ts ts (subst (λ (v : List View). AreForced v) (shown ∙ stands.shows) forced) in (
+      rw is (omega (arith, some)),
+      λ s. (
+        λ has. elim (contains_cases end s [] (rw is at has)) [
+          | inl same ↦ subst (λ (z : State). EndsOf criterion old events z) same known
+          | inr later ↦ absurd (contains_none s later)
+        ],
+        λ (t, within, leads).
+            let begun : known.0 ≡ t = one_member (members old) known.0 t one known.1 within in
+            let too : LeadsBy criterion t ts end = subst (λ (z : State). LeadsBy criterion z ts end) begun known.2 in
+            let same : end ≡ s = forced-end_by criterion t end s ts only_one (sym (cut events stands)) too leads in
+            rw is (subst (λ (z : State). Contains (end ∷ []) z) same (contains_here end [])),
+      ),
+    )

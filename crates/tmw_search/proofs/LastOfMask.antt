@@ -42,7 +42,7 @@ before_free place above before (y ∷ xs) j none =
         let same : place + 1 + n ≡ place + suc n = omega arith in
         rest n x at (ap (λ (k : ℕ). bit_at above k) same ∙ chosen)
 
-free-before : (place above before : ℕ) (xs : List View) (j : ℕ) → bit_at before j ≡ 0
+pub free-before : (place above before : ℕ) (xs : List View) (j : ℕ) → bit_at before j ≡ 0
     → ((n : ℕ) (x : View) → slice_get xs n ≡ Some x → bit_at above (place + n) ≡ 1 → bit_at x.before j ≡ 0)
     → bit_at (before_from place above before xs) j ≡ 0
 free-before place above before [] j none each = none

@@ -7,6 +7,7 @@ mod Completions
 mod ForcedEnds
 mod ForcedProof
 mod Forcing
+mod FixedRest
 mod FreeNext
 mod Gathering
 mod Holding

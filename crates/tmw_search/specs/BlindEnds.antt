@@ -1,5 +1,5 @@
 -- What the search sees of blind transactions, and what it adds to a set of end states by taking the last one first.
-use Rattle.std.specs.Prelude.{◌≡◌, ◌==◌, ◌&&◌, ◌||◌, ◌⊎◌, ◌+◌, ◌-◌, ◌^◌, ◌<◌, ℕ, Bool, true, not, List, [], ◌∷◌, length, Option, Some, None, IsTrue, slice_get, get_or, is_some, bit_or, if◌then◌else◌}
+use Rattle.std.specs.Prelude.{◌≡◌, ◌==◌, ◌&&◌, ◌||◌, ◌⊎◌, ◌+◌, ◌-◌, ◌/◌, ◌^◌, ◌<◌, ℕ, Bool, true, not, List, [], ◌∷◌, length, Option, Some, None, IsTrue, slice_get, get_or, is_some, bit_or, if◌then◌else◌}
 use Rattle.std.specs.Int.{bit_at}
 use Rattle.std.specs.List.{Contains, list_all}
 use Rattle.tmw_defs.specs.declared.criterion.Criterion.{Criterion}
@@ -39,6 +39,16 @@ abbrev pub before_from : ℕ → ℕ → ℕ → List View → ℕ
 before_from place above before [] = before
 before_from place above before (x ∷ xs) =
     before_from (place + 1) above (if bit_at above place == 1 then bit_or before x.before else before) xs
+
+-- each of these, which stand from this place on, comes behind those that precede it
+abbrev pub are_in_order : ℕ → List View → Bool
+are_in_order place [] = true
+are_in_order place (x ∷ xs) = (x.before / 2 ^ place == 0) && are_in_order (place + 1) xs
+
+-- Each comes behind those that precede it, and none writes a register that isn't fixed.
+pub record FixNone (xs : List View) (fixed : List (Option ℕ)) : Type 0 where
+  pub ordered : (i j : ℕ) (x : View) → slice_get xs j ≡ Some x → bit_at x.before i ≡ 1 → i < j
+  pub none : IsTrue (list_all (fixes_none fixed) xs)
 
 -- each register from r on with a value here is fixed
 abbrev pub covers_from : ℕ → List (Option ℕ) → List (Option ℕ) → Bool

@@ -1,5 +1,5 @@
 -- What the search by layers answers of a window: its layers, and its end states from a set of states.
-use Rattle.std.specs.Prelude.{◌≡◌, ◌↔◌, ◌<◌, ◌≤◌, ℕ, Bool, List, IsTrue, length}
+use Rattle.std.specs.Prelude.{◌≡◌, ◌↔◌, ◌<◌, ◌≤◌, ℕ, Bool, true, false, List, IsTrue, length}
 use Rattle.std.specs.Cmp.Lexicographic.{slice_cmp}
 use Rattle.std.specs.List.{Contains}
 use Rattle.std.specs.List.Sorted.{IsStrictlySortedBy}
@@ -46,6 +46,13 @@ HasMoreThan cap S = (some : List State) × IsStrictlySortedBy (slice_cmp nat_cmp
 abbrev pub AreMembers : ℕ → (State → Type 0) → EndStates → Type 0
 AreMembers cap S (Few states) = (length (members states) ≤ cap) × ((s : State) → Contains (members states) s ↔ S s)
 AreMembers cap S Many = HasMoreThan cap S
+
+-- The one set has become the other: that of the end states of the events from its states, where these are at most so many, as is told.
+-- Where they are more it has stayed.
+abbrev pub Replaces : Criterion → States → ℕ → List Event → States → Bool → Type 0
+Replaces criterion old cap events new true =
+    (length (members new) ≤ cap) × ((s : State) → Contains (members new) s ↔ EndsOf criterion old events s)
+Replaces criterion old cap events new false = HasMoreThan cap (EndsOf criterion old events) × (members new ≡ members old)
 
 abbrev pub AreEnds : Criterion → States → Window → ℕ → EndStates → Type 0
 AreEnds criterion states window cap ends =

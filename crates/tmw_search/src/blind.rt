@@ -4,7 +4,7 @@ ghost use Rattle.std.specs.Int.{bit_at};
 ghost use Rattle.tmw_cuts.specs.Members.{members};
 ghost use Rattle.tmw_cuts.specs.Views.{view};
 ghost use Rattle.tmw_search.specs.BlindTransactions.{is_write, put_from, fix_from};
-ghost use Rattle.tmw_search.specs.BlindEnds.{shows_blind, fixed_with, fixes_none, is_fixed, before_from, covers_from, Settles, AddsPut, AddsEnds, AddsLast, MayBeLast, Absorbs, AreBlindEnds};
+ghost use Rattle.tmw_search.specs.BlindEnds.{shows_blind, fixed_with, fixes_none, is_fixed, before_from, are_in_order, FixNone, covers_from, Settles, AddsPut, AddsEnds, AddsLast, MayBeLast, Absorbs, AreBlindEnds};
 
 use crate::end_states::EndStates;
 use std::alloc::{AllocError, Global};
@@ -120,6 +120,34 @@ fn fixes_none(item: &Txn, fixed: &Fixed) -> bool
     ensures { result ≡ fixes_none fixed.now (view item.now) }
 {
     item.status != Status::Committed || are_fixed(&item.ops, fixed)
+}
+
+/// Whether each of them comes behind those that precede it.
+fn are_in_order(items: &[Txn]) -> bool
+    requires { length items.now ≤ 8 }
+    ensures { result ≡ are_in_order 0 (map view items.now) }
+{
+    for (place, item) in items.iter().enumerate() {
+        if item.before >> place != 0 {
+            return false;
+        }
+    }
+    true
+}
+
+/// Whether none of them makes a write to a register that isn't fixed.
+fn all_fix_none(items: &[Txn], fixed: &Fixed) -> bool
+    ensures { result ≡ list_all (λ item. fixes_none fixed.now (view item)) items.now }
+{
+    items.iter().all(|item| fixes_none(item, fixed))
+}
+
+/// Whether none of them writes a register that isn't fixed, and each comes behind those that precede it.
+fn fix_none(items: &[Txn], fixed: &Fixed) -> bool
+    requires { length items.now ≤ 8 }
+    ensures { IsTrue result → FixNone (map view items.now) fixed.now }
+{
+    all_fix_none(items, fixed) && are_in_order(items)
 }
 
 /// The bits of those that precede one of the mask's.
@@ -281,7 +309,7 @@ fn take_all(
     requires settles { IfSome settled.now (λ values. Settles starts.now values) }
     ensures { IfOk result (λ done. AddsEnds (map view items.now) starts.now above fixed.now done (members ends.old) (members ends.new)) }
 {
-    if above == 0 {
+    if above == 0 || fix_none(items, fixed) {
         insert_all(starts, settled, fixed, ends)?;
         return Ok(true);
     }

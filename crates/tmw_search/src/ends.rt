@@ -1,7 +1,9 @@
-ghost use Rattle.std.specs.Prelude.{◌≡◌, ◌≤◌, IfOk};
+ghost use Rattle.std.specs.Prelude.{◌≡◌, ◌≤◌, List, IfOk, IfSome, OnErr};
 ghost use Rattle.std.specs.List.Sorted.{IsStrictlySortedBy};
-ghost use Rattle.tmw_cuts.specs.Standing.{count_of};
-ghost use Rattle.tmw_search.specs.Ended.{AreLayer, AreLayerBy, TellsEnd, AreEnds};
+ghost use Rattle.tmw_events.specs.declared.event.Event.{Event};
+ghost use Rattle.tmw_cuts.specs.Members.{members};
+ghost use Rattle.tmw_cuts.specs.Standing.{StandsFor, count_of};
+ghost use Rattle.tmw_search.specs.Ended.{AreLayer, AreLayerBy, TellsEnd, AreEnds, EndsOf, Replaces};
 ghost use Rattle.tmw_search.specs.Pairs.{pair_cmp};
 
 use crate::aside::{Aside, set_aside};
@@ -12,7 +14,7 @@ use crate::layers::layer_of;
 use crate::nexts::Reached;
 use crate::walk::finds_end;
 use std::alloc::{AllocError, Global};
-use tmw_cuts::{States, Window};
+use tmw_cuts::{State, States, Window};
 use tmw_defs::Criterion;
 
 /// What can be reached from the states by `k` of the window's transactions: in rising order and each once, the pairs of a set
@@ -111,6 +113,35 @@ pub fn outcomes(
         }
     }
     Ok(EndStates::Few(ends))
+}
+
+/// Puts in the place of the states those in which the window's transactions may end from one of them, where these are at most
+/// `cap`, and tells whether they are. `known` may be one of them: nothing is searched then where there can be no other.
+pub fn replace_by_outcomes(
+    criterion: Criterion,
+    alloc: Global,
+    states: &mut States,
+    window: &Window,
+    cap: u8,
+    known: Option<State>,
+) -> Result<bool, AllocError>
+    ensures ok { IfOk result (λ few. (events : List Event) → StandsFor window.now events
+        → IfSome known (EndsOf criterion states.old events) → Replaces criterion states.old cap events states.new few) }
+    ensures err { OnErr result (members states.new ≡ members states.old) }
+{
+    if let Some(end) = known {
+        if states.len() == 1 && cap > 0 && window.is_cut() && is_forced(window.transactions()) {
+            states.put_only(end);
+            return Ok(true);
+        }
+    }
+    match outcomes(criterion, alloc, states, window, cap)? {
+        EndStates::Many => Ok(false),
+        EndStates::Few(ends) => {
+            *states = ends;
+            Ok(true)
+        }
+    }
 }
 
 #[cfg(test)]

@@ -77,6 +77,9 @@ fn are_without_blind(items: &[Txn], registers: u8) -> bool
 pub fn is_forced(items: &[Txn]) -> bool
     ensures { IsTrue result → AreForced (map view items.now) }
 {
+    if items.len() < 2 {
+        return true;
+    }
     let shared = shared_by(items);
     shared == 0 || are_without_blind(items, shared)
 }

@@ -13,5 +13,5 @@ mod testing;
 mod walk;
 
 pub use end_states::EndStates;
-pub use ends::{layer, outcomes, possible};
+pub use ends::{layer, outcomes, possible, replace_by_outcomes};
 pub use tmw_plain_check::{Whole, WholeFault, judge_whole, judge_whole_for, judge_whole_from};

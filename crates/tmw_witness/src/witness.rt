@@ -1,4 +1,4 @@
-ghost use Rattle.std.specs.Prelude.{◌≡◌, [], List, IsTrue, false};
+ghost use Rattle.std.specs.Prelude.{◌≡◌, [], List, IfSome, IsTrue, None, false, slice_get, if◌then◌else◌};
 ghost use Rattle.std.specs.List.{Contains};
 ghost use Rattle.tmw_events.specs.declared.event.Event.{Event};
 ghost use Rattle.tmw_defs.specs.History.{transactions};
@@ -63,5 +63,24 @@ impl Witness {
             → (end : State) × Ends (Contains starts) (transactions events) end }
     {
         self.known
+    }
+
+    /// The state at the rank.
+    fn state_at(&self, rank: usize) -> Option<State>
+        ensures { result ≡ slice_get self.now.states rank }
+    {
+        self.states.get(rank).copied()
+    }
+
+    /// The state in which the order ends, where one is known.
+    pub fn known_end(&self) -> Option<State>
+        ensures shown { result ≡ (if self.now.known then slice_get self.now.states self.now.top else None) }
+        ensures end { IfSome result (λ end. (starts : List State) (events : List Event) → Witnesses starts (views_of events) self.now
+            → Ends (Contains starts) (transactions events) end) }
+    {
+        if !self.known {
+            return None;
+        }
+        self.state_at(usize::from(self.top))
     }
 }

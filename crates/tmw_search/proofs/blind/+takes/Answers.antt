@@ -7,12 +7,20 @@ use Rattle.tmw_search.proofs.MaskBits.{shift_is}
 use Rattle.tmw_search.proofs.LastOfMask.{may-last, not_last}
 use Rattle.tmw_search.proofs.AddedBelow.{below-next, below-skip, below-stopped, below-all}
 use Rattle.tmw_search.proofs.WindowLayers.{if_ok}
+use Rattle.tmw_search.proofs.FixedRest.{adds-rest}
+use Rattle.tmw_search.proofs.blind.+takes.Goals.{take_all-then-above-eq0-via-then-above-eq0, take_all-then-above-eq0-via-else-above-eq0+then-fix_none}
 use Rattle.tmw_search.proofs.blind.+takes.Goals.{take_each-then-is_last+in_ok-take_one+else-not-branch, take_each-else-is_last}
 use Rattle.tmw_search.proofs.blind.+takes.Goals as goal
 
 pub take_all-returns-then-above-eq0 : goal.take_all-returns-then-above-eq0
 take_all-returns-then-above-eq0 t c =
-    adds-leaf (map view c.args.items.now) c.args.starts.now c.args.above c.args.fixed.now _ _ c.if-above-eq0.true c.in_ok-insert_all.ensures
+    let xs = map view c.args.items.now in
+    elim c.then-above-eq0.branch [
+      | take_all-then-above-eq0-via-then-above-eq0 w ↦
+          adds-leaf xs c.args.starts.now c.args.above c.args.fixed.now _ _ w.if-above-eq0.true c.in_ok-insert_all.ensures
+      | take_all-then-above-eq0-via-else-above-eq0+then-fix_none w ↦
+          adds-rest xs c.args.starts.now c.args.above c.args.fixed.now _ _ (w.fix_none.ensures w.if-fix_none.true) c.in_ok-insert_all.ensures
+    ]
 
 pub take_all-returns-in-Some : goal.take_all-returns-in-Some
 take_all-returns-in-Some t c =

@@ -1,0 +1,20 @@
+-- A list of one element rises.
+use Rattle.std.proofs.Common.{◌≡◌, suc, List, [], ◌∷◌, length, refl, arith}
+use Rattle.std.specs.Prelude.{slice_set}
+use Rattle.std.specs.Cmp.Lexicographic.{slice_cmp}
+use Rattle.std.specs.List.Sorted.{IsStrictlySortedBy}
+use Rattle.std.specs.Ordering.{nat_cmp}
+use Rattle.tmw_defs.specs.Opaque.{State}
+use Rattle.tmw_cuts.proofs.states.States.put_only.Goals as goal
+
+set-only : (xs : List State) (s : State) → length xs ≡ 1 → slice_set xs 0 s ≡ s ∷ []
+set-only [] s one = absurd (omega (arith, one))
+set-only (x ∷ []) s one = refl
+set-only (x ∷ y ∷ xs) s one = absurd (omega (arith, one))
+
+pub invariant_of-self : goal.invariant_of-self
+unfolding IsStrictlySortedBy
+invariant_of-self c = record { rising = rw (set-only c.args.self.now.items.items c.args.state c.requires) (tt, tt) }
+
+pub returns : goal.returns
+returns c = set-only c.args.self.now.items.items c.args.state c.requires
