@@ -67,7 +67,8 @@ impl Spare {
 
     /// Makes places for as many lists as are kept, so that keeping one takes no memory.
     pub fn reserve(&mut self) -> Result<(), AllocError>
-        ensures { OnOk result (vec_capacity self.new.rooms ≡ 8) }
+        ensures places { OnOk result (vec_capacity self.new.rooms ≡ 8) }
+        ensures same { self.new.rooms.items ≡ self.old.rooms.items }
     {
         if self.rooms.capacity() < MOST_ROOMS {
             self.rooms.reserve_exact(MOST_ROOMS - self.rooms.len())?;
@@ -79,6 +80,8 @@ impl Spare {
     pub fn take(&mut self) -> Room
         ensures kept { 0 < length self.old.rooms.items → self.old.rooms.items ≡ self.new.rooms.items ++ result ∷ [] }
         ensures new { self.old.rooms.items ≡ [] → vec_capacity result.list ≡ 0 }
+        ensures none { self.old.rooms.items ≡ [] → self.new.rooms.items ≡ [] }
+        ensures places { vec_capacity self.new.rooms ≡ vec_capacity self.old.rooms }
     {
         match self.rooms.pop() {
             Some(room) => room,
@@ -89,8 +92,10 @@ impl Spare {
     /// Keeps the list, without its operations, where it has no more room than kept ones may have and a place for it is free.
     pub fn keep(&mut self, list: Vec<Op>)
         ensures kept { vec_capacity list ≤ 1024 → length self.old.rooms.items < vec_capacity self.old.rooms
-            → length self.new.rooms.items ≡ length self.old.rooms.items + 1 }
+            → (room : Room) × (self.new.rooms.items ≡ self.old.rooms.items ++ room ∷ []) × (vec_capacity room.list ≡ vec_capacity list) }
         ensures freed { 1024 < vec_capacity list → self.new.rooms.items ≡ self.old.rooms.items }
+        ensures full { vec_capacity self.old.rooms ≤ length self.old.rooms.items → self.new.rooms.items ≡ self.old.rooms.items }
+        ensures places { vec_capacity self.new.rooms ≡ vec_capacity self.old.rooms }
     {
         if self.rooms.len() < self.rooms.capacity() {
             if let Some(room) = Room::of(list) {
