@@ -8,7 +8,7 @@ use tmw_plain_check::{Whole, WholeFault, judge_whole};
 use tmw_testing::{FIRST, SECOND, Seed};
 use tmw_wellformed::Tracker;
 
-const TWO: Registers = Registers { number: 2 };
+pub(crate) const TWO: Registers = Registers { number: 2 };
 
 /// An event of one of so many threads, at most four, whose value is 1 once in so many times and else 0.
 fn draw_event(seed: &mut Seed, threads: u64, ones: u64) -> Event {
@@ -29,7 +29,7 @@ fn draw_event(seed: &mut Seed, threads: u64, ones: u64) -> Event {
 }
 
 /// A history of `length` events, which is well-formed but for its last event where that is asked for.
-fn draw_events(
+pub(crate) fn draw_events(
     alloc: Global,
     seed: &mut Seed,
     length: u64,
@@ -52,7 +52,7 @@ fn draw_events(
 }
 
 /// What the plain check answers, as a verdict, where it decides.
-fn plain(whole: Result<Whole, WholeFault>) -> Option<Verdict> {
+pub(crate) fn plain(whole: Result<Whole, WholeFault>) -> Option<Verdict> {
     match whole {
         Ok(Whole::Opaque) => Some(Verdict::OpaqueSoFar),
         Ok(Whole::Strict) => Some(Verdict::StrictSoFar),
@@ -64,16 +64,27 @@ fn plain(whole: Result<Whole, WholeFault>) -> Option<Verdict> {
 
 /// How often each answer was met.
 #[derive(Clone, Copy, Debug)]
-struct Met {
-    opaque: u32,
-    violated: u32,
-    malformed: u32,
-    past_eight: u32,
+pub(crate) struct Met {
+    /// Opaque so far, or strict so far.
+    pub(crate) right: u32,
+    pub(crate) violated: u32,
+    pub(crate) malformed: u32,
+    pub(crate) past_eight: u32,
 }
 
 impl Met {
+    /// Before the first.
+    pub(crate) const fn none() -> Met {
+        Met {
+            right: 0,
+            violated: 0,
+            malformed: 0,
+            past_eight: 0,
+        }
+    }
+
     /// With one more.
-    fn with(self, answer: Option<Verdict>) -> Met {
+    pub(crate) fn with(self, answer: Option<Verdict>) -> Met {
         match answer {
             None => Met {
                 past_eight: self.past_eight.saturating_add(1),
@@ -88,7 +99,7 @@ impl Met {
                 ..self
             },
             Some(_) => Met {
-                opaque: self.opaque.saturating_add(1),
+                right: self.right.saturating_add(1),
                 ..self
             },
         }
@@ -98,12 +109,7 @@ impl Met {
 #[test]
 fn the_monitor_agrees_with_the_plain_check(rt: HostRuntime) -> Result<(), Fail> {
     let mut seed = Seed::new();
-    let mut met = Met {
-        opaque: 0,
-        violated: 0,
-        malformed: 0,
-        past_eight: 0,
-    };
+    let mut met = Met::none();
     let mut taken = 0usize;
     for number in 0..400u64 {
         let events = draw_events(
@@ -122,7 +128,7 @@ fn the_monitor_agrees_with_the_plain_check(rt: HostRuntime) -> Result<(), Fail> 
         met = met.with(answer);
         taken = taken.saturating_add(events.len());
     }
-    let enough = met.opaque > 40 && met.violated > 40 && met.malformed > 40 && met.past_eight > 10;
+    let enough = met.right > 40 && met.violated > 40 && met.malformed > 40 && met.past_eight > 10;
     assert!(rt; enough, "{met:?}");
     assert!(rt; taken > 3_000, "{taken}");
     Ok(())

@@ -4,6 +4,8 @@
 mod bounds;
 #[cfg(test)]
 mod compared;
+#[cfg(test)]
+mod compared_strictly;
 mod judging;
 mod monitor;
 mod next;

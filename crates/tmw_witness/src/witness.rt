@@ -29,7 +29,8 @@ impl Witness {
 
     /// That of a window without a transaction, from this state.
     pub fn new(start: State) -> Witness
-        ensures { (starts : List State) → Contains starts start → Witnesses starts [] result }
+        ensures known { IsTrue result.known }
+        ensures witnesses { (starts : List State) → Contains starts start → Witnesses starts [] result }
     {
         Witness {
             known: true,
@@ -42,7 +43,8 @@ impl Witness {
 
     /// Begins anew, with a window without a transaction, from this state.
     pub fn restart(&mut self, start: &State)
-        ensures { (starts : List State) → Contains starts start.now → Witnesses starts [] self.new }
+        ensures known { IsTrue self.new.known }
+        ensures witnesses { (starts : List State) → Contains starts start.now → Witnesses starts [] self.new }
     {
         self.known = true;
         self.states[0] = *start;

@@ -13,5 +13,5 @@ first_contained (y ∷ ys) x at = let is : y ≡ x = cc in subst (λ (z : State)
 
 pub returns-in-Some : goal.returns-in-Some
 returns-in-Some c =
-    c.restart.ensures (members c.args.starts.now)
+    c.restart.ensures.witnesses (members c.args.starts.now)
     (first_contained (members c.args.starts.now) c.in-Some.start (sym c.get.ensures ∙ c.in-Some.is))

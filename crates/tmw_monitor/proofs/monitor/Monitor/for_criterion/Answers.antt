@@ -15,7 +15,7 @@ witnessed : (c : goal.After-new) → Witnesses (members c.in_ok-states.states) [
 witnessed c =
     elim c.if-eq.branch [
       | then-eq w ↦ λ known. absurd (let k : true ≡ false = sym known ∙ ap (λ (v : Witness). v.known) w.witness-is ∙ w.forget.ensures in cc)
-      | else-eq w ↦ rw w.witness-is (c.new-witness.ensures (members c.in_ok-states.states)
+      | else-eq w ↦ rw w.witness-is (c.new-witness.ensures.witnesses (members c.in_ok-states.states)
           (rw c.in_ok-states.ensures (contains_here c.args.start [])))
     ]
 

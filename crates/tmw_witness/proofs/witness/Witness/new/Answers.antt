@@ -4,8 +4,8 @@ use Rattle.tmw_witness.specs.declared.witness.Witness.{Witness}
 use Rattle.tmw_witness.proofs.Empty.{witness-none}
 use Rattle.tmw_witness.proofs.witness.Witness.new.Goals as goal
 
-pub returns : goal.returns
-returns c = λ starts has.
+pub returns-clause-witnesses : goal.returns-clause-witnesses
+returns-clause-witnesses c = λ starts has.
     let new : Witness = record {
       known = true;
       ranks = replicate 8 0;
