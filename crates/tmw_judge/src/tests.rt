@@ -20,6 +20,12 @@ const MALFORMED: u8 = 3;
 
 const FAULT: u8 = 4;
 
+/// Eight writers at once of one register, so that there are eight outcomes.
+const EIGHT_WRITERS: &str =
+    "0 W 0 1, 1 W 0 2, 2 W 0 3, 3 W 0 4, 4 W 0 5, 5 W 0 6, 6 W 0 7, 7 W 0 8, \
+    0 K, 1 K, 2 K, 3 K, 4 K, 5 K, 6 K, 7 K, 0 T, 1 T, 2 T, 3 T, 4 T, 5 T, 6 T, 7 T, \
+    0 C, 1 C, 2 C, 3 C, 4 C, 5 C, 6 C, 7 C";
+
 /// The widest bounds.
 const WIDEST: Bounds = Bounds {
     window: 8,
@@ -255,9 +261,6 @@ fn histories_that_are_malformed(rt: HostRuntime) -> Result<(), Fail> {
 #[test]
 fn histories_that_are_undecided(rt: HostRuntime) -> Result<(), Fail> {
     let two_writers = "0 W 0 1, 1 W 0 2, 0 K, 1 K, 0 T, 1 T, 0 C, 1 C";
-    let eight_writers = "0 W 0 1, 1 W 0 2, 2 W 0 3, 3 W 0 4, 4 W 0 5, 5 W 0 6, 6 W 0 7, 7 W 0 8, \
-        0 K, 1 K, 2 K, 3 K, 4 K, 5 K, 6 K, 7 K, 0 T, 1 T, 2 T, 3 T, 4 T, 5 T, 6 T, 7 T, \
-        0 C, 1 C, 2 C, 3 C, 4 C, 5 C, 6 C, 7 C";
     let ninth = "0 R 0, 1 T, 1 C, 1 T, 1 C, 1 T, 1 C, 1 T, 1 C, 1 T, 1 C, 1 T, 1 C, 1 T, 1 C, 1 T";
     for (window, states, events, line, status) in [
         (
@@ -299,14 +302,14 @@ fn histories_that_are_undecided(rt: HostRuntime) -> Result<(), Fail> {
         (
             8,
             8,
-            eight_writers,
+            EIGHT_WRITERS,
             "{\"events\":32,\"verdict\":\"opaque so far\"}\n",
             OPAQUE,
         ),
         (
             8,
             7,
-            eight_writers,
+            EIGHT_WRITERS,
             "{\"at\":32,\"events\":32,\"verdict\":\"undecided\",\"why\":\"states\"}\n",
             UNDECIDED,
         ),

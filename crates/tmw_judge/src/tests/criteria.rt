@@ -150,6 +150,7 @@ fn histories_by_both(rt: HostRuntime) -> Result<(), Fail> {
 fn bounds_of_both(rt: HostRuntime) -> Result<(), Fail> {
     let told = text(rt.alloc(), "opacity-trace 1 2", TOLD_BY_AN_ABORTED_READER)?;
     let dirty = text(rt.alloc(), "opacity-trace 1 1", DIRTY_READ)?;
+    let eight = text(rt.alloc(), "opacity-trace 1 1", EIGHT_WRITERS)?;
     for (window, states, text, lines, status) in [
         (
             8,
@@ -165,6 +166,22 @@ fn bounds_of_both(rt: HostRuntime) -> Result<(), Fail> {
             &told,
             "{\"events\":16,\"verdict\":\"opaque so far\"}\n\
                 {\"criterion\":\"strict\",\"events\":16,\"verdict\":\"strict so far\"}\n",
+            OPAQUE,
+        ),
+        (
+            8,
+            7,
+            &eight,
+            "{\"at\":32,\"events\":32,\"verdict\":\"undecided\",\"why\":\"states\"}\n\
+                {\"at\":32,\"criterion\":\"strict\",\"events\":32,\"verdict\":\"undecided\",\"why\":\"states\"}\n",
+            UNDECIDED,
+        ),
+        (
+            8,
+            8,
+            &eight,
+            "{\"events\":32,\"verdict\":\"opaque so far\"}\n\
+                {\"criterion\":\"strict\",\"events\":32,\"verdict\":\"strict so far\"}\n",
             OPAQUE,
         ),
         // The bound on windows counts every transaction, by either criterion.
