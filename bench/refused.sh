@@ -155,7 +155,7 @@ tests_of() {
 
 # Whether a test has failed because there was no memory for what it begins with, and not by an assertion.
 has_not_begun() {
-    [ "$status" -eq 101 ] && grep -Eqx 'error: (Memory|AllocError)' "$folder/errors"
+    [ "$status" -eq 101 ] && grep -Eqx 'error: (Memory|AllocError|AllocFailed \{ \.\. \})' "$folder/errors"
 }
 
 # A test, by its crate and its name, each growth of which is refused: it `allows` that and passes, or is `strict` and fails.
