@@ -20,6 +20,8 @@ compile=("${CC:-gcc}" -std=gnu11 -O2 -Wall -Wextra -pthread)
 "${compile[@]}" -DWAIT_EVERY=100 -o "$folder/seldom" "$source/little.c"
 "${compile[@]}" -o "$folder/locks" "$source/locks.c"
 "${compile[@]}" -DEARLY_RELEASE=true -o "$folder/early" "$source/locks.c"
+"${compile[@]}" -DPAUSES=true -o "$folder/versions" "$source/versions.c"
+"${compile[@]}" -DPAUSES=true -DONE_LOOK=true -o "$folder/one_look" "$source/versions.c"
 "${compile[@]}" -o "$folder/cost" "$top/bench/recorder_cost.c"
 "${RUSTC:-rustc}" --edition 2021 -O -o "$folder/little_rs" "$source/little.rs"
 "${RUSTC:-rustc}" --edition 2021 -O -o "$folder/cost_rs" "$top/bench/recorder_cost.rs"
@@ -38,6 +40,8 @@ row 'C, no validation at commit' violated violated "$folder/little" commit right
 row 'C, writes in place' violated violated "$folder/little" place right
 row 'C, locks' opaque opaque "$folder/locks"
 row 'C, locks given back early' violated violated "$folder/early"
+row 'C, versions' opaque opaque "$folder/versions"
+row 'C, versions, one look' violated opaque "$folder/one_look"
 row 'Rust, correct' opaque opaque "$folder/little_rs" none
 row 'Rust, no validation of reads' violated opaque "$folder/little_rs" reads
 row 'Rust, no validation at commit' violated violated "$folder/little_rs" commit

@@ -38,12 +38,12 @@ pub fn play_round<R: Threads + Wait, J: Giving + Send>(
     patience: u64,
 ) -> Result<Left, BenchFault>
     requires gives { GivesWithin (gives memory.now) J.gave }
-    requires reader { ReaderOf ring.now pump.reader }
+    requires reader { ReaderOf ring.now pump.forgetting.reader }
     requires of_ring { All (WriterOf ring.now) writers.items }
     requires count { length writers.items ≡ length scripts.now }
     requires scripts { AreTransactions (scripts_of scripts.now) }
-    ensures reader { IfOk result (λ left. ReaderOf ring.now left.pump.reader) }
-    ensures goes_on { IfOk result (λ left. GoesOn pump.front left.pump.front) }
+    ensures reader { IfOk result (λ left. ReaderOf ring.now left.pump.forgetting.reader) }
+    ensures goes_on { IfOk result (λ left. GoesOn pump.forgetting.front left.pump.forgetting.front) }
     ensures back { IfOk result (λ left. HaveComeBack J.gave ring.now (scripts_of scripts.now) writers.items left.writers.items left.stops.items) }
     ensures err { IfErr result IsOfThreads }
 {
@@ -54,12 +54,12 @@ pub fn play_round<R: Threads + Wait, J: Giving + Send>(
         rt,
         move |scope| -> Result<Left, BenchFault>
             requires gives { GivesWithin (gives memory.now) J.gave }
-            requires reader { ReaderOf ring.now pump.reader }
+            requires reader { ReaderOf ring.now pump.forgetting.reader }
             requires of_ring { All (WriterOf ring.now) writers.items }
             requires count { length writers.items ≡ length scripts.now }
             requires scripts { AreTransactions (scripts_of scripts.now) }
-            ensures reader { IfOk result (λ left. ReaderOf ring.entry.now left.pump.reader) }
-            ensures goes_on { IfOk result (λ left. GoesOn pump.front left.pump.front) }
+            ensures reader { IfOk result (λ left. ReaderOf ring.entry.now left.pump.forgetting.reader) }
+            ensures goes_on { IfOk result (λ left. GoesOn pump.forgetting.front left.pump.forgetting.front) }
             ensures back { IfOk result (λ left. HaveComeBack J.gave ring.entry.now (scripts_of scripts.entry.now) writers.items left.writers.items left.stops.items) }
             ensures err { IfErr result IsOfThreads }
         {
@@ -84,12 +84,12 @@ fn play_within<'s, E, R: Threads + Wait, J: Giving + Send + 's>(
     signals: &'s Signals,
 ) -> Result<Left, BenchFault>
     requires gives { GivesWithin (gives memory.now) J.gave }
-    requires reader { ReaderOf ring.now pump.reader }
+    requires reader { ReaderOf ring.now pump.forgetting.reader }
     requires of_ring { All (WriterOf ring.now) writers.items }
     requires count { length writers.items ≡ length scripts.now }
     requires scripts { AreTransactions (scripts_of scripts.now) }
-    ensures reader { IfOk result (λ left. ReaderOf ring.now left.pump.reader) }
-    ensures goes_on { IfOk result (λ left. GoesOn pump.front left.pump.front) }
+    ensures reader { IfOk result (λ left. ReaderOf ring.now left.pump.forgetting.reader) }
+    ensures goes_on { IfOk result (λ left. GoesOn pump.forgetting.front left.pump.forgetting.front) }
     ensures back { IfOk result (λ left. HaveComeBack J.gave ring.now (scripts_of scripts.now) writers.items left.writers.items left.stops.items) }
     ensures err { IfErr result IsOfThreads }
 {

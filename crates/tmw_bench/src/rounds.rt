@@ -36,15 +36,16 @@ pub fn play_rounds<R: Threads + Wait, J: Giving + Send>(
     settings: Settings,
 ) -> Result<(Left, u64), BenchFault>
     requires gives { GivesWithin (gives memory.now) J.gave }
-    requires reader { ReaderOf ring.now pump.reader }
+    requires reader { ReaderOf ring.now pump.forgetting.reader }
     requires writers { AreNewWriters ring.now writers.items }
     requires count { length writers.items ≡ length workload.now.scripts.items }
-    requires judged { pump.front.judged.items ≡ [] }
-    requires fits { Fits (rules_of workload.now.registers zeros settings.bounds) [] pump.front.monitor }
+    requires judged { pump.forgetting.front.judged.items ≡ [] }
+    requires fits { Fits (rules_of workload.now.registers zeros settings.bounds) [] pump.forgetting.front.monitor }
     ensures begun { IfOk result (λ played. HaveBegun (rules_of workload.now.registers zeros settings.bounds) J.gave ring.now
-        (scripts_of workload.now.scripts.items) played.1 played.0.pump.reader played.0.pump.front played.0.writers.items played.0.stops.items) }
+        (scripts_of workload.now.scripts.items) played.1 played.0.pump.forgetting.reader played.0.pump.forgetting.front
+        played.0.writers.items played.0.stops.items) }
     ensures within { IfOk result (λ played. played.1 ≤ settings.rounds) }
-    ensures over { IfOk result (λ played. played.1 < settings.rounds → IsOver played.0.stops.items played.0.pump.front) }
+    ensures over { IfOk result (λ played. played.1 < settings.rounds → IsOver played.0.stops.items played.0.pump.forgetting.front) }
     ensures err { IfErr result IsOfThreads }
 {
     let scripts = workload.scripts.as_slice();
@@ -94,11 +95,12 @@ fn is_opaque_so_far(verdict: Verdict) -> bool
 
 /// Lets all writers meet, and judges all that was recorded up to there.
 fn judge_round<R: Wait>(rt: &R, ring: &Ring, left: &mut Left) -> Result<(), AllocError>
-    requires reader { ReaderOf ring.now left.old.pump.reader }
+    requires reader { ReaderOf ring.now left.old.pump.forgetting.reader }
     requires of_ring { All (WriterOf ring.now) left.old.writers.items }
     requires some { 0 < length left.old.writers.items }
-    ensures reader { OnOk result (ReaderOf ring.now left.new.pump.reader) }
-    ensures met { OnOk result (HaveMetAll left.old.pump.front left.old.writers.items left.new.pump.front left.new.writers.items) }
+    ensures reader { OnOk result (ReaderOf ring.now left.new.pump.forgetting.reader) }
+    ensures met { OnOk result (HaveMetAll left.old.pump.forgetting.front left.old.writers.items
+        left.new.pump.forgetting.front left.new.writers.items) }
     ensures stops { OnOk result (left.new.stops ≡ left.old.stops) }
 {
     let tail = meet_all(ring, &mut left.writers);

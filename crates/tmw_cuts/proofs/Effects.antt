@@ -1,6 +1,7 @@
 -- An effect with an answer or a write more, and the registers one at a time.
 use Rattle.std.proofs.Common.{◌≡◌, ◌==◌, ◌&&◌, ◌||◌, ◌+◌, ◌%◌, ◌^◌, ◌++◌, ◌<◌, ℕ, zero, suc, Bool, true, false, not, List, [], ◌∷◌, length, get_or, set, take, drop, refl, sym, ap, ◌∙◌, inl, inr, ◌⊎◌, add-one, arith}
 use Rattle.std.specs.Prelude.{slice_index, slice_set, if◌then◌else◌}
+use Rattle.std.specs.Int.{bit_at}
 use Rattle.std.proofs.lemmas.Bool.{cases_Bool, eqb-true, eq-eqb}
 use Rattle.std.proofs.Math.Bool.{and-true, or-true}
 use Rattle.tmw_events.specs.declared.ix.Ix.{Ix}
@@ -8,8 +9,10 @@ use Rattle.tmw_defs.specs.declared.op.Op.{Op}
 use Rattle.tmw_defs.specs.declared.op.Op.TheVariants.{Read, Write, Add}
 use Rattle.tmw_defs.specs.Opaque.{State, reads_hold, after_writes}
 use Rattle.tmw_cuts.specs.declared.effect.Effect.{Effect}
-use Rattle.tmw_cuts.specs.Effects.{IsEffectOf}
-use Rattle.tmw_cuts.specs.Registers.{have, put}
+use Rattle.tmw_cuts.specs.Effects.{SumsUp}
+use Rattle.tmw_cuts.specs.Registers.{chosen, have, put}
+use Rattle.tmw_cuts.specs.Written.{with_bit}
+use Rattle.tmw_cuts.proofs.Chosen.{length-chosen, get_or-chosen, chosen-with_bit}
 
 with_first : (a b c d : Bool) → b ≡ (c && d) → (a && b) ≡ ((a && c) && d)
 with_first true b c d same = same
@@ -73,7 +76,7 @@ put-more (d ∷ ds) (y ∷ vs) (x ∷ s) (suc i) a b c =
     through false = refl
 
 -- the registers from a place on: the one at it, and those ahead
-have-drop : (ds : List Bool) (vs : List ℕ) (s : State) (i : ℕ) → i < length ds → i < length vs → i < length s
+pub have-drop : (ds : List Bool) (vs : List ℕ) (s : State) (i : ℕ) → i < length ds → i < length vs → i < length s
     → have (drop i ds) (drop i vs) (drop i s)
     ≡ ((not (get_or ds i false) || (slice_index s i == slice_index vs i)) && have (drop (suc i) ds) (drop (suc i) vs) (drop (suc i) s))
 have-drop [] vs s i a b c = absurd (omega (arith, a))
@@ -134,54 +137,63 @@ grouped : (a h q : Bool) → ((a && h) && q) ≡ (a && (h && q))
 grouped true h q = refl
 grouped false h q = refl
 
-module _ (e : Effect) (ops : List Op) (r : Ix) (v : ℕ) (sums : IsEffectOf e ops) (s : State) (long : length s ≡ 8)
-    (left : length e.left ≡ 8) (leaves : length e.leaves ≡ 8) where
+module _ (e : Effect) (ops : List Op) (r : Ix) (v : ℕ) (sums : SumsUp e ops) (s : State) (long : length s ≡ 8)
+    (leaves : length e.leaves ≡ 8) where
   abbrev then_holds : Bool → Type 0
-  then_holds b = (reads_hold s (ops ++ Read r v ∷ []) ≡ b) × (after_writes s (ops ++ Read r v ∷ []) ≡ put e.left e.leaves s)
+  then_holds b = (reads_hold s (ops ++ Read r v ∷ []) ≡ b) × (after_writes s (ops ++ Read r v ∷ []) ≡ put (chosen e.left) e.leaves s)
 
-  held : slice_index (put e.left e.leaves s) r.number
-      ≡ (if get_or e.left r.number false then slice_index e.leaves r.number else slice_index s r.number)
-  held = index-put e.left e.leaves s r.number (rw left r.below) (rw leaves r.below) (rw long r.below)
+  held : slice_index (put (chosen e.left) e.leaves s) r.number
+      ≡ (if bit_at e.left r.number == 1 then slice_index e.leaves r.number else slice_index s r.number)
+  held =
+      index-put (chosen e.left) e.leaves s r.number (rw (length-chosen e.left) r.below) (rw leaves r.below) (rw long r.below)
+      ∙ ap (λ (b : Bool). if b then slice_index e.leaves r.number else slice_index s r.number) (get_or-chosen e.left r.number false r.below)
+
+  -- what the register holds
+  pub value-after : slice_index (after_writes s ops) r.number
+      ≡ (if bit_at e.left r.number == 1 then slice_index e.leaves r.number else slice_index s r.number)
+  value-after = rw (sums s long).1 held
 
   -- an answer after an own write
-  pub read-left : get_or e.left r.number false ≡ true
-      → then_holds ((e.agrees && (slice_index e.leaves r.number == v)) && have e.needed e.needs s)
+  pub read-left : (bit_at e.left r.number == 1) ≡ true
+      → then_holds ((e.agrees && (slice_index e.leaves r.number == v)) && have (chosen e.needed) e.needs s)
   read-left is =
       answered ops r v s _ _ _ (sums s long).0 (sums s long).1 (rw (held, is)
-      (swapped e.agrees (have e.needed e.needs s) (slice_index e.leaves r.number == v)))
+      (swapped e.agrees (have (chosen e.needed) e.needs s) (slice_index e.leaves r.number == v)))
 
   -- an answer after another
-  pub read-needed : length e.needed ≡ 8 → length e.needs ≡ 8 → get_or e.left r.number false ≡ false
-      → get_or e.needed r.number false ≡ true
-      → then_holds ((e.agrees && (slice_index e.needs r.number == v)) && have e.needed e.needs s)
-  read-needed needed needs unwritten is =
+  pub read-needed : length e.needs ≡ 8 → (bit_at e.left r.number == 1) ≡ false → (bit_at e.needed r.number == 1) ≡ true
+      → then_holds ((e.agrees && (slice_index e.needs r.number == v)) && have (chosen e.needed) e.needs s)
+  read-needed needs unwritten is =
+      let needed : r.number < length (chosen e.needed) = rw (length-chosen e.needed) r.below in
       answered ops r v s _ _ _ (sums s long).0 (sums s long).1 (rw (held, unwritten)
-      (grouped e.agrees (have e.needed e.needs s) (slice_index s r.number == v)
-      ∙ ap (λ b. e.agrees && b) (have-get e.needed e.needs s r.number v (rw needed r.below) (rw needs r.below) (rw long r.below) is)
-      ∙ sym (grouped e.agrees (have e.needed e.needs s) (slice_index e.needs r.number == v))
-      ∙ swapped e.agrees (have e.needed e.needs s) (slice_index e.needs r.number == v)))
+      (grouped e.agrees (have (chosen e.needed) e.needs s) (slice_index s r.number == v)
+      ∙ ap (λ b. e.agrees && b) (have-get (chosen e.needed) e.needs s r.number v needed (rw needs r.below) (rw long r.below)
+      (get_or-chosen e.needed r.number false r.below ∙ is))
+      ∙ sym (grouped e.agrees (have (chosen e.needed) e.needs s) (slice_index e.needs r.number == v))
+      ∙ swapped e.agrees (have (chosen e.needed) e.needs s) (slice_index e.needs r.number == v)))
 
   -- the first answer
-  pub read-first : length e.needed ≡ 8 → length e.needs ≡ 8 → get_or e.left r.number false ≡ false
-      → get_or e.needed r.number false ≡ false
-      → then_holds (e.agrees && have (slice_set e.needed r.number true) (slice_set e.needs r.number v) s)
-  read-first needed needs unwritten new =
-      answered ops r v s _ _ _ (sums s long).0 (sums s long).1 (rw (held, unwritten)
-      (grouped e.agrees (have e.needed e.needs s) (slice_index s r.number == v)
-      ∙ ap (λ b. e.agrees && b) (sym (have-set e.needed e.needs s r.number v (rw needed r.below) (rw needs r.below) (rw long r.below) new))))
+  pub read-first : length e.needs ≡ 8 → (bit_at e.left r.number == 1) ≡ false → (bit_at e.needed r.number == 1) ≡ false
+      → then_holds (e.agrees && have (chosen (with_bit e.needed r.number)) (slice_set e.needs r.number v) s)
+  read-first needs unwritten new =
+      let needed : r.number < length (chosen e.needed) = rw (length-chosen e.needed) r.below in
+      answered ops r v s _ _ _ (sums s long).0 (sums s long).1 (rw (held, unwritten, chosen-with_bit e.needed r.number r.below)
+      (grouped e.agrees (have (chosen e.needed) e.needs s) (slice_index s r.number == v)
+      ∙ ap (λ b. e.agrees && b) (sym (have-set (chosen e.needed) e.needs s r.number v needed (rw needs r.below) (rw long r.below)
+      (get_or-chosen e.needed r.number false r.below ∙ new)))))
 
   -- a write
-  pub write-more : (reads_hold s (ops ++ Write r v ∷ []) ≡ (e.agrees && have e.needed e.needs s))
-      × (after_writes s (ops ++ Write r v ∷ []) ≡ put (slice_set e.left r.number true) (slice_set e.leaves r.number v) s)
+  pub write-more : (reads_hold s (ops ++ Write r v ∷ []) ≡ (e.agrees && have (chosen e.needed) e.needs s))
+      × (after_writes s (ops ++ Write r v ∷ []) ≡ put (chosen (with_bit e.left r.number)) (slice_set e.leaves r.number v) s)
   write-more = (
     rw (reads_hold-append s ops (Write r v ∷ []), and-true (reads_hold s ops)) (sums s long).0,
-    rw (after_writes-append s ops (Write r v ∷ []), (sums s long).1)
-        (sym (put-set e.left e.leaves s r.number v (rw left r.below) (rw leaves r.below) (rw long r.below))),
+    rw (after_writes-append s ops (Write r v ∷ []), (sums s long).1, chosen-with_bit e.left r.number r.below)
+        (sym (put-set (chosen e.left) e.leaves s r.number v (rw (length-chosen e.left) r.below) (rw leaves r.below) (rw long r.below))),
   )
 
 -- an add is an answer and then a write
 pub add-split : (e : Effect) (ops : List Op) (r : Ix) (d v : ℕ)
-    → IsEffectOf e ((ops ++ Read r v ∷ []) ++ Write r ((v + d) % 2 ^ 64) ∷ []) → IsEffectOf e (ops ++ Add r d v ∷ [])
+    → SumsUp e ((ops ++ Read r v ∷ []) ++ Write r ((v + d) % 2 ^ 64) ∷ []) → SumsUp e (ops ++ Add r d v ∷ [])
 add-split e ops r d v sums s long =
     let w : Op = Write r ((v + d) % 2 ^ 64) in
     let reads : reads_hold s ((ops ++ Read r v ∷ []) ++ w ∷ []) ≡ reads_hold s (ops ++ Add r d v ∷ []) =
@@ -216,3 +228,12 @@ pub put-past : (ds : List Bool) (vs : List ℕ) (s : State) (i : ℕ) → length
     → put (take (i + 1) ds) vs s
     ≡ (if get_or ds i false then slice_set (put (take i ds) vs s) i (slice_index vs i) else put (take i ds) vs s)
 put-past ds vs s i d v l within = rw add-one (put-more ds vs s i (rw d within) (rw v within) (rw l within))
+
+-- an answer holds where the register has the value
+pub answer-read : (s : State) (ops : List Op) (r : Ix) (v : ℕ) → reads_hold s ops ≡ true
+    → (slice_index (after_writes s ops) r.number == v) ≡ reads_hold s (ops ++ Read r v ∷ [])
+answer-read s ops r v reads = rw (reads_hold-append s ops (Read r v ∷ []), reads) (sym (and-true _))
+
+pub answer-add : (s : State) (ops : List Op) (r : Ix) (d v : ℕ) → reads_hold s ops ≡ true
+    → (slice_index (after_writes s ops) r.number == v) ≡ reads_hold s (ops ++ Add r d v ∷ [])
+answer-add s ops r d v reads = rw (reads_hold-append s ops (Add r d v ∷ []), reads) (sym (and-true _))

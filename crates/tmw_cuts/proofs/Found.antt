@@ -1,7 +1,8 @@
 -- How the code finds the transaction of an event, against what is to be shown.
-use Rattle.std.proofs.Common.{◌≡◌, ◌<◌, ℕ, zero, suc, Bool, true, false, List, [], ◌∷◌, ◌++◌, length, map, Some, None, get_or, IsTrue, IsFalse, refl, sym, ap, ◌∙◌, inl, inr, arith}
+use Rattle.std.proofs.Common.{◌≡◌, ◌<◌, ℕ, zero, suc, Bool, true, false, List, [], ◌∷◌, ◌++◌, length, map, drop, Some, None, get_or, IsTrue, IsFalse, refl, sym, ap, ◌∙◌, inl, inr, arith}
 use Rattle.std.specs.Prelude.{slice_set, position}
-use Rattle.std.specs.List.{list_any, position_or_len}
+use Rattle.std.specs.List.{list_any, position_or_len, refill}
+use Rattle.std.proofs.Math.Seq.{take-append_seam}
 use Rattle.std.proofs.lemmas.Bool.{cases_Bool, or_parts, lt-ltb}
 use Rattle.std.proofs.lemmas.List.Quantifiers.{position-Some}
 use Rattle.tmw_events.specs.declared.event.Event.{Event}
@@ -81,3 +82,7 @@ pub position_some : (p : View → Bool) (vs : List View) → IsTrue (list_any p 
 position_some p vs some nowhere =
     let found : None ≡ Some (position_or_len p vs) = nowhere ∙ rw (lt-ltb _ _ (within_some_view p vs some)) refl in
     absurd (cc)
+
+-- a list of the same length is written over the whole of another
+pub refill-whole : {X : Type 0} (xs ws : List X) → length ws ≡ length xs → refill (length xs) xs ws ≡ ws
+refill-whole xs ws same = rw (← same) (take-append_seam ws (drop (length ws) xs))

@@ -1,11 +1,13 @@
 pub mod AcrossCuts
 pub mod Bits
+mod Chosen
 mod Effects
+mod EffectSteps
 pub mod FirstMembers
 pub mod Found
-pub mod Held
 mod Marked
 pub mod Masks
 mod TakenBack
 pub mod Pushes
 pub mod Rising
+mod WrittenMore

@@ -5,3 +5,4 @@ pub mod Registers
 pub mod Replaying
 pub mod Standing
 pub mod Views
+pub mod Written

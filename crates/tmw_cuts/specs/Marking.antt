@@ -1,10 +1,15 @@
 -- What is noted of a window before an event, so that the event can be taken back.
-use Rattle.std.specs.Prelude.{◌≡◌, ℕ, List, length, position, slice_get, Some}
+use Rattle.std.specs.Prelude.{◌≡◌, ℕ, List, position, slice_get, Option, Some, None}
+use Rattle.tmw_events.specs.declared.ix.Ix.{Ix}
 use Rattle.tmw_cuts.specs.declared.mark.Mark.{Mark}
-use Rattle.tmw_cuts.specs.Views.{View, is_open_for}
+use Rattle.tmw_cuts.specs.declared.txn.Txn.{Txn}
+use Rattle.tmw_cuts.specs.Views.{View, view, is_open_for}
 
--- The mark tells which transaction is open for its thread, and that one's pending call, status and number of operations.
-pub record Marks (mark : Mark) (vs : List View) : Type 0 where
-  pub place : mark.place ≡ position (is_open_for mark.thread.number) vs
-  pub shown : (i : ℕ) (v : View) → mark.place ≡ Some i → slice_get vs i ≡ Some v
-      → (v.call ≡ mark.call) × (v.status ≡ mark.status) × (length v.ops ≡ mark.ops)
+-- This is the place of the transaction that is open for the thread, and what that one shows; or none is open.
+abbrev pub IsOpen : Ix → List View → Option (ℕ × Txn) → Type 0
+IsOpen thread vs None = position (is_open_for thread.number) vs ≡ None
+IsOpen thread vs (Some held) = (position (is_open_for thread.number) vs ≡ Some held.0) × (slice_get vs held.0 ≡ Some (view held.1))
+
+-- The mark tells which transaction is open for its thread, as it is.
+abbrev pub Marks : Mark → List View → Type 0
+Marks mark vs = IsOpen mark.thread vs mark.held

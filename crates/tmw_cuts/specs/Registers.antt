@@ -1,6 +1,12 @@
 -- Some of the registers, each with a value: the first list says which they are, and the second has the values.
-use Rattle.std.specs.Prelude.{◌==◌, ◌&&◌, ◌||◌, ℕ, Bool, true, not, List, [], ◌∷◌, if◌then◌else◌}
+use Rattle.std.specs.Prelude.{◌==◌, ◌&&◌, ◌||◌, ℕ, Bool, true, not, List, [], ◌∷◌, map, if◌then◌else◌}
+use Rattle.std.specs.Int.{bit_at}
+use Rattle.std.specs.List.{range_with_len}
 use Rattle.tmw_defs.specs.Opaque.{State}
+
+-- of each register, whether the mask has it
+unfoldable pub chosen : ℕ → List Bool
+chosen mask = map (λ r. bit_at mask r == 1) (range_with_len 0 8)
 
 -- each of them has its value in the state
 abbrev pub have : List Bool → List ℕ → State → Bool

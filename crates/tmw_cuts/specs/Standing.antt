@@ -1,8 +1,6 @@
 -- Which events a window stands for: it shows their transactions, in the order of their first events.
-use Rattle.std.specs.Prelude.{◌≡◌, ◌+◌, ◌*◌, ◌≤◌, ℕ, List, [], ◌∷◌, ◌++◌, length, map, vec_capacity, All}
-use Rattle.std.specs.List.{flat_map}
+use Rattle.std.specs.Prelude.{◌≡◌, ◌+◌, ◌*◌, ℕ, List, [], ◌∷◌, length, map}
 use Rattle.tmw_events.specs.declared.event.Event.{Event}
-use Rattle.tmw_defs.specs.declared.op.Op.{Op}
 use Rattle.tmw_defs.specs.History.{Txn, operations, status_of, transactions}
 use Rattle.tmw_defs.specs.Opaque.{precedes}
 use Rattle.tmw_wellformed.specs.Pending.{call_of}
@@ -34,15 +32,6 @@ views window = map view window.txns.items
 -- How many transactions it shows.
 abbrev pub count_of : Window → ℕ
 count_of window = length (views window)
-
--- The operations that the window holds: those of its transactions, and what is left in the lists of transactions that are gone.
-abbrev pub operations_in : Window → List Op
-operations_in window = flat_map (λ v. v.ops) (views window) ++ flat_map (λ room. room.list.items) window.spare.rooms.items
-
--- The lists of transactions that are gone are at most eight, each empty and with room for at most 1,024 operations.
-pub record HasFewRooms (window : Window) : Type 0 where
-  pub few : length window.spare.rooms.items ≤ 8
-  pub small : All (λ room. (room.list.items ≡ []) × (vec_capacity room.list ≤ 1024)) window.spare.rooms.items
 
 pub record StandsFor (window : Window) (events : List Event) : Type 0 where
   pub shows : views window ≡ views_of events

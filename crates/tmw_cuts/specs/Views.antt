@@ -1,5 +1,5 @@
 -- What a window shows of a transaction.
-use Rattle.std.specs.Prelude.{◌≡◌, ◌==◌, ◌&&◌, ◌+◌, ◌*◌, ℕ, Bool, true, false, not, List, [], ◌∷◌, ◌++◌, take, Option, Some, None, if◌then◌else◌}
+use Rattle.std.specs.Prelude.{◌≡◌, ◌==◌, ◌&&◌, ◌+◌, ◌*◌, ℕ, Bool, true, false, not, List, [], ◌∷◌, ◌++◌, Option, Some, None, if◌then◌else◌}
 use Rattle.tmw_events.specs.declared.event.Event.{Event}
 use Rattle.tmw_events.specs.declared.event.Kind.{Kind}
 use Rattle.tmw_defs.specs.declared.op.Op.{Op}
@@ -58,10 +58,6 @@ abbrev pub push_views : Event → ℕ → List View → List View
 push_views e before [] = new_view e.thread.number e.kind before ∷ []
 push_views e before (v ∷ vs) =
     if is_open_for e.thread.number v then next_view e.kind v ∷ vs else v ∷ push_views e before vs
-
--- A transaction as it was with this call and status, and so many operations.
-abbrev pub earlier_view : Option Kind → Status → ℕ → View → View
-earlier_view call status ops v = record v { call = call; ops = take ops v.ops; status = status }
 
 -- It is the thread's and commit-pending.
 abbrev pub awaits_commit_of : ℕ → View → Bool

@@ -1,9 +1,12 @@
-ghost use Rattle.std.specs.Prelude.{◌≡◌, ◌++◌, [], ◌∷◌, List};
+ghost use Rattle.std.specs.Prelude.{◌≡◌, ◌==◌, ◌<◌, ◌++◌, [], ◌∷◌, List, None, slice_index};
+ghost use Rattle.std.specs.Int.{bit_at};
+ghost use Rattle.std.specs.List.{list_all};
 ghost use Rattle.tmw_defs.specs.declared.op.Op.{Op};
 ghost use Rattle.tmw_defs.specs.declared.op.Op.TheVariants.{Read, Write};
-ghost use Rattle.tmw_defs.specs.Opaque.{reads_hold};
-ghost use Rattle.tmw_cuts.specs.Registers.{have, put};
+ghost use Rattle.tmw_defs.specs.Opaque.{reads_hold, after_writes};
+ghost use Rattle.tmw_cuts.specs.Registers.{chosen, have, put};
 ghost use Rattle.tmw_cuts.specs.Replaying.{Replays};
+ghost use Rattle.tmw_cuts.specs.Written.{is_write, written_by, blind_by, left_by};
 
 use crate::states::State;
 use tmw_defs::Op;
@@ -12,16 +15,27 @@ use tmw_events::Ix;
 /// What operations that follow one another need of the registers and what they leave there, however many they are.
 #[derive(Clone, Copy, Debug)]
 pub struct Effect {
-    /// Which registers they read or add to before they write or add to them.
-    needed: [bool; 8],
-    /// What each of these was answered first.
+    /// What each register that they need was answered first.
     needs: [u64; 8],
-    /// Which registers they write or add to.
-    left: [bool; 8],
-    /// What each of these holds after them.
+    /// What each register that they write or add to holds after them.
     leaves: [u64; 8],
+    /// Which registers they read or add to before they write or add to them, as a mask.
+    needed: u8,
+    /// Which registers they write or add to, as a mask.
+    left: u8,
     /// Whether each later answer is what the earlier operations tell of the register.
     agrees: bool,
+    /// Whether none of them reads or adds.
+    only_writes: bool,
+}
+
+/// Whether the mask has the register.
+#[inline(always)]
+fn has_register(mask: u8, register: usize) -> bool
+    requires { register < 8 }
+    ensures { result ≡ (bit_at mask register == 1) }
+{
+    mask >> register & 1 == 1
 }
 
 impl Effect {
@@ -32,46 +46,39 @@ impl Effect {
         ensures { IsEffectOf result [] }
     {
         Effect {
-            needed: [false; 8],
             needs: [0; 8],
-            left: [false; 8],
             leaves: [0; 8],
+            needed: 0,
+            left: 0,
             agrees: true,
+            only_writes: true,
         }
-    }
-
-    /// The effect of these operations.
-    pub fn of(ops: &[Op]) -> Effect
-        ensures { IsEffectOf result ops.now }
-    {
-        let mut effect = Effect::new();
-        for op in ops {
-            effect.add(*op);
-        }
-        effect
     }
 
     /// Takes an answer of the register in: the operations before, or else the state, have to give that value.
+    #[inline(always)]
     fn read(&mut self, register: Ix, value: u64)
         ensures { (ops : List Op) → IsEffectOf self.old ops → IsEffectOf self.new (ops ++ Read register value ∷ []) }
     {
         let place = register.get() as usize;
-        if self.left[place] {
+        self.only_writes = false;
+        if has_register(self.left, place) {
             self.agrees &= self.leaves[place] == value;
-        } else if self.needed[place] {
+        } else if has_register(self.needed, place) {
             self.agrees &= self.needs[place] == value;
         } else {
-            self.needed[place] = true;
+            self.needed |= 1 << place;
             self.needs[place] = value;
         }
     }
 
     /// Takes in that the register holds the value from here on.
+    #[inline(always)]
     fn write(&mut self, register: Ix, value: u64)
         ensures { (ops : List Op) → IsEffectOf self.old ops → IsEffectOf self.new (ops ++ Write register value ∷ []) }
     {
         let place = register.get() as usize;
-        self.left[place] = true;
+        self.left |= 1 << place;
         self.leaves[place] = value;
     }
 
@@ -92,10 +99,10 @@ impl Effect {
 
     /// Whether each register that is needed has the needed value in the state.
     fn is_met(&self, state: &State) -> bool
-        ensures { result ≡ have self.now.needed self.now.needs state.now }
+        ensures { result ≡ have (chosen self.now.needed) self.now.needs state.now }
     {
         for register in 0..8 {
-            if self.needed[register] && state[register] != self.needs[register] {
+            if has_register(self.needed, register) && state[register] != self.needs[register] {
                 return false;
             }
         }
@@ -104,11 +111,11 @@ impl Effect {
 
     /// The state with what is left in the registers.
     fn put(&self, state: &State) -> State
-        ensures { result ≡ put self.now.left self.now.leaves state.now }
+        ensures { result ≡ put (chosen self.now.left) self.now.leaves state.now }
     {
         let mut end = *state;
         for register in 0..8 {
-            if self.left[register] {
+            if has_register(self.left, register) {
                 end[register] = self.leaves[register];
             }
         }
@@ -133,12 +140,25 @@ impl Effect {
         }
     }
 
+    /// What the register holds after the operations.
+    #[inline(always)]
+    pub fn value_after(&self, state: &State, register: Ix) -> u64
+        ensures { (ops : List Op) → IsEffectOf self.now ops → result ≡ slice_index (after_writes state.now ops) register.number }
+    {
+        let place = register.get() as usize;
+        if has_register(self.left, place) {
+            self.leaves[place]
+        } else {
+            state[place]
+        }
+    }
+
     /// Whether a register that is needed has the needed value in the one state and not in the other.
     pub fn reads_one(&self, has: &State, has_not: &State) -> bool
         ensures { result ≡ tells self.now has.now has_not.now }
     {
         (0..8).any(|register: usize| {
-            self.needed[register]
+            has_register(self.needed, register)
                 && has[register] == self.needs[register]
                 && has_not[register] != self.needs[register]
         })
@@ -148,7 +168,40 @@ impl Effect {
     pub fn only_reads(&self) -> bool
         ensures { result ≡ leaves_none self.now }
     {
-        self.left.iter().all(|left| !*left)
+        self.left == 0
+    }
+
+    /// Whether each of the operations is a write.
+    pub fn only_writes(&self) -> bool
+        ensures { (ops : List Op) → IsEffectOf self.now ops → result ≡ list_all is_write ops }
+    {
+        self.only_writes
+    }
+
+    /// The registers that the operations write or add to, as a mask.
+    pub fn written(&self) -> u8
+        ensures { (ops : List Op) → IsEffectOf self.now ops → result ≡ written_by 0 ops }
+    {
+        self.left
+    }
+
+    /// The registers that the operations write before they read or add to them, as a mask.
+    pub fn blind(&self) -> u8
+        ensures { (ops : List Op) → IsEffectOf self.now ops → result ≡ blind_by ops }
+    {
+        self.left & !self.needed
+    }
+
+    /// What the operations leave in the register, where they write or add to it.
+    pub fn left_in(&self, register: usize) -> Option<u64>
+        requires { register < 8 }
+        ensures { (ops : List Op) → IsEffectOf self.now ops → result ≡ left_by register None ops }
+    {
+        if has_register(self.left, register) {
+            Some(self.leaves[register])
+        } else {
+            None
+        }
     }
 }
 

@@ -5,13 +5,14 @@ mod effect;
 mod kinds;
 mod mark;
 mod mask;
-mod spare;
+mod operations;
 mod states;
 mod txn;
 mod window;
 
 pub use kinds::{operation, status_after};
 pub use mark::Mark;
+pub use operations::Operations;
 pub use states::{State, States};
 pub use txn::Txn;
 pub use window::Window;

@@ -1,16 +1,11 @@
-use tmw_defs::Status;
-use tmw_events::{Ix, Kind};
+use crate::txn::Txn;
+use tmw_events::Ix;
 
 /// What the next event of a thread will change in a window, as it is before.
-#[derive(Clone, Copy, PartialEq, Eq, Debug)]
+#[derive(Debug, Drop)]
 pub struct Mark {
     pub(crate) thread: Ix,
 
-    /// The place of the thread's open transaction; without one the event begins one.
-    pub(crate) place: Option<usize>,
-    pub(crate) call: Option<Kind>,
-    pub(crate) status: Status,
-
-    /// How many operations it has.
-    pub(crate) ops: usize,
+    /// The thread's open transaction and its place; without one the event begins one.
+    pub(crate) held: Option<(usize, Txn)>,
 }

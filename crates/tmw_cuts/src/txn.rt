@@ -1,22 +1,24 @@
-ghost use Rattle.std.specs.Prelude.{◌≡◌, IfOk, OnOk, OnErr};
+ghost use Rattle.std.specs.Prelude.{◌≡◌, ◌<◌, ◌++◌, None, IsTrue, length};
+ghost use Rattle.std.specs.List.{list_all};
+ghost use Rattle.tmw_events.specs.declared.event.Kind.TheVariants.{V};
 ghost use Rattle.tmw_defs.specs.History.{is_over};
-ghost use Rattle.tmw_defs.specs.Opaque.{reads_hold};
+ghost use Rattle.tmw_defs.specs.Opaque.{State, reads_hold, after_writes};
 ghost use Rattle.tmw_cuts.specs.Effects.{IsEffectOf, IsEffectOf-prop, tells, leaves_none};
 ghost use Rattle.tmw_cuts.specs.Replaying.{Replays};
+ghost use Rattle.tmw_cuts.specs.Written.{is_write, written_by, blind_by, left_by};
 
 use crate::effect::Effect;
 use crate::kinds::{operation, status_after};
-use crate::spare::Room;
+use crate::operations::Operations;
 use crate::states::State;
-use std::alloc::AllocError;
-use tmw_defs::{Op, Status};
+use tmw_defs::Status;
 use tmw_events::{Event, Ix, Kind};
 
 /// A transaction of a window.
 #[derive(Debug, Drop)]
 pub struct Txn {
-    /// Its answered operations, in order.
-    pub ops: Vec<Op>,
+    /// Its answered operations, in order, for clauses alone.
+    pub ops: Operations,
     pub status: Status,
     /// Bit j says that transaction j of the window had completed before this one's first event.
     pub before: u8,
@@ -28,14 +30,15 @@ pub struct Txn {
 }
 
 impl Txn {
-    ghost use Rattle.tmw_cuts.specs.Views.{view, effect_of, new_view, next_view, earlier_view, is_open_for, awaits_commit_of};
+    ghost use Rattle.tmw_cuts.specs.Views.{view, effect_of, new_view, next_view, is_open_for, awaits_commit_of, answered_ops};
 
-    /// A transaction that begins with this event, where those in the mask have completed. Its operations come to lie in `room`.
-    pub(crate) fn new(event: Event, before: u8, room: Room) -> Txn
+    /// A transaction that begins with this event, where those in the mask have completed.
+    #[inline(always)]
+    pub(crate) fn new(event: Event, before: u8) -> Txn
         ensures { view result ≡ new_view event.thread.number event.kind before }
     {
         Txn {
-            ops: room.into_list(),
+            ops: Operations::new(),
             status: status_after(event.kind),
             before,
             thread: event.thread,
@@ -59,13 +62,13 @@ impl Txn {
     }
 
     /// Takes its next event.
-    pub(crate) fn add(&mut self, kind: Kind) -> Result<(), AllocError>
-        ensures ok { OnOk result (view self.new ≡ next_view kind (view self.old)) }
-        ensures err { OnErr result (view self.new ≡ view self.old) }
+    #[inline(always)]
+    pub(crate) fn add(&mut self, kind: Kind)
+        ensures { view self.new ≡ next_view kind (view self.old) }
     {
         if let Some(call) = self.call {
             if let Some(op) = operation(call, kind) {
-                self.ops.push(op)?;
+                self.ops = self.ops.then(&Some(op));
                 self.effect.add(op);
             }
             self.call = None;
@@ -73,24 +76,6 @@ impl Txn {
             self.call = Some(kind);
         }
         self.status = status_after(kind);
-        Ok(())
-    }
-
-    /// Takes its last event back: what it showed before is told here.
-    pub(crate) fn take_back(&mut self, call: Option<Kind>, status: Status, ops: usize)
-        ensures { view self.new ≡ earlier_view call status ops (view self.old) }
-    {
-        self.ops.truncate(ops);
-        self.effect = Effect::of(&self.ops);
-        self.call = call;
-        self.status = status;
-    }
-
-    /// The call that has no answer.
-    pub(crate) fn pending_call(&self) -> Option<Kind>
-        ensures { result ≡ self.now.call }
-    {
-        self.call
     }
 
     /// Whether it is the thread's, and commit-pending.
@@ -114,6 +99,20 @@ impl Txn {
         self.effect.after(state)
     }
 
+    /// Whether each of its operations was answered what the registers held then, its pending call too, where that is answered this
+    /// value. Said where each of them was so far.
+    #[inline(always)]
+    pub fn fits_answer(&self, state: &State, value: u64) -> bool
+        ensures { IsTrue (reads_hold state.now self.now.ops.items)
+            → result ≡ reads_hold state.now (self.now.ops.items ++ answered_ops self.now.call (V value)) }
+    {
+        match self.call {
+            Some(Kind::R(register)) => self.effect.value_after(state, register) == value,
+            Some(Kind::N(register, _)) => self.effect.value_after(state, register) == value,
+            _ => true,
+        }
+    }
+
     /// Whether its operations need a value of a register that the register has in the one state and not in the other. Said of
     /// operations that some state answers as they were answered; of others the answer is left open.
     pub fn reads_one(&self, has: &State, has_not: &State) -> bool
@@ -124,22 +123,63 @@ impl Txn {
 
     /// Whether its operations write nothing.
     pub fn only_reads(&self) -> bool
-        ensures { result ≡ leaves_none (effect_of self.now) }
+        ensures shown { result ≡ leaves_none (effect_of self.now) }
+        ensures leaves { IsTrue result → (s : State) → length s ≡ 8 → after_writes s self.now.ops.items ≡ s }
     {
         self.effect.only_reads()
     }
 
-    /// One that shows the same.
-    pub(crate) fn copy(&self) -> Result<Txn, AllocError>
-        ensures { IfOk result (λ txn. view txn ≡ view self.now) }
+    /// Whether each of its operations is a write.
+    pub fn only_writes(&self) -> bool
+        ensures { result ≡ list_all is_write self.now.ops.items }
     {
-        Ok(Txn {
-            ops: self.ops.clone()?,
+        self.effect.only_writes()
+    }
+
+    /// The registers that its operations write or add to, as a mask.
+    pub fn written(&self) -> u8
+        ensures { result ≡ written_by 0 self.now.ops.items }
+    {
+        self.effect.written()
+    }
+
+    /// The registers that its operations write before they read or add to them, as a mask.
+    pub fn blind(&self) -> u8
+        ensures { result ≡ blind_by self.now.ops.items }
+    {
+        self.effect.blind()
+    }
+
+    /// What its operations leave in the register, where they write or add to it.
+    pub fn left_in(&self, register: usize) -> Option<u64>
+        requires { register < 8 }
+        ensures { result ≡ left_by register None self.now.ops.items }
+    {
+        self.effect.left_in(register)
+    }
+
+    /// One that shows the same.
+    pub(crate) fn copy(&self) -> Txn
+        ensures { view result ≡ view self.now }
+    {
+        Txn {
+            ops: self.ops.then(&None),
             status: self.status,
             before: self.before,
             thread: self.thread,
             call: self.call,
             effect: self.effect,
-        })
+        }
+    }
+}
+
+impl Default for Txn {
+    /// One that fills a place where no transaction is.
+    fn default() -> Txn {
+        let event = Event {
+            thread: Ix { number: 0 },
+            kind: Kind::X,
+        };
+        Txn::new(event, 0)
     }
 }

@@ -1,28 +1,26 @@
-ghost use Rattle.std.specs.Prelude.{◌≡◌, ◌<◌, ◌≤◌, ◌+◌, [], ◌∷◌, ◌++◌, List, IfOk, OnOk, OnErr, IsTrue, IsFalse, length, map, position};
+ghost use Rattle.std.specs.Prelude.{◌≡◌, ◌<◌, ◌≤◌, [], ◌∷◌, ◌++◌, List, IsTrue, IsFalse, length, map, position, slice_set};
 ghost use Rattle.std.specs.List.{list_all, list_any};
 ghost use Rattle.tmw_defs.specs.History.{is_over};
 ghost use Rattle.tmw_cuts.specs.Views.{view, is_open_for, awaits_commit_of, PushesEvent};
 
 use crate::mark::Mark;
 use crate::mask::completed_mask;
-use crate::spare::Spare;
 use crate::txn::Txn;
-use std::alloc::{AllocError, Global};
-use tmw_defs::{Criterion, Status};
+use arrayvec::ArrayVec;
+use tmw_defs::Criterion;
 use tmw_events::{Event, Ix, Kind, Registers};
 use tmw_wellformed::Note;
 
-/// The transactions of the events since the last cut. It holds no event, and no operation of any other transaction.
+/// The transactions of the events since the last cut, which are at most eight. It holds no event, and no operation.
 #[derive(Debug, Drop)]
 pub struct Window {
     /// The registers of the run.
     pub registers: Registers,
-    txns: Vec<Txn>,
-    spare: Spare,
-    pub ghost few: { length txns.items ≤ 8 },
+    txns: ArrayVec<Txn, 8>,
 }
 
 /// The transaction to which the thread's next event belongs, if it has one that has not ended.
+#[inline(always)]
 fn open_transaction(txns: &[Txn], thread: Ix) -> Option<usize>
     ensures { result ≡ position (λ txn. is_open_for thread.number (view txn)) txns.now }
 {
@@ -44,31 +42,35 @@ fn any_awaits_commit(txns: &[Txn], thread: Ix) -> bool
 }
 
 /// Takes the first event of a transaction.
-fn begin(txns: &mut Vec<Txn>, spare: &mut Spare, event: Event) -> Result<(), AllocError>
-    requires room { length txns.old.items ≤ 8 }
-    ensures ok { OnOk result (IsFalse (list_any (is_open_for event.thread.number) (map view txns.old.items))
-        → PushesEvent event (map view txns.old.items) (map view txns.new.items)) }
-    ensures err { OnErr result (map view txns.new.items ≡ map view txns.old.items) }
-    ensures size { length txns.new.items ≤ length txns.old.items + 1 }
+#[inline(always)]
+fn begin(txns: &mut ArrayVec<Txn, 8>, event: Event)
+    requires room { length txns.old.items < 8 }
+    ensures { IsFalse (list_any (is_open_for event.thread.number) (map view txns.old.items))
+        → PushesEvent event (map view txns.old.items) (map view txns.new.items) }
 {
-    spare.reserve()?;
-    let room = spare.take();
-    let before = completed_mask(txns);
-    txns.push(Txn::new(event, before, room))?;
-    Ok(())
+    let before = completed_mask(txns.as_slice());
+    txns.push(Txn::new(event, before));
 }
 
 /// Takes the next event of the transaction that its thread has open.
-fn go_on(txns: &mut Vec<Txn>, event: Event) -> Result<(), AllocError>
-    ensures ok { OnOk result (IsTrue (list_any (is_open_for event.thread.number) (map view txns.old.items))
-        → PushesEvent event (map view txns.old.items) (map view txns.new.items)) }
-    ensures err { OnErr result (map view txns.new.items ≡ map view txns.old.items) }
-    ensures size { length txns.new.items ≡ length txns.old.items }
+#[inline(always)]
+fn go_on(txns: &mut ArrayVec<Txn, 8>, event: Event)
+    ensures { IsTrue (list_any (is_open_for event.thread.number) (map view txns.old.items))
+        → PushesEvent event (map view txns.old.items) (map view txns.new.items) }
 {
-    if let Some(index) = open_transaction(txns, event.thread) {
-        txns[index].add(event.kind)?;
+    if let Some(index) = open_transaction(txns.as_slice(), event.thread) {
+        txns[index].add(event.kind);
     }
-    Ok(())
+}
+
+/// Puts a transaction in its place again.
+fn put_back(txns: &mut ArrayVec<Txn, 8>, held: (usize, Txn))
+    ensures { held.0 < length txns.old.items → txns.new.items ≡ slice_set txns.old.items held.0 held.1 }
+{
+    let (place, txn) = held;
+    if place < txns.len() {
+        txns[place] = txn;
+    }
 }
 
 impl Window {
@@ -81,14 +83,13 @@ impl Window {
     ghost use Rattle.tmw_cuts.specs.Standing.{StandsFor, views, views_of, count_of};
 
     /// The window of no event.
-    pub fn open(alloc: Global, registers: Registers) -> Window
+    pub fn open(registers: Registers) -> Window
         ensures stands { StandsFor result [] }
         ensures registers { result.registers ≡ registers }
     {
         Window {
             registers,
-            txns: Vec::new(alloc),
-            spare: Spare::new(alloc),
+            txns: ArrayVec::new(),
         }
     }
 
@@ -104,7 +105,7 @@ impl Window {
     pub fn is_cut(&self) -> bool
         ensures { (events : List Event) → StandsFor self.now events → result ≡ is_cut events }
     {
-        are_over(&self.txns)
+        are_over(self.txns.as_slice())
     }
 
     /// The transactions, in the order of their first events.
@@ -116,27 +117,27 @@ impl Window {
         self.txns.as_slice()
     }
 
-    /// Takes the next event of a well-formed history, whose note tells whether it begins a transaction. Where memory is
-    /// refused the window stays as it was.
-    pub fn push(&mut self, event: Event, note: Note) -> Result<(), AllocError>
+    /// Takes the next event of a well-formed history, whose note tells whether it begins a transaction.
+    #[inline(always)]
+    pub fn push(&mut self, event: Event, note: Note)
         requires room { IsTrue note.begins → count_of self.old < 8 }
-        ensures ok { OnOk result ((events : List Event) → StandsFor self.old events → Notes events event note
-            → StandsFor self.new (events ++ event ∷ [])) }
-        ensures err { OnErr result ((events : List Event) → StandsFor self.old events → StandsFor self.new events) }
+        ensures stands { (events : List Event) → StandsFor self.old events → Notes events event note
+            → StandsFor self.new (events ++ event ∷ []) }
         ensures registers { self.new.registers ≡ self.old.registers }
     {
         if note.begins {
-            begin(&mut self.txns, &mut self.spare, event)
+            begin(&mut self.txns, event);
         } else {
-            go_on(&mut self.txns, event)
+            go_on(&mut self.txns, event);
         }
     }
 
     /// The place of the transaction to which the thread's next event belongs, if it has one that has not ended.
+    #[inline(always)]
     pub fn open_place(&self, thread: Ix) -> Option<usize>
         ensures { (events : List Event) → StandsFor self.now events → result ≡ position (is_open_for thread.number) (views_of events) }
     {
-        open_transaction(&self.txns, thread)
+        open_transaction(self.txns.as_slice(), thread)
     }
 
     /// Notes what the next event of the thread will change, so that it can be taken back.
@@ -144,26 +145,13 @@ impl Window {
         ensures thread { result.thread ≡ thread }
         ensures marks { (events : List Event) → StandsFor self.now events → Marks result (views_of events) }
     {
-        match open_transaction(&self.txns, thread) {
-            Some(place) => {
-                let txn = &self.txns[place];
-                Mark {
-                    thread,
-                    place: Some(place),
-                    call: txn.pending_call(),
-                    status: txn.status,
-                    ops: txn.ops.len(),
-                }
-            }
-            None => {
-                Mark {
-                    thread,
-                    place: None,
-                    call: None,
-                    status: Status::Live,
-                    ops: 0,
-                }
-            }
+        let txns = self.txns.as_slice();
+        match open_transaction(txns, thread) {
+            Some(place) => Mark {
+                thread,
+                held: Some((place, txns[place].copy())),
+            },
+            None => Mark { thread, held: None },
         }
     }
 
@@ -173,22 +161,18 @@ impl Window {
             → StandsFor self.old (events ++ event ∷ []) → StandsFor self.new events }
         ensures registers { self.new.registers ≡ self.old.registers }
     {
-        match mark.place {
-            Some(place) => {
-                if let Some(txn) = self.txns.get_mut(place) {
-                    txn.take_back(mark.call, mark.status, mark.ops);
-                }
-            }
+        let Mark { thread: _, held } = mark;
+        match held {
+            Some(held) => put_back(&mut self.txns, held),
             None => {
-                if let Some(txn) = self.txns.pop() {
-                    self.spare.keep(txn.ops);
-                }
+                let _begun = self.txns.pop();
             }
         }
     }
 
     /// Whether the event can't break the criterion: it answers no commit request, and where the criterion is opacity no read and
     /// no add either.
+    #[inline(always)]
     pub fn is_quiet(&self, criterion: Criterion, event: Event) -> bool
         ensures { (events : List Event) → StandsFor self.now events
             → result ≡ is_quiet_by criterion (transactions events) event.thread.number event.kind }
@@ -196,37 +180,33 @@ impl Window {
         match event.kind {
             Kind::V(_) => criterion == Criterion::Strict,
             Kind::C => false,
-            Kind::A => !any_awaits_commit(&self.txns, event.thread),
+            Kind::A => !any_awaits_commit(self.txns.as_slice(), event.thread),
             _ => true,
         }
     }
 
-    /// Forgets all events. The lists of their operations are emptied, and kept for later ones where they are small.
+    /// Forgets all events.
     pub fn clear(&mut self)
         ensures stands { StandsFor self.new [] }
         ensures registers { self.new.registers ≡ self.old.registers }
     {
-        while let Some(txn) = self.txns.pop() {
-            self.spare.keep(txn.ops);
-        }
+        self.txns.clear();
     }
 
     /// A window that stands for the same events.
-    pub fn copy(&self) -> Result<Window, AllocError>
-        ensures shown { IfOk result (λ window. views window ≡ views self.now) }
-        ensures stands { IfOk result (λ window. (events : List Event) → StandsFor self.now events → StandsFor window events) }
-        ensures registers { IfOk result (λ window. window.registers ≡ self.now.registers) }
+    pub fn copy(&self) -> Window
+        ensures shown { views result ≡ views self.now }
+        ensures stands { (events : List Event) → StandsFor self.now events → StandsFor result events }
+        ensures registers { result.registers ≡ self.now.registers }
     {
-        let alloc = *self.txns.allocator();
-        let mut txns = Vec::new(alloc);
-        for txn in &self.txns {
-            txns.push(txn.copy()?)?;
+        let mut txns = ArrayVec::new();
+        for txn in self.txns.as_slice() {
+            txns.push(txn.copy());
         }
-        Ok(Window {
+        Window {
             registers: self.registers,
             txns,
-            spare: Spare::new(alloc),
-        })
+        }
     }
 }
 

@@ -1,3 +1,4 @@
 mod Each
 mod FedEvents
 mod Taken
+mod Taking

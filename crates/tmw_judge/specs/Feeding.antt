@@ -1,5 +1,5 @@
 -- What is read where the events of a trace are fed to its monitors as their lines are read, and what the monitors have taken of it.
-use Rattle.std.specs.Prelude.{◌≡◌, ◌⊎◌, ℕ, Option, Result, Ok, Err, List, [], ◌∷◌, ◌++◌}
+use Rattle.std.specs.Prelude.{◌≡◌, ◌⊎◌, ℕ, Option, Result, Ok, Err, List, [], ◌∷◌, ◌++◌, length}
 use Rattle.tmw_lines.specs.ItemsRead.{EndsBehind, FailsBehind, StopsBehind}
 use Rattle.tmw_lines.specs.Lines.{HasRead}
 use Rattle.tmw_lines.specs.TextFault.{HasFirstLineFault}
@@ -33,6 +33,25 @@ IsFirstFed header bounds asked history event (Both opacity strict) =
 abbrev pub LackEvent : Header → Bounds → Asked → List Event → Event → ByCriterion Monitor → Type 0
 LackEvent header bounds asked history event monitors =
     AreFed header bounds asked history monitors ⊎ IsFirstFed header bounds asked history event monitors
+
+-- From the one to the other the monitors have been fed these events.
+abbrev pub TakeEvents : ByCriterion Monitor → List Event → ByCriterion Monitor → Type 0
+TakeEvents old events new = (header : Header) (bounds : Bounds) (asked : Asked) (history : List Event)
+    → AreFed header bounds asked history old → AreFed header bounds asked (history ++ events) new
+
+-- From the one to the other not each of them has been fed this event.
+abbrev pub LackAnEvent : ByCriterion Monitor → Event → ByCriterion Monitor → Type 0
+LackAnEvent old event new = (header : Header) (bounds : Bounds) (asked : Asked) (history : List Event)
+    → AreFed header bounds asked history old → LackEvent header bounds asked history event new
+
+-- They have been fed a history of so many events.
+pub record AreFedSoMany (monitors : ByCriterion Monitor) (count : ℕ) : Type 0 where
+  pub header : Header
+  pub bounds : Bounds
+  pub asked : Asked
+  pub history : List Event
+  pub fed : AreFed header bounds asked history monitors
+  pub counted : length history ≡ count
 
 -- What was read of a trace where its first line alone is asked for. Where there are monitors, and for want of memory, it is that
 -- line, and at most 4,096 bytes that the reader holds; else the line has the fault.

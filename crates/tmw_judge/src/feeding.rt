@@ -1,13 +1,35 @@
-ghost use Rattle.std.specs.Prelude.{◌≡◌, IfErr, OnOk};
+ghost use Rattle.std.specs.Prelude.{◌≡◌, ◌++◌, IfErr, OnOk};
 ghost use Rattle.tmw_lines.specs.TextFault.{failures_after};
-ghost use Rattle.tmw_judge.specs.Feeding.{AreFedAllRead, FeedsEvents};
+ghost use Rattle.tmw_judge.specs.Feeding.{AreFedAllRead, AreFedSoMany, FeedsEvents, TakeEvents, LackAnEvent};
+ghost use Rattle.std.proofs.Common.{append_assoc, append-nil};
 
 use crate::by_criterion::ByCriterion;
 use crate::monitors::feed_each;
-use tmw_lines::TextFault;
+use std::alloc::AllocError;
+use tmw_events::Event;
+use tmw_lines::{Taker, TextFault, give_items};
 use tmw_monitor::Monitor;
 use tmw_streams::Source;
 use tmw_trace::TraceLines;
+
+/// Monitors take events by being fed them.
+impl Taker<Event> for ByCriterion<Monitor> {
+    ghost takes = { TakeEvents };
+
+    ghost lacks = { LackAnEvent };
+
+    ghost counts = { AreFedSoMany };
+
+    #[inline(always)]
+    fn take(&mut self, event: Event) -> Result<(), AllocError> {
+        feed_each(self, event)
+    }
+
+    ghost takes_none = { λ monitors header bounds asked history fed. Prim.rw (append-nil history) fed };
+
+    ghost takes_more = { λ a b c xs ys taken more header bounds asked history fed. Prim.rw (← append_assoc history xs ys)
+        (more header bounds asked (history ++ xs) (taken header bounds asked history fed)) };
+}
 
 /// Reads the events that are left, up to the source's end or the first fault, and feeds each to the monitors as its line is read.
 /// `Memory` answers want of memory for the event that was read last: nothing was read after its line.
@@ -22,15 +44,5 @@ pub fn feed_events<S: Source>(
     ensures well { OnOk result (S.failures source.new ≡ S.failures source.old) }
     ensures failed { IfErr result (λ fault. S.failures source.new ≡ failures_after fault (S.failures source.old)) }
 {
-    'lines: loop {
-        match lines.next(source) {
-            Ok(Some(event)) => {
-                let Ok(()) = feed_each(monitors, event) else {
-                    return Err(TextFault::Memory);
-                };
-            }
-            Ok(None) => return Ok(()),
-            Err(fault) => return Err(fault),
-        }
-    }
+    give_items(lines, source, monitors)
 }

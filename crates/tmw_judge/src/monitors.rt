@@ -56,7 +56,9 @@ fn monitor_for(
     Monitor::for_criterion(alloc, criterion, header.registers, header.initial, bounds)
 }
 
-/// Feeds an event to each of them. Where memory is refused none has taken it, or of two the first alone.
+/// Feeds an event to each of them. Where memory is refused none has taken it, or of two the first alone. It is made part of the
+/// reading of each kind's line, so that an event is no value in memory.
+#[inline(always)]
 pub fn feed_each(monitors: &mut ByCriterion<Monitor>, event: Event) -> Result<(), AllocError>
     requires { Each (λ _ monitor. monitor.count < 2 ^ 40) monitors.old }
     ensures fed { OnOk result ((header : Header) (bounds : Bounds) (asked : Asked) (history : List Event)

@@ -8,6 +8,7 @@ use tmw_monitor::Bounds;
 use tmw_streams::{MemorySink, MemorySource};
 
 mod criteria;
+mod seeded;
 mod streams;
 
 const OPAQUE: u8 = 0;

@@ -1,6 +1,9 @@
+mod GivenLines
 mod FirstLines
 mod HeldBytes
 pub mod HeldLines
+mod HeldGiven
+mod ItemsGiven
 mod ItemsHeld
 pub mod LinesRead
 mod LongLines

@@ -16,7 +16,7 @@ use Rattle.tmw_lines.specs.declared.lines.State.TheVariants.{Reading}
 use Rattle.tmw_lines.specs.declared.text_fault.TextFault.{TextFault}
 use Rattle.tmw_lines.specs.declared.text_fault.TextFault.TheVariants.{BadHeader, BadLine, Cut, Memory, Io, TooLong}
 
-few-held : (held : Held) → length (bytes_of held) ≤ 4096
+pub few-held : (held : Held) → length (bytes_of held) ≤ 4096
 few-held held = simp length-take (omega (arith, held.within))
 
 module _ {F H E : Type 0} (grammar : Grammar F H E) where
@@ -31,7 +31,7 @@ module _ {F H E : Type 0} (grammar : Grammar F H E) where
     few = simp length-append (omega (arith, few));
   }
 
-  items_text-push : (front rest : List ℕ) (items : List E) (item : E)
+  pub items_text-push : (front rest : List ℕ) (items : List E) (item : E)
       → (front ++ items_text grammar items) ++ (line (grammar.item_text item) ++ rest)
       ≡ (front ++ items_text grammar (items ++ item ∷ [])) ++ rest
   items_text-push front rest items item =

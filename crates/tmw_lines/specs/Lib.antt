@@ -1,3 +1,6 @@
+pub mod ItemsGiven
+pub mod GivenLines
+pub mod Given
 pub mod Grammar
 pub mod Held
 pub mod ItemsRead

@@ -1,12 +1,44 @@
 ghost use Rattle.std.specs.Prelude.{◌≡◌, ◌≤◌, length, vec_capacity, IfErr, OnOk};
+ghost use Rattle.tmw_lines.specs.ItemsGiven.{GivesAll};
 ghost use Rattle.tmw_lines.specs.ItemsRead.{HasBegunToRead, ReadsItems};
 ghost use Rattle.tmw_lines.specs.TextFault.{failures_after};
 ghost use Rattle.tmw_lines.specs.declared.text_fault.TextFault.TheVariants.{Memory};
 
 use crate::line_format::LineFormat;
 use crate::lines::Lines;
+use crate::taker::Taker;
 use crate::text_fault::TextFault;
 use tmw_streams::Source;
+
+/// Reads the lines that are left, up to the source's end or the first fault, and gives the taker each item as its line is read.
+/// `Memory` answers want of memory for the item of the line that was read last: nothing was read after that line.
+pub fn give_items<F: LineFormat, S: Source, T: Taker<F::Item>>(
+    lines: &mut Lines<F>,
+    source: &mut S,
+    taker: &mut T,
+) -> Result<(), TextFault>
+    requires begun { HasBegunToRead F.grammar lines.old }
+    requires counted { T.counts taker.old lines.old.count }
+    ensures gives { GivesAll F.grammar S.told S.remaining (S.ended source.new) T.takes T.lacks source.old source.new lines.old
+        lines.new taker.old taker.new result }
+    ensures well { OnOk result (S.failures source.new ≡ S.failures source.old) }
+    ensures failed { IfErr result (λ fault. S.failures source.new ≡ failures_after fault (S.failures source.old)) }
+{
+    'lines: loop {
+        let Ok(()) = lines.give_held(taker) else {
+            return Err(TextFault::Memory);
+        };
+        match lines.next(source) {
+            Ok(Some(item)) => {
+                let Ok(()) = taker.take(item) else {
+                    return Err(TextFault::Memory);
+                };
+            }
+            Ok(None) => return Ok(()),
+            Err(fault) => return Err(fault),
+        }
+    }
+}
 
 /// Reads the lines that are left, up to the source's end or the first fault, and holds their items behind those that are there.
 /// `Memory` answers want of memory: the item of the line that was read last is not held, and nothing was read after that line. It
@@ -23,15 +55,5 @@ pub fn read_items<F: LineFormat, S: Source>(
     ensures well { OnOk result (S.failures source.new ≡ S.failures source.old) }
     ensures failed { IfErr result (λ fault. S.failures source.new ≡ failures_after fault (S.failures source.old)) }
 {
-    'lines: loop {
-        match lines.next(source) {
-            Ok(Some(item)) => {
-                let Ok(()) = items.push(item) else {
-                    return Err(TextFault::Memory);
-                };
-            }
-            Ok(None) => return Ok(()),
-            Err(fault) => return Err(fault),
-        }
-    }
+    give_items(lines, source, items)
 }

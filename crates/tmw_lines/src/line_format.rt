@@ -1,6 +1,9 @@
-ghost use Rattle.std.specs.Prelude.{◌≡◌, ℕ, ◌≤◌, List, length, drop, IfSome, IfNone};
+ghost use Rattle.std.specs.Prelude.{◌≡◌, ℕ, ◌<◌, ◌≤◌, ◌^◌, List, length, IfSome, IfNone};
+ghost use Rattle.tmw_lines.specs.Given.{IsGiven};
 ghost use Rattle.tmw_lines.specs.Grammar.{Grammar, IsNaming, IsNoHeader, IsNoItem};
-ghost use Rattle.tmw_lines.specs.LineRead.{IsItemLine};
+
+use crate::given::Given;
+use crate::taker::Taker;
 
 /// What the lines of a text tell: the first a header, and each other an item. A value is the format of the lines behind a
 /// header, and says which items these may be.
@@ -32,14 +35,15 @@ pub trait LineFormat: Copy {
         ensures fits { IfSome result (grammar.FitsItem self) }
         ensures none { IfNone result (IsNoItem grammar self bytes.now) };
 
-    /// The item of this format whose line, with its line feed, these bytes begin with, and the line's length. A format that
-    /// can tell both in one pass does so here. `None` says nothing: the line's end is then looked for, and `item_of` asked.
-    fn first_item(self, bytes: &[u8]) -> Option<(Self::Item, usize)>
-        ensures some { IfSome result (λ found. IsItemLine grammar self found.0 bytes.now (drop found.1 bytes.now)) }
-        ensures within { IfSome result (λ found. found.1 ≤ length bytes.now) }
+    /// Gives the taker the item of this format whose line, with its line feed, these bytes begin with. A format that can tell it
+    /// in one pass does so here. `Nothing` says nothing of the bytes: the line's end is then looked for, and `item_of` asked.
+    fn give_first<T: Taker<Self::Item>>(self, bytes: &[u8], taker: &mut T) -> Given
+        requires { (count : ℕ) × (count < 2 ^ 40) × T.counts taker.old count }
+        ensures { IsGiven grammar T.takes T.lacks T.counts self bytes.now taker.old taker.new result }
     {
         let _bytes = bytes;
-        None
+        let _taker = &mut *taker;
+        Given::Nothing
     }
 
     /// No text of a header or an item has a line feed, and each names what it is the text of.

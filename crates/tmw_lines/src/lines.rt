@@ -1,13 +1,16 @@
-ghost use Rattle.std.specs.Prelude.{◌≡◌, ℕ, ◌+◌, ◌<◌, ◌≤◌, ◌^◌, List, [], IfOk, IfErr, IfSome, IfNone, OnOk, OnSome, Ok, Err, None};
+ghost use Rattle.std.specs.Prelude.{◌≡◌, ℕ, ◌+◌, ◌<◌, ◌≤◌, ◌^◌, List, [], IfOk, IfErr, IfSome, IfNone, OnOk, OnErr, OnSome, Ok, Err, None};
 ghost use Rattle.tmw_lines.specs.TextFault.{HasFirstLineFault, failures_after};
 ghost use Rattle.tmw_lines.specs.declared.text_fault.TextFault.{TextFault};
 ghost use Rattle.tmw_streams.specs.Told.{Tells};
 
 use crate::first_line::first_line;
+use crate::given_lines::give_lines;
 use crate::held::Held;
 use crate::line_format::LineFormat;
 use crate::next_line::next_line;
+use crate::taker::Taker;
 use crate::text_fault::TextFault;
+use std::alloc::AllocError;
 use tmw_streams::Source;
 
 /// How far a reader has come.
@@ -34,6 +37,7 @@ pub struct Lines<F> {
 }
 
 impl<F: LineFormat> Lines<F> {
+    ghost use Rattle.tmw_lines.specs.Given.{GivesItems, LacksLast};
     ghost use Rattle.tmw_lines.specs.Lines.{IsNew, IsReading, IsOver, HasFailed, HasRead, unread, GivesItem, GivesEnd, FailsAtLine, GivesFault};
 
     /// Nothing is read.
@@ -71,6 +75,22 @@ impl<F: LineFormat> Lines<F> {
                 Err(fault)
             }
         }
+    }
+
+    /// Gives the taker the items of the lines that the bytes held begin with, as far as the format tells them in one pass, and reads
+    /// nothing. Where memory is refused for one, that item's line is the last that was read.
+    #[inline(always)]
+    pub fn give_held<T: Taker<F::Item>>(&mut self, taker: &mut T) -> Result<(), AllocError>
+        requires { T.counts taker.old self.old.count }
+        ensures gives { OnOk result (GivesItems F.grammar T.takes self.old self.new taker.old taker.new) }
+        ensures counted { OnOk result (T.counts taker.new self.new.count) }
+        ensures lacks { OnErr result (LacksLast F.grammar T.takes T.lacks self.old self.new taker.old taker.new) }
+        ensures fewer { unread self.new ≤ unread self.old }
+    {
+        let run = give_lines(self.format, self.held.bytes(), self.count, taker);
+        self.held.consume(run.length);
+        self.count = run.count;
+        if run.refused { Err(AllocError) } else { Ok(()) }
     }
 
     /// Reads the next line: its item, `None` where the text has ended, or the fault of all bytes told. Once it

@@ -3,7 +3,6 @@ ghost use Rattle.tmw_lines.specs.Held.{bytes_of};
 ghost use Rattle.tmw_lines.specs.LineRead.{ReadsLine, IsItemLine};
 ghost use Rattle.tmw_lines.specs.TextFault.{IsUnbroken, IsBadLine, failures_after};
 
-use crate::first_item::take_first;
 use crate::held::Held;
 use crate::line_format::LineFormat;
 use crate::long_line::{LineEnd, skip_line};
@@ -12,7 +11,7 @@ use crate::text_fault::TextFault;
 use tmw_streams::Source;
 
 /// The greatest number of items' lines in a text.
-const MOST_ITEMS: u64 = 1 << 40;
+pub const MOST_ITEMS: u64 = 1 << 40;
 
 /// Reads the line that follows so many items' lines: its item, nothing at the source's end, or its fault.
 pub fn next_line<F: LineFormat, S: Source>(
@@ -31,9 +30,6 @@ pub fn next_line<F: LineFormat, S: Source>(
 {
     if count == MOST_ITEMS {
         return past_last(held, source, format);
-    }
-    if let Some(item) = take_first(held, format) {
-        return Ok(Some(item));
     }
     match next_piece(held, source) {
         Piece::Line(length) => match take_item(held, length, format) {

@@ -1,5 +1,5 @@
 -- A monitor whose verdict is that nothing is wrong, with what the next event makes of what it keeps.
-use Rattle.std.proofs.Common.{◌≡◌, ◌+◌, List, [], ◌∷◌, ◌++◌, sym, subst, arith}
+use Rattle.std.proofs.Common.{◌≡◌, ◌+◌, List, [], ◌∷◌, ◌++◌, Some, None, ap, ◌∙◌, arith}
 use Rattle.tmw_events.specs.declared.event.Event.{Event}
 use Rattle.tmw_defs.specs.declared.verdict.Verdict.{Verdict}
 use Rattle.tmw_defs.specs.Criteria.{so_far}
@@ -7,21 +7,34 @@ use Rattle.tmw_defs.specs.Verdict.{Rules}
 use Rattle.tmw_defs.proofs.WindowsProof as windows
 use Rattle.tmw_monitor.specs.declared.monitor.Monitor.{Monitor}
 use Rattle.tmw_monitor.specs.declared.open.Open.{Open}
-use Rattle.tmw_monitor.specs.Fitting.{Fits, Keeps, KeepsNothing}
-use Rattle.tmw_monitor.proofs.Told.{Follows}
+use Rattle.tmw_monitor.specs.Fitting.{Fits, Keeps, KeepsNothing, TellsWrong}
 
-pub fits-next : (rules : Rules) (h : List Event) (e : Event) (old : Monitor) (verdict : Verdict) (kept left : Open) → Fits rules h old
-    → Follows old.criterion rules (h ++ e ∷ []) verdict kept → (verdict ≡ so_far old.criterion → left ≡ kept)
-    → ((verdict ≡ so_far old.criterion → ⊥) → KeepsNothing left)
-    → Fits rules (h ++ e ∷ []) (record old { count = old.count + 1; verdict = verdict; kept = left })
-fits-next rules h e old verdict kept left fits follows same ended = record {
+-- nothing is wrong with the event either
+pub fits-next : (rules : Rules) (h : List Event) (e : Event) (old : Monitor) (kept : Open) → Fits rules h old
+    → old.verdict ≡ so_far old.criterion → TellsWrong rules (h ++ e ∷ []) kept None
+    → Fits rules (h ++ e ∷ []) (record old { count = old.count + 1; kept = kept })
+fits-next rules h e old kept fits fine told = record {
   criterion = fits.criterion;
   window = fits.window;
   states = fits.states;
   counted = (let n = fits.counted in let m = windows.length-push h e in omega (arith, n, m));
-  judged = follows.0;
-  keeps = λ is. subst (λ (o : Open). Keeps rules (h ++ e ∷ []) o) (sym (same is)) (follows.1 is);
-  forgets = ended;
+  judged = rw (fine, fits.criterion) told.0;
+  keeps = λ is. told.1;
+  forgets = λ final. absurd (final fine);
+}
+
+-- something is wrong with it
+pub fits-wrong : (rules : Rules) (h : List Event) (e : Event) (old : Monitor) (verdict : Verdict) (kept left : Open) → Fits rules h old
+    → TellsWrong rules (h ++ e ∷ []) kept (Some verdict) → KeepsNothing left
+    → Fits rules (h ++ e ∷ []) (record old { count = old.count + 1; verdict = verdict; kept = left })
+fits-wrong rules h e old verdict kept left fits told ended = record {
+  criterion = fits.criterion;
+  window = fits.window;
+  states = fits.states;
+  counted = (let n = fits.counted in let m = windows.length-push h e in omega (arith, n, m));
+  judged = told.0;
+  keeps = λ is. absurd (told.1 (is ∙ ap so_far fits.criterion));
+  forgets = λ final. ended;
 }
 
 -- where memory was refused

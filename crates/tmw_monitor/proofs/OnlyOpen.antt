@@ -1,11 +1,10 @@
 -- A monitor keeps of each history that fits it the open window and the outcomes before it alone.
-use Rattle.std.proofs.Common.{◌≤◌, List, [], length, take, drop, inl, inr, arith}
+use Rattle.std.proofs.Common.{◌≤◌, List, length, take, inl, inr}
 use Rattle.std.proofs.lemmas.Bool.{cases_lt}
 use Rattle.tmw_events.specs.declared.event.Event.{Event}
 use Rattle.tmw_defs.specs.Criteria.{outcomes_by}
 use Rattle.tmw_defs.specs.Verdict.{Rules}
 use Rattle.tmw_cuts.specs.Members.{members}
-use Rattle.tmw_cuts.proofs.Held.{length-operations_in-le, has_few_rooms}
 use Rattle.tmw_monitor.specs.declared.monitor.Monitor.{Monitor}
 use Rattle.tmw_monitor.specs.declared.open.Open.{Open}
 use Rattle.tmw_monitor.specs.Fitting.{Fits, Keeps, KeepsNothing}
@@ -31,14 +30,12 @@ holds_open rules history kept keeps = record {
   states = keeps.sums_up.states;
   few = few_outcomes rules history kept keeps;
   transactions = keeps.stands.shows;
-  operations = length-operations_in-le kept.window (drop keeps.cut history) keeps.stands;
 }
 
 holds_none : (kept : Open) → KeepsNothing kept → HoldsNone kept
 holds_none kept nothing = record {
   states = nothing.states;
   transactions = nothing.stands.shows;
-  operations = (let few = length-operations_in-le kept.window [] nothing.stands in omega (arith, few));
 }
 
 pub keeps_only_open : (rules : Rules) (history : List Event) (monitor : Monitor) → Fits rules history monitor
@@ -46,5 +43,4 @@ pub keeps_only_open : (rules : Rules) (history : List Event) (monitor : Monitor)
 keeps_only_open rules history monitor fits = record {
   holds = λ is. holds_open rules history monitor.kept (fits.keeps is);
   ended = λ final. holds_none monitor.kept (fits.forgets final);
-  rooms = has_few_rooms monitor.kept.window;
 }

@@ -70,7 +70,7 @@ length-add_event place e (t ∷ ts) =
     ]
 
 -- a history has one transaction more with the event, or as many as before
-length-push : (h : List Event) (e : Event)
+pub length-push : (h : List Event) (e : Event)
     → (length (transactions (h ++ e ∷ [])) ≡ length (transactions h)) ⊎ (length (transactions (h ++ e ∷ [])) ≡ length (transactions h) + 1)
 length-push h e = rw (transactions-push h e) (length-add_event (length h) e (transactions h))
 

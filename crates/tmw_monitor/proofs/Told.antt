@@ -1,16 +1,14 @@
 -- What was found of the open window with an event more is the verdict on the history, and what is then kept is kept of it.
-use Rattle.std.proofs.Common.{◌≡◌, ◌⊎◌, ◌+◌, ◌≤◌, ℕ, Bool, List, [], ◌∷◌, ◌++◌, length, drop, IsTrue, IsFalse, sym, subst, ◌∙◌, inl, inr, arith}
+use Rattle.std.proofs.Common.{◌≡◌, ◌⊎◌, ◌+◌, ◌≤◌, ℕ, Bool, List, [], ◌∷◌, ◌++◌, length, drop, Option, None, IsTrue, IsFalse, sym, subst, ◌∙◌, inl, inr, arith}
 use Rattle.std.proofs.lemmas.List.{drop_all, drop-append-le}
 use Rattle.std.specs.List.{Contains}
 use Rattle.tmw_events.specs.declared.event.Event.{Event}
-use Rattle.tmw_defs.specs.declared.criterion.Criterion.{Criterion}
-use Rattle.tmw_defs.specs.declared.verdict.Verdict.{Verdict}
-use Rattle.tmw_defs.specs.Criteria.{EndsBy, is_quiet_by, so_far}
+use Rattle.tmw_defs.specs.Criteria.{EndsBy, is_quiet_by}
 use Rattle.tmw_defs.specs.Cuts.{is_cut}
 use Rattle.tmw_defs.specs.History.{transactions, is_well_formed}
 use Rattle.tmw_defs.specs.Opaque.{State}
 use Rattle.tmw_defs.specs.Summary.{SumsUp}
-use Rattle.tmw_defs.specs.Verdict.{Rules, IsVerdict}
+use Rattle.tmw_defs.specs.Verdict.{Rules}
 use Rattle.tmw_defs.proofs.WindowsProof as windows
 use Rattle.tmw_defs.proofs.VerdictProof.{verdict-violated, verdict-many, sums_up-open, sums_up-quiet, sums_up-cut, so_far-fine}
 use Rattle.tmw_wellformed.specs.declared.tracker.Tracker.{Tracker}
@@ -23,14 +21,10 @@ use Rattle.tmw_witness.specs.Witnessing.{Witnesses}
 use Rattle.tmw_monitor.specs.declared.open.Open.{Open}
 use Rattle.tmw_monitor.specs.declared.weighed.Weighed.{Weighed}
 use Rattle.tmw_monitor.specs.declared.weighed.Weighed.TheVariants.{Outcome, NoOutcome, TooMany}
-use Rattle.tmw_monitor.specs.Fitting.{Keeps}
-use Rattle.tmw_monitor.specs.Weighing.{StaysOpen, Closes, Tells, verdict_of}
+use Rattle.tmw_monitor.specs.Fitting.{Keeps, TellsWrong}
+use Rattle.tmw_monitor.specs.Weighing.{StaysOpen, Closes, Tells, wrong_of}
 use Rattle.tmw_monitor.proofs.Counting.{not_more_among, more_than-rising}
 use Rattle.tmw_monitor.proofs.SoFar.{so_far-apart}
-
--- the verdict, and what is kept where it is that nothing is wrong
-abbrev pub Follows : Criterion → Rules → List Event → Verdict → Open → Type 0
-Follows criterion rules history verdict kept = IsVerdict rules history verdict × (verdict ≡ so_far criterion → Keeps rules history kept)
 
 sums_up-stays : (rules : Rules) (S : State → Type 0) (c : ℕ) (h : List Event) (e : Event) (quiet : Bool) → SumsUp rules S c h
     → IsTrue (is_well_formed rules.registers (h ++ e ∷ [])) → length (transactions (drop c h ++ e ∷ [])) ≤ rules.window
@@ -44,7 +38,7 @@ follows-open : (rules : Rules) (h : List Event) (e : Event) (kept : Open) (keeps
     → length (transactions (drop keeps.cut h ++ e ∷ [])) ≤ rules.window
     → quiet ≡ is_quiet_by rules.criterion (transactions (drop keeps.cut h)) e.thread.number e.kind
     → StaysOpen rules.criterion kept.states quiet (drop keeps.cut h ++ e ∷ []) new
-    → Follows rules.criterion rules (h ++ e ∷ []) (so_far rules.criterion) new
+    → TellsWrong rules (h ++ e ∷ []) new None
 follows-open rules h e kept keeps quiet new tracks narrow is stays =
     let c = keeps.cut in
     let old : SumsUp rules (Contains (members kept.states)) c (h ++ e ∷ []) =
@@ -53,7 +47,7 @@ follows-open rules h e kept keeps quiet new tracks narrow is stays =
     subst (λ (xs : List State). SumsUp rules (Contains xs) c (h ++ e ∷ [])) (sym stays.states) old in
     let rest : drop c (h ++ e ∷ []) ≡ drop c h ++ e ∷ [] = drop-append-le c h (e ∷ []) keeps.sums_up.last.is.0 in (
       so_far-fine rules (h ++ e ∷ []) sums.judged,
-      λ is. record {
+      record {
         cut = c;
         sums_up = sums;
         stands = subst (λ (es : List Event). StandsFor new.window es) (sym rest) stays.stands;
@@ -66,7 +60,7 @@ follows-cut : (rules : Rules) (h : List Event) (e : Event) (kept : Open) (keeps 
     (new : Open) → cap ≡ rules.states → Tracks rules.registers (h ++ e ∷ []) new.tracker
     → length (transactions (drop keeps.cut h ++ e ∷ [])) ≤ rules.window
     → Closes rules.criterion kept.states cap (drop keeps.cut h ++ e ∷ []) new
-    → Follows rules.criterion rules (h ++ e ∷ []) (so_far rules.criterion) new
+    → TellsWrong rules (h ++ e ∷ []) new None
 follows-cut rules h e kept keeps cap new bound tracks narrow closes =
     let few : length (members new.states) ≤ rules.states = rw (← bound) closes.few in
     let sums : SumsUp rules (Contains (members new.states)) (length h + 1) (h ++ e ∷ []) =
@@ -75,7 +69,7 @@ follows-cut rules h e kept keeps cap new bound tracks narrow closes =
     let nothing : drop (length h + 1) (h ++ e ∷ []) ≡ [] =
     drop_all (length h + 1) (h ++ e ∷ []) (let n = windows.length-push h e in omega (arith, n)) in (
       so_far-fine rules (h ++ e ∷ []) sums.judged,
-      λ is. record {
+      record {
         cut = length h + 1;
         sums_up = sums;
         stands = subst (λ (es : List Event). StandsFor new.window es) (sym nothing) closes.stands;
@@ -89,7 +83,7 @@ pub follows-told : (rules : Rules) (h : List Event) (e : Event) (kept : Open) (k
     (new : Open) (found : Weighed) → at ≡ length h + 1 → cap ≡ rules.states → Tracks rules.registers (h ++ e ∷ []) new.tracker → length (transactions (drop keeps.cut h ++ e ∷ [])) ≤ rules.window
     → quiet ≡ is_quiet_by rules.criterion (transactions (drop keeps.cut h)) e.thread.number e.kind
     → Tells rules.criterion kept.states cap quiet (drop keeps.cut h ++ e ∷ []) new found
-    → Follows rules.criterion rules (h ++ e ∷ []) (verdict_of rules.criterion at found) new
+    → TellsWrong rules (h ++ e ∷ []) new (wrong_of at found)
 follows-told rules h e kept keeps at cap quiet new Outcome length_is bound tracks narrow is (inl stays) =
     follows-open rules h e kept keeps quiet new tracks narrow is stays
 follows-told rules h e kept keeps at cap quiet new Outcome length_is bound tracks narrow is (inr closes) =

@@ -1,5 +1,5 @@
 -- Which history a monitor stands for: the relation by which its calls are described.
-use Rattle.std.specs.Prelude.{◌≡◌, ℕ, List, [], length, drop}
+use Rattle.std.specs.Prelude.{◌≡◌, ℕ, List, [], length, drop, Option, Some, None}
 use Rattle.std.specs.List.{Contains}
 use Rattle.tmw_events.specs.declared.event.Event.{Event}
 use Rattle.tmw_events.specs.declared.registers.Registers.{Registers}
@@ -9,6 +9,7 @@ use Rattle.tmw_defs.specs.Criteria.{so_far}
 use Rattle.tmw_defs.specs.Opaque.{State}
 use Rattle.tmw_defs.specs.Summary.{SumsUp}
 use Rattle.tmw_defs.specs.Verdict.{Rules, IsVerdict}
+use Rattle.tmw_defs.specs.declared.verdict.Verdict.{Verdict}
 use Rattle.tmw_wellformed.specs.Tracks.{Tracks}
 use Rattle.tmw_cuts.specs.Members.{members}
 use Rattle.tmw_cuts.specs.Standing.{StandsFor, views_of}
@@ -38,6 +39,11 @@ pub record Keeps (rules : Rules) (history : List Event) (kept : Open) : Type 0 w
   pub stands : StandsFor kept.window (drop cut history)
   pub tracks : Tracks rules.registers history kept.tracker
   pub witness : Witnesses (members kept.states) (views_of (drop cut history)) kept.witness
+
+-- What is told of a history: a verdict that something is wrong with it; or none, and then nothing is wrong and this is kept of it.
+abbrev pub TellsWrong : Rules → List Event → Open → Option Verdict → Type 0
+TellsWrong rules history kept None = IsVerdict rules history (so_far rules.criterion) × Keeps rules history kept
+TellsWrong rules history kept (Some verdict) = IsVerdict rules history verdict × (verdict ≡ so_far rules.criterion → ⊥)
 
 -- Nothing is kept: no state and no transaction.
 pub record KeepsNothing (kept : Open) : Type 0 where

@@ -1,12 +1,11 @@
 -- What is found of the events since a history's last cut, from the set of its outcomes there.
-use Rattle.std.specs.Prelude.{◌≡◌, ◌↔◌, ◌⊎◌, ◌≤◌, ℕ, Bool, List, [], length, IsTrue, IsFalse}
+use Rattle.std.specs.Prelude.{◌≡◌, ◌↔◌, ◌⊎◌, ◌≤◌, ℕ, Bool, List, [], length, Option, Some, None, IsTrue, IsFalse}
 use Rattle.std.specs.List.{Contains}
 use Rattle.tmw_events.specs.declared.event.Event.{Event}
 use Rattle.tmw_defs.specs.declared.verdict.Verdict.{Verdict}
 use Rattle.tmw_defs.specs.declared.verdict.Verdict.TheVariants.{Violated, Undecided}
 use Rattle.tmw_defs.specs.declared.verdict.Why.TheVariants.{States}
 use Rattle.tmw_defs.specs.declared.criterion.Criterion.{Criterion}
-use Rattle.tmw_defs.specs.Criteria.{so_far}
 use Rattle.tmw_defs.specs.Cuts.{is_cut}
 use Rattle.tmw_defs.specs.Opaque.{State}
 use Rattle.tmw_cuts.specs.declared.states.States.{States as SetOfStates}
@@ -44,8 +43,8 @@ Tells criterion old cap quiet events kept Outcome = StaysOpen criterion old quie
 Tells criterion old cap quiet events kept NoOutcome = (end : State) → EndsOf criterion old events end → ⊥
 Tells criterion old cap quiet events kept TooMany = IsTrue (is_cut events) × HasMoreThan cap (EndsOf criterion old events)
 
--- The verdict by this criterion on a history of this length, where this was found of its last window.
-abbrev pub verdict_of : Criterion → ℕ → Weighed → Verdict
-verdict_of criterion at Outcome = so_far criterion
-verdict_of criterion at NoOutcome = Violated at
-verdict_of criterion at TooMany = Undecided at States
+-- The verdict on a history of this length, where this was found of its last window and something is wrong with it.
+abbrev pub wrong_of : ℕ → Weighed → Option Verdict
+wrong_of at Outcome = None
+wrong_of at NoOutcome = Some (Violated at)
+wrong_of at TooMany = Some (Undecided at States)

@@ -6,10 +6,13 @@ mod bounds;
 mod compared;
 #[cfg(test)]
 mod compared_strictly;
+#[cfg(test)]
+mod compared_within_bounds;
 mod judging;
 mod monitor;
 mod next;
 mod open;
+mod so_far;
 #[cfg(test)]
 mod strict_tests;
 mod taken;

@@ -6,12 +6,13 @@ ghost use Rattle.tmw_defs.specs.Opaque.{zeros};
 ghost use Rattle.tmw_defs.specs.Verdict.{Rules, IsVerdict};
 
 use crate::bounds::Bounds;
-use crate::next::next_verdict;
+use crate::next::next_wrong;
 use crate::open::Open;
+use crate::so_far::is_so_far;
 use std::alloc::{AllocError, Global};
 use tmw_cuts::{State, States, Window};
 use tmw_defs::{Criterion, Verdict};
-use tmw_events::{Event, Registers};
+use tmw_events::{Event, Kind, Registers};
 use tmw_wellformed::Tracker;
 use tmw_witness::Witness;
 
@@ -81,7 +82,7 @@ impl Monitor {
             verdict: criterion.so_far(),
             kept: Open {
                 states,
-                window: Window::open(alloc, registers),
+                window: Window::open(registers),
                 tracker: Tracker::new(registers),
                 witness,
             },
@@ -105,24 +106,59 @@ impl Monitor {
         ensures keeps_err { OnErr result ((rules : Rules) (history : List Event) → Fits rules history self.old
             → KeepsOnlyOpen rules history self.new) }
     {
-        let at = self.count + 1;
-        if self.verdict == self.criterion.so_far() {
-            let verdict = next_verdict(
-                self.alloc,
-                self.criterion,
-                &mut self.kept,
-                self.bounds,
-                at,
-                event,
-            )?;
-            self.kept
-                .forget_where_final(self.alloc, self.criterion, verdict);
-            self.verdict = verdict;
-            self.count = at;
-            return Ok(verdict);
+        // The same body for each kind, so that it knows the kind of its event.
+        match event.kind {
+            Kind::R(_) => self.take(event),
+            Kind::V(_) => self.take(event),
+            Kind::W(_, _) => self.take(event),
+            Kind::K => self.take(event),
+            Kind::T => self.take(event),
+            Kind::C => self.take(event),
+            Kind::X => self.take(event),
+            Kind::A => self.take(event),
+            Kind::N(_, _) => self.take(event),
         }
+    }
+
+    /// The same of an event of each kind.
+    #[inline(always)]
+    fn take(&mut self, event: Event) -> Result<Verdict, AllocError>
+        requires room { self.old.count < 2 ^ 40 }
+        ensures ok { IfOk result (λ verdict. (rules : Rules) (history : List Event) → Fits rules history self.old
+            → Fits rules (history ++ event ∷ []) self.new) }
+        ensures verdict { IfOk result (λ verdict. verdict ≡ self.new.verdict) }
+        ensures err { OnErr result ((rules : Rules) (history : List Event) → Fits rules history self.old → Fits rules history self.new) }
+        ensures stays { (self.old.verdict ≡ so_far self.old.criterion → ⊥) → result ≡ Ok self.old.verdict }
+        ensures criterion { self.new.criterion ≡ self.old.criterion }
+
+        // What is kept, whether the event was taken or not.
+        ensures keeps { IfOk result (λ verdict. (rules : Rules) (history : List Event) → Fits rules history self.old
+            → KeepsOnlyOpen rules (history ++ event ∷ []) self.new) }
+        ensures keeps_err { OnErr result ((rules : Rules) (history : List Event) → Fits rules history self.old
+            → KeepsOnlyOpen rules history self.new) }
+    {
+        let at = self.count + 1;
+        if !is_so_far(self.criterion, self.verdict) {
+            self.count = at;
+            return Ok(self.verdict);
+        }
+        let wrong = next_wrong(
+            self.alloc,
+            self.criterion,
+            &mut self.kept,
+            self.bounds,
+            at,
+            event,
+        )?;
         self.count = at;
-        Ok(self.verdict)
+        match wrong {
+            None => Ok(self.verdict),
+            Some(verdict) => {
+                self.kept.forget(self.alloc);
+                self.verdict = verdict;
+                Ok(verdict)
+            }
+        }
     }
 
     /// What the history is judged by.

@@ -1,8 +1,7 @@
 ghost use Rattle.std.specs.Prelude.{◌≡◌, ◌+◌, List, [], ◌∷◌, ◌++◌, IfOk, OnErr, length};
 ghost use Rattle.tmw_events.specs.declared.event.Event.{Event};
-ghost use Rattle.tmw_defs.specs.Criteria.{so_far};
-ghost use Rattle.tmw_defs.specs.Verdict.{Rules, IsVerdict};
-ghost use Rattle.tmw_monitor.specs.Fitting.{Keeps};
+ghost use Rattle.tmw_defs.specs.Verdict.{Rules};
+ghost use Rattle.tmw_monitor.specs.Fitting.{Keeps, TellsWrong};
 
 use crate::bounds::Bounds;
 use crate::open::Open;
@@ -11,32 +10,32 @@ use std::alloc::{AllocError, Global};
 use tmw_defs::{Criterion, Verdict, Why};
 use tmw_events::Event;
 
-/// The verdict on a history of length `at` whose last event this is, where nothing was wrong before it. What is kept then is what
-/// is kept of the longer history, where nothing is wrong with that either. Where memory is refused it is as before.
-pub fn next_verdict(
+/// The verdict on a history of length `at` whose last event this is, where nothing was wrong before it and something is with it. Where
+/// nothing is, what is kept then is what is kept of the longer history. Where memory is refused it is as before.
+#[inline(always)]
+pub fn next_wrong(
     alloc: Global,
     criterion: Criterion,
     kept: &mut Open,
     bounds: Bounds,
     at: u64,
     event: Event,
-) -> Result<Verdict, AllocError>
-    ensures ok { IfOk result (λ verdict. (rules : Rules) (history : List Event) → criterion ≡ rules.criterion
+) -> Result<Option<Verdict>, AllocError>
+    ensures ok { IfOk result (λ wrong. (rules : Rules) (history : List Event) → criterion ≡ rules.criterion
         → bounds.window ≡ rules.window → bounds.states ≡ rules.states → at ≡ length history + 1
-        → Keeps rules history kept.old → IsVerdict rules (history ++ event ∷ []) verdict
-        × (verdict ≡ so_far criterion → Keeps rules (history ++ event ∷ []) kept.new)) }
+        → Keeps rules history kept.old → TellsWrong rules (history ++ event ∷ []) kept.new wrong) }
     ensures err { OnErr result ((rules : Rules) (history : List Event) → Keeps rules history kept.old → Keeps rules history kept.new) }
 {
     let tracker = kept.tracker;
     let Ok(note) = kept.tracker.step(event) else {
-        return Ok(Verdict::Malformed(at));
+        return Ok(Some(Verdict::Malformed(at)));
     };
     if note.begins && kept.window.count() >= bounds.window {
-        return Ok(Verdict::Undecided(at, Why::Transactions));
+        return Ok(Some(Verdict::Undecided(at, Why::Transactions)));
     }
     let cut = kept.tracker.live() == 0;
     match take_event(criterion, alloc, kept, bounds.states, cut, event, note) {
-        Ok(found) => Ok(found.verdict(criterion, at)),
+        Ok(found) => Ok(found.wrong(at)),
         Err(error) => {
             kept.tracker = tracker;
             Err(error)

@@ -1,9 +1,5 @@
-ghost use Rattle.std.specs.Prelude.{◌≡◌};
-ghost use Rattle.tmw_defs.specs.Criteria.{so_far};
-
 use std::alloc::Global;
 use tmw_cuts::{States, Window};
-use tmw_defs::{Criterion, Verdict};
 use tmw_wellformed::Tracker;
 use tmw_witness::Witness;
 
@@ -22,14 +18,13 @@ pub struct Open {
 impl Open {
     ghost use Rattle.tmw_monitor.specs.Fitting.{KeepsNothing};
 
-    /// Forgets the history where this verdict on it is final, and frees what was kept of it.
-    pub fn forget_where_final(&mut self, alloc: Global, criterion: Criterion, verdict: Verdict)
-        ensures keeps { verdict ≡ so_far criterion → self.new ≡ self.old }
-        ensures ended { (verdict ≡ so_far criterion → ⊥) → KeepsNothing self.new }
+    /// Forgets the history, and frees what was kept of it.
+    #[cold]
+    #[inline(never)]
+    pub fn forget(&mut self, alloc: Global)
+        ensures { KeepsNothing self.new }
     {
-        if verdict != criterion.so_far() {
-            self.states = States::empty(alloc);
-            self.window = Window::open(alloc, self.window.registers);
-        }
+        self.states = States::empty(alloc);
+        self.window = Window::open(self.window.registers);
     }
 }

@@ -1,4 +1,4 @@
-ghost use Rattle.std.specs.Prelude.{◌≡◌, ◌<◌, ◌++◌, ◌∷◌, [], List, IfOk, OnErr, IsTrue, IsFalse, Bool, ℕ, true, false};
+ghost use Rattle.std.specs.Prelude.{◌≡◌, ◌<◌, ◌++◌, ◌∷◌, [], List, IfOk, OnErr, IsTrue, IsFalse, Bool, ℕ, true, false, length};
 ghost use Rattle.tmw_events.specs.declared.event.Event.{Event};
 ghost use Rattle.tmw_defs.specs.declared.criterion.Criterion.{Criterion};
 ghost use Rattle.tmw_defs.specs.Criteria.{is_quiet_by};
@@ -7,8 +7,9 @@ ghost use Rattle.tmw_defs.specs.History.{transactions};
 ghost use Rattle.tmw_wellformed.specs.Notes.{Notes};
 ghost use Rattle.tmw_cuts.specs.Members.{members};
 ghost use Rattle.tmw_cuts.specs.Standing.{StandsFor, count_of, views_of};
-ghost use Rattle.tmw_witness.specs.Witnessing.{Witnesses};
+ghost use Rattle.tmw_witness.specs.Witnessing.{Witnesses, state_of};
 ghost use Rattle.tmw_monitor.specs.Weighing.{Tells};
+ghost use Rattle.tmw_monitor.specs.declared.weighed.Weighed.TheVariants.{Outcome};
 
 use crate::open::Open;
 use crate::weigh::weigh;
@@ -19,7 +20,9 @@ use tmw_events::Event;
 use tmw_wellformed::Note;
 
 /// Takes the next event of a well-formed history into its window, and weighs the window's events from the outcomes at its
-/// beginning. Told is whether they are at a cut with it. Where memory is refused, all is as before, but that no serial order is known.
+/// beginning. Told is whether they are at a cut with it. Where memory is refused, all is as before, but that a serial order may be
+/// known no more.
+#[inline(always)]
 pub fn take_event(
     criterion: Criterion,
     alloc: Global,
@@ -30,6 +33,7 @@ pub fn take_event(
     note: Note,
 ) -> Result<Weighed, AllocError>
     requires room { IsTrue note.begins → count_of kept.old.window < 8 }
+    requires some { 0 < cap }
     ensures ok { IfOk result (λ found. (events : List Event) → StandsFor kept.old.window events → Notes events event note
         → cut ≡ is_cut (events ++ event ∷ []) → Witnesses (members kept.old.states) (views_of events) kept.old.witness
         → Tells criterion kept.old.states cap (is_quiet_by criterion (transactions events) event.thread.number event.kind)
@@ -38,20 +42,56 @@ pub fn take_event(
     ensures states { OnErr result (members kept.new.states ≡ members kept.old.states) }
     ensures window { OnErr result ((events : List Event) → StandsFor kept.old.window events → Notes events event note
         → StandsFor kept.new.window events) }
-    ensures witness { OnErr result (kept.new.witness.known ≡ false) }
+    ensures witness { OnErr result ((events : List Event) → Witnesses (members kept.old.states) (views_of events) kept.old.witness
+        → Witnesses (members kept.old.states) (views_of events) kept.new.witness) }
 {
-    let taken = if !cut && kept.window.is_quiet(criterion, event) {
-        take_quiet(kept, event, note)
+    if cut {
+        // Mostly a transaction that is alone ends, from the only outcome before it: then it has one end state.
+        if criterion == Criterion::Opacity
+            && !note.begins
+            && kept.window.count() == 1
+            && kept.states.len() == 1
+            && kept.witness.top < 9
+            && kept.witness.explains(&kept.window, event)
+        {
+            return take_last(kept, event, note);
+        }
     } else {
-        take_weighed(criterion, alloc, kept, cap, cut, event, note)
-    };
-    if taken.is_err() {
-        kept.witness.forget();
+        // Mostly the order that is kept explains the event, and then nothing is changed but the window.
+        if criterion == Criterion::Opacity && kept.witness.explains(&kept.window, event) {
+            kept.window.push(event, note);
+            return Ok(Weighed::Outcome);
+        }
+        if kept.window.is_quiet(criterion, event) {
+            return take_quiet(kept, event, note);
+        }
     }
-    taken
+    take_weighed(criterion, alloc, kept, cap, cut, event, note)
+}
+
+/// The same of an event at a cut, where the window has one transaction, from one outcome, and the order that is kept explains it: it
+/// leads to the only outcome.
+#[inline(always)]
+fn take_last(kept: &mut Open, event: Event, note: Note) -> Result<Weighed, AllocError>
+    requires room { IsTrue note.begins → count_of kept.old.window < 8 }
+    requires one { length (members kept.old.states) ≡ 1 }
+    requires top { kept.old.witness.top < 9 }
+    ensures ok { IfOk result (λ found. (found ≡ Outcome) × (members kept.new.states ≡ state_of kept.old.witness kept.old.witness.top ∷ [])
+        × StandsFor kept.new.window [] × Witnesses (members kept.new.states) [] kept.new.witness) }
+    ensures tracker { kept.new.tracker ≡ kept.old.tracker }
+    ensures err_states { OnErr result (members kept.new.states ≡ members kept.old.states) }
+    ensures err_window { OnErr result ((events : List Event) → StandsFor kept.old.window events → StandsFor kept.new.window events) }
+    ensures err_witness { OnErr result (kept.new.witness ≡ kept.old.witness) }
+{
+    kept.window.push(event, note);
+    let end = kept.witness.restart_at_end();
+    kept.states.put_only(end);
+    kept.window.clear();
+    Ok(Weighed::Outcome)
 }
 
 /// The same of an event that is quiet and at no cut: nothing is searched, so that nothing can fail once the event is taken.
+#[inline(always)]
 fn take_quiet(kept: &mut Open, event: Event, note: Note) -> Result<Weighed, AllocError>
     requires room { IsTrue note.begins → count_of kept.old.window < 8 }
     ensures ok { IfOk result (λ found. (criterion : Criterion) (cap : ℕ) (events : List Event) → StandsFor kept.old.window events
@@ -61,14 +101,16 @@ fn take_quiet(kept: &mut Open, event: Event, note: Note) -> Result<Weighed, Allo
     ensures tracker { kept.new.tracker ≡ kept.old.tracker }
     ensures states { OnErr result (members kept.new.states ≡ members kept.old.states) }
     ensures window { OnErr result ((events : List Event) → StandsFor kept.old.window events → StandsFor kept.new.window events) }
+    ensures witness { OnErr result (kept.new.witness ≡ kept.old.witness) }
 {
     let place = kept.window.open_place(event.thread);
-    kept.window.push(event, note)?;
+    kept.window.push(event, note);
     kept.witness.follow(&kept.window, place, event);
     Ok(Weighed::Outcome)
 }
 
 /// The same of any other event: the window is weighed with it, and where memory is refused the event is taken back.
+#[inline(never)]
 fn take_weighed(
     criterion: Criterion,
     alloc: Global,
@@ -86,14 +128,20 @@ fn take_weighed(
     ensures states { OnErr result (members kept.new.states ≡ members kept.old.states) }
     ensures window { OnErr result ((events : List Event) → StandsFor kept.old.window events → Notes events event note
         → StandsFor kept.new.window events) }
+    ensures witness { OnErr result ((events : List Event) → Witnesses (members kept.old.states) (views_of events) kept.old.witness
+        → Witnesses (members kept.old.states) (views_of events) kept.new.witness) }
 {
+    let explained = kept.witness.explains(&kept.window, event);
     let place = kept.window.open_place(event.thread);
     let mark = kept.window.mark(event.thread);
-    kept.window.push(event, note)?;
-    kept.witness.follow(&kept.window, place, event);
+    kept.window.push(event, note);
+    if !explained {
+        kept.witness.follow(&kept.window, place, event);
+    }
     let weighed = weigh(criterion, alloc, kept, cap, cut);
     if weighed.is_err() {
         kept.window.take_back(mark);
+        kept.witness.forget();
     }
     weighed
 }

@@ -7,20 +7,21 @@ ghost use Rattle.tmw_defs.specs.History.{transactions};
 ghost use Rattle.tmw_defs.specs.Opaque.{State};
 ghost use Rattle.tmw_cuts.specs.Members.{members};
 ghost use Rattle.tmw_cuts.specs.Standing.{StandsFor, views_of};
+ghost use Rattle.tmw_search.specs.Ended.{EndsOf};
 ghost use Rattle.tmw_witness.specs.Witnessing.{Witnesses};
 ghost use Rattle.tmw_monitor.specs.Weighing.{Tells};
 
 use crate::open::Open;
 use crate::weighed::Weighed;
 use std::alloc::{AllocError, Global};
-use tmw_cuts::{State, States};
+use tmw_cuts::{State, States, Window};
 use tmw_defs::Criterion;
 use tmw_search::{possible, replace_by_outcomes};
 use tmw_witness::Witness;
 
 /// Weighs the events of a window from the outcomes at its beginning. Told is whether they are at a cut: the set then becomes that
-/// of the outcomes there, where these are at most `cap`, and the window is cleared. Elsewhere they are searched where no serial order
-/// is known.
+/// of the outcomes there, where these are at most `cap`, and the window is cleared. Elsewhere a serial order is looked for where none is
+/// known, and is kept where one is found.
 pub fn weigh(
     criterion: Criterion,
     alloc: Global,
@@ -38,13 +39,26 @@ pub fn weigh(
     if cut {
         return close(criterion, alloc, kept, cap);
     }
-    if criterion == Criterion::Opacity && kept.witness.is_known() {
+    if has_order(criterion, &mut kept.witness, &kept.states, &kept.window) {
         return Ok(Weighed::Outcome);
     }
     if possible(criterion, alloc, &kept.states, &kept.window)? {
         Ok(Weighed::Outcome)
     } else {
         Ok(Weighed::NoOutcome)
+    }
+}
+
+/// Whether a serial order is kept, or is found where none is known, and is kept then. Serial orders are kept for opacity alone.
+fn has_order(criterion: Criterion, witness: &mut Witness, starts: &States, window: &Window) -> bool
+    ensures ends { IsTrue result → (events : List Event) → StandsFor window.now events
+        → Witnesses (members starts.now) (views_of events) witness.old → (end : State) × EndsOf criterion starts.now events end }
+    ensures witness { (events : List Event) → StandsFor window.now events
+        → Witnesses (members starts.now) (views_of events) witness.old → Witnesses (members starts.now) (views_of events) witness.new }
+{
+    match criterion {
+        Criterion::Opacity => witness.finds(starts, window),
+        Criterion::Strict => false,
     }
 }
 

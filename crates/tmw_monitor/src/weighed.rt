@@ -1,7 +1,7 @@
 ghost use Rattle.std.specs.Prelude.{◌≡◌};
-ghost use Rattle.tmw_monitor.specs.Weighing.{verdict_of};
+ghost use Rattle.tmw_monitor.specs.Weighing.{wrong_of};
 
-use tmw_defs::{Criterion, Verdict, Why};
+use tmw_defs::{Verdict, Why};
 
 /// What was found of the outcomes of a window, from those at its beginning.
 #[derive(Clone, Copy, PartialEq, Eq, Debug)]
@@ -15,14 +15,14 @@ pub enum Weighed {
 }
 
 impl Weighed {
-    /// The verdict by this criterion on a history of this length, where this was found of its last window.
-    pub fn verdict(self, criterion: Criterion, at: u64) -> Verdict
-        ensures { result ≡ verdict_of criterion at self }
+    /// The verdict on a history of this length, where this was found of its last window and something is wrong with it.
+    pub fn wrong(self, at: u64) -> Option<Verdict>
+        ensures { result ≡ wrong_of at self }
     {
         match self {
-            Weighed::Outcome => criterion.so_far(),
-            Weighed::NoOutcome => Verdict::Violated(at),
-            Weighed::TooMany => Verdict::Undecided(at, Why::States),
+            Weighed::Outcome => None,
+            Weighed::NoOutcome => Some(Verdict::Violated(at)),
+            Weighed::TooMany => Some(Verdict::Undecided(at, Why::States)),
         }
     }
 }

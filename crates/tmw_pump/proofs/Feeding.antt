@@ -1,6 +1,7 @@
 -- What a monitor was fed before and after it is fed the held event.
 use Rattle.std.proofs.Common.{◌≡◌, ◌+◌, ◌<◌, ◌≤◌, ◌^◌, List, length, Option, Some, subst, arith}
 use Rattle.std.proofs.Math.Bridge.{le_prop}
+use Rattle.std.proofs.Math.Nat.{ℕ_set}
 use Rattle.std.proofs.Math.Logic.{∥∥₁_elim, ∥∥₁_map}
 use Rattle.tmw_events.specs.declared.event.Event.{Event}
 use Rattle.tmw_defs.specs.Verdict.{Rules}
@@ -24,3 +25,7 @@ room-fed judged monitor fed few = ∥∥₁_elim fed le_prop (λ was. let counte
 pub fed_on : (old new : List Event) (before after : Monitor) → ∥ WasFed old before ∥₁
     → ((rules : Rules) → Fits rules old before → Fits rules new after) → ∥ WasFed new after ∥₁
 fed_on old new before after fed keeps = ∥∥₁_map fed (λ was. (was.0, keeps was.0 was.1))
+
+-- The monitor's count is the number of the events that were judged.
+pub count-fed : (judged : List Event) (monitor : Monitor) → ∥ WasFed judged monitor ∥₁ → monitor.count ≡ length judged
+count-fed judged monitor fed = ∥∥₁_elim fed (ℕ_set monitor.count (length judged)) (λ was. was.1.counted)

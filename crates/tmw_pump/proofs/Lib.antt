@@ -1,3 +1,4 @@
+pub mod Calls
 pub mod Feeding
 pub mod HeadlineProof
 pub mod OneLog

@@ -1,5 +1,5 @@
 -- What a call has done, turn by turn: each turn judges one event more.
-use Rattle.std.proofs.Common.{◌≡◌, ◌+◌, ◌++◌, ℕ, List, [], ◌∷◌, Option, refl, sym, ap, ◌∙◌, subst, append_assoc}
+use Rattle.std.proofs.Common.{◌≡◌, ◌+◌, ◌++◌, ℕ, List, [], ◌∷◌, Option, Some, None, refl, sym, ap, ◌∙◌, subst, append_assoc}
 use Rattle.std.proofs.lemmas.List.{append-nil, length_push}
 use Rattle.tmw_events.specs.declared.event.Event.{Event}
 use Rattle.tmw_monitor.specs.Fitting.{Fits}
@@ -10,8 +10,8 @@ use Rattle.tmw_pump.specs.Held.{listed}
 use Rattle.tmw_pump.specs.Pumping.{HasTakenAll, HasPumped}
 use Rattle.tmw_pump.specs.declared.front.Front.{Front}
 use Rattle.tmw_pump.specs.Resting.{all_of, HasRested}
-use Rattle.tmw_pump.specs.declared.pump.Pump.{Pump}
-use Rattle.tmw_pump.specs.declared.rest.Rest.{Rest}
+use Rattle.tmw_pump.specs.declared.forgetting_pump.ForgettingPump.{ForgettingPump}
+use Rattle.tmw_pump.specs.declared.forgetting_rest.ForgettingRest.{ForgettingRest}
 
 pub taken-append : (one two three : ReaderIs) (first second : List Event) → HasTakenAll one first two → HasTakenAll two second three
     → HasTakenAll one (first ++ second) three
@@ -22,6 +22,13 @@ taken-append one two three (event ∷ first) second (next, taken, rest) more =
 pub came-same : (old new : Front) → new.judged.items ≡ old.judged.items → new.held ≡ old.held → came new ≡ came old
 came-same old new judged held =
     ap (λ (l : List Event). l ++ listed new.held) judged ∙ ap (λ (h : Option Event). old.judged.items ++ listed h) held
+
+-- A held event that is judged has come before and after.
+pub came-more : (old new : Front) (event : Event) → old.held ≡ Some event → new.judged.items ≡ old.judged.items ++ event ∷ []
+    → new.held ≡ None → came new ≡ came old
+came-more old new event held judged free =
+    ap (λ (h : Option Event). new.judged.items ++ listed h) free ∙ append-nil new.judged.items ∙ judged
+    ∙ sym (ap (λ (h : Option Event). old.judged.items ++ listed h) held)
 
 -- A front to which an event has come fits as before.
 pub fits-came : (event : Option Event) (old new : Front) → HasCome event old new → KeepsFit old new
@@ -56,10 +63,10 @@ judged-more count old mid new event done one keeps = record {
   fits = λ by fits. keeps by (done.fits by fits);
 }
 
-pub pumped-none : (pump : Pump) → HasPumped 0 pump pump.reader pump.front
+pub pumped-none : (pump : ForgettingPump) → HasPumped 0 pump pump.reader pump.front
 pumped-none pump = record { fresh = []; taken = refl; judged = judged-none pump.front }
 
-pub pumped-came : (count : ℕ) (event : Option Event) (old : Pump) (reader : ReaderIs) (mid new : Front) → HasPumped count old reader mid
+pub pumped-came : (count : ℕ) (event : Option Event) (old : ForgettingPump) (reader : ReaderIs) (mid new : Front) → HasPumped count old reader mid
     → HasCome event mid new → HasPumped count old reader new
 pumped-came count event old reader mid new done come = record {
   fresh = done.fresh;
@@ -67,7 +74,7 @@ pumped-came count event old reader mid new done come = record {
   judged = judged-came count event old.front mid new done.judged come;
 }
 
-pub pumped-next : (count : ℕ) (event : Option Event) (old mid next : Pump) → HasPumped count old mid.reader mid.front
+pub pumped-next : (count : ℕ) (event : Option Event) (old mid next : ForgettingPump) → HasPumped count old mid.reader mid.front
     → (fresh : List Event) × HasTakenAll mid.reader fresh next.reader → HasCome event mid.front next.front
     → HasPumped count old next.reader next.front
 pumped-next count event old mid next done (fresh, taken) come = record {
@@ -77,35 +84,48 @@ pumped-next count event old mid next done (fresh, taken) come = record {
 }
 
 -- A turn that was refused memory has judged nothing.
-pub pumped-refused : (count : ℕ) (old : Pump) (reader : ReaderIs) (mid new : Front) → HasPumped count old reader mid
-    → new.judged.items ≡ mid.judged.items → KeepsFit mid new → HasPumped count old reader new
-pumped-refused count old reader mid new done judged keeps = record {
+pub pumped-refused : (count : ℕ) (old next new : ForgettingPump) → HasPumped count old next.reader next.front → new.reader ≡ next.reader
+    → new.front.judged.items ≡ next.front.judged.items → KeepsFit next.front new.front → HasPumped count old new.reader new.front
+pumped-refused count old next new done same judged keeps = record {
   fresh = done.fresh;
-  taken = done.taken;
-  judged = judged-same count old.front mid new done.judged judged keeps;
+  taken = subst (HasTakenAll old.reader done.fresh) (sym same) done.taken;
+  judged = judged-same count old.front next.front new.front done.judged judged keeps;
 }
 
 -- A turn that was not has judged the event.
-pub pumped-more : (count : ℕ) (old : Pump) (reader : ReaderIs) (mid new : Front) (event : Event) → HasPumped count old reader mid
-    → new.judged.items ≡ mid.judged.items ++ event ∷ [] → KeepsFit mid new → HasPumped (count + 1) old reader new
-pumped-more count old reader mid new event done judged keeps = record {
+pub pumped-more : (count : ℕ) (old next new : ForgettingPump) (event : Event) → HasPumped count old next.reader next.front
+    → new.reader ≡ next.reader → new.front.judged.items ≡ next.front.judged.items ++ event ∷ [] → KeepsFit next.front new.front
+    → HasPumped (count + 1) old new.reader new.front
+pumped-more count old next new event done same judged keeps = record {
   fresh = done.fresh;
-  taken = done.taken;
-  judged = judged-more count old.front mid new event done.judged judged keeps;
+  taken = subst (HasTakenAll old.reader done.fresh) (sym same) done.taken;
+  judged = judged-more count old.front next.front new.front event done.judged judged keeps;
 }
 
-pub rested-next : (count : ℕ) (event : Option Event) (old mid next : Rest) → HasRested count old mid → all_of next ≡ all_of mid
+pub rested-none : (rest : ForgettingRest) → HasRested 0 rest rest
+rested-none rest = record { all = refl; judged = judged-none rest.front }
+
+pub rested-next : (count : ℕ) (event : Option Event) (old mid next : ForgettingRest) → HasRested count old mid → all_of next ≡ all_of mid
     → HasCome event mid.front next.front → HasRested count old next
 rested-next count event old mid next done all come = record {
   all = all ∙ done.all;
   judged = judged-came count event old.front mid.front next.front done.judged come;
 }
 
-pub rested-same : (count : ℕ) (old mid new : Rest) → HasRested count old mid → new.settled ≡ mid.settled
+pub rested-same : (count : ℕ) (old mid new : ForgettingRest) → HasRested count old mid → new.settled ≡ mid.settled
     → new.front.judged.items ≡ mid.front.judged.items → new.front.held ≡ mid.front.held → KeepsFit mid.front new.front
     → HasRested count old new
 rested-same count old mid new done left judged held keeps = record {
   all = ap (λ (l : List Event). came new.front ++ l) left
       ∙ ap (λ (l : List Event). l ++ mid.settled) (came-same mid.front new.front judged held) ∙ done.all;
   judged = judged-same count old.front mid.front new.front done.judged judged keeps;
+}
+
+pub rested-more : (count : ℕ) (old mid new : ForgettingRest) (event : Event) → HasRested count old mid → new.settled ≡ mid.settled
+    → mid.front.held ≡ Some event → new.front.judged.items ≡ mid.front.judged.items ++ event ∷ [] → new.front.held ≡ None
+    → KeepsFit mid.front new.front → HasRested (count + 1) old new
+rested-more count old mid new event done left held judged free keeps = record {
+  all = ap (λ (l : List Event). came new.front ++ l) left
+      ∙ ap (λ (l : List Event). l ++ mid.settled) (came-more mid.front new.front event held judged free) ∙ done.all;
+  judged = judged-more count old.front mid.front new.front event done.judged judged keeps;
 }

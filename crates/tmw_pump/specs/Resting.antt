@@ -3,20 +3,20 @@ use Rattle.std.specs.Prelude.{◌≡◌, ◌++◌, ◌≤◌, ◌<◌, ℕ, List
 use Rattle.tmw_events.specs.declared.event.Event.{Event}
 use Rattle.tmw_pump.specs.Fronts.{came, HasJudged}
 use Rattle.tmw_pump.specs.declared.pumped.Pumped.{Pumped}
-use Rattle.tmw_pump.specs.declared.rest.Rest.{Rest}
+use Rattle.tmw_pump.specs.declared.forgetting_rest.ForgettingRest.{ForgettingRest}
 
 -- all events of the ring's log: those judged, the one that is held, and those that are left
-abbrev pub all_of : Rest → List Event
+abbrev pub all_of : ForgettingRest → List Event
 all_of rest = came rest.front ++ rest.settled
 
 -- So many events more were judged, and none was lost.
-pub record HasRested (count : ℕ) (old new : Rest) : Type 0 where
+pub record HasRested (count : ℕ) (old new : ForgettingRest) : Type 0 where
   pub all : all_of new ≡ all_of old
   pub judged : HasJudged count old.front new.front
 
 -- The call has judged up to so many events, and fewer only where none is left. It holds no event where it was to judge any, and has
 -- done nothing where it was to judge none.
-pub record IsRested (max : ℕ) (pumped : Pumped) (old new : Rest) : Type 0 where
+pub record IsRested (max : ℕ) (pumped : Pumped) (old new : ForgettingRest) : Type 0 where
   pub counted : HasRested pumped.judged old new
   pub within : pumped.judged ≤ max
   pub verdict : pumped.verdict ≡ new.front.monitor.verdict

@@ -2,17 +2,19 @@ ghost use Rattle.std.specs.Prelude.{◌≡◌, ◌∷◌, ◌++◌, ◌+◌, ◌
 ghost use Rattle.tmw_defs.specs.declared.criterion.Criterion.TheVariants.{Opacity};
 ghost use Rattle.tmw_pump.specs.Held.{listed, WasFed};
 
+use crate::judged::Judged;
 use crate::pumped::Pumped;
-use std::alloc::{AllocError, Global};
+use std::alloc::AllocError;
 use tmw_defs::Verdict;
 use tmw_events::Event;
 use tmw_monitor::Monitor;
 
-/// The judged front, and at most one event that came behind it and waits for memory.
+/// The judged front, and at most one event that came behind it and waits for memory. No event is kept but that one: the list of
+/// those that were judged is for clauses alone.
 #[derive(Drop)]
 pub struct Front {
     monitor: Monitor,
-    judged: Vec<Event>,
+    judged: Judged,
     held: Option<Event>,
     pub ghost opacity: { monitor.criterion ≡ Opacity },
     pub ghost fed: { ∥ WasFed judged.items monitor ∥₁ },
@@ -23,7 +25,7 @@ impl Front {
     ghost use Rattle.tmw_pump.specs.Fronts.{HasCome, KeepsFit, TellsVerdict};
 
     /// Before the first event, over a monitor that judges by opacity and was fed none.
-    pub(crate) fn new(alloc: Global, monitor: Monitor) -> Front
+    pub(crate) fn new(monitor: Monitor) -> Front
         requires opacity { monitor.criterion ≡ Opacity }
         requires fed { WasFed [] monitor }
         ensures judged { result.judged.items ≡ [] }
@@ -32,7 +34,7 @@ impl Front {
     {
         Front {
             monitor,
-            judged: Vec::new(alloc),
+            judged: Judged::new(),
             held: None,
         }
     }
@@ -45,7 +47,7 @@ impl Front {
         self.held = Some(event);
     }
 
-    /// Judges the event that came, and keeps it. Where memory is refused, the event is still held.
+    /// Judges the event that came. Where memory is refused, the event is still held.
     pub(crate) fn judge(&mut self, event: Event) -> Result<(), AllocError>
         requires { self.old.held ≡ Some event }
         ensures fits { KeepsFit self.old self.new }
@@ -54,18 +56,17 @@ impl Front {
         ensures stays { OnErr result (self.new.judged.items ≡ self.old.judged.items) }
         ensures held { OnErr result (self.new.held ≡ self.old.held) }
     {
-        self.judged.reserve(1)?;
         self.monitor.feed(event)?;
-        self.judged.push_reserved(event);
+        self.judged = self.judged.then(&event);
         self.held = None;
         Ok(())
     }
 
-    /// The events that were judged.
-    pub(crate) fn judged(&self) -> &[Event]
-        ensures { result.now ≡ self.now.judged.items }
+    /// How many events were judged.
+    pub(crate) fn fed(&self) -> u64
+        ensures { result ≡ length self.now.judged.items }
     {
-        &self.judged
+        self.monitor.fed()
     }
 
     /// The event that is held, if any.
@@ -90,18 +91,5 @@ impl Front {
             judged,
             verdict: self.monitor.verdict(),
         }
-    }
-
-    /// The events that were judged, and the verdict on them.
-    pub(crate) fn finish(self) -> (Vec<Event>, Verdict)
-        ensures judged { result.0.items ≡ self.judged.items }
-        ensures verdict { result.1 ≡ self.monitor.verdict }
-    {
-        let Front {
-            monitor,
-            judged,
-            held: _,
-        } = self;
-        (judged, monitor.verdict())
     }
 }

@@ -1,7 +1,12 @@
 //! Takes events from a running ring, as they come, and judges them.
 #![tactic(auto)]
 
+mod forgetting_pump;
+mod forgetting_rest;
+#[cfg(test)]
+mod forgetting_tests;
 mod front;
+mod judged;
 mod pump;
 mod pumped;
 mod rest;
@@ -14,7 +19,10 @@ mod tests;
 #[cfg(test)]
 mod thread_tests;
 
+pub use forgetting_pump::ForgettingPump;
+pub use forgetting_rest::ForgettingRest;
 pub use front::Front;
+pub use judged::Judged;
 pub use pump::Pump;
 pub use pumped::Pumped;
 pub use rest::Rest;

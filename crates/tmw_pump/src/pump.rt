@@ -1,14 +1,13 @@
-//! Judging the events of a running ring.
-ghost use Rattle.std.specs.Prelude.{◌≡◌, ◌++◌, List, [], ◌∷◌, length, All, Some, None, IfOk, OnErr, IfSome, IfNone, IsSome, IsTrue, ◌↔◌};
+//! Judging the events of a running ring, and keeping them.
+ghost use Rattle.std.specs.Prelude.{◌≡◌, ◌++◌, List, [], ◌∷◌, length, All, Some, None, IfOk, OnOk, OnErr, IsSome, IsTrue, ◌↔◌};
 ghost use Rattle.tmw_defs.specs.declared.criterion.Criterion.TheVariants.{Opacity};
 ghost use Rattle.tmw_events.specs.declared.event.Event.{Event};
-ghost use Rattle.tmw_pump.specs.Held.{listed, WasFed};
+ghost use Rattle.tmw_pump.specs.Held.{WasFed};
 ghost use Rattle.tmw_ring.specs.Ends.{ReaderOf, WriterOf};
 ghost use Rattle.tmw_ring.specs.Meeting.{HaveMet};
 ghost use Rattle.tmw_ring.specs.Settling.{AreInOrder, IsSettled};
-ghost use Rattle.tmw_ring.specs.Takes.{HasFoundNone};
 
-use crate::front::Front;
+use crate::forgetting_pump::ForgettingPump;
 use crate::pumped::Pumped;
 use crate::rest::Rest;
 use std::alloc::{AllocError, Global};
@@ -17,21 +16,19 @@ use tmw_events::Event;
 use tmw_monitor::Monitor;
 use tmw_ring::{Reader, Ring, Writer};
 
-/// Takes events from a running ring and judges them, by the definition of opacity (Guerraoui and Kapalka 2008, section 5) at each
-/// prefix. What it has judged is a beginning of the ring's one log: what its reader has taken, less one event where a growth of
-/// memory was refused.
+/// Takes events from a running ring, judges them as a pump that forgets does, and keeps those that it has judged.
 #[derive(Drop)]
 pub struct Pump {
-    reader: Reader,
-    front: Front,
-    // The reader has taken what was judged, and behind it the event that is held.
-    pub ghost all: { front.judged.items ++ listed front.held ≡ reader.taken },
+    forgetting: ForgettingPump,
+    judged: Vec<Event>,
+    // What is kept is what was judged.
+    pub ghost kept: { judged.items ≡ forgetting.front.judged.items },
 }
 
 impl Pump {
     ghost use Rattle.tmw_pump.specs.Headline.{IsLogOf, GivesHeadline};
-    ghost use Rattle.tmw_pump.specs.Fronts.{HasCome, TellsVerdict, WasRefusedMemory};
-    ghost use Rattle.tmw_pump.specs.Pumping.{HasTakenAll, HasPumped, IsPumped};
+    ghost use Rattle.tmw_pump.specs.Fronts.{KeepsFit, TellsVerdict, WasRefusedMemory};
+    ghost use Rattle.tmw_pump.specs.Pumping.{HasPumped, IsPumped};
     ghost use Rattle.tmw_pump.specs.Resting.{all_of};
 
     /// A pump that takes by a reader that has taken nothing, and judges by a monitor whose criterion is opacity and that was fed
@@ -40,97 +37,100 @@ impl Pump {
         requires taken { reader.taken ≡ [] }
         requires opacity { monitor.criterion ≡ Opacity }
         requires fed { WasFed [] monitor }
-        ensures reader { result.reader ≡ reader }
-        ensures judged { result.front.judged.items ≡ [] }
-        ensures held { result.front.held ≡ None }
-        ensures monitor { result.front.monitor ≡ monitor }
+        ensures reader { result.forgetting.reader ≡ reader }
+        ensures judged { result.forgetting.front.judged.items ≡ [] }
+        ensures held { result.forgetting.front.held ≡ None }
+        ensures monitor { result.forgetting.front.monitor ≡ monitor }
     {
         Pump {
-            reader,
-            front: Front::new(alloc, monitor),
+            forgetting: ForgettingPump::new(reader, monitor),
+            judged: Vec::new(alloc),
         }
     }
 
-    /// Takes and judges up to `max` events: fewer only where the next place is not published. Where a growth of memory is refused, the event that
-    /// was to be judged is held, and is judged first by the next call; those judged before it in this call stay judged.
+    /// Takes and judges up to `max` events: fewer only where the next place is not published. Where a growth of memory is refused,
+    /// the event that was to be judged is held, and is judged first by the next call; those judged before it in this call stay judged.
     pub fn pump(&mut self, ring: &Ring, max: u64) -> Result<Pumped, AllocError>
-        requires { ReaderOf ring.now self.old.reader }
-        ensures of_ring { ReaderOf ring.now self.new.reader }
-        ensures ok { IfOk result (λ pumped. IsPumped max pumped self.old self.new) }
-        ensures err { OnErr result (WasRefusedMemory max (λ count. HasPumped count self.old self.new.reader self.new.front) self.new.front) }
-        ensures headline { GivesHeadline self.old.front self.new.reader.taken self.new.front.judged.items self.new.front.monitor.verdict }
+        requires { ReaderOf ring.now self.old.forgetting.reader }
+        ensures of_ring { ReaderOf ring.now self.new.forgetting.reader }
+        ensures ok { IfOk result (λ pumped. IsPumped max pumped self.old.forgetting self.new.forgetting) }
+        ensures idle { max ≡ 0 → self.new ≡ self.old }
+        ensures err { OnErr result (WasRefusedMemory max (λ count. HasPumped count self.old.forgetting self.new.forgetting.reader
+            self.new.forgetting.front) self.new.forgetting.front) }
+        ensures headline { GivesHeadline self.old.forgetting.front self.new.forgetting.reader.taken
+            self.new.forgetting.front.judged.items self.new.forgetting.front.monitor.verdict }
     {
         for judged in 0..max {
-            let Some(event) = self.next(ring) else {
-                return Ok(self.front.pumped(judged));
+            let Some(event) = self.forgetting.next(ring) else {
+                return Ok(self.forgetting.pumped(judged));
             };
-            self.front.judge(event)?;
+            self.judge(event)?;
         }
-        Ok(self.front.pumped(max))
+        Ok(self.forgetting.pumped(max))
     }
 
-    /// The event to be judged next: the one that is held, or else the next of the ring, which is held from now on.
-    fn next(&mut self, ring: &Ring) -> Option<Event>
-        requires { ReaderOf ring.now self.old.reader }
-        ensures of_ring { ReaderOf ring.now self.new.reader }
-        ensures front { HasCome result self.old.front self.new.front }
-        ensures taken { IfSome result (λ _. (fresh : List Event) × HasTakenAll self.old.reader fresh self.new.reader) }
-        ensures none { IfNone result (HasFoundNone self.old.reader self.new.reader) }
+    /// Judges the event that is held, and keeps it. Where memory is refused, it is still held.
+    fn judge(&mut self, event: Event) -> Result<(), AllocError>
+        requires { self.old.forgetting.front.held ≡ Some event }
+        ensures reader { self.new.forgetting.reader ≡ self.old.forgetting.reader }
+        ensures fits { KeepsFit self.old.forgetting.front self.new.forgetting.front }
+        ensures judged { OnOk result (self.new.forgetting.front.judged.items
+            ≡ self.old.forgetting.front.judged.items ++ event ∷ []) }
+        ensures free { OnOk result (self.new.forgetting.front.held ≡ None) }
+        ensures stays { OnErr result (self.new.forgetting.front.judged.items ≡ self.old.forgetting.front.judged.items) }
+        ensures held { OnErr result (self.new.forgetting.front.held ≡ self.old.forgetting.front.held) }
     {
-        if let Some(event) = self.front.held() {
-            return Some(event);
-        }
-        let Some(event) = ring.take(&mut self.reader) else {
-            return None;
-        };
-        self.front.hold(event);
-        Some(event)
+        // Room first: once the event is judged, nothing can fail.
+        self.judged.reserve(1)?;
+        self.forgetting.judge(event)?;
+        self.judged.push_reserved(event);
+        Ok(())
     }
 
     /// The judged front: the events that were judged, in the order of the log.
     pub fn judged(&self) -> &[Event]
-        ensures { result.now ≡ self.now.front.judged.items }
+        ensures { result.now ≡ self.now.forgetting.front.judged.items }
     {
-        self.front.judged()
+        &self.judged
     }
 
     /// Whether an event was taken that is not judged yet, since memory was refused.
     pub fn held(&self) -> bool
-        ensures { IsTrue result ↔ IsSome self.now.front.held }
+        ensures { IsTrue result ↔ IsSome self.now.forgetting.front.held }
     {
-        self.front.held().is_some()
+        self.forgetting.held()
     }
 
     /// The verdict on the judged front.
     pub fn verdict(&self) -> Verdict
-        ensures { TellsVerdict self.now.front result }
+        ensures { TellsVerdict self.now.forgetting.front result }
     {
-        self.front.verdict()
+        self.forgetting.verdict()
     }
 
     /// The reader meets a writer: the writer's next event comes after all that both had seen. Nothing is judged, and a held event
     /// stays held.
     pub fn meet(&mut self, ring: &Ring, writer: &mut Writer)
-        requires reader { ReaderOf ring.now self.old.reader }
+        requires reader { ReaderOf ring.now self.old.forgetting.reader }
         requires writer { WriterOf ring.now writer.old }
-        ensures met { HaveMet writer.old writer.new self.old.reader self.new.reader }
-        ensures same { self.new.front ≡ self.old.front }
-        ensures one_log { (log : List Event) × IsLogOf log (writer.new ∷ []) self.new.reader.taken }
+        ensures met { HaveMet writer.old writer.new self.old.forgetting.reader self.new.forgetting.reader }
+        ensures same { self.new.forgetting.front ≡ self.old.forgetting.front }
+        ensures one_log { (log : List Event) × IsLogOf log (writer.new ∷ []) self.new.forgetting.reader.taken }
     {
-        ring.meet(writer, &mut self.reader);
+        self.forgetting.meet(ring, writer);
     }
 
     /// Ends the ring, once all its writers have come back, with writer i at place i. What was not taken is left to be judged.
     pub fn settle(self, ring: Ring, writers: Vec<Writer>) -> Rest
-        requires reader { ReaderOf ring self.reader }
+        requires reader { ReaderOf ring self.forgetting.reader }
         requires writers { All (WriterOf ring) writers.items }
         requires count { length writers.items ≡ ring.size.writers }
         requires order { AreInOrder writers.items }
-        ensures settled { IsSettled self.reader writers.items result.settled }
-        ensures front { result.front ≡ self.front }
-        ensures one_log { IsLogOf (all_of result) writers.items (all_of result) }
+        ensures settled { IsSettled self.forgetting.reader writers.items result.forgetting.settled }
+        ensures front { result.forgetting.front ≡ self.forgetting.front }
+        ensures one_log { IsLogOf (all_of result.forgetting) writers.items (all_of result.forgetting) }
     {
-        let Pump { reader, front } = self;
-        Rest::new(ring.settle(reader, writers), front)
+        let Pump { forgetting, judged } = self;
+        Rest::new(forgetting.settle(ring, writers), judged)
     }
 }

@@ -75,8 +75,8 @@ fn record_some(trial: &Trial, told: &Told, ring: &Ring, mut writer: Writer) -> W
 
 /// Calls the pump so often, and tells at how many calls memory was refused, if what was seen behind each was as promised.
 fn pump_some(ring: &Ring, pump: &mut Pump, max: u64, calls: u64) -> Option<u64>
-    requires { ReaderOf ring.now pump.old.reader }
-    ensures { ReaderOf ring.now pump.new.reader }
+    requires { ReaderOf ring.now pump.old.forgetting.reader }
+    ensures { ReaderOf ring.now pump.new.forgetting.reader }
 {
     let mut refused = 0u64;
     for _ in 0..calls {
@@ -151,7 +151,7 @@ fn run_dropped<R: Threads + Wait + Sync>(
     writers: Vec<Writer>,
     pump: Pump,
 ) -> Option<Ended>
-    requires reader { ReaderOf ring pump.reader }
+    requires reader { ReaderOf ring pump.forgetting.reader }
     requires writers { All (WriterOf ring) writers.items }
     requires order { AreInOrder writers.items }
 {
@@ -160,10 +160,10 @@ fn run_dropped<R: Threads + Wait + Sync>(
         thread::scope_env(),
         rt,
         move |scope| -> Option<(Option<u64>, Pump)>
-            requires reader { ReaderOf shared.now pump.reader }
+            requires reader { ReaderOf shared.now pump.forgetting.reader }
             requires writers { All (WriterOf shared.now) writers.items }
             requires order { AreInOrder writers.items }
-            ensures reader { IfSome result (λ back. ReaderOf shared.entry.now back.1.reader) }
+            ensures reader { IfSome result (λ back. ReaderOf shared.entry.now back.1.forgetting.reader) }
         { run_away(scope, alloc, trial, told, shared, pump, writers) },
     );
     let Some((meanwhile, mut pump)) = back else {
@@ -186,10 +186,10 @@ fn run_away<'s, E>(
     mut pump: Pump,
     writers: Vec<Writer>,
 ) -> Option<(Option<u64>, Pump)>
-    requires reader { ReaderOf ring.now pump.reader }
+    requires reader { ReaderOf ring.now pump.forgetting.reader }
     requires writers { All (WriterOf ring.now) writers.items }
     requires order { AreInOrder writers.items }
-    ensures reader { IfSome result (λ back. ReaderOf ring.now back.1.reader) }
+    ensures reader { IfSome result (λ back. ReaderOf ring.now back.1.forgetting.reader) }
 {
     start_all(scope, alloc, ring, writers, move |writer| {
         record_some(trial, told, ring, writer)
@@ -208,7 +208,7 @@ fn run_settled<R: Threads + Wait + Sync>(
     writers: Vec<Writer>,
     pump: Pump,
 ) -> Option<Ended>
-    requires reader { ReaderOf ring pump.reader }
+    requires reader { ReaderOf ring pump.forgetting.reader }
     requires writers { All (WriterOf ring) writers.items }
     requires count { length writers.items ≡ ring.size.writers }
     requires order { AreInOrder writers.items }
@@ -218,10 +218,10 @@ fn run_settled<R: Threads + Wait + Sync>(
         thread::scope_env(),
         rt,
         move |scope| -> Option<(Option<u64>, Pump, Vec<Writer>)>
-            requires reader { ReaderOf shared.now pump.reader }
+            requires reader { ReaderOf shared.now pump.forgetting.reader }
             requires writers { All (WriterOf shared.now) writers.items }
             requires order { AreInOrder writers.items }
-            ensures reader { IfSome result (λ back. ReaderOf shared.entry.now back.1.reader) }
+            ensures reader { IfSome result (λ back. ReaderOf shared.entry.now back.1.forgetting.reader) }
             ensures writers { IfSome result (λ back. All (WriterOf shared.entry.now) back.2.items) }
             ensures count { IfSome result (λ back. length back.2.items ≡ length writers.items) }
             ensures order { IfSome result (λ back. AreInOrder back.2.items) }
@@ -255,10 +255,10 @@ fn run_and_return<'s, E, R: Threads + Wait + Sync>(
     mut pump: Pump,
     writers: Vec<Writer>,
 ) -> Option<(Option<u64>, Pump, Vec<Writer>)>
-    requires reader { ReaderOf ring.now pump.reader }
+    requires reader { ReaderOf ring.now pump.forgetting.reader }
     requires writers { All (WriterOf ring.now) writers.items }
     requires order { AreInOrder writers.items }
-    ensures reader { IfSome result (λ back. ReaderOf ring.now back.1.reader) }
+    ensures reader { IfSome result (λ back. ReaderOf ring.now back.1.forgetting.reader) }
     ensures writers { IfSome result (λ back. All (WriterOf ring.now) back.2.items) }
     ensures count { IfSome result (λ back. length back.2.items ≡ length writers.items) }
     ensures order { IfSome result (λ back. AreInOrder back.2.items) }

@@ -14,9 +14,9 @@ use tmw_monitor::{Bounds, Monitor};
 use tmw_ring::{Reader, Refused, Ring, Writer, ring};
 use tmw_testing::{FIRST, dirty_read};
 
-const ONE: Registers = Registers { number: 1 };
+pub const ONE: Registers = Registers { number: 1 };
 
-const WIDEST: Bounds = Bounds {
+pub const WIDEST: Bounds = Bounds {
     window: 8,
     states: 64,
 };
@@ -24,13 +24,13 @@ const WIDEST: Bounds = Bounds {
 /// A pump over a run of one register.
 fn new_pump(alloc: Global, reader: Reader) -> Result<Pump, AllocError>
     requires { reader.taken ≡ [] }
-    ensures { IfOk result (λ pump. pump.reader ≡ reader) }
+    ensures { IfOk result (λ pump. pump.forgetting.reader ≡ reader) }
 {
     Ok(Pump::new(alloc, reader, Monitor::new(alloc, ONE, WIDEST)?))
 }
 
 /// Records by the writer of this number.
-fn record_by(
+pub fn record_by(
     ring: &Ring,
     writers: &mut Vec<Writer>,
     number: usize,
@@ -47,7 +47,7 @@ fn record_by(
 }
 
 /// Records the dirty read, as far as it is one.
-fn record_dirty_read(ring: &Ring, writers: &mut Vec<Writer>)
+pub fn record_dirty_read(ring: &Ring, writers: &mut Vec<Writer>)
     requires two { length writers.old.items ≡ 2 }
     requires of_ring { All (WriterOf ring.now) writers.old.items }
     requires order { AreInOrder writers.old.items }
@@ -63,7 +63,7 @@ fn record_dirty_read(ring: &Ring, writers: &mut Vec<Writer>)
 
 /// The pump meets a writer, which is still of the ring.
 fn meet(ring: &Ring, pump: &mut Pump, writer: &mut Writer)
-    requires reader { ReaderOf ring.now pump.old.reader }
+    requires reader { ReaderOf ring.now pump.old.forgetting.reader }
     requires writer { WriterOf ring.now writer.old }
     ensures { WriterOf ring.now writer.new }
 {
@@ -82,7 +82,7 @@ fn record_empty(ring: &Ring, writer: &mut Writer, count: u64)
 }
 
 /// What a call to pump that judged so many events answers.
-fn done(judged: u64, verdict: Verdict) -> Result<Pumped, AllocError> {
+pub fn done(judged: u64, verdict: Verdict) -> Result<Pumped, AllocError> {
     Ok(Pumped { judged, verdict })
 }
 
@@ -164,8 +164,8 @@ fn is_dirty_read_so_far(seen: &Seen<'_>) -> bool {
 
 /// Judges the dirty read of a running ring, three events at a time, and tells whether each answer was as it should be.
 fn pump_all(ring: &Ring, pump: &mut Pump) -> bool
-    requires { ReaderOf ring.now pump.old.reader }
-    ensures { ReaderOf ring.now pump.new.reader }
+    requires { ReaderOf ring.now pump.old.forgetting.reader }
+    ensures { ReaderOf ring.now pump.new.forgetting.reader }
 {
     for _ in 0..8 {
         let before = pump.judged().len();

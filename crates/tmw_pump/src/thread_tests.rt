@@ -101,8 +101,8 @@ fn record_run<R: Wait>(
 
 /// Judges the events of the running ring as they come, until few are left. Where memory is refused it goes on.
 fn pump_running(ring: &Ring, pump: &mut Pump)
-    requires { ReaderOf ring.now pump.old.reader }
-    ensures { ReaderOf ring.now pump.new.reader }
+    requires { ReaderOf ring.now pump.old.forgetting.reader }
+    ensures { ReaderOf ring.now pump.new.forgetting.reader }
 {
     for _ in 0..TRIES {
         let left = RUNNING.saturating_sub(pump.judged().len() as u64);
@@ -128,10 +128,10 @@ fn run<'s, E, R: Threads + Wait + Sync>(
     writers: Vec<Writer>,
     given_up: &'s AtomicBool,
 ) -> Option<(Pump, Vec<Writer>)>
-    requires reader { ReaderOf ring.now pump.reader }
+    requires reader { ReaderOf ring.now pump.forgetting.reader }
     requires writers { All (WriterOf ring.now) writers.items }
     requires order { AreInOrder writers.items }
-    ensures reader { IfSome result (λ back. ReaderOf ring.now back.0.reader) }
+    ensures reader { IfSome result (λ back. ReaderOf ring.now back.0.forgetting.reader) }
     ensures writers { IfSome result (λ back. All (WriterOf ring.now) back.1.items) }
     ensures count { IfSome result (λ back. length back.1.items ≡ length writers.items) }
     ensures order { IfSome result (λ back. AreInOrder back.1.items) }
@@ -163,7 +163,7 @@ fn judge_rest(mut rest: Rest) -> (Vec<Event>, Verdict) {
 
 /// A ring of three writers, with a pump that has judged nothing.
 fn new_pump(alloc: Global) -> Option<(Ring, Vec<Writer>, Pump)>
-    ensures reader { IfSome result (λ made. ReaderOf made.0 made.2.reader) }
+    ensures reader { IfSome result (λ made. ReaderOf made.0 made.2.forgetting.reader) }
     ensures writers { IfSome result (λ made. All (WriterOf made.0) made.1.items) }
     ensures count { IfSome result (λ made. length made.1.items ≡ made.0.size.writers) }
     ensures order { IfSome result (λ made. AreInOrder made.1.items) }
@@ -194,10 +194,10 @@ fn judged_run<R: Threads + Wait + Sync>(
         thread::scope_env(),
         rt,
         move |scope| -> Option<(Pump, Vec<Writer>)>
-            requires reader { ReaderOf shared.now pump.reader }
+            requires reader { ReaderOf shared.now pump.forgetting.reader }
             requires writers { All (WriterOf shared.now) writers.items }
             requires order { AreInOrder writers.items }
-            ensures reader { IfSome result (λ back. ReaderOf shared.entry.now back.0.reader) }
+            ensures reader { IfSome result (λ back. ReaderOf shared.entry.now back.0.forgetting.reader) }
             ensures writers { IfSome result (λ back. All (WriterOf shared.entry.now) back.1.items) }
             ensures count { IfSome result (λ back. length back.1.items ≡ length writers.items) }
             ensures order { IfSome result (λ back. AreInOrder back.1.items) }

@@ -4,7 +4,7 @@ use Rattle.tmw_events.specs.declared.event.Event.{Event}
 use Rattle.tmw_pump.specs.Fronts.{HasJudged}
 use Rattle.tmw_pump.specs.Pumping.{HasTakenAll, HasPumped, IsPumped}
 use Rattle.tmw_pump.specs.declared.front.Front.{Front}
-use Rattle.tmw_pump.specs.declared.pump.Pump.{Pump}
+use Rattle.tmw_pump.specs.declared.forgetting_pump.ForgettingPump.{ForgettingPump}
 use Rattle.tmw_pump.specs.declared.pumped.Pumped.{Pumped}
 use Rattle.tmw_recorded.proofs.Looking.{looked-append, looked-taken, taken_by}
 use Rattle.tmw_recorded.specs.Pumping.{GoesOn, HasLooked, HasJudgedFound, HoldsUnjudged}
@@ -32,7 +32,7 @@ looks-ended old last new so_far (inl (all, same)) = subst (λ (reader : ReaderIs
 looks-ended old last new (looks, looked) (inr (fewer, none)) =
     (looks ++ None ∷ [], looked-append old last new looks (None ∷ []) looked (new, none, refl))
 
-pub looks-pumped : (max : ℕ) (pumped : Pumped) (old : ReaderIs) (mid new : Pump) → Looks old mid.reader → IsPumped max pumped mid new
+pub looks-pumped : (max : ℕ) (pumped : Pumped) (old : ReaderIs) (mid new : ForgettingPump) → Looks old mid.reader → IsPumped max pumped mid new
     → Looks old new.reader
 looks-pumped max pumped old mid new so_far is =
     looks-ended old is.last new.reader (looks-taken old mid.reader is.last is.counted.fresh so_far is.counted.taken) is.ended
@@ -43,7 +43,7 @@ found_none : {max count : ℕ} (last new : ReaderIs) → 0 < max → count ≡ 0
 found_none last new some zero (inl (all, same)) = absurd (omega (arith, some, zero, all))
 found_none last new some zero (inr (fewer, none)) = none
 
-pub judged_found : (max : ℕ) (pumped : Pumped) (old mid new : Pump) → 0 < max → pumped.judged ≡ 0 → Looks old.reader mid.reader
+pub judged_found : (max : ℕ) (pumped : Pumped) (old mid new : ForgettingPump) → 0 < max → pumped.judged ≡ 0 → Looks old.reader mid.reader
     → IsPumped max pumped mid new → HasJudgedFound old new
 judged_found max pumped old mid new some zero so_far is =
     let (looks, looked) = looks-taken old.reader mid.reader is.last is.counted.fresh so_far is.counted.taken in
@@ -55,7 +55,7 @@ judged_found max pumped old mid new some zero so_far is =
       held = is.held some;
     }
 
-pub holds_unjudged : (count : ℕ) (old mid new : Pump) (event : Event) → Looks old.reader mid.reader
+pub holds_unjudged : (count : ℕ) (old mid new : ForgettingPump) (event : Event) → Looks old.reader mid.reader
     → HasPumped count mid new.reader new.front → new.front.held ≡ Some event → HoldsUnjudged old new
 holds_unjudged count old mid new event so_far done held =
     let (looks, looked) = looks-taken old.reader mid.reader new.reader done.fresh so_far done.taken in

@@ -3,7 +3,7 @@ use Rattle.std.specs.Prelude.{◌≡◌, ◌++◌, List, [], ◌∷◌, Option, 
 use Rattle.tmw_events.specs.declared.event.Event.{Event}
 use Rattle.tmw_pump.specs.Fronts.{KeepsFit}
 use Rattle.tmw_pump.specs.declared.front.Front.{Front}
-use Rattle.tmw_pump.specs.declared.pump.Pump.{Pump}
+use Rattle.tmw_pump.specs.declared.forgetting_pump.ForgettingPump.{ForgettingPump}
 use Rattle.tmw_ring.specs.Ends.{ReaderIs}
 use Rattle.tmw_ring.specs.Takes.{HasTaken, HasFoundNone}
 
@@ -32,13 +32,13 @@ pub record HasTakenBy (looks : List (Option Event)) (old new : ReaderIs) : Type 
   pub taken : new.taken ≡ old.taken ++ found looks
 
 -- The last look found that the next place was not published, and all that was taken is judged.
-pub record HasJudgedFound (old new : Pump) : Type 0 where
+pub record HasJudgedFound (old new : ForgettingPump) : Type 0 where
   pub looks : List (Option Event)
   pub took : HasTakenBy (looks ++ None ∷ []) old.reader new.reader
   pub held : new.front.held ≡ None
 
 -- Memory was refused for this event, which is held: it was taken, and is not judged.
-pub record HoldsUnjudged (old new : Pump) : Type 0 where
+pub record HoldsUnjudged (old new : ForgettingPump) : Type 0 where
   pub looks : List (Option Event)
   pub took : HasTakenBy looks old.reader new.reader
   pub event : Event

@@ -28,12 +28,13 @@ pub fn pump_running<R: Wait>(
     signals: &Signals,
     threads: u64,
 ) -> Result<(), AllocError>
-    requires { ReaderOf ring.now pump.old.reader }
-    ensures of_ring { ReaderOf ring.now pump.new.reader }
-    ensures goes_on { GoesOn pump.old.front pump.new.front }
-    ensures ok { OnOk result (HasJudgedFound pump.old pump.new) }
-    ensures err { OnErr result (HoldsUnjudged pump.old pump.new) }
-    ensures headline { GivesHeadline pump.old.front pump.new.reader.taken pump.new.front.judged.items pump.new.front.monitor.verdict }
+    requires { ReaderOf ring.now pump.old.forgetting.reader }
+    ensures of_ring { ReaderOf ring.now pump.new.forgetting.reader }
+    ensures goes_on { GoesOn pump.old.forgetting.front pump.new.forgetting.front }
+    ensures ok { OnOk result (HasJudgedFound pump.old.forgetting pump.new.forgetting) }
+    ensures err { OnErr result (HoldsUnjudged pump.old.forgetting pump.new.forgetting) }
+    ensures headline { GivesHeadline pump.old.forgetting.front pump.new.forgetting.reader.taken
+        pump.new.forgetting.front.judged.items pump.new.forgetting.front.monitor.verdict }
 {
     for _ in rt.forever() {
         // Asked before the pump looks, so that the look comes behind all that the threads have recorded.
@@ -52,10 +53,11 @@ pub fn pump_running<R: Wait>(
 
 /// Judges all that the settled ring has left, and gives all events with the verdict on them.
 pub fn judge_rest(mut rest: Rest) -> Result<(Vec<Event>, Verdict), AllocError>
-    ensures all { IfOk result (λ judged. judged.0.items ≡ all_of rest) }
-    ensures verdict { IfOk result (λ judged. (by : Rules) → Fits by rest.front.judged.items rest.front.monitor
+    ensures all { IfOk result (λ judged. judged.0.items ≡ all_of rest.forgetting) }
+    ensures verdict { IfOk result (λ judged. (by : Rules) → Fits by rest.forgetting.front.judged.items rest.forgetting.front.monitor
         → IsVerdict by judged.0.items judged.1) }
-    ensures headline { IfOk result (λ judged. GivesHeadline rest.front (all_of rest) judged.0.items judged.1) }
+    ensures headline { IfOk result (λ judged. GivesHeadline rest.forgetting.front (all_of rest.forgetting)
+        judged.0.items judged.1) }
 {
     rest.pump(u64::MAX)?;
     Ok(rest.finish())

@@ -67,11 +67,11 @@ fn record_in_threads<R: Threads + Wait>(
     lists: &[Vec<Kind>],
     tries: u64,
 ) -> Result<Left, RecordFault>
-    requires reader { ReaderOf ring.now pump.reader }
+    requires reader { ReaderOf ring.now pump.forgetting.reader }
     requires writers { AreNewWriters ring.now writers.items }
     requires count { length writers.items ≡ length lists.now }
-    ensures reader { IfOk result (λ left. ReaderOf ring.now left.0.reader) }
-    ensures fits { IfOk result (λ left. KeepsFit pump.front left.0.front) }
+    ensures reader { IfOk result (λ left. ReaderOf ring.now left.0.forgetting.reader) }
+    ensures fits { IfOk result (λ left. KeepsFit pump.forgetting.front left.0.forgetting.front) }
     ensures back { IfOk result (λ left. AreBack ring.now lists.now left.1.items left.2.items) }
     ensures err { IfErr result IsOfThreads }
 {
@@ -81,11 +81,11 @@ fn record_in_threads<R: Threads + Wait>(
         thread::scope_env(),
         rt,
         move |scope| -> Result<Left, RecordFault>
-            requires reader { ReaderOf ring.now pump.reader }
+            requires reader { ReaderOf ring.now pump.forgetting.reader }
             requires writers { AreNewWriters ring.now writers.items }
             requires count { length writers.items ≡ length lists.now }
-            ensures reader { IfOk result (λ left. ReaderOf ring.entry.now left.0.reader) }
-            ensures fits { IfOk result (λ left. KeepsFit pump.front left.0.front) }
+            ensures reader { IfOk result (λ left. ReaderOf ring.entry.now left.0.forgetting.reader) }
+            ensures fits { IfOk result (λ left. KeepsFit pump.forgetting.front left.0.forgetting.front) }
             ensures back { IfOk result (λ left. AreBack ring.entry.now lists.entry.now left.1.items left.2.items) }
             ensures err { IfErr result IsOfThreads }
         { record_within(rt, scope, alloc, ring, pump, writers, lists, tries, signals) },
@@ -104,11 +104,11 @@ fn record_within<'s, E, R: Threads + Wait>(
     tries: u64,
     signals: &'s Signals,
 ) -> Result<Left, RecordFault>
-    requires reader { ReaderOf ring.now pump.reader }
+    requires reader { ReaderOf ring.now pump.forgetting.reader }
     requires writers { AreNewWriters ring.now writers.items }
     requires count { length writers.items ≡ length lists.now }
-    ensures reader { IfOk result (λ left. ReaderOf ring.now left.0.reader) }
-    ensures fits { IfOk result (λ left. KeepsFit pump.front left.0.front) }
+    ensures reader { IfOk result (λ left. ReaderOf ring.now left.0.forgetting.reader) }
+    ensures fits { IfOk result (λ left. KeepsFit pump.forgetting.front left.0.forgetting.front) }
     ensures back { IfOk result (λ left. AreBack ring.now lists.now left.1.items left.2.items) }
     ensures err { IfErr result IsOfThreads }
 {

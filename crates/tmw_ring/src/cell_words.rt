@@ -1,5 +1,5 @@
 //! Where the words of a place's cell stand in a ring's table.
-ghost use Rattle.std.specs.Prelude.{◌≡◌, ◌<◌, ◌≤◌};
+ghost use Rattle.std.specs.Prelude.{◌≡◌, ◌<◌, ◌≤◌, ◌%◌};
 ghost use Rattle.tmw_ring.specs.Words.{stamp_word, value_word};
 
 /// A place, and where the words of its cell stand: the first, which has the stamp, and the second, which has the value.
@@ -10,7 +10,19 @@ pub(crate) struct CellWords {
     pub(crate) value: usize,
 }
 
-/// Where the words of the place's cell stand, in a ring with so many cells. Each call that touches a cell divides here, once.
+/// The number of the place's cell. Where there are as many cells as a power of two it is masked, which takes less than to divide.
+fn cell_of(cells: u64, place: u64) -> u64
+    requires { 0 < cells }
+    ensures { result ≡ place % cells }
+{
+    let power = 1u64.wrapping_shl(cells.trailing_zeros());
+    if power == cells {
+        return place & (power - 1);
+    }
+    place % cells
+}
+
+/// Where the words of the place's cell stand, in a ring with so many cells. Each call that touches a cell does this once.
 pub(crate) fn words_at(cells: u64, place: u64) -> CellWords
     requires some { 0 < cells }
     requires small { cells ≤ 4096 }
@@ -18,7 +30,7 @@ pub(crate) fn words_at(cells: u64, place: u64) -> CellWords
     ensures stamp { result.stamp ≡ stamp_word cells place }
     ensures value { result.value ≡ value_word cells place }
 {
-    let stamp = 32 + 2 * (place % cells) as usize;
+    let stamp = 32 + 2 * cell_of(cells, place) as usize;
     CellWords {
         place,
         stamp,

@@ -20,10 +20,10 @@ pub fn judge_up_to<R: Wait>(
     pump: &mut Pump,
     count: u64,
 ) -> Result<(), AllocError>
-    requires { ReaderOf ring.now pump.old.reader }
-    ensures of_ring { OnOk result (ReaderOf ring.now pump.new.reader) }
-    ensures goes_on { OnOk result (GoesOn pump.old.front pump.new.front) }
-    ensures judged { OnOk result (length pump.new.front.judged.items ≡ count) }
+    requires { ReaderOf ring.now pump.old.forgetting.reader }
+    ensures of_ring { OnOk result (ReaderOf ring.now pump.new.forgetting.reader) }
+    ensures goes_on { OnOk result (GoesOn pump.old.forgetting.front pump.new.forgetting.front) }
+    ensures judged { OnOk result (length pump.new.forgetting.front.judged.items ≡ count) }
 {
     for _ in rt.forever() {
         let judged = pump.judged().len() as u64;

@@ -1,12 +1,13 @@
 -- End states that a search finds from one state after another: where they are forced, they are all.
-use Rattle.std.proofs.Common.{◌≡◌, ◌⊎◌, ◌+◌, ◌<◌, ◌≤◌, ℕ, suc, List, [], ◌∷◌, drop, length, get_or, sym, ap, subst, ◌∙◌, inl, inr, refl, true, arith}
+use Rattle.std.proofs.Common.{◌≡◌, ◌⊎◌, ◌↔◌, ◌+◌, ◌<◌, ◌≤◌, ℕ, suc, List, [], ◌∷◌, drop, length, get_or, sym, ap, subst, ◌∙◌, inl, inr, refl, true, arith}
 use Rattle.std.specs.List.{Contains}
 use Rattle.std.proofs.Math.Seq.{drop-cons}
+use Rattle.std.proofs.lemmas.Bool.{cases_Bool}
 use Rattle.tmw_events.specs.declared.event.Event.{Event}
 use Rattle.tmw_defs.specs.declared.criterion.Criterion.{Criterion}
 use Rattle.tmw_defs.specs.Criteria.{EndsBy, LeadsBy}
 use Rattle.tmw_defs.specs.Cuts.{is_cut}
-use Rattle.tmw_defs.specs.History.{transactions}
+use Rattle.tmw_defs.specs.History.{Txn, transactions}
 use Rattle.tmw_defs.specs.Opaque.{State}
 use Rattle.tmw_search.proofs.SameEnds.{forced-end_by}
 use Rattle.tmw_cuts.specs.declared.states.States.{States}
@@ -18,6 +19,7 @@ use Rattle.tmw_search.specs.declared.end_states.EndStates.{EndStates}
 use Rattle.tmw_search.specs.declared.end_states.EndStates.TheVariants.{Few, Many}
 use Rattle.tmw_search.specs.Ended.{AreEnds, AreMembers, EndsOf, Replaces}
 use Rattle.tmw_search.specs.ForcedEnds.{AreForced, AreForcedEnds}
+use Rattle.tmw_search.specs.ForcedTransactions.{is_writer, IsForced}
 use Rattle.tmw_search.specs.ShownTransactions.{ShowsTransactions}
 use Rattle.tmw_search.specs.Walks.{LeadsAll}
 use Rattle.tmw_search.proofs.Forcing.{is-forced}
@@ -126,3 +128,27 @@ only-end criterion old new window xs cap end shown one is some cut forced = λ e
             rw is (subst (λ (z : State). Contains (end ∷ []) z) same (contains_here end [])),
       ),
     )
+
+-- one transaction alone has one end state from each state
+few-forced : (ts : List Txn) → length ts ≤ 1 → IsForced ts
+few-forced [] few r = inl (omega arith)
+few-forced (t ∷ []) few r =
+    elim (cases_Bool (is_writer r t)) [ inl writes ↦ inl (rw writes (omega arith)) | inr none ↦ inl (rw none (omega arith)) ]
+few-forced (t ∷ u ∷ ts) few r = absurd (omega (arith, few))
+
+-- so the end state that is known is its only one
+pub alone-end : (criterion : Criterion) (old : States) (events : List Event) (end : State) → length (transactions events) ≤ 1
+    → is_cut events ≡ true → length (members old) ≡ 1 → EndsOf criterion old events end
+    → (s : State) → Contains (end ∷ []) s ↔ EndsOf criterion old events s
+alone-end criterion old events end few cut one known = λ s. (
+  λ has. elim (contains_cases end s [] has) [
+    | inl same ↦ subst (λ (z : State). EndsOf criterion old events z) same known
+    | inr later ↦ absurd (contains_none s later)
+  ],
+  λ (t, within, leads).
+      let ts = transactions events in
+      let begun : known.0 ≡ t = one_member (members old) known.0 t one known.1 within in
+      let too : LeadsBy criterion t ts end = subst (λ (z : State). LeadsBy criterion z ts end) begun known.2 in
+      let same : end ≡ s = forced-end_by criterion t end s ts (few-forced ts few) cut too leads in
+      subst (λ (z : State). Contains (end ∷ []) z) same (contains_here end []),
+)

@@ -30,7 +30,7 @@ sum_by-places f ts (q ∷ more) (i, at, rest) =
     omega (arith, sum_by-cons (λ p. f p.txn) q more, sum_by-places f (remove ts i) more rest, sum_by-remove f ts i q.txn at)
 
 -- what a register holds after operations, if it held this before
-abbrev final : ℕ → ℕ → List Op → ℕ
+abbrev pub final : ℕ → ℕ → List Op → ℕ
 final r x [] = x
 final r x (Read q v ∷ ops) = final r x ops
 final r x (Write q v ∷ ops) = final r (if q.number == r then v else x) ops
@@ -43,7 +43,7 @@ index-set s q r v within =
       | inr other ↦ rw other (get_or-set_other s q r v 0 (λ same. eqb-false q r other (sym same)))
     ]
 
-after-final : (s : State) (ops : List Op) (r : ℕ) → r < length s
+pub after-final : (s : State) (ops : List Op) (r : ℕ) → r < length s
     → slice_index (after_writes s ops) r ≡ final r (slice_index s r) ops
 after-final s [] r within = refl
 after-final s (Read q v ∷ ops) r within = after-final s ops r within
@@ -129,7 +129,7 @@ placed-balance s p r within over may reads blind =
     ]
 
 -- a state keeps its registers
-length-writes : (s : State) (ops : List Op) → length (after_writes s ops) ≡ length s
+pub length-writes : (s : State) (ops : List Op) → length (after_writes s ops) ≡ length s
 length-writes s [] = refl
 length-writes s (Read q v ∷ ops) = length-writes s ops
 length-writes s (Write q v ∷ ops) = length-writes (slice_set s q.number v) ops ∙ length-set s q.number v
@@ -163,7 +163,7 @@ order-balance s (p ∷ order) r within o none =
     omega (arith, first, more, sum_by-cons (λ q. takes r q.txn) p order, sum_by-cons (λ q. gives r q.txn) p order)
 
 -- a register that no operation writes stays, and what is left in one that is written doesn't come from before
-final-kept : (r x : ℕ) (ops : List Op) → writes r ops ≡ false → final r x ops ≡ x
+pub final-kept : (r x : ℕ) (ops : List Op) → writes r ops ≡ false → final r x ops ≡ x
 final-kept r x [] none = refl
 final-kept r x (Read q v ∷ ops) none = final-kept r x ops none
 final-kept r x (Write q v ∷ ops) none =
@@ -173,7 +173,7 @@ final-kept r x (Add q d v ∷ ops) none =
     elim (cases_Bool (q.number == r))
     [ inl is ↦ absurd (let b = rw is at none in cc) | inr other ↦ rw other (final-kept r x ops (rw other at none)) ]
 
-final-any : (r x y : ℕ) (ops : List Op) → writes r ops ≡ true → final r x ops ≡ final r y ops
+pub final-any : (r x y : ℕ) (ops : List Op) → writes r ops ≡ true → final r x ops ≡ final r y ops
 final-any r x y [] some = absurd (cc)
 final-any r x y (Read q v ∷ ops) some = final-any r x y ops some
 final-any r x y (Write q v ∷ ops) some =

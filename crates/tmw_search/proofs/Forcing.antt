@@ -1,11 +1,13 @@
 -- The masks of a window's writers: a register that two of them write, or that one writes blindly, has its bit.
-use Rattle.std.proofs.Common.{◌≡◌, ◌==◌, ◌&&◌, ◌+◌, ◌≤◌, ℕ, Bool, true, false, not, List, [], ◌∷◌, map, IsTrue, bit_and, bit_or, cond, w8, refl, sym, ap, ◌∙◌, inl, inr, arith}
-use Rattle.std.specs.Int.{bit_at}
+use Rattle.std.proofs.Common.{◌≡◌, ◌==◌, ◌&&◌, ◌||◌, ◌⊎◌, ◌+◌, ◌*◌, ◌%◌, ◌^◌, ◌<◌, ◌≤◌, ℕ, Bool, true, false, not, List, [], ◌∷◌, map, IsTrue, bit_and, bit_or, cond, w8, refl, sym, ap, ◌∙◌, inl, inr, arith}
+use Rattle.std.specs.Int.{bit_at, bit_not}
 use Rattle.std.specs.List.{list_all, count_by}
-use Rattle.std.proofs.lemmas.Bool.{and_parts, and_from, cases_Bool, cases_lt, eqb-true, eqb-false}
+use Rattle.std.proofs.lemmas.Bool.{and_parts, and_from, cases_Bool, not-true, cases_lt, eqb-true, eqb-false}
 use Rattle.std.proofs.lemmas.List.Folds.{list_all-map}
 use Rattle.std.proofs.lemmas.List.Sums.{sum_by-cons}
-use Rattle.std.proofs.lemmas.Nat.Bits.{bit_at-zero, bit_at-lt, bit_at_and, bit_at_or, bit_at_set_same, bit_at_set_other}
+use Rattle.std.proofs.Math.Nat.{mod-lt}
+use Rattle.std.proofs.lemmas.Nat.{or_of_8, pow_pos}
+use Rattle.std.proofs.lemmas.Nat.Bits.{bit_at-zero, bit_at-lt, bit_at_and, bit_at_not, bit_at_or, bit_at_set_same, bit_at_set_other}
 use Rattle.tmw_events.specs.declared.ix.Ix.{Ix}
 use Rattle.tmw_defs.specs.declared.op.Op.{Op}
 use Rattle.tmw_defs.specs.declared.op.Op.TheVariants.{Read, Write, Add}
@@ -13,8 +15,9 @@ use Rattle.tmw_search.specs.ForcedTransactions.{is_committed, writes, writes_bli
 use Rattle.tmw_defs.specs.History.{Txn}
 use Rattle.tmw_search.proofs.LayersProof.{bit_cases}
 use Rattle.tmw_cuts.specs.Standing.{view_of}
-use Rattle.tmw_cuts.specs.Views.{View}
-use Rattle.tmw_search.specs.ForcedEnds.{with_bit, written_by, blind_by, shared_by, is_without_blind, AreForced}
+use Rattle.tmw_cuts.specs.Views.{View, bit}
+use Rattle.tmw_cuts.specs.Written.{with_bit, with_new, written_by, needed_by, blind_by}
+use Rattle.tmw_search.specs.ForcedEnds.{shared_by, is_without_blind, AreForced}
 
 -- a bit that was set stays, and that of the register is set
 set-here : (mask r : ℕ) (q : Ix) → (q.number == r) ≡ true → bit_at (with_bit mask q.number) r ≡ 1
@@ -33,7 +36,7 @@ written-stays (Read q v ∷ ops) mask r has = written-stays ops mask r has
 written-stays (Write q v ∷ ops) mask r has = written-stays ops (with_bit mask q.number) r (set-stays mask r q has)
 written-stays (Add q d v ∷ ops) mask r has = written-stays ops (with_bit mask q.number) r (set-stays mask r q has)
 
-written-has : (ops : List Op) (mask r : ℕ) → writes r ops ≡ true → bit_at (written_by mask ops) r ≡ 1
+pub written-has : (ops : List Op) (mask r : ℕ) → writes r ops ≡ true → bit_at (written_by mask ops) r ≡ 1
 written-has [] mask r some = absurd (cc)
 written-has (Read q v ∷ ops) mask r some = written-has ops mask r some
 written-has (Write q v ∷ ops) mask r some =
@@ -47,41 +50,115 @@ written-has (Add q d v ∷ ops) mask r some =
       | inr other ↦ written-has ops (with_bit mask q.number) r (rw other at some)
     ]
 
-blind-stays : (ops : List Op) (seen mask r : ℕ) → bit_at mask r ≡ 1 → bit_at (blind_by seen mask ops) r ≡ 1
-blind-stays [] seen mask r has = has
-blind-stays (Read q v ∷ ops) seen mask r has = blind-stays ops (with_bit seen q.number) mask r has
-blind-stays (Write q v ∷ ops) seen mask r has =
-    elim (cases_Bool (bit_at seen q.number == 0)) [
-      | inl new ↦ rw new (blind-stays ops (with_bit seen q.number) (with_bit mask q.number) r (set-stays mask r q has))
-      | inr old ↦ rw old (blind-stays ops (with_bit seen q.number) mask r has)
+written_either : (q : Ix) (ops : List Op) (mask r : ℕ) → (writes r ops ≡ true) ⊎ (bit_at (with_bit mask q.number) r ≡ 1)
+    → (((q.number == r) || writes r ops) ≡ true) ⊎ (bit_at mask r ≡ 1)
+written_either q ops mask r one =
+    elim (cases_Bool (q.number == r)) [
+      | inl is ↦ inl (rw is refl)
+      | inr other ↦ rw other (elim one [ inl more ↦ inl more | inr was ↦ inr (sym (set-else mask r q other) ∙ was) ])
     ]
-blind-stays (Add q d v ∷ ops) seen mask r has = blind-stays ops (with_bit seen q.number) mask r has
 
-blind-has : (ops : List Op) (seen mask r : ℕ) → bit_at seen r ≡ 0 → writes_blindly r ops ≡ true
-    → bit_at (blind_by seen mask ops) r ≡ 1
-blind-has [] seen mask r new some = absurd (cc)
-blind-has (Read q v ∷ ops) seen mask r new some =
-    elim (cases_Bool (q.number == r)) [
-      | inl is ↦ absurd (let b = rw is at some in cc)
-      | inr other ↦ blind-has ops (with_bit seen q.number) mask r (set-else seen r q other ∙ new) (rw other at some)
+-- and it has no other bits
+written_has : (ops : List Op) (mask r : ℕ) → bit_at (written_by mask ops) r ≡ 1 → (writes r ops ≡ true) ⊎ (bit_at mask r ≡ 1)
+written_has [] mask r one = inr one
+written_has (Read q v ∷ ops) mask r one = written_has ops mask r one
+written_has (Write q v ∷ ops) mask r one = written_either q ops mask r (written_has ops (with_bit mask q.number) r one)
+written_has (Add q d v ∷ ops) mask r one = written_either q ops mask r (written_has ops (with_bit mask q.number) r one)
+
+pub bit_at-written_by : (ops : List Op) (r : ℕ) → bit_at (written_by 0 ops) r ≡ bit (writes r ops)
+bit_at-written_by ops r =
+    elim (cases_Bool (writes r ops)) [
+      | inl is ↦ rw is (written-has ops 0 r is)
+      | inr none ↦ rw none (elim (bit_cases (written_by 0 ops) r) [
+        | inl zero_bit ↦ zero_bit
+        | inr one ↦ absurd (elim (written_has ops 0 r one) [ inl is ↦ (cc) | inr was ↦ absurd (omega (arith, was, bit_at-zero r)) ])
+      ])
     ]
-blind-has (Write q v ∷ ops) seen mask r new some =
+
+blindly-writes : (ops : List Op) (r : ℕ) → writes_blindly r ops ≡ true → writes r ops ≡ true
+blindly-writes [] r some = absurd (cc)
+blindly-writes (Read q v ∷ ops) r some = blindly-writes ops r (and_parts (not (q.number == r)) _ some).1
+blindly-writes (Write q v ∷ ops) r some =
+    elim (cases_Bool (q.number == r)) [ inl is ↦ rw is refl | inr other ↦ rw other (blindly-writes ops r (rw other at some)) ]
+blindly-writes (Add q d v ∷ ops) r some =
+    let (other, rest) = and_parts (not (q.number == r)) _ some in
+    rw (not-true (q.number == r) other) (blindly-writes ops r rest)
+
+-- what is written is one of the eight registers
+writes-lt : (ops : List Op) (r : ℕ) → writes r ops ≡ true → r < 8
+writes-lt [] r some = absurd (cc)
+writes-lt (Read q v ∷ ops) r some = writes-lt ops r some
+writes-lt (Write q v ∷ ops) r some =
+    elim (cases_Bool (q.number == r)) [ inl is ↦ rw (← eqb-true q.number r is) q.below | inr other ↦ writes-lt ops r (rw other at some) ]
+writes-lt (Add q d v ∷ ops) r some =
+    elim (cases_Bool (q.number == r)) [ inl is ↦ rw (← eqb-true q.number r is) q.below | inr other ↦ writes-lt ops r (rw other at some) ]
+
+-- another register that is needed changes nothing of this one
+new-else : (left mask r : ℕ) (q : Ix) → (q.number == r) ≡ false → bit_at (with_new left mask q.number) r ≡ bit_at mask r
+new-else left mask r q other =
+    elim (cases_Bool (bit_at left q.number == 1)) [ inl old ↦ rw old refl | inr new ↦ rw new (set-else mask r q other) ]
+
+new-written : (left mask r : ℕ) (q : Ix) → bit_at left r ≡ 1 → bit_at (with_new left mask q.number) r ≡ bit_at mask r
+new-written left mask r q has =
     elim (cases_Bool (q.number == r)) [
-      | inl is ↦
-          let unseen : (bit_at seen q.number == 0) ≡ true = rw (eqb-true q.number r is, new) refl in
-          rw unseen (blind-stays ops (with_bit seen q.number) (with_bit mask q.number) r (set-here mask r q is))
-      | inr other ↦
-          let still = set-else seen r q other ∙ new in
-          elim (cases_Bool (bit_at seen q.number == 0)) [
-            | inl fresh ↦ rw fresh (blind-has ops (with_bit seen q.number) (with_bit mask q.number) r still (rw other at some))
-            | inr old ↦ rw old (blind-has ops (with_bit seen q.number) mask r still (rw other at some))
-          ]
+      | inl is ↦ (let old : (bit_at left q.number == 1) ≡ true = rw (eqb-true q.number r is, has) refl in rw old refl)
+      | inr other ↦ new-else left mask r q other
     ]
-blind-has (Add q d v ∷ ops) seen mask r new some =
+
+-- a register that was written is not needed from there on
+needed-written : (ops : List Op) (left mask r : ℕ) → bit_at left r ≡ 1 → bit_at (needed_by left mask ops) r ≡ bit_at mask r
+needed-written [] left mask r has = refl
+needed-written (Read q v ∷ ops) left mask r has =
+    needed-written ops left (with_new left mask q.number) r has ∙ new-written left mask r q has
+needed-written (Write q v ∷ ops) left mask r has = needed-written ops (with_bit left q.number) mask r (set-stays left r q has)
+needed-written (Add q d v ∷ ops) left mask r has =
+    needed-written ops (with_bit left q.number) (with_new left mask q.number) r (set-stays left r q has) ∙ new-written left mask r q has
+
+-- nor is one on which the first operation is a write
+needed-blind : (ops : List Op) (left mask r : ℕ) → bit_at left r ≡ 0 → bit_at mask r ≡ 0 → writes_blindly r ops ≡ true
+    → bit_at (needed_by left mask ops) r ≡ 0
+needed-blind [] left mask r none new some = new
+needed-blind (Read q v ∷ ops) left mask r none new some =
+    let (other, rest) = and_parts (not (q.number == r)) _ some in
+    needed-blind ops left (with_new left mask q.number) r none (new-else left mask r q (not-true (q.number == r) other) ∙ new) rest
+needed-blind (Write q v ∷ ops) left mask r none new some =
     elim (cases_Bool (q.number == r)) [
-      | inl is ↦ absurd (let b = rw is at some in cc)
-      | inr other ↦ blind-has ops (with_bit seen q.number) mask r (set-else seen r q other ∙ new) (rw other at some)
+      | inl is ↦ needed-written ops (with_bit left q.number) mask r (set-here left r q is) ∙ new
+      | inr other ↦ needed-blind ops (with_bit left q.number) mask r (set-else left r q other ∙ none) new (rw other at some)
     ]
+needed-blind (Add q d v ∷ ops) left mask r none new some =
+    let (differs, rest) = and_parts (not (q.number == r)) _ some in
+    let other = not-true (q.number == r) differs in
+    needed-blind ops (with_bit left q.number) (with_new left mask q.number) r (set-else left r q other ∙ none)
+    (new-else left mask r q other ∙ new) rest
+
+-- a mask of registers fits eight bits
+with_bit-lt : (mask r : ℕ) → mask < 256 → r < 8 → with_bit mask r < 256
+with_bit-lt mask r fits below = or_of_8 mask (1 * 2 ^ r % 2 ^ 8) fits (mod-lt (1 * 2 ^ r) (pow_pos 8))
+
+new-lt : (left mask : ℕ) (q : Ix) → mask < 256 → with_new left mask q.number < 256
+new-lt left mask q fits =
+    elim (cases_Bool (bit_at left q.number == 1)) [
+      | inl old ↦ ap_lt (rw old refl) fits
+      | inr new ↦ ap_lt (rw new refl) (with_bit-lt mask q.number fits q.below)
+    ]
+  where
+    ap_lt : {a b : ℕ} → a ≡ b → b < 256 → a < 256
+    ap_lt same small = omega (arith, same, small)
+
+needed-lt : (ops : List Op) (left mask : ℕ) → mask < 256 → needed_by left mask ops < 256
+needed-lt [] left mask fits = fits
+needed-lt (Read q v ∷ ops) left mask fits = needed-lt ops left (with_new left mask q.number) (new-lt left mask q fits)
+needed-lt (Write q v ∷ ops) left mask fits = needed-lt ops (with_bit left q.number) mask fits
+needed-lt (Add q d v ∷ ops) left mask fits =
+    needed-lt ops (with_bit left q.number) (with_new left mask q.number) (new-lt left mask q fits)
+
+blind-has : (ops : List Op) (r : ℕ) → writes_blindly r ops ≡ true → bit_at (blind_by ops) r ≡ 1
+blind-has ops r some =
+    let written = blindly-writes ops r some in
+    let one = written-has ops 0 r written in
+    let none = needed-blind ops 0 0 r (bit_at-zero r) (bit_at-zero r) some in
+    omega (arith, bit_at_and (written_by 0 ops) (bit_not w8 (needed_by 0 0 ops)) r, one, none, bit_at_not w8 (needed_by 0 0 ops) r (needed-lt ops 0 0 (omega arith)) (writes-lt ops r written))
 
 abbrev writer : ℕ → View → Bool
 writer r x = is_committed x.status && writes r x.ops
@@ -150,10 +227,10 @@ not-blind registers r x one without =
     elim (cases_Bool (is_committed x.status)) [
       | inl is ↦ elim (cases_Bool (writes_blindly r x.ops)) [
         | inl blind ↦ absurd (
-            let none : bit_and registers (blind_by 0 0 x.ops) ≡ 0 = eqb-true (bit_and registers (blind_by 0 0 x.ops)) 0 (rw is at without) in
-            let both = bit_at_and registers (blind_by 0 0 x.ops) r in
+            let none : bit_and registers (blind_by x.ops) ≡ 0 = eqb-true (bit_and registers (blind_by x.ops)) 0 (rw is at without) in
+            let both = bit_at_and registers (blind_by x.ops) r in
             let zero_bit = ap (λ n. bit_at n r) none ∙ bit_at-zero r in
-            omega (arith, both, zero_bit, one, blind-has x.ops 0 0 r (bit_at-zero r) blind))
+            omega (arith, both, zero_bit, one, blind-has x.ops r blind))
         | inr other ↦ rw (is, other) refl
       ]
       | inr other ↦ rw other refl

@@ -17,7 +17,7 @@ place-lt : (n i : ℕ) → n < 2 ^ 8 → bit_at n i ≡ 1 → i < 8
 place-lt n i fits one =
     elim (cases_lt i 8) [ inl low ↦ low | inr high ↦ absurd (omega (arith, one, bit_at_above n 8 i fits high)) ]
 
-none_left : (before mask : ℕ) → before < 2 ^ 8 → mask < 2 ^ 8 → bit_and before (bit_not w8 mask) ≡ 0
+pub none_left : (before mask : ℕ) → before < 2 ^ 8 → mask < 2 ^ 8 → bit_and before (bit_not w8 mask) ≡ 0
     → (i : ℕ) → bit_at before i ≡ 1 → bit_at mask i ≡ 1
 none_left before mask fits small none i one =
     let low = place-lt before i fits one in

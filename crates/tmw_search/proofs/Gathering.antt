@@ -1,26 +1,18 @@
 -- States that are gathered from pairs: those gathered and those of the pairs left are those of all.
-use Rattle.std.proofs.Common.{◌≡◌, ◌⊎◌, ◌+◌, ◌<◌, ◌≤◌, ◌-◌, ◌^◌, ℕ, zero, suc, List, [], ◌∷◌, drop, length, refl, sym, ap, subst, ◌∙◌, inl, inr, arith}
+use Rattle.std.proofs.Common.{◌≡◌, ◌⊎◌, ◌+◌, ◌<◌, ◌≤◌, ℕ, suc, List, [], ◌∷◌, drop, length, sym, ap, subst, ◌∙◌, inl, inr, arith}
 use Rattle.std.specs.List.{Contains}
 use Rattle.std.specs.Prelude.{slice_index_or}
 use Rattle.std.proofs.Math.Seq.{drop-cons}
 use Rattle.tmw_events.specs.declared.event.Event.{Event}
 use Rattle.tmw_defs.specs.declared.criterion.Criterion.{Criterion}
-use Rattle.tmw_defs.specs.History.{transactions}
 use Rattle.tmw_defs.specs.Opaque.{State}
 use Rattle.tmw_cuts.specs.declared.states.States.{States}
 use Rattle.tmw_cuts.specs.declared.window.Window.{Window}
 use Rattle.tmw_cuts.specs.Members.{members, AddsMember}
-use Rattle.tmw_cuts.specs.Standing.{StandsFor, views}
+use Rattle.tmw_cuts.specs.Standing.{StandsFor}
 use Rattle.tmw_search.specs.declared.end_states.EndStates.TheVariants.{Few, Many}
-use Rattle.tmw_search.specs.Ended.{EndsOf, AreLayerBy, AreEnds}
+use Rattle.tmw_search.specs.Ended.{EndsOf, AreLastOf, AreEnds, HasState}
 use Rattle.tmw_cuts.proofs.FirstMembers.{contains_here, contains_later, contains_cases, contains_none}
-use Rattle.tmw_search.proofs.WindowLayers.{last_layer, last-layer}
-
--- a pair of the list has this state
-pub record HasState (pairs : List (ℕ × State)) (s : State) : Type 0 where
-  pub pair : ℕ × State
-  pub within : Contains pairs pair
-  pub is : pair.1 ≡ s
 
 pub record Gathers (ends : List State) (left all : List (ℕ × State)) : Type 0 where
   pub only : (s : State) → Contains ends s → HasState all s
@@ -64,30 +56,26 @@ gathers-next ends more i all d within g adds =
     gathers-more ends more (slice_index_or all i d) (drop (i + 1) all) all
     (subst (λ (l : List (ℕ × State)). Gathers ends l all) left g) adds
 
--- the gathered states of the last layer are end states of the window
-pub gathered-end : (criterion : Criterion) (states : States) (window : Window) (k : ℕ) (all left : List (ℕ × State)) (ends : List State) (events : List Event)
-    → AreLayerBy criterion states window k all → k ≡ length (views window) → Gathers ends left all → StandsFor window events
+-- the gathered states of the last pairs are end states of the window
+pub gathered-end : (criterion : Criterion) (states : States) (window : Window) (all left : List (ℕ × State)) (ends : List State) (events : List Event)
+    → AreLastOf criterion states window all → Gathers ends left all → StandsFor window events
     → (s : State) → Contains ends s → EndsOf criterion states events s
-gathered-end criterion states window k all left ends events are count g stands s has =
-    let h = g.only s has in
-    subst (λ (r : State). EndsOf criterion states events r) h.is (last_layer criterion states window k all events are count stands h.pair h.within)
+gathered-end criterion states window all left ends events are g stands s has = (are events stands s).0 (g.only s has)
 
-pub gathered-more : (criterion : Criterion) (states : States) (window : Window) (k cap : ℕ) (all left : List (ℕ × State)) (ends : States)
-    → AreLayerBy criterion states window k all → k ≡ length (views window) → Gathers (members ends) left all → cap < length (members ends)
+pub gathered-more : (criterion : Criterion) (states : States) (window : Window) (cap : ℕ) (all left : List (ℕ × State)) (ends : States)
+    → AreLastOf criterion states window all → Gathers (members ends) left all → cap < length (members ends)
     → AreEnds criterion states window cap Many
-gathered-more criterion states window k cap all left ends are count g more = λ events stands.
-    (members ends, ends.rising, more, gathered-end criterion states window k all left (members ends) events are count g stands)
+gathered-more criterion states window cap all left ends are g more = λ events stands.
+    (members ends, ends.rising, more, gathered-end criterion states window all left (members ends) events are g stands)
 
-pub gathered-few : (criterion : Criterion) (states : States) (window : Window) (k cap : ℕ) (all left : List (ℕ × State)) (ends : States)
-    → AreLayerBy criterion states window k all → k ≡ length (views window) → Gathers (members ends) left all → left ≡ []
+pub gathered-few : (criterion : Criterion) (states : States) (window : Window) (cap : ℕ) (all left : List (ℕ × State)) (ends : States)
+    → AreLastOf criterion states window all → Gathers (members ends) left all → left ≡ []
     → length (members ends) ≤ cap → AreEnds criterion states window cap (Few ends)
-gathered-few criterion states window k cap all left ends are count g none few = λ events stands. (
+gathered-few criterion states window cap all left ends are g none few = λ events stands. (
   few,
   λ s. (
-    gathered-end criterion states window k all left (members ends) events are count g stands s,
-    λ end.
-        let pair : ℕ × State = (2 ^ length (transactions events) - 1, s) in
-        gathers-all (members ends) all s (subst (λ (l : List (ℕ × State)). Gathers (members ends) l all) none g)
-        (record { pair = pair; within = last-layer criterion states window k all events are count stands s end; is = refl }),
+    gathered-end criterion states window all left (members ends) events are g stands s,
+    λ end. gathers-all (members ends) all s (subst (λ (l : List (ℕ × State)). Gathers (members ends) l all) none g)
+        ((are events stands s).1 end),
   ),
 )

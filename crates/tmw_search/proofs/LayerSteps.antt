@@ -130,7 +130,7 @@ slice_get_some (x ∷ xs) (suc i) within = slice_get_some xs i (omega arith)
 eight_bits : (n bound : ℕ) → bound ≤ 8 → n < 2 ^ bound → n < 2 ^ 8
 eight_bits n bound few fits = omega (arith, fits, pow_mono few)
 
-after-way : (r : State) (x : View) (t : Txn) (by : Bool) → x.ops ≡ operations t.text
+pub after-way : (r : State) (x : View) (t : Txn) (by : Bool) → x.ops ≡ operations t.text
     → end_at x r by ≡ after r (record { txn = t; held = by })
 after-way r x t true ops = ap (after_writes r) ops
 after-way r x t false ops = refl

@@ -1,17 +1,13 @@
-mod AddedBelow
-mod AddedEnds
-mod AddedPuts
 mod BlindEnds
 mod BlindProof
+mod Choosing
 mod Completions
-mod ForcedEnds
+pub mod ForcedEnds
 mod ForcedProof
 mod Forcing
-mod FixedRest
-mod FreeNext
+pub mod FreeNext
 mod Gathering
 mod Holding
-mod LastOfMask
 mod LastOfOrder
 mod LayerLists
 pub mod LayerSteps
@@ -19,10 +15,14 @@ mod LayersBy
 pub mod LayersProof
 mod MaskBits
 pub mod Masks
+mod OrderRanks
+mod Pruning
+mod RankedOrders
 mod SameEnds
 mod Setting
 mod Sorting
 mod StrictSteps
 mod Walking
+mod WritersFound
 mod WindowLayers
 pub mod WindowViews

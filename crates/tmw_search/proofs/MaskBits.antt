@@ -1,9 +1,9 @@
--- Masks of eight bits: the bit of a place, a mask with one more, and the bits of the first places.
-use Rattle.std.proofs.Common.{◌≡◌, ◌+◌, ◌-◌, ◌*◌, ◌%◌, ◌^◌, ◌<◌, ◌≤◌, ℕ, suc, bit_or, sym, ap, ◌∙◌, inl, inr, pow-suc, arith, w8}
+-- Masks of eight bits: the bit of a place, and a mask with one more.
+use Rattle.std.proofs.Common.{◌≡◌, ◌+◌, ◌*◌, ◌%◌, ◌^◌, ◌<◌, ◌≤◌, ℕ, bit_or, sym, ap, ◌∙◌, inl, inr, arith, w8}
 use Rattle.std.specs.Int.{bit_at}
 use Rattle.std.proofs.Math.Nat.{mod-eq_of_lt}
 use Rattle.std.proofs.Math.Pow.{pow_mono}
-use Rattle.std.proofs.lemmas.Nat.Bits.{bit_at_ones_above, bit_at_set_same, bit_at_set_other, same_from_bits}
+use Rattle.std.proofs.lemmas.Nat.Bits.{bit_at_set_same, bit_at_set_other, same_from_bits}
 use Rattle.tmw_search.proofs.LayersProof.{same_place}
 use Rattle.tmw_search.proofs.Masks.{bit_at-more_same, bit_at-more_other}
 
@@ -22,12 +22,3 @@ mask-set mask place within new = same_from_bits (bit_or mask (1 * 2 ^ place % 2 
       | inl same ↦ rw same (bit_at_set_same w8 mask place within ∙ sym (bit_at-more_same mask place new))
       | inr other ↦ bit_at_set_other w8 mask place within i other ∙ sym (bit_at-more_other mask place i new other)
     ])
-
--- the bits of all, and of one more
-pub one_more : (all place : ℕ) → place < 8 → all ≡ 2 ^ place - 1 → bit_or all (1 * 2 ^ place % 2 ^ 8) ≡ 2 ^ (place + 1) - 1
-one_more all place within is =
-    let new : bit_at all place ≡ 0 = ap (λ (n : ℕ). bit_at n place) is ∙ bit_at_ones_above place place (omega arith) in
-    let same : place + 1 ≡ suc place = omega arith in
-    let power : 2 ^ (place + 1) ≡ 2 ^ place * 2 = ap (λ (n : ℕ). 2 ^ n) same ∙ pow-suc 2 place in
-    let least : 2 ^ 0 ≤ 2 ^ place = pow_mono {i = 0} {j = place} (omega arith) in
-    mask-set all place within new ∙ omega (arith, is, power, least)

@@ -11,6 +11,7 @@ use Rattle.tmw_cuts.specs.Views.{bit, view}
 use Rattle.tmw_cuts.specs.Standing.{before_of, view_of, views_of}
 use Rattle.tmw_cuts.proofs.Bits.{bit_at-before_of}
 use Rattle.tmw_cuts.proofs.Pushes.{length-views_of}
+use Rattle.tmw_search.specs.BlindEnds.{LastInTime}
 use Rattle.tmw_search.specs.ShownTransactions.{ShowsTransaction, ShowsTransactions, NoneBeforeItself}
 use Rattle.tmw_cuts.proofs.Masks.{bit-le}
 use Rattle.std.specs.Option.{option_map}
@@ -48,10 +49,15 @@ lies-at upto zero (u ∷ ts) t lies at = let is : u ≡ t = cc in rw is at lies.
 lies-at upto (suc i) (u ∷ ts) t lies at = lies-at upto i ts t lies.1 at
 
 -- a transaction's last event isn't before its first
+pub last_in_time : (events : List Event) → LastInTime (transactions events)
+last_in_time events = λ i t at.
+    (lies-at (0 + length events) i (transactions events) t (lies-transactions 0 0 [] events (omega arith) tt) at).ordered
+
+pub before-itself : (ts : List Txn) → LastInTime ts → NoneBeforeItself ts
+before-itself ts timely i t at = and_right (is_ended t.text) _ (le-ltb t.last t.first (timely i t at))
+
 pub none_before_itself : (events : List Event) → NoneBeforeItself (transactions events)
-none_before_itself events = λ i t at.
-    let lies = lies-at (0 + length events) i (transactions events) t (lies-transactions 0 0 [] events (omega arith) tt) at in
-    and_right (is_ended t.text) _ (le-ltb t.last t.first lies.ordered)
+none_before_itself events = before-itself (transactions events) (last_in_time events)
 
 -- what the list shows at a place that it has
 pub shown_at : (items : List cuts.Txn) (place : ℕ) (item : cuts.Txn) → place < length items → item ≡ get_or items place item

@@ -1,36 +1,16 @@
 -- What the search sees of a forced end state, and the end states that it finds where the end state is forced.
-use Rattle.std.specs.Prelude.{◌==◌, ◌&&◌, ◌||◌, ◌≤◌, ◌⊎◌, ◌*◌, ◌%◌, ◌^◌, ℕ, Bool, not, List, [], ◌∷◌, IsTrue, bit_and, bit_or, if◌then◌else◌}
-use Rattle.std.specs.Int.{bit_at}
+use Rattle.std.specs.Prelude.{◌==◌, ◌&&◌, ◌||◌, ◌≤◌, ◌⊎◌, ℕ, Bool, not, List, [], ◌∷◌, IsTrue, bit_and, bit_or, if◌then◌else◌}
 use Rattle.std.specs.List.{Contains, list_all, count_by}
 use Rattle.tmw_defs.specs.declared.criterion.Criterion.{Criterion}
-use Rattle.tmw_defs.specs.declared.op.Op.{Op}
-use Rattle.tmw_defs.specs.declared.op.Op.TheVariants.{Read, Write, Add}
 use Rattle.tmw_search.specs.ForcedTransactions.{is_committed, writes, writes_blindly, IsForced}
 use Rattle.tmw_defs.specs.Criteria.{EndsBy}
 use Rattle.tmw_defs.specs.History.{Txn, is_ended}
 use Rattle.tmw_defs.specs.Opaque.{State}
 use Rattle.tmw_cuts.specs.Views.{View}
+use Rattle.tmw_cuts.specs.Written.{written_by, blind_by}
 use Rattle.tmw_search.specs.declared.end_states.EndStates.{EndStates}
 use Rattle.tmw_search.specs.Ended.{AreMembers}
 use Rattle.tmw_search.specs.ShownTransactions.{ShowsTransactions}
-
-abbrev pub with_bit : ℕ → ℕ → ℕ
-with_bit mask r = bit_or mask (1 * 2 ^ r % 2 ^ 8)
-
--- the mask, and the registers that the operations write
-abbrev pub written_by : ℕ → List Op → ℕ
-written_by mask [] = mask
-written_by mask (Read q v ∷ ops) = written_by mask ops
-written_by mask (Write q v ∷ ops) = written_by (with_bit mask q.number) ops
-written_by mask (Add q d v ∷ ops) = written_by (with_bit mask q.number) ops
-
--- the mask, and the registers that they write blindly, where those in `seen` have been read or written before
-abbrev pub blind_by : ℕ → ℕ → List Op → ℕ
-blind_by seen mask [] = mask
-blind_by seen mask (Read q v ∷ ops) = blind_by (with_bit seen q.number) mask ops
-blind_by seen mask (Write q v ∷ ops) =
-    blind_by (with_bit seen q.number) (if bit_at seen q.number == 0 then with_bit mask q.number else mask) ops
-blind_by seen mask (Add q d v ∷ ops) = blind_by (with_bit seen q.number) mask ops
 
 -- the registers of `twice`, and those that two of these write that have committed, or one of them where it is in `once`
 abbrev pub shared_by : ℕ → ℕ → List View → ℕ
@@ -42,7 +22,7 @@ shared_by once twice (x ∷ xs) =
 
 -- it has not committed, or writes none of these registers blindly
 abbrev pub is_without_blind : ℕ → View → Bool
-is_without_blind registers x = not (is_committed x.status) || (bit_and registers (blind_by 0 0 x.ops) == 0)
+is_without_blind registers x = not (is_committed x.status) || (bit_and registers (blind_by x.ops) == 0)
 
 -- Each register is written by at most one committed transaction, or by none without a read of it before.
 abbrev pub AreForced : List View → Type 0

@@ -1,8 +1,10 @@
 pub mod BlindEnds
 pub mod BlindTransactions
+pub mod Choices
 pub mod Ended
 pub mod ForcedEnds
 pub mod ForcedTransactions
+pub mod LastWrites
 pub mod Layers
 pub mod Nexts
 pub mod Pairs

@@ -3,13 +3,14 @@ ghost use Rattle.std.specs.List.Sorted.{IsStrictlySortedBy};
 ghost use Rattle.tmw_events.specs.declared.event.Event.{Event};
 ghost use Rattle.tmw_cuts.specs.Members.{members};
 ghost use Rattle.tmw_cuts.specs.Standing.{StandsFor, count_of};
-ghost use Rattle.tmw_search.specs.Ended.{AreLayer, AreLayerBy, TellsEnd, AreEnds, EndsOf, Replaces};
+ghost use Rattle.tmw_search.specs.Ended.{AreLayer, AreLastOf, TellsEnd, AreEnds, EndsOf, Replaces};
 ghost use Rattle.tmw_search.specs.Pairs.{pair_cmp};
 
 use crate::aside::{Aside, set_aside};
 use crate::blind::{are_blind, find_blind_ends};
 use crate::end_states::EndStates;
 use crate::forced::{find_ends, is_forced};
+use crate::last_pairs::last_pairs;
 use crate::layers::layer_of;
 use crate::nexts::Reached;
 use crate::walk::finds_end;
@@ -42,25 +43,18 @@ pub fn layer(
     )
 }
 
-/// What can be reached from the states by all of the window's transactions.
-fn last_layer(
+/// All of the window's transactions, as a mask, with each state in which they may end that began in one of the states.
+fn last_of(
     criterion: Criterion,
     alloc: Global,
     states: &States,
     window: &Window,
 ) -> Result<Vec<Reached>, AllocError>
-    ensures { IfOk result (λ pairs. AreLayerBy criterion states.now window.now (count_of window.now) pairs.items) }
+    ensures { IfOk result (λ pairs. AreLastOf criterion states.now window.now pairs.items) }
 {
     let items = window.transactions();
     let aside = set_aside(criterion, items);
-    layer_of(
-        criterion,
-        alloc,
-        states.states(),
-        items,
-        &aside,
-        items.len(),
-    )
+    last_pairs(criterion, alloc, states.states(), items, &aside)
 }
 
 /// Whether the window's transactions have a legal serial order, for some completion, from one of the states: an order of all of
@@ -77,7 +71,7 @@ pub fn possible(
     if finds_end(criterion, window.transactions(), states.states()) {
         return Ok(true);
     }
-    let last = last_layer(criterion, alloc, states, window)?;
+    let last = last_of(criterion, alloc, states, window)?;
     Ok(!last.is_empty())
 }
 
@@ -100,12 +94,10 @@ pub fn outcomes(
         }
     }
     if are_blind(criterion, items) {
-        if let Some(ends) = find_blind_ends(alloc, items, states.states(), cap)? {
-            return Ok(ends);
-        }
+        return find_blind_ends(alloc, items, states.states(), cap);
     }
     let mut ends = States::empty(alloc);
-    let last = last_layer(criterion, alloc, states, window)?;
+    let last = last_of(criterion, alloc, states, window)?;
     for (_all, state) in &last {
         ends.insert(*state)?;
         if ends.len() > cap as usize {

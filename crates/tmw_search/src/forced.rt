@@ -1,47 +1,13 @@
 ghost use Rattle.std.specs.Prelude.{◌≡◌, ◌≤◌, IfOk, IfSome, IsTrue, length, map};
 ghost use Rattle.std.specs.List.{list_all};
 ghost use Rattle.tmw_cuts.specs.Views.{view};
-ghost use Rattle.tmw_search.specs.ForcedEnds.{written_by, blind_by, shared_by, is_without_blind, AreForced, AreForcedEnds};
+ghost use Rattle.tmw_search.specs.ForcedEnds.{shared_by, is_without_blind, AreForced, AreForcedEnds};
 
 use crate::end_states::EndStates;
-use crate::walk::find_end;
+use crate::walk::{Trail, find_end};
 use std::alloc::{AllocError, Global};
 use tmw_cuts::{State, States, Txn};
-use tmw_defs::{Criterion, Op, Status};
-
-/// The registers that the operations write, as a mask.
-fn written_by(ops: &[Op]) -> u8
-    ensures { result ≡ written_by 0 ops.now }
-{
-    let mut written = 0;
-    for op in ops {
-        match *op {
-            Op::Write(register, _) | Op::Add(register, _, _) => written |= 1 << register.get(),
-            Op::Read(_, _) => {}
-        }
-    }
-    written
-}
-
-/// The registers on which the first of the operations is a write, as a mask.
-fn blind_by(ops: &[Op]) -> u8
-    ensures { result ≡ blind_by 0 0 ops.now }
-{
-    let mut seen = 0u8;
-    let mut blind = 0;
-    for op in ops {
-        match *op {
-            Op::Write(register, _) => {
-                if seen >> register.get() & 1 == 0 {
-                    blind |= 1 << register.get();
-                }
-                seen |= 1 << register.get();
-            }
-            Op::Read(register, _) | Op::Add(register, _, _) => seen |= 1 << register.get(),
-        }
-    }
-    blind
-}
+use tmw_defs::{Criterion, Status};
 
 /// The registers that more than one committed transaction writes, as a mask.
 fn shared_by(items: &[Txn]) -> u8
@@ -51,7 +17,7 @@ fn shared_by(items: &[Txn]) -> u8
     let mut twice = 0;
     for item in items {
         if item.status == Status::Committed {
-            let own = written_by(&item.ops);
+            let own = item.written();
             twice |= once & own;
             once |= own;
         }
@@ -63,7 +29,7 @@ fn shared_by(items: &[Txn]) -> u8
 fn is_without_blind(item: &Txn, registers: u8) -> bool
     ensures { result ≡ is_without_blind registers (view item.now) }
 {
-    item.status != Status::Committed || registers & blind_by(&item.ops) == 0
+    item.status != Status::Committed || registers & item.blind() == 0
 }
 
 /// Whether none of them has committed and writes one of these registers blindly.
@@ -98,8 +64,8 @@ pub fn find_ends(
 {
     let mut ends = States::empty(alloc);
     for state in states {
-        let mut fuel = 64;
-        let Some(end) = find_end(criterion, items, state, &mut fuel) else {
+        let mut trail = Trail::new(64);
+        let Some(end) = find_end(criterion, items, state, &mut trail) else {
             return Ok(None);
         };
         ends.insert(end)?;

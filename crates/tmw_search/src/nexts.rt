@@ -86,7 +86,7 @@ fn push_ways(
 }
 
 /// Adds what placing each transaction makes of what was reached.
-fn push_nexts(
+pub fn push_nexts(
     criterion: Criterion,
     nexts: &mut Vec<Reached>,
     items: &[Txn],

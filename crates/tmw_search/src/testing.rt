@@ -69,15 +69,15 @@ pub fn window_of(
     events: &[Event],
 ) -> Result<Option<Window>, AllocError> {
     let mut tracker = Tracker::new(registers);
-    let mut window = Window::open(alloc, registers);
+    let mut window = Window::open(registers);
     for event in events {
         let Ok(note) = tracker.step(*event) else {
             return Ok(None);
         };
-        if note.begins && window.count() == 8 {
+        if note.begins && window.count() >= 8 {
             return Ok(None);
         }
-        window.push(*event, note)?;
+        window.push(*event, note);
     }
     Ok(Some(window))
 }

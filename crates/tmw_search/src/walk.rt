@@ -1,5 +1,7 @@
 ghost use Rattle.std.specs.Prelude.{◌≡◌, ◌<◌, ◌≤◌, IfSome, IsTrue, length, map};
 ghost use Rattle.tmw_cuts.specs.Views.{view};
+ghost use Rattle.tmw_defs.specs.declared.criterion.Criterion.TheVariants.{Opacity};
+ghost use Rattle.tmw_defs.specs.Opaque.{State};
 ghost use Rattle.tmw_search.specs.Walks.{GoesOnTo, LeadsAll, HaveEnd};
 
 use crate::aside::set_aside;
@@ -20,6 +22,42 @@ struct Trial {
     first: u8,
     /// The rest, as a mask.
     later: u8,
+}
+
+/// One transaction in an order, held or left out.
+#[derive(Clone, Copy, Debug)]
+pub struct Step {
+    pub place: usize,
+    pub held: bool,
+}
+
+/// What a search has placed, and how many placings it may still make. It is a guess: nothing is claimed of it.
+#[derive(Clone, Copy, Debug)]
+pub struct Trail {
+    /// What was placed last where so many transactions were still left behind it.
+    pub steps: [Step; 8],
+    fuel: u32,
+}
+
+impl Trail {
+    /// That of a search that may place so many transactions.
+    pub fn new(fuel: u32) -> Trail {
+        Trail {
+            steps: [Step {
+                place: 0,
+                held: false,
+            }; 8],
+            fuel,
+        }
+    }
+
+    /// Notes that this transaction is placed, and that so many are left behind it.
+    fn note(&mut self, left: usize, place: usize, held: bool) {
+        if let Some(step) = self.steps.get_mut(left) {
+            *step = Step { place, held };
+        }
+        self.fuel = self.fuel.saturating_sub(1);
+    }
 }
 
 /// Whether a transaction that isn't placed, other than the one at the place, reads such a value.
@@ -98,7 +136,7 @@ fn place_one(
     mask: u8,
     left: usize,
     state: &State,
-    fuel: &mut u32,
+    trail: &mut Trail,
 ) -> Option<State>
     requires few { length items.now ≤ 8 }
     requires some { 0 < left }
@@ -107,14 +145,14 @@ fn place_one(
     let Some(item) = items.get(place) else {
         return None;
     };
-    if *fuel == 0 || !is_next(item, place, mask) || !may_hold(item.status, held) {
+    if trail.fuel == 0 || !is_next(item, place, mask) || !may_hold(item.status, held) {
         return None;
     }
     let Some(end) = end_of(criterion, item, held, state) else {
         return None;
     };
-    *fuel -= 1;
-    walk(criterion, items, mask | 1 << place, left - 1, &end, fuel)
+    trail.note(left - 1, place, held);
+    walk(criterion, items, mask | 1 << place, left - 1, &end, trail)
 }
 
 /// Places one of those in `tried`, held or left out, and then the rest.
@@ -127,7 +165,7 @@ fn place_each(
     mask: u8,
     left: usize,
     state: &State,
-    fuel: &mut u32,
+    trail: &mut Trail,
 ) -> Option<State>
     requires few { length items.now ≤ 8 }
     requires some { 0 < left }
@@ -135,7 +173,7 @@ fn place_each(
 {
     for place in 0..items.len() {
         if tried >> place & 1 == 1 {
-            if let Some(end) = place_one(criterion, items, place, held, mask, left, state, fuel) {
+            if let Some(end) = place_one(criterion, items, place, held, mask, left, state, trail) {
                 return Some(end);
             }
         }
@@ -151,7 +189,7 @@ fn walk(
     mask: u8,
     left: usize,
     state: &State,
-    fuel: &mut u32,
+    trail: &mut Trail,
 ) -> Option<State>
     requires few { length items.now ≤ 8 }
     ensures { IfSome result (λ end. GoesOnTo criterion (map view items.now) mask left state.now end) }
@@ -162,7 +200,7 @@ fn walk(
     let mut trial = trial_of(criterion, items, mask, 0, state);
     if let Some(place) = trial.next {
         let held = is_committed(items, place);
-        let found = place_one(criterion, items, place, held, mask, left, state, fuel);
+        let found = place_one(criterion, items, place, held, mask, left, state, trail);
         if trial.alone || found.is_some() {
             return found;
         }
@@ -176,14 +214,32 @@ fn walk(
                 mask,
                 left,
                 state,
-                fuel,
+                trail,
             );
         }
     }
-    if let Some(end) = place_each(criterion, items, trial.first, true, mask, left, state, fuel) {
+    if let Some(end) = place_each(
+        criterion,
+        items,
+        trial.first,
+        true,
+        mask,
+        left,
+        state,
+        trail,
+    ) {
         return Some(end);
     }
-    if let Some(end) = place_each(criterion, items, trial.later, true, mask, left, state, fuel) {
+    if let Some(end) = place_each(
+        criterion,
+        items,
+        trial.later,
+        true,
+        mask,
+        left,
+        state,
+        trail,
+    ) {
         return Some(end);
     }
     place_each(
@@ -194,13 +250,18 @@ fn walk(
         mask,
         left,
         state,
-        fuel,
+        trail,
     )
 }
 
-/// A state in which the transactions can end that began in this one, where a search finds one that places at most `fuel`
-/// transactions.
-pub fn find_end(criterion: Criterion, items: &[Txn], state: &State, fuel: &mut u32) -> Option<State>
+/// A state in which the transactions can end that began in this one, where a search finds one that makes no more placings than the
+/// trail allows. The trail then has their order.
+pub fn find_end(
+    criterion: Criterion,
+    items: &[Txn],
+    state: &State,
+    trail: &mut Trail,
+) -> Option<State>
     requires { length items.now ≤ 8 }
     ensures { IfSome result (λ end. LeadsAll criterion (map view items.now) state.now end) }
 {
@@ -211,8 +272,21 @@ pub fn find_end(criterion: Criterion, items: &[Txn], state: &State, fuel: &mut u
         aside.mask,
         items.len() - aside.count,
         state,
-        fuel,
+        trail,
     )
+}
+
+/// How a search has placed the transactions that began in this state, where it has placed all of them: that one which so many were
+/// left behind, for each number. It is to be checked by whoever takes it; told is only that there is such an order.
+pub fn find_order(items: &[Txn], state: &State) -> Option<[Step; 8]>
+    requires { length items.now ≤ 8 }
+    ensures { IfSome result (λ steps. (end : State) × LeadsAll Opacity (map view items.now) state.now end) }
+{
+    let mut trail = Trail::new(64);
+    let Some(_end) = find_end(Criterion::Opacity, items, state, &mut trail) else {
+        return None;
+    };
+    Some(trail.steps)
 }
 
 /// Whether a search finds a state in which the transactions can end that began in one of these.
@@ -222,8 +296,8 @@ pub fn finds_end(criterion: Criterion, items: &[Txn], states: &[State]) -> bool
 {
     for state in states {
         // A state from which no order leads must not keep the others from being tried.
-        let mut fuel = 64;
-        if find_end(criterion, items, state, &mut fuel).is_some() {
+        let mut trail = Trail::new(64);
+        if find_end(criterion, items, state, &mut trail).is_some() {
             return true;
         }
     }

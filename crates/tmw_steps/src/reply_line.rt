@@ -1,12 +1,14 @@
 ghost use Rattle.std.specs.Prelude.{◌≡◌, ◌++◌, OnOk, OnErr, decimal};
 ghost use Rattle.tmw_lines.specs.Text.{line};
+ghost use Rattle.tmw_streams.specs.Bounded.{bounded_bytes};
+ghost use Rattle.tmw_streams.specs.PassedOn.{PassesOn};
 ghost use Rattle.tmw_streams.specs.Told.{Takes, TakesBeginning, one_more};
 ghost use Rattle.tmw_ring_defs.specs.declared.ring_step.Reply.TheVariants.{Taken};
 ghost use Rattle.tmw_steps.specs.ReplyText.{reply_text, counts_text, replies_text};
 
 use tmw_events::{Event, put_event};
 use tmw_ring_defs::Reply;
-use tmw_streams::{IoFault, Sink, put_all, put_with_number};
+use tmw_streams::{BoundedSink, IoFault, Sink, put_all, put_with_number};
 
 /// Writes a line for each reply, and then the line that counts the places that were claimed, `log`, and the events that
 /// were taken. It takes no memory. After a failed write a beginning of the lines went out, and not all of them.
@@ -21,10 +23,33 @@ pub fn put_replies<K: Sink>(
     ensures begun { OnErr result (TakesBeginning K.took K.holds sink.old (replies_text replies.now log taken) sink.new) }
     ensures failed { OnErr result (K.failures sink.new ≡ one_more (K.failures sink.old)) }
 {
+    let mut held = BoundedSink::new();
     for reply in replies {
-        put_line(sink, *reply)?;
+        pass_line(&mut held, sink, *reply)?;
     }
+    put_all(sink, held.bytes())?;
     put_counts(sink, log, taken)
+}
+
+/// Holds the reply's line behind the bytes held. Where it doesn't fit, these and the line go out.
+fn pass_line<K: Sink>(held: &mut BoundedSink, sink: &mut K, reply: Reply) -> Result<(), IoFault>
+    ensures passes { OnOk result (PassesOn K.took K.holds sink.old
+        (bounded_bytes held.old ++ line (reply_text reply)) (bounded_bytes held.new) sink.new) }
+    ensures well { OnOk result (K.failures sink.new ≡ K.failures sink.old) }
+    ensures begun { OnErr result (TakesBeginning K.took K.holds sink.old
+        (bounded_bytes held.old ++ line (reply_text reply)) sink.new) }
+    ensures failed { OnErr result (K.failures sink.new ≡ one_more (K.failures sink.old)) }
+{
+    let count = held.len();
+    match put_line(held, reply) {
+        Ok(()) => Ok(()),
+        Err(_) => {
+            held.truncate(count);
+            put_all(sink, held.bytes())?;
+            held.clear();
+            put_line(sink, reply)
+        }
+    }
 }
 
 /// Writes the reply's line, with its line feed.

@@ -12,14 +12,26 @@ fn expect(rt: &(impl Abort + AllocGlobal), replies: &[Reply], log: u64, taken: u
     assert_eq!(rt; put_replies(&mut sink, replies, log, taken), Ok(()));
     assert_eq!(rt; sink.bytes(), lines);
     for sent in 0..lines.len() {
-        let mut failing = MemorySink::limited(rt.alloc(), 1, Some(sent as u64 + 1));
-        assert_eq!(rt;
-            put_replies(&mut failing, replies, log, taken),
-            Err(IoFault),
-            "after {sent}"
-        );
-        assert_eq!(rt; failing.bytes(), &lines[..sent], "after {sent}");
+        expect_beginning(rt, replies, log, taken, &lines[..sent]);
     }
+}
+
+/// Writes them with the write failing that comes after so many bytes.
+fn expect_beginning(
+    rt: &(impl Abort + AllocGlobal),
+    replies: &[Reply],
+    log: u64,
+    taken: u64,
+    beginning: &[u8],
+) {
+    let sent = beginning.len();
+    let mut failing = MemorySink::limited(rt.alloc(), 1, Some(sent as u64 + 1));
+    assert_eq!(rt;
+        put_replies(&mut failing, replies, log, taken),
+        Err(IoFault),
+        "after {sent}"
+    );
+    assert_eq!(rt; failing.bytes(), beginning, "after {sent}");
 }
 
 #[test]
@@ -65,4 +77,24 @@ fn replies_come_in_their_order(rt: HostRuntime) {
         b"not ready\nword 5\nplace 0\nnot ready\nlog 1 taken 0\n",
     );
     expect(&rt, &[], 0, 0, b"log 0 taken 0\n");
+}
+
+#[test]
+fn more_replies_than_a_block_holds(rt: HostRuntime) -> Result<(), Fail> {
+    let mut replies = Vec::new(rt.alloc());
+    let mut lines = Vec::new(rt.alloc());
+    for number in 0..500u64 {
+        replies.push(Reply::Published(number * 1_000_000))?;
+        let line = format!(in rt.alloc(); "published {}\n", number * 1_000_000)?;
+        lines.extend_from_slice(line.as_bytes())?;
+    }
+    lines.extend_from_slice(b"log 500 taken 0\n")?;
+    assert!(rt; lines.len() > 2 * 4096);
+    let mut sink = MemorySink::limited(rt.alloc(), 1000, None);
+    assert_eq!(rt; put_replies(&mut sink, &replies, 500, 0), Ok(()));
+    assert_eq!(rt; sink.bytes(), lines.as_slice());
+    for sent in [0, 1, 4079, 4095, 4096, 4097, 8191, 8192, lines.len() - 1] {
+        expect_beginning(&rt, &replies, 500, 0, &lines[..sent]);
+    }
+    Ok(())
 }

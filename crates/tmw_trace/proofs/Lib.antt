@@ -1,3 +1,4 @@
+mod EventGiven
 mod EventLines
 mod FirstNumbers
 mod HeaderLines

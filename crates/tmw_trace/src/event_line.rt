@@ -33,6 +33,7 @@ pub fn event_of(version: Version, bytes: &[u8]) -> Option<Event>
 }
 
 /// Whether the version has this kind.
+#[inline(always)]
 pub fn speaks(version: Version, kind: Kind) -> bool
     ensures { result ≡ is_spoken version kind }
 {

@@ -1,90 +1,123 @@
-ghost use Rattle.std.specs.Prelude.{◌≡◌, ◌≤◌, ◌++◌, length, drop, IfSome};
-ghost use Rattle.tmw_events.specs.Text.{kind_text, FitsKind};
-ghost use Rattle.tmw_lines.specs.LineRead.{IsItemLine};
+ghost use Rattle.std.specs.Prelude.{◌≡◌, ℕ, ◌+◌, ◌<◌, ◌≤◌, ◌^◌, ◌∷◌, ◌++◌, length, drop};
+ghost use Rattle.tmw_events.specs.Text.{digit, kind_text, FitsKind};
+ghost use Rattle.tmw_lines.specs.Given.{IsGiven};
 ghost use Rattle.tmw_lines.specs.Text.{line};
 ghost use Rattle.tmw_trace.specs.Text.{trace_grammar};
 
 use crate::event_line::speaks;
 use crate::first_number::first_number;
 use crate::version::Version;
-use tmw_events::{Event, Kind, ix_of};
+use tmw_events::{Event, Ix, Kind, ix_of};
+use tmw_lines::{Given, Taker};
 
 /// The length of the longest line of an event whose number has at most nineteen digits.
 const LONGEST: usize = 26;
 
-/// The event of this version whose line, with its line feed, these bytes begin with, and the line's length, read in one pass.
-/// `None` says nothing: also a line of an event may be so near the end of the bytes, or have so large a number, that it isn't read.
+/// Gives the taker the event of this version whose line, with its line feed, these bytes begin with, read in one pass. `Nothing`
+/// says nothing: also a line of an event may be so near the end of the bytes, or have so large a number, that it isn't read.
 #[inline(always)]
-pub fn first_event(version: Version, bytes: &[u8]) -> Option<(Event, usize)>
-    ensures some { IfSome result (λ found. IsItemLine trace_grammar version found.0 bytes.now (drop found.1 bytes.now)) }
-    ensures within { IfSome result (λ found. found.1 ≤ length bytes.now) }
+pub fn give_event<T: Taker<Event>>(version: Version, bytes: &[u8], taker: &mut T) -> Given
+    requires { (count : ℕ) × (count < 2 ^ 40) × T.counts taker.old count }
+    ensures { IsGiven trace_grammar T.takes T.lacks T.counts version bytes.now taker.old taker.new result }
 {
     if bytes.len() < LONGEST {
-        return None;
+        return Given::Nothing;
     }
     match bytes {
         [thread, b' ', kind @ ..] => {
             let Some(thread) = ix_of(*thread) else {
-                return None;
+                return Given::Nothing;
             };
-            let Some(found) = first_kind(kind) else {
-                return None;
-            };
-            let (kind, length) = found;
-            if speaks(version, kind) {
-                Some((Event { thread, kind }, 2 + length))
-            } else {
-                None
-            }
+            give_kind(version, thread, kind, taker)
         }
-        _ => None,
+        _ => Given::Nothing,
     }
 }
 
-/// The kind whose text these bytes begin with, up to a line feed, and the length of both.
+/// The same, where the thread and the space behind it are read. Each letter has a call of its own, which knows the kind.
 #[inline(always)]
-fn first_kind(bytes: &[u8]) -> Option<(Kind, usize)>
+fn give_kind<T: Taker<Event>>(version: Version, thread: Ix, bytes: &[u8], taker: &mut T) -> Given
     requires long { 24 ≤ length bytes.now }
-    ensures some { IfSome result (λ found. bytes.now ≡ line (kind_text found.0) ++ drop found.1 bytes.now) }
-    ensures fits { IfSome result (λ found. FitsKind found.0) }
-    ensures within { IfSome result (λ found. found.1 ≤ 24) }
+    requires counted { (count : ℕ) × (count < 2 ^ 40) × T.counts taker.old count }
+    ensures { IsGiven trace_grammar T.takes T.lacks T.counts version (digit thread ∷ 32 ∷ bytes.now) taker.old taker.new result }
 {
     match bytes {
-        [b'K', b'\n', ..] => Some((Kind::K, 2)),
-        [b'T', b'\n', ..] => Some((Kind::T, 2)),
-        [b'C', b'\n', ..] => Some((Kind::C, 2)),
-        [b'X', b'\n', ..] => Some((Kind::X, 2)),
-        [b'A', b'\n', ..] => Some((Kind::A, 2)),
+        [b'K', b'\n', ..] => give(version, thread, Kind::K, bytes, 2, taker),
+        [b'T', b'\n', ..] => give(version, thread, Kind::T, bytes, 2, taker),
+        [b'C', b'\n', ..] => give(version, thread, Kind::C, bytes, 2, taker),
+        [b'X', b'\n', ..] => give(version, thread, Kind::X, bytes, 2, taker),
+        [b'A', b'\n', ..] => give(version, thread, Kind::A, bytes, 2, taker),
         [b'R', b' ', register, b'\n', ..] => {
             let Some(register) = ix_of(*register) else {
-                return None;
+                return Given::Nothing;
             };
-            Some((Kind::R(register), 4))
+            give(version, thread, Kind::R(register), bytes, 4, taker)
         }
         [b'V', b' ', value @ ..] => {
-            let Some((value, length)) = first_number(value) else {
-                return None;
+            let Some((value, count)) = first_number(value) else {
+                return Given::Nothing;
             };
-            Some((Kind::V(value), 2 + length))
+            give(version, thread, Kind::V(value), bytes, 2 + count, taker)
         }
         [b'W', b' ', register, b' ', value @ ..] => {
             let Some(register) = ix_of(*register) else {
-                return None;
+                return Given::Nothing;
             };
-            let Some((value, length)) = first_number(value) else {
-                return None;
+            let Some((value, count)) = first_number(value) else {
+                return Given::Nothing;
             };
-            Some((Kind::W(register, value), 4 + length))
+            give(
+                version,
+                thread,
+                Kind::W(register, value),
+                bytes,
+                4 + count,
+                taker,
+            )
         }
         [b'N', b' ', register, b' ', value @ ..] => {
             let Some(register) = ix_of(*register) else {
-                return None;
+                return Given::Nothing;
             };
-            let Some((value, length)) = first_number(value) else {
-                return None;
+            let Some((value, count)) = first_number(value) else {
+                return Given::Nothing;
             };
-            Some((Kind::N(register, value), 4 + length))
+            give(
+                version,
+                thread,
+                Kind::N(register, value),
+                bytes,
+                4 + count,
+                taker,
+            )
         }
-        _ => None,
+        _ => Given::Nothing,
+    }
+}
+
+/// Gives the event of this kind, whose text and line feed are so many of the bytes, where the version has it.
+#[inline(always)]
+fn give<T: Taker<Event>>(
+    version: Version,
+    thread: Ix,
+    kind: Kind,
+    bytes: &[u8],
+    count: usize,
+    taker: &mut T,
+) -> Given
+    requires within { count ≤ 24 }
+    requires long { 24 ≤ length bytes.now }
+    requires line { bytes.now ≡ line (kind_text kind) ++ drop count bytes.now }
+    requires fits { FitsKind kind }
+    requires counted { (taken : ℕ) × (taken < 2 ^ 40) × T.counts taker.old taken }
+    ensures { IsGiven trace_grammar T.takes T.lacks T.counts version (digit thread ∷ 32 ∷ bytes.now) taker.old taker.new result }
+{
+    let _bytes = bytes;
+    if !speaks(version, kind) {
+        return Given::Nothing;
+    }
+    match taker.take(Event { thread, kind }) {
+        Ok(()) => Given::Taken(2 + count),
+        Err(_) => Given::Refused(2 + count),
     }
 }

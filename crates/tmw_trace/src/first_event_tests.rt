@@ -1,8 +1,9 @@
 //! That lines are read alike in one pass and by the general reader, and that the pass finds what it may.
-use crate::first_event::first_event;
-use crate::{TraceLines, Version, event_of};
+use crate::first_event::give_event;
+use crate::{TraceLines, Version, event_of, read_trace};
 use std::alloc::AllocError;
 use std::test::Fail;
+use tmw_lines::Given;
 use tmw_streams::MemorySource;
 use tmw_testing::Seed;
 
@@ -54,14 +55,24 @@ fn lines_of_at_most_nineteen_digits_are_found_in_one_pass(rt: HostRuntime) -> Re
                 &rt,
                 "an event's line",
             );
-            assert_eq!(rt; first_event(Version::Two, &text), Some((event, length)));
+            let mut events = Vec::new(rt.alloc());
+            assert_eq!(rt;
+                give_event(Version::Two, &text, &mut events),
+                Given::Taken(length)
+            );
+            assert_eq!(rt; events.as_slice(), [event].as_slice());
         }
     }
     for number in LONG {
         let mut text = Vec::new(rt.alloc());
         add_line(&mut text, b" V ", number)?;
         text.extend_from_slice(&[b'\n'; 26])?;
-        assert_eq!(rt; first_event(Version::Two, &text), None);
+        let mut events = Vec::new(rt.alloc());
+        assert_eq!(rt;
+            give_event(Version::Two, &text, &mut events),
+            Given::Nothing
+        );
+        assert_eq!(rt; events.is_empty(), true);
     }
     Ok(())
 }
@@ -95,10 +106,23 @@ fn seeded_texts_are_read_alike_in_any_pieces(rt: HostRuntime) -> Result<(), Fail
             let mut pieces = MemorySource::limited(&text, most, None);
             let mut whole = MemorySource::limited(&text, 4096, None);
             let mut general = TraceLines::new();
-            let mut passing = TraceLines::new();
-            assert_eq!(rt; passing.header(&mut whole), general.header(&mut pieces));
-            for _ in 0..42 {
-                assert_eq!(rt; passing.next(&mut whole), general.next(&mut pieces));
+            assert!(rt; general.header(&mut pieces).is_ok());
+            match read_trace(rt.alloc(), &mut whole) {
+                Ok(trace) => {
+                    for event in &trace.events {
+                        assert_eq!(rt; general.next(&mut pieces), Ok(Some(*event)));
+                    }
+                    assert_eq!(rt; general.next(&mut pieces), Ok(None));
+                }
+                Err(fault) => {
+                    let mut last = general.next(&mut pieces);
+                    for _ in 0..42 {
+                        if last.is_ok() {
+                            last = general.next(&mut pieces);
+                        }
+                    }
+                    assert_eq!(rt; last, Err(fault));
+                }
             }
         }
     }

@@ -3,11 +3,11 @@ ghost use Rattle.tmw_trace.specs.Lengths.{long_no_header, long_no_event};
 ghost use Rattle.tmw_trace.specs.TextNames.{trace_naming};
 
 use crate::event_line::event_of;
-use crate::first_event::first_event;
+use crate::first_event::give_event;
 use crate::header::Header;
 use crate::version::Version;
 use tmw_events::Event;
-use tmw_lines::{LineFormat, Lines};
+use tmw_lines::{Given, LineFormat, Lines, Taker};
 
 /// Reads a trace line by line: its header, then one event after another.
 pub type TraceLines = Lines<Version>;
@@ -34,8 +34,9 @@ impl LineFormat for Version {
         event_of(self, bytes)
     }
 
-    fn first_item(self, bytes: &[u8]) -> Option<(Event, usize)> {
-        first_event(self, bytes)
+    #[inline(always)]
+    fn give_first<T: Taker<Event>>(self, bytes: &[u8], taker: &mut T) -> Given {
+        give_event(self, bytes, taker)
     }
 
     ghost naming = { trace_naming };

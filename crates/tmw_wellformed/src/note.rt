@@ -20,6 +20,7 @@ pub struct Note {
 }
 
 /// How an event of this kind ends its transaction, if it does.
+#[inline(always)]
 pub fn end_of(kind: Kind) -> Option<End>
     ensures { result ≡ end_of kind }
 {

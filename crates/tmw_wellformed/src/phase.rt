@@ -23,6 +23,7 @@ pub enum Phase {
 
 impl Phase {
     /// Whether a transaction of the thread is live.
+    #[inline(always)]
     pub fn is_live(self) -> bool
         ensures { result ≡ is_live self }
     {
@@ -30,6 +31,7 @@ impl Phase {
     }
 
     /// The phase after one event more of the thread. That a call's register is one of the run's is tested elsewhere.
+    #[inline(always)]
     pub fn next(self, kind: Kind) -> Result<Phase, Malformed>
         ensures { result ≡ next_phase self kind }
     {

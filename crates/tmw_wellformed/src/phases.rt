@@ -26,6 +26,7 @@ impl Phases {
     }
 
     /// The thread's phase.
+    #[inline(always)]
     pub fn get(&self, thread: Ix) -> Phase
         ensures { result ≡ slice_index_or self.now.by_thread thread.number Between }
     {
@@ -33,6 +34,7 @@ impl Phases {
     }
 
     /// Puts the thread into a phase.
+    #[inline(always)]
     pub fn set(&mut self, thread: Ix, phase: Phase)
         ensures { self.new.by_thread ≡ slice_set self.old.by_thread thread.number phase }
     {

@@ -31,6 +31,7 @@ impl Tracker {
 
     /// Takes the next event where the history stays well-formed with it. A refusal changes nothing, and names the first of the
     /// faults that the event has.
+    #[inline(always)]
     pub fn step(&mut self, event: Event) -> Result<Note, Malformed>
         ensures takes { IfOk result (λ _. (registers : ℕ) (history : List Event) → Tracks registers history self.old
             → Tracks registers (history ++ event ∷ []) self.new) }
@@ -66,6 +67,7 @@ impl Tracker {
 }
 
 /// Whether the event is a call on a register that the run does not have.
+#[inline(always)]
 fn lacks_register(registers: Registers, kind: Kind) -> bool
     ensures { result ≡ lacks_register registers.number kind }
 {

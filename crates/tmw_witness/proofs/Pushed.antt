@@ -1,5 +1,5 @@
 -- What one event more makes of the views of a window's transactions: one of them turns, or one begins.
-use Rattle.std.proofs.Common.{◌≡◌, ◌==◌, ◌^◌, ◌<◌, ◌≤◌, ℕ, zero, suc, Bool, true, false, List, [], ◌∷◌, ◌++◌, length, map, Some, None, get_or, refl, sym, ap, ◌∙◌, inl, inr, pow-suc, arith}
+use Rattle.std.proofs.Common.{◌≡◌, ◌==◌, ◌^◌, ◌<◌, ◌≤◌, ℕ, zero, suc, Bool, true, false, List, [], ◌∷◌, ◌++◌, length, map, Some, None, get_or, refl, sym, ap, subst, ◌∙◌, inl, inr, pow-suc, arith}
 use Rattle.std.specs.Int.{bit_at}
 use Rattle.std.specs.List.{list_any}
 use Rattle.std.specs.Prelude.{slice_get, position}
@@ -112,6 +112,21 @@ turns-pushed events e p y found at =
       },
       next,
     )
+
+-- so the one that is open for the thread turns, and becomes it with the event
+pub turns-next : (events : List Event) (e : Event) (p : ℕ) (x : View) → Some p ≡ position (is_open_for e.thread.number) (views_of events)
+    → slice_get (views_of events) p ≡ Some x
+    → TurnsAt (views_of events) (views_of (events ++ e ∷ [])) p x (next_view e.kind x)
+turns-next events e p x found at =
+    let vs = views_of events in
+    let (within, here, past) = position-Some (is_open_for e.thread.number) vs p x (sym found) in
+    let was : slice_get vs p ≡ Some (get_or vs p x) = slice_get-get_or vs p x within in
+    let same : get_or vs p x ≡ x = (let a = was in let b = at in cc) in
+    let now = rw same at (push-here e (completed_mask vs) vs p x within here past) in
+    let there : slice_get (views_of (events ++ e ∷ [])) p ≡ Some (next_view e.kind x) = rw (views_of-push events e) now in
+    let (z, turns, next) = turns-pushed events e p (next_view e.kind x) found there in
+    let is : z ≡ x = (let a = turns.was in let b = at in cc) in
+    subst (λ (v : View). TurnsAt vs (views_of (events ++ e ∷ [])) p v (next_view e.kind x)) {x = z} is turns
 
 completed_mask-lt : (vs : List View) → completed_mask vs < 2 ^ length vs
 completed_mask-lt [] = omega arith

@@ -1,3 +1,4 @@
+pub mod Placing
 pub mod Turns
 pub mod Witness
 pub mod Witnessing

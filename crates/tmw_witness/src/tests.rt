@@ -2,31 +2,49 @@
 use super::*;
 use std::alloc::{AllocError, Global};
 use std::test::Fail;
-use tmw_cuts::Window;
+use tmw_cuts::{State, States, Window};
 use tmw_events::{Event, Kind, Registers};
 use tmw_testing::{FIRST, SECOND, dirty_read, one, other};
 use tmw_wellformed::Note;
 
 const TWO: Registers = Registers { number: 2 };
 
+/// Takes the event in, where the window has room.
+fn take(window: &mut Window, witness: &mut Witness, event: Event) {
+    let place = window.open_place(event.thread);
+    let note = Note {
+        begins: place.is_none(),
+        ends: None,
+    };
+    if window.count() < 8 {
+        window.push(event, note);
+        witness.follow(window, place, event);
+    }
+}
+
 /// Whether an order is known after each of these events of a run whose registers begin at 0.
 fn known_after(alloc: Global, events: &[Event]) -> Result<Vec<bool>, AllocError> {
-    let mut window = Window::open(alloc, TWO);
+    let mut window = Window::open(TWO);
     let mut witness = Witness::new([0; 8]);
     let mut list = Vec::new(alloc);
     for event in events {
-        let place = window.open_place(event.thread);
-        let note = Note {
-            begins: place.is_none(),
-            ends: None,
-        };
-        if window.count() < 8 {
-            window.push(*event, note)?;
-            witness.follow(&window, place, *event);
-        }
+        take(&mut window, &mut witness, *event);
         list.push(witness.is_known())?;
     }
     Ok(list)
+}
+
+/// The end of an order that is known after these events, or is found then from one of the states.
+fn end_found_after(states: &States, events: &[Event]) -> Option<State> {
+    let mut window = Window::open(TWO);
+    let mut witness = Witness::new([0; 8]);
+    for event in events {
+        take(&mut window, &mut witness, *event);
+    }
+    if !witness.finds(states, &window) {
+        return None;
+    }
+    witness.known_end()
 }
 
 /// Whether an order is known after all of them.
@@ -107,5 +125,42 @@ fn a_commit_that_is_refused(rt: HostRuntime) -> Result<(), Fail> {
         other(Kind::V(0)),
     ];
     assert!(rt; is_known_after(rt.alloc(), &events)?);
+    Ok(())
+}
+
+/// The first of two that are held aborts: no order is known then, and one is looked for.
+#[test]
+fn an_order_is_found_where_none_is_known(rt: HostRuntime) -> Result<(), Fail> {
+    let events = [
+        one(Kind::W(FIRST, 1)),
+        one(Kind::K),
+        one(Kind::T),
+        other(Kind::W(FIRST, 2)),
+        other(Kind::K),
+        other(Kind::T),
+        one(Kind::A),
+    ];
+    assert!(rt; !is_known_after(rt.alloc(), &events)?);
+    let zeros = States::zeros(rt.alloc())?;
+    let end = end_found_after(&zeros, &events);
+    assert!(rt; end.is_some(), "{end:?}");
+    Ok(())
+}
+
+#[test]
+fn an_order_is_found_from_another_state_than_the_first(rt: HostRuntime) -> Result<(), Fail> {
+    let events = [one(Kind::R(FIRST)), one(Kind::V(7))];
+    let mut states = States::zeros(rt.alloc())?;
+    assert_eq!(rt; end_found_after(&states, &events), None);
+    let seven = [7, 0, 0, 0, 0, 0, 0, 0];
+    states.insert(seven)?;
+    assert_eq!(rt; end_found_after(&states, &events), Some(seven));
+    Ok(())
+}
+
+#[test]
+fn none_is_found_where_there_is_none(rt: HostRuntime) -> Result<(), Fail> {
+    let zeros = States::zeros(rt.alloc())?;
+    assert_eq!(rt; end_found_after(&zeros, &dirty_read()[..4]), None);
     Ok(())
 }

@@ -1,4 +1,4 @@
-ghost use Rattle.std.specs.Prelude.{◌≡◌, [], List, IfSome, IsTrue, None, false, slice_get, if◌then◌else◌};
+ghost use Rattle.std.specs.Prelude.{◌≡◌, ◌<◌, [], List, IfSome, IsTrue, None, false, slice_get, if◌then◌else◌};
 ghost use Rattle.std.specs.List.{Contains};
 ghost use Rattle.tmw_events.specs.declared.event.Event.{Event};
 ghost use Rattle.tmw_defs.specs.History.{transactions};
@@ -25,7 +25,7 @@ pub struct Witness {
 }
 
 impl Witness {
-    ghost use Rattle.tmw_witness.specs.Witnessing.{Witnesses};
+    ghost use Rattle.tmw_witness.specs.Witnessing.{Witnesses, state_of};
 
     /// That of a window without a transaction, from this state.
     pub fn new(start: State) -> Witness
@@ -49,6 +49,20 @@ impl Witness {
         self.known = true;
         self.states[0] = *start;
         self.top = 0;
+    }
+
+    /// Begins anew, with a window without a transaction, from the state in which the order ends.
+    #[inline(always)]
+    pub fn restart_at_end(&mut self) -> State
+        requires { self.old.top < 9 }
+        ensures end { result ≡ state_of self.old self.old.top }
+        ensures known { self.new.known ≡ self.old.known }
+        ensures witnesses { (starts : List State) → Contains starts result → Witnesses starts [] self.new }
+    {
+        let end = self.states[usize::from(self.top)];
+        self.states[0] = end;
+        self.top = 0;
+        end
     }
 
     /// Forgets the order.

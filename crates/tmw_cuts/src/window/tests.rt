@@ -1,6 +1,7 @@
 use super::*;
+use std::alloc::{AllocError, Global};
 use std::test::Fail;
-use tmw_defs::Op;
+use tmw_defs::Status;
 
 const FIRST: Ix = Ix { number: 0 };
 
@@ -9,24 +10,23 @@ const SECOND: Ix = Ix { number: 1 };
 const ONE: Registers = Registers { number: 1 };
 
 /// Adds this event: of a new transaction where the thread has none open.
-fn push(window: &mut Window, thread: Ix, kind: Kind) -> Result<(), AllocError> {
-    let begins = open_transaction(&window.txns, thread).is_none();
+fn push(window: &mut Window, thread: Ix, kind: Kind) {
+    let begins = window.open_place(thread).is_none();
     if window.count() < 8 {
-        window.push(Event { thread, kind }, Note { begins, ends: None })?;
+        window.push(Event { thread, kind }, Note { begins, ends: None });
     }
-    Ok(())
 }
 
 /// The window in which the first writes 1 and the second 2, both at once.
-fn window_of_writers(alloc: Global) -> Result<Window, AllocError> {
-    let mut window = Window::open(alloc, ONE);
-    push(&mut window, FIRST, Kind::W(FIRST, 1))?;
-    push(&mut window, SECOND, Kind::W(FIRST, 2))?;
+fn window_of_writers() -> Window {
+    let mut window = Window::open(ONE);
+    push(&mut window, FIRST, Kind::W(FIRST, 1));
+    push(&mut window, SECOND, Kind::W(FIRST, 2));
     for kind in [Kind::K, Kind::T, Kind::C] {
-        push(&mut window, FIRST, kind)?;
-        push(&mut window, SECOND, kind)?;
+        push(&mut window, FIRST, kind);
+        push(&mut window, SECOND, kind);
     }
-    Ok(window)
+    window
 }
 
 /// The status of each transaction, and its mask.
@@ -38,18 +38,18 @@ fn shown(alloc: Global, window: &Window) -> Result<Vec<(Status, u8)>, AllocError
     Ok(list)
 }
 
-/// The operations of all transactions.
-fn ops_of(alloc: Global, window: &Window) -> Result<Vec<Op>, AllocError> {
+/// What the transactions leave in the first register, and whether each only writes.
+fn left_of(alloc: Global, window: &Window) -> Result<Vec<(Option<u64>, bool)>, AllocError> {
     let mut list = Vec::new(alloc);
     for txn in window.transactions() {
-        list.extend_from_slice(&txn.ops)?;
+        list.push((txn.left_in(0), txn.only_writes()))?;
     }
     Ok(list)
 }
 
 #[test]
 fn overlapping_writers_are_a_cut(rt: HostRuntime) -> Result<(), Fail> {
-    let window = window_of_writers(rt.alloc())?;
+    let window = window_of_writers();
     assert_eq!(rt; window.count(), 2);
     assert!(rt; window.is_cut());
     assert_eq!(rt;
@@ -57,19 +57,19 @@ fn overlapping_writers_are_a_cut(rt: HostRuntime) -> Result<(), Fail> {
         [(Status::Committed, 0), (Status::Committed, 0)].as_slice()
     );
     assert_eq!(rt;
-        ops_of(rt.alloc(), &window)?.as_slice(),
-        [Op::Write(FIRST, 1), Op::Write(FIRST, 2)].as_slice()
+        left_of(rt.alloc(), &window)?.as_slice(),
+        [(Some(1), true), (Some(2), true)].as_slice()
     );
     Ok(())
 }
 
 #[test]
 fn one_more_begins_after_both(rt: HostRuntime) -> Result<(), Fail> {
-    let mut window = window_of_writers(rt.alloc())?;
+    let mut window = window_of_writers();
     for kind in [Kind::R(FIRST), Kind::V(2), Kind::T] {
-        push(&mut window, FIRST, kind)?;
+        push(&mut window, FIRST, kind);
     }
-    let copy = window.copy()?;
+    let copy = window.copy();
     assert_eq!(rt; copy.count(), 3);
     assert!(rt; !copy.is_cut());
     assert_eq!(rt;
@@ -82,8 +82,8 @@ fn one_more_begins_after_both(rt: HostRuntime) -> Result<(), Fail> {
         .as_slice()
     );
     assert_eq!(rt;
-        ops_of(rt.alloc(), &copy)?.as_slice(),
-        [Op::Write(FIRST, 1), Op::Write(FIRST, 2), Op::Read(FIRST, 2)].as_slice()
+        left_of(rt.alloc(), &copy)?.as_slice(),
+        [(Some(1), true), (Some(2), true), (None, false)].as_slice()
     );
     Ok(())
 }
@@ -103,14 +103,34 @@ fn is_quiet(window: &Window, kind: Kind) -> [bool; 2] {
 
 #[test]
 fn quiet_events(rt: HostRuntime) -> Result<(), Fail> {
-    let mut window = Window::open(rt.alloc(), ONE);
+    let mut window = Window::open(ONE);
     assert_eq!(rt; is_quiet(&window, Kind::R(FIRST)), [true, true]);
-    push(&mut window, FIRST, Kind::R(FIRST))?;
+    push(&mut window, FIRST, Kind::R(FIRST));
     assert_eq!(rt; is_quiet(&window, Kind::V(1)), [false, true]);
     assert_eq!(rt; is_quiet(&window, Kind::A), [true, true]);
-    push(&mut window, FIRST, Kind::V(1))?;
-    push(&mut window, FIRST, Kind::T)?;
+    push(&mut window, FIRST, Kind::V(1));
+    push(&mut window, FIRST, Kind::T);
     assert_eq!(rt; is_quiet(&window, Kind::C), [false, false]);
     assert_eq!(rt; is_quiet(&window, Kind::A), [false, false]);
+    Ok(())
+}
+
+#[test]
+fn what_is_taken_back_is_as_it_was(rt: HostRuntime) -> Result<(), Fail> {
+    let mut window = window_of_writers();
+    push(&mut window, FIRST, Kind::W(FIRST, 3));
+    let mark = window.mark(FIRST);
+    push(&mut window, FIRST, Kind::K);
+    window.take_back(mark);
+    assert_eq!(rt; window.open_place(FIRST), Some(2));
+    assert_eq!(rt;
+        left_of(rt.alloc(), &window)?.as_slice(),
+        [(Some(1), true), (Some(2), true), (None, true)].as_slice()
+    );
+    let mark = window.mark(SECOND);
+    push(&mut window, SECOND, Kind::T);
+    window.take_back(mark);
+    assert_eq!(rt; window.count(), 3);
+    assert_eq!(rt; window.open_place(SECOND), None);
     Ok(())
 }

@@ -21,7 +21,7 @@ const WRITING: [Kind; 4] = [Kind::W(FIRST, 1), Kind::K, Kind::T, Kind::C];
 /// A pump that has judged nothing, of a run of one register.
 fn new_pump(alloc: Global, reader: Reader) -> Result<Pump, AllocError>
     requires { reader.taken ≡ [] }
-    ensures { IfOk result (λ pump. pump.reader ≡ reader) }
+    ensures { IfOk result (λ pump. pump.forgetting.reader ≡ reader) }
 {
     let registers = Registers { number: 1 };
     let bounds = Bounds {
@@ -42,7 +42,7 @@ fn ended_beside<R: Threads + Wait + Sync>(
 ) -> Option<u64>
     requires writer { WriterOf ring.now writer }
     requires new { writer.made ≡ [] }
-    requires reader { ReaderOf ring.now pump.old.reader }
+    requires reader { ReaderOf ring.now pump.old.forgetting.reader }
 {
     let told = Signals::new();
     let signals = &told;
@@ -55,7 +55,7 @@ fn ended_beside<R: Threads + Wait + Sync>(
             let _ = record_list(ring, writer, lists, 1_000_000_000, signals);
         },
         || -> Option<u64>
-            requires { ReaderOf ring.now pump.now.reader }
+            requires { ReaderOf ring.now pump.now.forgetting.reader }
         {
             let answer = pump_running(rt, ring, pump, signals, 1);
             let ended = signals.ended();
@@ -87,8 +87,8 @@ fn the_pump_stops_only_where_the_thread_has_ended(rt: HostRuntime) -> Result<(),
 
 /// Judges the four events of a ring whose one thread has ended, and tells whether what then stands is what the answer says.
 fn judges_as_it_says<R: Wait>(rt: &R, ring: &Ring, pump: &mut Pump, signals: &Signals) -> bool
-    requires { ReaderOf ring.now pump.old.reader }
-    ensures { ReaderOf ring.now pump.new.reader }
+    requires { ReaderOf ring.now pump.old.forgetting.reader }
+    ensures { ReaderOf ring.now pump.new.forgetting.reader }
 {
     let answer = pump_running(rt, ring, pump, signals, 1);
     let all = pump.judged().len() == 4;

@@ -11,7 +11,7 @@ use tmw_events::Kind;
 /// The ends that the search finds from zeros, asked for at most two.
 fn found(alloc: Global, window: &Window) -> Result<Option<EndStates>, AllocError> {
     let zeros = States::zeros(alloc)?;
-    find_blind_ends(alloc, window.transactions(), zeros.states(), 2)
+    Ok(Some(find_blind_ends(alloc, window.transactions(), zeros.states(), 2)?))
 }
 
 /// Whether what was found is that there are more than were asked for.
@@ -37,12 +37,12 @@ fn eight_writers_leave_what_each_of_them_writes(rt: HostRuntime) -> Result<(), F
     let window = window_of(rt.alloc(), TWO, &events)?.expect(&rt, "well-formed");
     assert!(rt; are_blind(Criterion::Opacity, window.transactions()));
     let states = three_states(rt.alloc())?;
-    let found = find_blind_ends(rt.alloc(), window.transactions(), states.states(), 8)?;
+    let found = Some(find_blind_ends(rt.alloc(), window.transactions(), states.states(), 8)?);
     let ends = few(&found).expect(&rt, "at most eight");
     assert_eq!(rt; ends.len(), 8);
     assert_eq!(rt; ends.first(), Some(&holding(1, 7)));
     assert_eq!(rt; ends.last(), Some(&holding(8, 7)));
-    let more = find_blind_ends(rt.alloc(), window.transactions(), states.states(), 7)?;
+    let more = Some(find_blind_ends(rt.alloc(), window.transactions(), states.states(), 7)?);
     assert!(rt; is_many(&more));
     Ok(())
 }
@@ -113,9 +113,9 @@ fn registers_that_none_writes_stay_as_they_were(rt: HostRuntime) -> Result<(), F
         holding(6, 1),
         holding(6, 2),
     ];
-    let found = find_blind_ends(rt.alloc(), window.transactions(), states.states(), 6)?;
+    let found = Some(find_blind_ends(rt.alloc(), window.transactions(), states.states(), 6)?);
     assert_eq!(rt; few(&found), Some(expected.as_slice()));
-    let more = find_blind_ends(rt.alloc(), window.transactions(), states.states(), 5)?;
+    let more = Some(find_blind_ends(rt.alloc(), window.transactions(), states.states(), 5)?);
     assert!(rt; is_many(&more));
     assert!(rt;
         matches!(
@@ -129,7 +129,7 @@ fn registers_that_none_writes_stay_as_they_were(rt: HostRuntime) -> Result<(), F
 #[test]
 fn from_no_state_there_is_no_end(rt: HostRuntime) -> Result<(), Fail> {
     let window = window_of_two(rt.alloc(), &[write(FIRST, 1)], &[write(FIRST, 1)], Kind::C)?;
-    let found = find_blind_ends(rt.alloc(), window.transactions(), &[], 0)?;
+    let found = Some(find_blind_ends(rt.alloc(), window.transactions(), &[], 0)?);
     assert_eq!(rt; few(&found), Some([].as_slice()));
     Ok(())
 }

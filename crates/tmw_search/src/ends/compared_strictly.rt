@@ -4,31 +4,9 @@ use crate::nexts::Reached;
 use crate::testing::window_of;
 use std::test::Fail;
 use tmw_cuts::{State, Txn};
-use tmw_defs::{Op, Status};
+use tmw_defs::Status;
 use tmw_events::{Ix, Registers};
 use tmw_testing::Seed;
-
-/// What the registers hold after the operations, where each was answered what its register held.
-fn replayed(ops: &[Op], state: &State) -> Option<State> {
-    let mut held = *state;
-    for op in ops {
-        match *op {
-            Op::Read(register, value) => {
-                if held[register.get() as usize] != value {
-                    return None;
-                }
-            }
-            Op::Write(register, value) => held[register.get() as usize] = value,
-            Op::Add(register, added, value) => {
-                if held[register.get() as usize] != value {
-                    return None;
-                }
-                held[register.get() as usize] = value.wrapping_add(added);
-            }
-        }
-    }
-    Some(held)
-}
 
 /// The bits of the transactions that have committed.
 fn committed_of(items: &[Txn]) -> u8 {
@@ -52,7 +30,7 @@ fn push_members(
     for (place, item) in items.iter().enumerate() {
         let may = item.status == Status::Committed || item.status == Status::Pending;
         if may && place < 8 && mask >> place & 1 == 0 && item.before & committed & !mask == 0 {
-            if let Some(after) = replayed(&item.ops, &state) {
+            if let Some(after) = item.after(&state) {
                 left.push((mask | 1 << place, after))?;
             }
         }

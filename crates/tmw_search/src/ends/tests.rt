@@ -82,7 +82,7 @@ fn a_read_leaves_the_states_that_it_may_have_read(rt: HostRuntime) -> Result<(),
 
 #[test]
 fn an_empty_window_keeps_the_states(rt: HostRuntime) -> Result<(), Fail> {
-    let window = Window::open(rt.alloc(), ONE);
+    let window = Window::open(ONE);
     let states = states_below(rt.alloc(), 5)?;
     for cap in [5, 6] {
         let ends = ends_of(rt.alloc(), &states, &window, cap)?;

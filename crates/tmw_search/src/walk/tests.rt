@@ -10,12 +10,12 @@ use tmw_events::Ix;
 
 /// Where the search ends from zeros, placing at most so many transactions.
 fn found(window: &Window, most: u32) -> Option<State> {
-    let mut fuel = most;
+    let mut trail = Trail::new(most);
     find_end(
         Criterion::Opacity,
         window.transactions(),
         &holding(0, 0),
-        &mut fuel,
+        &mut trail,
     )
 }
 
@@ -199,7 +199,7 @@ fn states_from_which_no_order_leads_keep_no_other_from_being_tried(
 
 #[test]
 fn a_window_of_no_transaction_ends_where_it_began(rt: HostRuntime) -> Result<(), Fail> {
-    let window = Window::open(rt.alloc(), TWO);
+    let window = Window::open(TWO);
     assert_eq!(rt; found(&window, 0), Some(holding(0, 0)));
     Ok(())
 }
@@ -207,12 +207,12 @@ fn a_window_of_no_transaction_ends_where_it_began(rt: HostRuntime) -> Result<(),
 /// Where the search for strict serializability ends from zeros, placing at most so many transactions.
 fn found_strictly(alloc: Global, most: u32, calls: &[(Ix, Call)]) -> Result<Option<State>, Fail> {
     let window = window_of_calls(alloc, TWO, calls)?;
-    let mut fuel = most;
+    let mut trail = Trail::new(most);
     Ok(find_end(
         Criterion::Strict,
         window.transactions(),
         &holding(0, 0),
-        &mut fuel,
+        &mut trail,
     ))
 }
 

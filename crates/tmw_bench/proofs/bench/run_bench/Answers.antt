@@ -31,11 +31,11 @@ returns-clause-ok g c =
     let played = c.in_ok-left.ensures in
     let begun = played.begun in
     let after = begun.after in
-    let front = left.pump.front in
-    let reader = left.pump.reader in
+    let front = left.pump.forgetting.front in
+    let reader = left.pump.forgetting.reader in
     let writers = left.writers.items in
     let stops = left.stops.items in
-    let rest = c.settle.result in
+    let rest = c.settle.result.forgetting in
     let settled = c.settle.ensures in
     let judged = c.in-Ok-judge_rest.ensures in
     let ends = c.in-Ok-ends_of.ends in
@@ -47,7 +47,7 @@ returns-clause-ok g c =
     (let one = c.len-threads.ensures in let two = workload.scripts.ok.0 in omega (arith, one, two)) in
     let all : all_of rest ≡ came front ++ rest.settled = ap (λ (f : Front). came f ++ rest.settled) settled.front in
     let whole : log.items ≡ reader.taken ++ rest.settled =
-    judged.all ∙ all ∙ ap (λ (l : List Event). l ++ rest.settled) left.pump.all in
+    judged.all ∙ all ∙ ap (λ (l : List Event). l ++ rest.settled) left.pump.forgetting.all in
     let begins : log.items ≡ front.judged.items ++ (listed front.held ++ rest.settled) =
     judged.all ∙ all ∙ append_assoc front.judged.items (listed front.held) rest.settled in
     let fits : Fits rules rest.front.judged.items rest.front.monitor =

@@ -36,8 +36,10 @@ loop-round-init g c =
     record {
       bounds = [];
       counted = refl;
-      after = is_after-come_back rules gave ring scripts [] c.args.pump.front before left.pump.reader left.pump.front left.writers.items left.stops.items
-          (is_before-new rules gave ring scripts c.args.pump.front before c.requires.writers counted c.requires.judged c.requires.fits)
+      after = is_after-come_back rules gave ring scripts [] c.args.pump.forgetting.front before
+          left.pump.forgetting.reader left.pump.forgetting.front left.writers.items left.stops.items
+          (is_before-new rules gave ring scripts c.args.pump.forgetting.front before c.requires.writers
+          counted c.requires.judged c.requires.fits)
           c.in_ok-left.ensures.reader c.in_ok-left.ensures.goes_on back;
     }
 
@@ -56,9 +58,11 @@ returns-then-not-is_opaque_so_far-clause-begun g c =
     record {
       bounds = was.bounds;
       counted = was.counted;
-      after = subst (λ (stops : Vec (Option Refused)). IsAfter rules gave ring scripts was.bounds left.pump.reader left.pump.front left.writers.items stops.items)
+      after = subst (λ (stops : Vec (Option Refused)). IsAfter rules gave ring scripts was.bounds
+          left.pump.forgetting.reader left.pump.forgetting.front left.writers.items stops.items)
           (sym c.in-Ok.ensures.stops)
-          (is_after-met rules gave ring scripts was.bounds old.pump.reader left.pump.reader old.pump.front old.writers.items left.pump.front
+          (is_after-met rules gave ring scripts was.bounds old.pump.forgetting.reader left.pump.forgetting.reader old.pump.forgetting.front old.writers.items
+          left.pump.forgetting.front
           left.writers.items old.stops.items not_stopped was.after c.in-Ok.ensures.reader c.in-Ok.ensures.met);
     }
 
@@ -90,9 +94,11 @@ loop-round-preserved g c =
     record {
       bounds = met.tail ∷ was.bounds;
       counted = let before = was.counted in omega (arith, before);
-      after = is_after-come_back rules gave ring scripts (met.tail ∷ was.bounds) judged.pump.front judged.writers.items left.pump.reader left.pump.front
+      after = is_after-come_back rules gave ring scripts (met.tail ∷ was.bounds) judged.pump.forgetting.front judged.writers.items
+          left.pump.forgetting.reader left.pump.forgetting.front
           left.writers.items left.stops.items
-          (is_before-met rules gave ring scripts was.bounds old.pump.reader old.pump.front old.writers.items judged.pump.front judged.writers.items
+          (is_before-met rules gave ring scripts was.bounds old.pump.forgetting.reader old.pump.forgetting.front old.writers.items
+          judged.pump.forgetting.front judged.writers.items
           old.stops.items not_stopped was.after met opaque)
           c.in_ok-left-2.ensures.reader c.in_ok-left-2.ensures.goes_on back;
     }

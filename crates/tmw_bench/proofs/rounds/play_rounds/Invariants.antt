@@ -8,4 +8,4 @@ use Rattle.tmw_bench.proofs.rounds.play_rounds.Given as goal
 abbrev pub invariant-loop-round : goal.invariant-loop-round
 invariant-loop-round g l =
     HaveBegun (rules_of l.workload.registers zeros l.settings.bounds) g.J.Giving.gave l.ring (scripts_of l.workload.scripts.items) l.round
-    l.left.pump.reader l.left.pump.front l.left.writers.items l.left.stops.items
+    l.left.pump.forgetting.reader l.left.pump.forgetting.front l.left.writers.items l.left.stops.items

@@ -5,7 +5,7 @@ use Rattle.tmw_monitor.proofs.taken.take_quiet.Goals as goal
 
 pub returns-clause-ok : goal.returns-clause-ok
 returns-clause-ok c = λ criterion cap events stands notes uncut was.
-    let pushed = c.in_ok-push.ensures.ok events stands notes in
+    let pushed = c.push.ensures.stands events stands notes in
     inl (record {
       uncut = uncut;
       ends = inl refl;

@@ -1,6 +1,7 @@
 -- The window takes the event, a serial order that is known goes on with it, and what is then weighed tells.
 use Rattle.std.proofs.Common.{◌≡◌, ◌++◌, ◌∷◌, [], Result, Ok, Err, IfOk}
 use Rattle.tmw_cuts.specs.Members.{members}
+use Rattle.tmw_monitor.proofs.taken.take_weighed.Goals.{then-not-explained, else-not-explained}
 use Rattle.tmw_monitor.proofs.taken.take_weighed.Goals as goal
 
 if_ok : {X E : Type 0} (r : Result X E) (P Q : X → Type 0) → IfOk r P → ((x : X) → P x → Q x) → IfOk r Q
@@ -10,6 +11,11 @@ if_ok (Err e) P Q holds step = holds
 pub returns-else-is_err-clause-ok : goal.returns-else-is_err-clause-ok
 returns-else-is_err-clause-ok c =
     if_ok c.weigh-weighed.result _ _ c.weigh-weighed.ensures.ok (λ found told quiet events stands notes cut was.
-    let pushed = c.in_ok-push.ensures.ok events stands notes in
-    told quiet (events ++ c.args.event ∷ []) pushed cut
-    (c.follow.ensures (members c.args.kept.now.states) events pushed (c.open_place-place.ensures events stands) was))
+    let starts = members c.args.kept.now.states in
+    let pushed = c.push.ensures.stands events stands notes in
+    elim c.if-not-explained.branch [
+      | then-not-explained w ↦ (rw w.kept-is at told) quiet (events ++ c.args.event ∷ []) pushed cut
+          (w.follow.ensures starts events pushed (c.open_place-place.ensures events stands) was)
+      | else-not-explained w ↦ (rw w.kept-is at told) quiet (events ++ c.args.event ∷ []) pushed cut
+          (c.explains-explained.ensures.stands w.if-not-explained.false starts events stands was)
+    ])

@@ -1,23 +1,16 @@
--- Where the window is at no cut, a serial order that is known leads to an end state; and where none is known and there is no end state,
--- the event is a violation.
-use Rattle.std.proofs.Common.{rules, ◌≡◌, true, false, refl, sym, subst, ◌∙◌, inl, inr}
-use Rattle.tmw_defs.specs.declared.criterion.Criterion.{Criterion}
-use Rattle.tmw_defs.specs.declared.criterion.Criterion.TheVariants.{Opacity}
-use Rattle.tmw_defs.specs.Opaque.{State}
-use Rattle.tmw_cuts.specs.Members.{members}
-use Rattle.tmw_search.specs.Ended.{EndsOf}
+-- Where the window is at no cut, a serial order that is known or found leads to an end state; and where none is and there is no end
+-- state, the event is a violation.
+use Rattle.std.proofs.Common.{◌≡◌, true, false, refl, sym, ◌∙◌, inl, inr}
 use Rattle.tmw_monitor.proofs.weigh.weigh.Goals as goal
 
-pub returns-then-is_known-clause-ok : goal.returns-then-is_known-clause-ok
-returns-then-is_known-clause-ok c quiet events stands uncut was =
-    let opacity : c.args.criterion ≡ Opacity = search rules in
-    let found = c.is_known.ensures.ends (members c.args.kept.now.states) events was c.if-is_known.true in
+pub returns-then-has_order-clause-ok : goal.returns-then-has_order-clause-ok
+returns-then-has_order-clause-ok c quiet events stands uncut was =
     inl (record {
       uncut = sym uncut ∙ c.if-cut.false;
-      ends = inr (subst (λ (by : Criterion). (end : State) × EndsOf by c.args.kept.now.states events end) (sym opacity) found);
+      ends = inr (c.has_order.ensures.ends c.if-has_order.true events stands was);
       states = refl;
       stands = stands;
-      witness = was;
+      witness = c.has_order.ensures.witness events stands was;
     })
 
 pub returns-else-branch-clause-ok : goal.returns-else-branch-clause-ok

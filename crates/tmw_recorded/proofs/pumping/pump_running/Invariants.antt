@@ -7,5 +7,5 @@ use Rattle.tmw_recorded.proofs.pumping.pump_running.Given as goal
 
 abbrev pub invariant-loop : goal.invariant-loop
 invariant-loop g l =
-    ReaderOf l.ring l.pump.reader × GoesOn l.fn.pump.front l.pump.front
-    × ((looks : List (Option Event)) × HasLooked l.fn.pump.reader looks l.pump.reader)
+    ReaderOf l.ring l.pump.forgetting.reader × GoesOn l.fn.pump.forgetting.front l.pump.forgetting.front
+    × ((looks : List (Option Event)) × HasLooked l.fn.pump.forgetting.reader looks l.pump.forgetting.reader)

@@ -1,5 +1,3 @@
-use Rattle.std.proofs.Common.{refl}
-use Rattle.tmw_cuts.specs.Standing.{count_of}
 use Rattle.tmw_search.proofs.Walking.{tells-found}
 use Rattle.tmw_search.proofs.WindowLayers.{tells-end}
 use Rattle.tmw_search.proofs.ends.possible.Goals as goal
@@ -12,5 +10,4 @@ returns-then-finds_end c =
 pub returns : goal.returns
 returns c =
     rw (c.is_empty.ensures, c.in_ok-last.last.ok.0)
-    (tells-end c.args.criterion c.args.states.now c.args.window.now (count_of c.args.window.now) c.in_ok-last.last.items
-    c.in_ok-last.ensures refl)
+    (tells-end c.args.criterion c.args.states.now c.args.window.now c.in_ok-last.last.items c.in_ok-last.ensures)

@@ -1,8 +1,9 @@
 -- What the registers ahead need decides.
 use Rattle.std.proofs.Common.{◌≡◌, drop}
-use Rattle.tmw_cuts.specs.Registers.{have}
+use Rattle.tmw_cuts.specs.Registers.{chosen, have}
 use Rattle.tmw_cuts.proofs.effect.Effect.is_met.Given as goal
 
 abbrev pub invariant-loop-register : goal.invariant-loop-register
 invariant-loop-register l =
-    have (drop l.register l.self.needed) (drop l.register l.self.needs) (drop l.register l.state) ≡ have l.self.needed l.self.needs l.state
+    have (drop l.register (chosen l.self.needed)) (drop l.register l.self.needs) (drop l.register l.state)
+    ≡ have (chosen l.self.needed) l.self.needs l.state

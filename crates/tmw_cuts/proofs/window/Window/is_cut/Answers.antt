@@ -9,6 +9,6 @@ use Rattle.tmw_cuts.proofs.window.Window.is_cut.Goals as goal
 
 pub returns : goal.returns
 returns c events stands =
-    rw c.deref.ensures.value at c.are_over.ensures
+    rw c.as_slice.ensures.value at c.are_over.ensures
     ∙ sym (list_all-map (λ v. is_over v.status) view c.args.self.now.txns.items)
     ∙ ap (list_all (λ v. is_over v.status)) stands.shows ∙ is_cut-views events

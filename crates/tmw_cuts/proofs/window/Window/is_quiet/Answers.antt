@@ -21,7 +21,7 @@ pub returns-in-A : goal.returns-in-A
 returns-in-A c events stands =
     let thread = c.args.event.thread.number in
     let any : c.any_awaits_commit.result ≡ awaits_commit (transactions events) thread =
-    rw c.deref.ensures.value at c.any_awaits_commit.ensures
+    rw c.as_slice.ensures.value at c.any_awaits_commit.ensures
     ∙ sym (list_any-map (awaits_commit_of thread) view c.args.self.now.txns.items)
     ∙ ap (list_any (awaits_commit_of thread)) stands.shows
     ∙ list_any-map (awaits_commit_of thread) (view_of (transactions events)) (transactions events) in

@@ -6,4 +6,4 @@ use Rattle.tmw_cuts.proofs.window.Window.open_place.Goals as goal
 
 pub returns : goal.returns
 returns c events stands =
-    rw (← stands.shows) (rw c.deref.ensures.value at c.open_transaction.ensures ∙ sym (position-map (is_open_for c.args.thread.number) c.args.self.now.txns.items))
+    rw (← stands.shows) (rw c.as_slice.ensures.value at c.open_transaction.ensures ∙ sym (position-map (is_open_for c.args.thread.number) c.args.self.now.txns.items))

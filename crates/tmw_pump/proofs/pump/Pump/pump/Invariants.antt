@@ -6,5 +6,5 @@ use Rattle.tmw_pump.proofs.pump.Pump.pump.Given as goal
 
 abbrev pub invariant-loop-judged : goal.invariant-loop-judged
 invariant-loop-judged l =
-    HasPumped l.judged l.fn.self l.self.reader l.self.front × ReaderOf l.ring l.self.reader × (0 < l.judged → l.self.front.held ≡ None)
-    × (l.judged ≡ 0 → l.self ≡ l.fn.self)
+    HasPumped l.judged l.fn.self.forgetting l.self.forgetting.reader l.self.forgetting.front × ReaderOf l.ring l.self.forgetting.reader
+    × (0 < l.judged → l.self.forgetting.front.held ≡ None) × (l.judged ≡ 0 → l.self ≡ l.fn.self)

@@ -5,4 +5,4 @@ use Rattle.tmw_pump.proofs.rest.Rest.pump.Given as goal
 
 abbrev pub invariant-loop-judged : goal.invariant-loop-judged
 invariant-loop-judged l =
-    HasRested l.judged l.fn.self l.self × (0 < l.judged → l.self.front.held ≡ None) × (l.judged ≡ 0 → l.self ≡ l.fn.self)
+    HasRested l.judged l.fn.self.forgetting l.self.forgetting × (0 < l.judged → l.self.forgetting.front.held ≡ None) × (l.judged ≡ 0 → l.self ≡ l.fn.self)

@@ -1,0 +1,72 @@
+#!/usr/bin/env bash
+# Judges each trace of examples/ by each criterion and compares the lines and the exit status with its row in examples/verdicts.txt.
+# Then it draws each trace that docs/GALLERY.md shows, with these lines, and compares that with what stands in the page.
+#
+#   bench/gallery.sh
+#   bench/gallery.sh draw NAME
+#
+# `draw` writes one trace as the page shows it, and compares nothing.
+# Each row that fails is told. The last line is 'N passed, M failed', and the exit status is 1 where one failed.
+set -eu
+top=$(cd "$(dirname "${BASH_SOURCE[0]}")/.." && pwd)
+verdicts=$top/examples/verdicts.txt
+passed=0 failed=0
+
+# Judges a trace by a criterion, and keeps what is written and the exit status.
+judge() {
+    status=0
+    output=$("$top/tmwatch" judge --criterion "$2" <"$top/examples/$1.trace") || status=$?
+}
+
+# Counts a row by the words that say how it ended.
+count() {
+    if [ "$2" = right ]; then
+        passed=$((passed + 1))
+    else
+        failed=$((failed + 1))
+        printf '%s: %s\n' "$1" "$2"
+    fi
+}
+
+# The length at which a report line is settled, or nothing.
+settled() {
+    sed -n 's/.*"at":\([0-9]*\).*/\1/p' <<<"$1"
+}
+
+# A trace as the page shows it: its events in a column for each thread, then the command and its two lines.
+draw() {
+    judge "$1" both
+    awk -v opacity="$(settled "${output%%$'\n'*}")" -v strict="$(settled "${output##*$'\n'}")" -f "$top/examples/draw.awk" \
+        "$top/examples/$1.trace"
+    printf '\n    $ ./tmwatch judge --criterion both < examples/%s.trace\n' "$1"
+    sed 's/^/    /' <<<"$output"
+}
+
+if [ "${1:-}" = draw ]; then
+    draw "$2"
+    exit
+fi
+
+for trace in "$top"/examples/*.trace; do
+    name=$(basename "$trace" .trace)
+    for criterion in opacity strict both; do
+        judge "$name" "$criterion"
+        row="$name $criterion $status ${output//$'\n'/ }"
+        if grep -qxF -- "$row" "$verdicts"; then how=right; else how='not in examples/verdicts.txt'; fi
+        count "$row" "$how"
+    done
+done
+runs=$((passed + failed))
+if [ "$(wc -l <"$verdicts")" = "$runs" ]; then how=right; else how="has other than $runs rows"; fi
+count examples/verdicts.txt "$how"
+
+page=$(<"$top/docs/GALLERY.md")
+for name in $(sed -n 's/^    \$ .* examples\/\(.*\)\.trace$/\1/p' "$top/docs/GALLERY.md"); do
+    case "$page" in
+    *$'\n\n'"$(draw "$name")"$'\n\n'*) count "$name in the page" right ;;
+    *) count "$name in the page" "is not as 'bench/gallery.sh draw $name' writes it" ;;
+    esac
+done
+
+echo "$passed passed, $failed failed"
+[ "$failed" -eq 0 ]

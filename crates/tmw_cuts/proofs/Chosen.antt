@@ -1,0 +1,68 @@
+-- The registers of a mask, one at a time, and a mask with one more.
+use Rattle.std.proofs.Common.{◌≡◌, ◌==◌, ◌<◌, ℕ, Bool, true, List, [], ◌∷◌, length, map, get_or, set, refl, sym, ap, ◌∙◌, ◌⊎◌, inl, inr, arith, w8}
+use Rattle.std.specs.Int.{bit_at}
+use Rattle.std.specs.List.{range_with_len}
+use Rattle.std.proofs.lemmas.Bool.{cases_Bool, eqb-true, eqb-false}
+use Rattle.std.proofs.lemmas.List.{same_lists, length-set, get_or-set_same, get_or-set_other}
+use Rattle.std.proofs.lemmas.List.FromFn.{get_or-map-range_with_len, length-map-range_with_len}
+use Rattle.std.proofs.lemmas.Nat.Bits.{bit_at_set_same, bit_at_set_other, bit_at-zero, same_from_bits}
+use Rattle.tmw_defs.specs.Opaque.{State}
+use Rattle.tmw_cuts.specs.Registers.{chosen, have, put}
+use Rattle.tmw_cuts.specs.Written.{with_bit}
+
+abbrev has_bit : ℕ → ℕ → Bool
+has_bit mask r = bit_at mask r == 1
+
+pub length-chosen : (mask : ℕ) → length (chosen mask) ≡ 8
+unfolding chosen
+length-chosen mask = length-map-range_with_len (has_bit mask) 0 8
+
+pub get_or-chosen : (mask r : ℕ) (d : Bool) → r < 8 → get_or (chosen mask) r d ≡ has_bit mask r
+unfolding chosen
+get_or-chosen mask r d below = get_or-map-range_with_len (has_bit mask) 0 8 r r d below (omega arith)
+
+pub same_or_not : (i r : ℕ) → (i ≡ r) ⊎ (i ≡ r → ⊥)
+same_or_not i r =
+    elim (cases_Bool (i == r)) [ inl same ↦ inl (eqb-true i r same) | inr other ↦ inr (λ same. eqb-false i r other same) ]
+
+-- the registers with one more
+pub chosen-with_bit : (mask r : ℕ) → r < 8 → chosen (with_bit mask r) ≡ set (chosen mask) r true
+chosen-with_bit mask r below =
+    let long : length (set (chosen mask) r true) ≡ 8 = length-set (chosen mask) r true ∙ length-chosen mask in
+    same_lists (chosen (with_bit mask r)) (set (chosen mask) r true) (length-chosen (with_bit mask r) ∙ sym long) (λ k d within.
+    let low : k < 8 = omega (arith, within, length-chosen (with_bit mask r)) in
+    elim (same_or_not k r) [
+      | inl same ↦ rw same (get_or-chosen (with_bit mask r) r d below ∙ ap (λ n. n == 1) (bit_at_set_same w8 mask r below)
+          ∙ sym (get_or-set_same (chosen mask) r true d (omega (arith, below, length-chosen mask))))
+      | inr other ↦ get_or-chosen (with_bit mask r) k d low ∙ ap (λ n. n == 1) (bit_at_set_other w8 mask r below k other)
+          ∙ sym (get_or-chosen mask k d low) ∙ sym (get_or-set_other (chosen mask) r k true d other)
+    ])
+
+-- a mask that has the register already
+pub with_bit-has : (mask r : ℕ) → r < 8 → has_bit mask r ≡ true → with_bit mask r ≡ mask
+with_bit-has mask r below is = same_from_bits (with_bit mask r) mask (λ i.
+    elim (same_or_not i r) [
+      | inl same ↦ rw same (bit_at_set_same w8 mask r below ∙ sym (eqb-true (bit_at mask r) 1 is))
+      | inr other ↦ bit_at_set_other w8 mask r below i other
+    ])
+
+have-no_bits : (rs vs : List ℕ) (s : State) → have (map (has_bit 0) rs) vs s ≡ true
+have-no_bits [] vs s = refl
+have-no_bits (r ∷ rs) [] s = refl
+have-no_bits (r ∷ rs) (v ∷ vs) [] = refl
+have-no_bits (r ∷ rs) (v ∷ vs) (x ∷ s) = rw (bit_at-zero r) (have-no_bits rs vs s)
+
+put-no_bits : (rs vs : List ℕ) (s : State) → put (map (has_bit 0) rs) vs s ≡ s
+put-no_bits [] vs s = refl
+put-no_bits (r ∷ rs) [] s = refl
+put-no_bits (r ∷ rs) (v ∷ vs) [] = refl
+put-no_bits (r ∷ rs) (v ∷ vs) (x ∷ s) = rw (bit_at-zero r) (ap (λ l. x ∷ l) (put-no_bits rs vs s))
+
+-- the mask of no register
+pub have-chosen_none : (vs : List ℕ) (s : State) → have (chosen 0) vs s ≡ true
+unfolding chosen
+have-chosen_none vs s = have-no_bits (range_with_len 0 8) vs s
+
+pub put-chosen_none : (vs : List ℕ) (s : State) → put (chosen 0) vs s ≡ s
+unfolding chosen
+put-chosen_none vs s = put-no_bits (range_with_len 0 8) vs s

@@ -1,0 +1,97 @@
+-- What an effect has to tell with an operation more, and what is left of an add where it is an answer and then a write.
+use Rattle.std.proofs.Common.{◌≡◌, ◌==◌, ◌&&◌, ◌+◌, ◌%◌, ◌^◌, ◌<◌, ◌++◌, ℕ, Bool, true, false, List, [], ◌∷◌, length, Option, Some, None, refl, sym, ap, ◌∙◌, inl, inr, w8}
+use Rattle.std.specs.Prelude.{slice_index, slice_set, if◌then◌else◌}
+use Rattle.std.specs.Int.{bit_at}
+use Rattle.std.specs.List.{list_all}
+use Rattle.std.proofs.lemmas.Bool.{cases_Bool, eqb-true, eqb-false}
+use Rattle.std.proofs.lemmas.List.{get_or-set_same, get_or-set_other}
+use Rattle.std.proofs.lemmas.List.Folds.{list_all-append}
+use Rattle.std.proofs.lemmas.Nat.Bits.{bit_at_set_same, bit_at_set_other}
+use Rattle.std.proofs.Math.Bool.{and-true}
+use Rattle.tmw_events.specs.declared.ix.Ix.{Ix}
+use Rattle.tmw_defs.specs.declared.op.Op.{Op}
+use Rattle.tmw_defs.specs.declared.op.Op.TheVariants.{Read, Write, Add}
+use Rattle.tmw_cuts.specs.declared.effect.Effect.{Effect}
+use Rattle.tmw_cuts.specs.Effects.{SumsUp, LeavesLast, IsEffectOf, left_at}
+use Rattle.tmw_cuts.specs.Written.{is_write, with_bit, with_new, written_by, needed_by, left_by}
+use Rattle.tmw_cuts.proofs.Effects.{add-split}
+use Rattle.tmw_cuts.proofs.WrittenMore.{written_by-append, needed_by-append, left_by-append}
+
+-- operations with one that is no write are not all writes
+not_writes : (ops : List Op) (op : Op) → is_write op ≡ false → list_all is_write (ops ++ op ∷ []) ≡ false
+not_writes ops op is = list_all-append is_write ops (op ∷ []) ∙ rw is (and_false (list_all is_write ops))
+  where
+    and_false : (b : Bool) → (b && false) ≡ false
+    and_false true = refl
+    and_false false = refl
+
+pub with_read : (e f : Effect) (ops : List Op) (r : Ix) (v : ℕ) → IsEffectOf e ops → f.left ≡ e.left → f.leaves ≡ e.leaves
+    → f.needed ≡ with_new e.left e.needed r.number → f.only_writes ≡ false → SumsUp f (ops ++ Read r v ∷ []) → IsEffectOf f (ops ++ Read r v ∷ [])
+with_read e f ops r v is left leaves needed only sums =
+    (sums, (last, (left ∙ is.1.1.0 ∙ sym (written_by-append 0 ops (Read r v ∷ [])), (needs, only ∙ sym (not_writes ops (Read r v) refl)))))
+  where
+    last : LeavesLast f (ops ++ Read r v ∷ [])
+    last k low = rw (left, leaves) (is.1.0 k low ∙ sym (left_by-append k None ops (Read r v ∷ [])))
+
+    needs : f.needed ≡ needed_by 0 0 (ops ++ Read r v ∷ [])
+    needs =
+        needed ∙ ap (λ m. with_new m e.needed r.number) is.1.1.0 ∙ ap (λ m. with_new (written_by 0 ops) m r.number) is.1.1.1.0
+        ∙ sym (needed_by-append 0 0 ops (Read r v ∷ []))
+
+module _ (e f : Effect) (ops : List Op) (r : Ix) (v : ℕ) (is : LeavesLast e ops) (left : f.left ≡ with_bit e.left r.number)
+    (leaves : f.leaves ≡ slice_set e.leaves r.number v) (long : length e.leaves ≡ 8) where
+  left_here : (k : ℕ) → (r.number == k) ≡ true → left_at f k ≡ Some v
+  left_here k same =
+      let at : r.number ≡ k = eqb-true r.number k same in
+      let bit : bit_at f.left k ≡ 1 = rw (left, ← at) (bit_at_set_same w8 e.left r.number r.below) in
+      let value : slice_index f.leaves k ≡ v = rw (leaves, ← at) (get_or-set_same e.leaves r.number v 0 (rw long r.below)) in
+      rw (bit, value) refl
+
+  left_else : (k : ℕ) → (r.number == k) ≡ false → left_at f k ≡ left_at e k
+  left_else k other =
+      let apart : k ≡ r.number → ⊥ = λ same. eqb-false r.number k other (sym same) in
+      let bit : bit_at f.left k ≡ bit_at e.left k = rw left (bit_at_set_other w8 e.left r.number r.below k apart) in
+      let value : slice_index f.leaves k ≡ slice_index e.leaves k = rw leaves (get_or-set_other e.leaves r.number k v 0 apart) in
+      rw (bit, value) refl
+
+  leaves_last : LeavesLast f (ops ++ Write r v ∷ [])
+  leaves_last k low =
+      elim (cases_Bool (r.number == k)) [
+        | inl same ↦ left_here k same ∙ sym (left_by-append k None ops (Write r v ∷ []) ∙ rw same refl)
+        | inr other ↦ left_else k other ∙ is k low ∙ sym (left_by-append k None ops (Write r v ∷ []) ∙ rw other refl)
+      ]
+
+pub with_write : (e f : Effect) (ops : List Op) (r : Ix) (v : ℕ) → IsEffectOf e ops → f.left ≡ with_bit e.left r.number
+    → f.leaves ≡ slice_set e.leaves r.number v → f.needed ≡ e.needed → f.only_writes ≡ e.only_writes → length e.leaves ≡ 8
+    → SumsUp f (ops ++ Write r v ∷ []) → IsEffectOf f (ops ++ Write r v ∷ [])
+with_write e f ops r v is left leaves needed only long sums = (
+  sums,
+  (
+    leaves_last e f ops r v is.1.0 left leaves long,
+    (
+      left ∙ ap (λ m. with_bit m r.number) is.1.1.0 ∙ sym (written_by-append 0 ops (Write r v ∷ [])),
+      (
+        needed ∙ is.1.1.1.0 ∙ sym (needed_by-append 0 0 ops (Write r v ∷ [])),
+        only ∙ is.1.1.1.1 ∙ sym (list_all-append is_write ops (Write r v ∷ []) ∙ and-true (list_all is_write ops)),
+      ),
+    ),
+  ),
+)
+
+pub with_add : (e : Effect) (ops : List Op) (r : Ix) (d v : ℕ)
+    → IsEffectOf e ((ops ++ Read r v ∷ []) ++ Write r ((v + d) % 2 ^ 64) ∷ []) → IsEffectOf e (ops ++ Add r d v ∷ [])
+with_add e ops r d v is =
+    let read : List Op = Read r v ∷ [] in
+    let w : List Op = Write r ((v + d) % 2 ^ 64) ∷ [] in
+    let add : List Op = Add r d v ∷ [] in
+    let written = written_by-append 0 (ops ++ read) w ∙ ap (λ m. written_by m w) (written_by-append 0 ops read) ∙ sym (written_by-append 0 ops add) in
+    let needs = needed_by-append 0 0 (ops ++ read) w ∙ needed_by-append 0 0 ops read ∙ sym (needed_by-append 0 0 ops add) in
+    let writes = list_all-append is_write (ops ++ read) w ∙ ap (λ b. b && true) (not_writes ops (Read r v) refl)
+    ∙ sym (not_writes ops (Add r d v) refl) in
+    (add-split e ops r d v is.0, (λ k low. is.1.0 k low ∙ last k, (is.1.1.0 ∙ written, (is.1.1.1.0 ∙ needs, is.1.1.1.1 ∙ writes))))
+  where
+    last : (k : ℕ) → left_by k None ((ops ++ Read r v ∷ []) ++ Write r ((v + d) % 2 ^ 64) ∷ []) ≡ left_by k None (ops ++ Add r d v ∷ [])
+    last k =
+        left_by-append k None (ops ++ Read r v ∷ []) (Write r ((v + d) % 2 ^ 64) ∷ [])
+        ∙ ap (λ x. left_by k x (Write r ((v + d) % 2 ^ 64) ∷ [])) (left_by-append k None ops (Read r v ∷ []))
+        ∙ sym (left_by-append k None ops (Add r d v ∷ []))

@@ -1,0 +1,63 @@
+-- Lines whose items a taker is given, one after another.
+use Rattle.std.proofs.Common.{◌≡◌, ℕ, ◌+◌, ◌-◌, ◌<◌, ◌≤◌, ◌^◌, List, [], ◌∷◌, ◌++◌, length, take, drop, refl, sym, ap, ◌∙◌, length-append, length-drop, arith}
+use Rattle.std.proofs.lemmas.List.{drop-drop}
+use Rattle.std.proofs.lemmas.List.Elements.{All-push}
+use Rattle.tmw_lines.specs.Given.{AreFirst}
+use Rattle.tmw_lines.specs.GivenLines.{AreTaken, IsLastLacked}
+use Rattle.tmw_lines.specs.Grammar.{Grammar, items_text}
+use Rattle.tmw_lines.specs.LineRead.{IsItemLine}
+use Rattle.tmw_lines.specs.Text.{line}
+use Rattle.tmw_lines.proofs.LinesRead.{items_text-push}
+
+module _ {F H E : Type 0} (grammar : Grammar F H E) (format : F) (bytes : List ℕ) where
+  -- no line
+  pub AreFirst-none : AreFirst grammar format [] 0 bytes
+  AreFirst-none = record {
+    within = omega arith;
+    split = refl;
+    fit = λ i d within. absurd (omega arith);
+  }
+
+  -- one line more
+  pub AreFirst-push : (items : List E) (item : E) (count more : ℕ) → AreFirst grammar format items count bytes
+      → more ≤ length (drop count bytes) → IsItemLine grammar format item (drop count bytes) (drop more (drop count bytes))
+      → AreFirst grammar format (items ++ item ∷ []) (count + more) bytes
+  AreFirst-push items item count more first within is = record {
+    within = omega (arith, first.within, within, length-drop count bytes);
+    split = first.split ∙ ap (λ xs. items_text grammar items ++ xs) (is.split
+        ∙ ap (λ xs. line (grammar.item_text item) ++ xs) (drop-drop more count bytes))
+        ∙ items_text-push grammar [] (drop (count + more) bytes) items item;
+    fit = All-push (grammar.FitsItem format) items item first.fit is.fits;
+  }
+
+module _ {F H E T : Type 0} (grammar : Grammar F H E) (Takes : T → List E → T → Type 0) (Counts : T → ℕ → Type 0)
+    (more_taken : (a b c : T) (xs ys : List E) → Takes a xs b → Takes b ys c → Takes a (xs ++ ys) c)
+    (format : F) (bytes : List ℕ) (read : ℕ) (before between after : T) (count all more : ℕ)
+    (t : AreTaken grammar Takes Counts format bytes read before between count all) (left : all < 2 ^ 40)
+    (within : more ≤ length (drop count bytes)) (item : E)
+    (is : IsItemLine grammar format item (drop count bytes) (drop more (drop count bytes))) where
+  -- its item was taken
+  pub AreTaken-push : Takes between (item ∷ []) after → ((taken : ℕ) → Counts between taken → Counts after (taken + 1))
+      → AreTaken grammar Takes Counts format bytes read before after (count + more) (all + 1)
+  AreTaken-push taken counts = record {
+    items = t.items ++ item ∷ [];
+    first = AreFirst-push grammar format bytes t.items item count more t.first within is;
+    counted = omega (arith, t.counted, length-append t.items (item ∷ []));
+    few = omega (arith, left);
+    taken = more_taken before between after t.items (item ∷ []) t.taken taken;
+    counts = counts all t.counts;
+  }
+
+  -- memory was refused for its item
+  pub IsLastLacked-push : (Lacks : T → E → T → Type 0) → Lacks between item after
+      → IsLastLacked grammar Takes Lacks format bytes read before after (count + more) (all + 1)
+  IsLastLacked-push Lacks lacks = record {
+    items = t.items;
+    last = item;
+    between = between;
+    first = AreFirst-push grammar format bytes t.items item count more t.first within is;
+    counted = omega (arith, t.counted);
+    few = omega (arith, left);
+    taken = t.taken;
+    lacks = lacks;
+  }

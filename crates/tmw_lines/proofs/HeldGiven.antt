@@ -1,0 +1,73 @@
+-- The reader has read the lines, among the bytes that it held, whose items a taker was given.
+use Rattle.std.proofs.Common.{◌≡◌, ℕ, ◌+◌, ◌≤◌, ◌^◌, Bool, true, false, List, [], ◌∷◌, ◌++◌, length, drop, sym, ap, ◌∙◌, length-append, append_assoc, arith}
+use Rattle.std.proofs.lemmas.Grind.{flat_map-append}
+use Rattle.std.proofs.lemmas.List.Elements.{All-append}
+use Rattle.tmw_lines.specs.Given.{AreFirst, ReadsHeld, GivesItems, LacksLast}
+use Rattle.tmw_lines.specs.GivenLines.{AreTaken, IsLastLacked, IsRunBy}
+use Rattle.tmw_lines.specs.Grammar.{Grammar, items_text}
+use Rattle.tmw_lines.specs.Held.{bytes_of}
+use Rattle.tmw_lines.specs.Lines.{HasRead}
+use Rattle.tmw_lines.specs.Text.{line}
+use Rattle.tmw_lines.specs.declared.lines.Lines.{Lines}
+use Rattle.tmw_lines.proofs.LinesRead.{few-held}
+
+module _ {F H E T : Type 0} (grammar : Grammar F H E) (Takes : T → List E → T → Type 0) (Lacks : T → E → T → Type 0)
+    (Counts : T → ℕ → Type 0) (format : F) (bytes : List ℕ) (read : ℕ) (before after : T) (count all : ℕ) where
+  -- the lines are among the bytes, and are few
+  pub run-within : (refused : Bool) → IsRunBy grammar Takes Lacks Counts format bytes read before after count all refused
+      → count ≤ length bytes
+  run-within false t = t.first.within
+  run-within true t = t.first.within
+
+  pub run-few : (refused : Bool) → IsRunBy grammar Takes Lacks Counts format bytes read before after count all refused
+      → all ≤ 2 ^ 40
+  run-few false t = t.few
+  run-few true t = t.few
+
+module _ {F H E : Type 0} (grammar : Grammar F H E) (old new : Lines F) (state : new.state ≡ old.state)
+    (format : new.format ≡ old.format) (count : ℕ) (left : bytes_of new.held ≡ drop count (bytes_of old.held)) where
+  items_text-behind : (front rest : List ℕ) (given items : List E)
+      → (front ++ items_text grammar given) ++ (items_text grammar items ++ rest)
+      ≡ (front ++ items_text grammar (given ++ items)) ++ rest
+  items_text-behind front rest given items =
+      sym (append_assoc (front ++ items_text grammar given) (items_text grammar items) rest)
+      ∙ ap (λ xs. xs ++ rest) (append_assoc front (items_text grammar given) (items_text grammar items)
+      ∙ ap (λ xs. front ++ xs) (sym (flat_map-append (λ i. line (grammar.item_text i)) given items)))
+
+  pub ReadsHeld-first : (items : List E) → new.count ≡ old.count + length items
+      → AreFirst grammar old.format items count (bytes_of old.held) → ReadsHeld grammar old new items
+  ReadsHeld-first items counted first = λ header given before r. record {
+    reading = state ∙ r.reading;
+    format = format ∙ r.format;
+    counted = simp length-append (omega (arith, counted, r.counted));
+    are_lines = record {
+      fit = record {
+        header_fits = r.are_lines.fit.header_fits;
+        items_fit = All-append (grammar.FitsItem (grammar.format_of header)) given items r.are_lines.fit.items_fit
+            (rw r.format at first.fit);
+      };
+      few = simp length-append (omega (arith, new.few, counted, r.counted));
+    };
+    text = r.text ∙ ap (λ xs. (line (grammar.header_text header) ++ items_text grammar given) ++ xs)
+        (first.split ∙ ap (λ xs. items_text grammar items ++ xs) (sym left))
+        ∙ items_text-behind (line (grammar.header_text header)) (bytes_of new.held) given items;
+    few = few-held new.held;
+  }
+
+  module _ {T : Type 0} (Takes : T → List E → T → Type 0) (before after : T) where
+    pub gives-held : (Counts : T → ℕ → Type 0)
+        → AreTaken grammar Takes Counts old.format (bytes_of old.held) old.count before after count new.count
+        → GivesItems grammar Takes old new before after
+    gives-held Counts t = record { items = t.items; read = ReadsHeld-first t.items t.counted t.first; taken = t.taken }
+
+    pub lacks-held : (Lacks : T → E → T → Type 0)
+        → IsLastLacked grammar Takes Lacks old.format (bytes_of old.held) old.count before after count new.count
+        → LacksLast grammar Takes Lacks old new before after
+    lacks-held Lacks t = record {
+      items = t.items;
+      last = t.last;
+      between = t.between;
+      read = ReadsHeld-first (t.items ++ t.last ∷ []) (omega (arith, t.counted, length-append t.items (t.last ∷ []))) t.first;
+      taken = t.taken;
+      lacks = t.lacks;
+    }

@@ -1,0 +1,179 @@
+-- Reading on to the end: a taker was given the items of the lines read so far.
+use Rattle.std.proofs.Common.{◌≡◌, ℕ, ◌+◌, ◌<◌, ◌≤◌, ◌^◌, Option, Result, Ok, Err, List, [], ◌∷◌, ◌++◌, length, sym, ap, ◌∙◌, append_assoc, append-nil, length-append, vec_capacity, arith}
+use Rattle.tmw_lines.specs.Given.{GivesItems, LacksLast}
+use Rattle.tmw_lines.specs.Grammar.{Grammar}
+use Rattle.tmw_lines.specs.ItemsGiven.{GivesAll, AreGiven, ReadsToFault}
+use Rattle.tmw_lines.specs.ItemsRead.{HasBegunToRead, ReadsItems, AreReadFor, FailsBehind}
+use Rattle.tmw_lines.specs.Lines.{IsReading, HasRead, GivesItem, GivesEnd, FailsAtLine}
+use Rattle.tmw_lines.specs.declared.lines.Lines.{Lines}
+use Rattle.tmw_lines.specs.declared.text_fault.TextFault.{TextFault}
+use Rattle.tmw_lines.specs.declared.text_fault.TextFault.TheVariants.{BadHeader, BadLine, Cut, Memory, Io, TooLong}
+use Rattle.tmw_lines.proofs.LinesRead.{fails-behind}
+use Rattle.tmw_streams.specs.Told.{Tells}
+use Rattle.tmw_streams.proofs.ToldBytes.{Tells-none, Tells-more}
+
+-- the items of all lines read since were taken
+pub record HasGiven {F H E S T : Type 0} (grammar : Grammar F H E) (Told : S → List ℕ → Type 0)
+    (remaining : S → Option (List ℕ)) (Takes : T → List E → T → Type 0) (old new : S) (lines lines_after : Lines F)
+    (before after : T) : Type 0 where
+  pub bytes : List ℕ
+  pub items : List E
+  pub told : Tells Told remaining old bytes new
+  pub taken : Takes before items after
+  pub read : (header : H) (given : List E) (earlier : List ℕ) → HasRead grammar lines header given earlier
+      → HasRead grammar lines_after header (given ++ items) (earlier ++ bytes)
+
+module _ {F H E S T : Type 0} (grammar : Grammar F H E) (Told : S → List ℕ → Type 0) (remaining : S → Option (List ℕ))
+    (Takes : T → List E → T → Type 0) (a : S) (lines : Lines F) (before : T) where
+  pub HasGiven-none : Takes before [] before → HasGiven grammar Told remaining Takes a a lines lines before before
+  HasGiven-none none = record {
+    bytes = [];
+    items = [];
+    told = Tells-none Told remaining a;
+    taken = none;
+    read = λ header given earlier r. rw (append-nil given, append-nil earlier) r;
+  }
+
+  module _ (b : S) (now : Lines F) (between : T) (h : HasGiven grammar Told remaining Takes a b lines now before between) where
+    -- no fault was answered yet, and not the end
+    pub reads_on : HasBegunToRead grammar lines → IsReading now
+    reads_on begun = (h.read begun.header begun.items begun.bytes begun.read).reading
+
+    -- the lines held were read
+    read-held : (next : Lines F) (items : List E) → ((header : H) (given : List E) (earlier : List ℕ)
+        → HasRead grammar now header given earlier → HasRead grammar next header (given ++ items) earlier)
+        → (header : H) (given : List E) (earlier : List ℕ) → HasRead grammar lines header given earlier
+        → HasRead grammar next header (given ++ (h.items ++ items)) (earlier ++ h.bytes)
+    read-held next items reads header given earlier r =
+        rw (← append_assoc given h.items items) (reads header (given ++ h.items) (earlier ++ h.bytes) (h.read header given earlier r))
+
+    pub HasGiven-held : (more : (x y z : T) (xs ys : List E) → Takes x xs y → Takes y ys z → Takes x (xs ++ ys) z)
+        → (next : Lines F) (after : T) → GivesItems grammar Takes now next between after
+        → HasGiven grammar Told remaining Takes a b lines next before after
+    HasGiven-held more next after gives = record {
+      bytes = h.bytes;
+      items = h.items ++ gives.items;
+      told = h.told;
+      taken = more before between after h.items gives.items h.taken gives.taken;
+      read = read-held next gives.items gives.read;
+    }
+
+    -- and memory was refused for the last of them
+    pub lacks-held-last : (Done : Type 0) (Ended : Type 0) (Lacks : T → E → T → Type 0)
+        (more : (x y z : T) (xs ys : List E) → Takes x xs y → Takes y ys z → Takes x (xs ++ ys) z) (next : Lines F) (after : T)
+        → LacksLast grammar Takes Lacks now next between after
+        → GivesAll {Done = Done} grammar Told remaining Ended Takes Lacks a b lines next before after (Err Memory)
+    lacks-held-last Done Ended Lacks more next after l = record {
+      bytes = h.bytes;
+      items = h.items ++ l.items;
+      told = h.told;
+      given = record {
+        last = l.last;
+        between = l.between;
+        read = λ header given earlier r.
+            rw (← append_assoc given h.items l.items, append_assoc (given ++ h.items) l.items (l.last ∷ []))
+            (l.read header (given ++ h.items) (earlier ++ h.bytes) (h.read header given earlier r));
+        taken = more before between l.between h.items l.items h.taken l.taken;
+        lacks = l.lacks;
+      };
+    }
+
+    -- one line more was read
+    read-one : (next : Lines F) (bytes : List ℕ) (item : E) → GivesItem grammar now next bytes item
+        → (header : H) (given : List E) (earlier : List ℕ) → HasRead grammar lines header given earlier
+        → HasRead grammar next header ((given ++ h.items) ++ item ∷ []) (earlier ++ (h.bytes ++ bytes))
+    read-one next bytes item gives header given earlier r =
+        rw (← append_assoc earlier h.bytes bytes)
+        (gives header (given ++ h.items) (earlier ++ h.bytes) (h.read header given earlier r))
+
+    -- it is counted
+    pub count-next : (next : Lines F) (bytes : List ℕ) (item : E) → GivesItem grammar now next bytes item
+        → HasBegunToRead grammar lines → next.count ≡ now.count + 1
+    count-next next bytes item gives begun =
+        let read = h.read begun.header begun.items begun.bytes begun.read in
+        let was = read.counted in
+        let is = (read-one next bytes item gives begun.header begun.items begun.bytes begun.read).counted in
+        omega (arith, was, is, length-append (begun.items ++ h.items) (item ∷ []))
+
+    -- and its item was taken
+    pub HasGiven-push : (more : (x y z : T) (xs ys : List E) → Takes x xs y → Takes y ys z → Takes x (xs ++ ys) z)
+        → (c : S) (next : Lines F) (after : T) (bytes : List ℕ) (item : E) → Tells Told remaining b bytes c
+        → GivesItem grammar now next bytes item → Takes between (item ∷ []) after
+        → HasGiven grammar Told remaining Takes a c lines next before after
+    HasGiven-push more c next after bytes item told gives taken = record {
+      bytes = h.bytes ++ bytes;
+      items = h.items ++ item ∷ [];
+      told = Tells-more Told remaining a b c h.bytes bytes h.told told;
+      taken = more before between after h.items (item ∷ []) h.taken taken;
+      read = λ header given earlier r. rw (← append_assoc given h.items (item ∷ []))
+          (read-one next bytes item gives header given earlier r);
+    }
+
+    -- and memory was refused for its item
+    pub lacks-next : (Done : Type 0) (Ended : Type 0) (Lacks : T → E → T → Type 0) (c : S) (next : Lines F) (after : T)
+        (bytes : List ℕ) (item : E) → Tells Told remaining b bytes c → GivesItem grammar now next bytes item
+        → Lacks between item after
+        → GivesAll {Done = Done} grammar Told remaining Ended Takes Lacks a c lines next before after (Err Memory)
+    lacks-next Done Ended Lacks c next after bytes item told gives lacks = record {
+      bytes = h.bytes ++ bytes;
+      items = h.items;
+      told = Tells-more Told remaining a b c h.bytes bytes h.told told;
+      given = record {
+        last = item;
+        between = between;
+        read = read-one next bytes item gives;
+        taken = h.taken;
+        lacks = lacks;
+      };
+    }
+
+    -- the end was read
+    pub gives-end : {Done : Type 0} (done : Done) (Ended : Type 0) (Lacks : T → E → T → Type 0) (c : S) (next : Lines F)
+        (bytes : List ℕ) → Tells Told remaining b bytes c → GivesEnd grammar Ended now bytes
+        → GivesAll grammar Told remaining Ended Takes Lacks a c lines next before between (Ok done)
+    gives-end done Ended Lacks c next bytes told ends = record {
+      bytes = h.bytes ++ bytes;
+      items = h.items;
+      told = Tells-more Told remaining a b c h.bytes bytes h.told told;
+      given = (
+        λ header given earlier r.
+            let read = h.read header given earlier r in
+            let end = ends header (given ++ h.items) (earlier ++ h.bytes) read in
+            record {
+              ended = end.0;
+              are_lines = read.are_lines;
+              text = sym (append_assoc earlier h.bytes bytes) ∙ end.1;
+            },
+        h.taken,
+      );
+    }
+
+    fault-behind : (Ended : Type 0) (bytes : List ℕ) (fault : TextFault) → FailsAtLine grammar Ended now bytes fault
+        → ReadsToFault grammar Ended lines h.items (h.bytes ++ bytes) fault
+    fault-behind Ended bytes fault fails = λ header given earlier r.
+        let read = h.read header given earlier r in
+        rw (← append_assoc earlier h.bytes bytes) (fails-behind grammar Ended now bytes fault (fails read.reading) header
+        (given ++ h.items) (earlier ++ h.bytes) read)
+
+    -- how a fault of the line behind the items taken answers
+    given-fault : (Done : Type 0) (Ended : Type 0) (Lacks : T → E → T → Type 0) (next : Lines F) (bytes : List ℕ)
+        (fault : TextFault) → HasBegunToRead grammar lines → FailsAtLine grammar Ended now bytes fault
+        → AreGiven {Done = Done} grammar Ended Takes Lacks lines next before between h.items (h.bytes ++ bytes) (Err fault)
+    given-fault Done Ended Lacks next bytes BadHeader begun fails = (fault-behind Ended bytes BadHeader fails, h.taken)
+    given-fault Done Ended Lacks next bytes (BadLine number) begun fails = (fault-behind Ended bytes (BadLine number) fails, h.taken)
+    given-fault Done Ended Lacks next bytes (Cut number) begun fails = (fault-behind Ended bytes (Cut number) fails, h.taken)
+    given-fault Done Ended Lacks next bytes Memory begun fails = absurd (fails (reads_on begun))
+    given-fault Done Ended Lacks next bytes Io begun fails = (fault-behind Ended bytes Io fails, h.taken)
+    given-fault Done Ended Lacks next bytes TooLong begun fails = (fault-behind Ended bytes TooLong fails, h.taken)
+
+    -- a fault was read
+    pub gives-fault : (Done : Type 0) (Ended : Type 0) (Lacks : T → E → T → Type 0) (c : S) (next : Lines F) (bytes : List ℕ)
+        (fault : TextFault) → HasBegunToRead grammar lines → Tells Told remaining b bytes c
+        → FailsAtLine grammar Ended now bytes fault
+        → GivesAll {Done = Done} grammar Told remaining Ended Takes Lacks a c lines next before between (Err fault)
+    gives-fault Done Ended Lacks c next bytes fault begun told fails = record {
+      bytes = h.bytes ++ bytes;
+      items = h.items;
+      told = Tells-more Told remaining a b c h.bytes bytes h.told told;
+      given = given-fault Done Ended Lacks next bytes fault begun fails;
+    }

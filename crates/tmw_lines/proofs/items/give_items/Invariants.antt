@@ -1,0 +1,15 @@
+-- What was told so far is what the reader of lines has read, and the taker was given its items.
+use Rattle.std.proofs.Common.{◌≡◌, ◌+◌}
+use Rattle.tmw_lines.specs.Lines.{unread}
+use Rattle.tmw_lines.proofs.ItemsGiven.{HasGiven}
+use Rattle.tmw_lines.proofs.items.give_items.Given as goal
+
+abbrev pub invariant-lines : goal.invariant-lines
+invariant-lines g l =
+    HasGiven g.F.LineFormat.grammar g.S.Source.told g.S.Source.remaining g.T.Taker.takes l.fn.source l.source l.fn.lines l.lines
+    l.fn.taker l.taker
+    × (g.S.Source.failures l.source ≡ g.S.Source.failures l.fn.source)
+    × g.T.Taker.counts l.taker l.lines.count
+
+abbrev pub decreases-lines : goal.decreases-lines
+decreases-lines g l = g.S.Source.left l.source + unread l.lines

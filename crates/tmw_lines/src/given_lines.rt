@@ -1,0 +1,56 @@
+ghost use Rattle.std.specs.Prelude.{ℕ, ◌≤◌, ◌^◌};
+ghost use Rattle.tmw_lines.specs.GivenLines.{IsRun};
+
+use crate::given::Given;
+use crate::line_format::LineFormat;
+use crate::next_line::MOST_ITEMS;
+use crate::taker::Taker;
+
+/// Lines that a taker was given the items of.
+#[derive(Clone, Copy)]
+pub struct Run {
+    /// How many bytes they are.
+    pub length: usize,
+    /// How many items' lines were read, with those before them.
+    pub count: u64,
+    /// Memory was refused for the item of the last.
+    pub refused: bool,
+}
+
+/// Gives the taker the items of the lines that these bytes begin with, behind so many items' lines, as far as the format tells
+/// them in one pass. Most lines are read here: it is made part of its caller, and what it counts stays in registers.
+#[inline(always)]
+pub fn give_lines<F: LineFormat, T: Taker<F::Item>>(
+    format: F,
+    bytes: &[u8],
+    read: u64,
+    taker: &mut T,
+) -> Run
+    requires few { read ≤ 2 ^ 40 }
+    requires counted { T.counts taker.old read }
+    ensures { IsRun F.grammar T.takes T.lacks T.counts format bytes.now read taker.old taker.new result }
+{
+    let mut length = 0;
+    let mut count = read;
+    while count < MOST_ITEMS {
+        match format.give_first(&bytes[length..], taker) {
+            Given::Nothing => break,
+            Given::Taken(more) => {
+                length += more;
+                count += 1;
+            }
+            Given::Refused(more) => {
+                return Run {
+                    length: length + more,
+                    count: count + 1,
+                    refused: true,
+                };
+            }
+        }
+    }
+    Run {
+        length,
+        count,
+        refused: false,
+    }
+}

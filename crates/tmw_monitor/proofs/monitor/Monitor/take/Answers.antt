@@ -1,0 +1,50 @@
+-- The next verdict is that of the history with the event, and where memory was refused the history fits as before.
+use Rattle.std.proofs.Common.{rules, ◌≡◌, ◌∷◌, [], ◌++◌, ◌↔◌, length, Some, None, arith}
+use Rattle.std.proofs.lemmas.Result.{err_from_is_err_and}
+use Rattle.tmw_defs.specs.Criteria.{so_far}
+use Rattle.tmw_monitor.proofs.Feeding.{fits-next, fits-wrong, fits-kept}
+use Rattle.tmw_monitor.proofs.OnlyOpen.{keeps_only_open}
+use Rattle.tmw_monitor.proofs.monitor.Monitor.take.Goals as goal
+
+pub returns-in_err-wrong-clause-err : goal.returns-in_err-wrong-clause-err
+returns-in_err-wrong-clause-err c =
+    let p = err_from_is_err_and c.from_residual.result c.from_residual.ensures.1 in
+    let fine : c.args.self.now.verdict ≡ so_far c.args.self.now.criterion = search rules in
+    rw p.1 (λ judged_by history fits. fits-kept judged_by history c.args.self.now c.next_wrong.new.kept fits fine
+    (c.in_err-wrong.ensures.err judged_by history))
+
+pub returns-in_err-wrong-clause-keeps_err : goal.returns-in_err-wrong-clause-keeps_err
+returns-in_err-wrong-clause-keeps_err c =
+    let p = err_from_is_err_and c.from_residual.result c.from_residual.ensures.1 in
+    let fine : c.args.self.now.verdict ≡ so_far c.args.self.now.criterion = search rules in
+    rw p.1 (λ judged_by history fits. keeps_only_open judged_by history _
+    (fits-kept judged_by history c.args.self.now c.next_wrong.new.kept fits fine (c.in_err-wrong.ensures.err judged_by history)))
+
+pub returns-in-Some-clause-ok : goal.returns-in-Some-clause-ok
+returns-in-Some-clause-ok c judged_by history fits =
+    let fine : c.args.self.now.verdict ≡ so_far c.args.self.now.criterion = search rules in
+    let n : c.args.self.now.count ≡ length history = fits.counted in
+    fits-wrong judged_by history c.args.event c.args.self.now c.in-Some.verdict c.next_wrong.new.kept c.forget.new.self fits
+    (rw c.in-Some.is at (c.in_ok-wrong.ensures.ok judged_by history fits.criterion fits.window fits.states (omega (arith, n)) (fits.keeps fine)))
+    c.forget.ensures
+
+pub returns-in-Some-clause-keeps : goal.returns-in-Some-clause-keeps
+returns-in-Some-clause-keeps c judged_by history fits =
+    keeps_only_open judged_by (history ++ c.args.event ∷ []) _ (returns-in-Some-clause-ok c judged_by history fits)
+
+pub returns-in-None-clause-ok : goal.returns-in-None-clause-ok
+returns-in-None-clause-ok c judged_by history fits =
+    let fine : c.args.self.now.verdict ≡ so_far c.args.self.now.criterion = search rules in
+    let n : c.args.self.now.count ≡ length history = fits.counted in
+    fits-next judged_by history c.args.event c.args.self.now c.next_wrong.new.kept fits fine
+    (rw c.in-None.is at (c.in_ok-wrong.ensures.ok judged_by history fits.criterion fits.window fits.states (omega (arith, n)) (fits.keeps fine)))
+
+pub returns-in-None-clause-keeps : goal.returns-in-None-clause-keeps
+returns-in-None-clause-keeps c judged_by history fits =
+    keeps_only_open judged_by (history ++ c.args.event ∷ []) _ (returns-in-None-clause-ok c judged_by history fits)
+
+pub returns-then-not-is_so_far-clause-keeps : goal.returns-then-not-is_so_far-clause-keeps
+returns-then-not-is_so_far-clause-keeps c judged_by history fits =
+    let final : c.args.self.now.verdict ≡ so_far c.args.self.now.criterion → ⊥ = search rules in
+    let keeps = keeps_only_open judged_by history c.args.self.now fits in
+    record { holds = λ is. absurd (final is); ended = keeps.ended }

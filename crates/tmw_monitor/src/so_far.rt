@@ -1,0 +1,16 @@
+ghost use Rattle.std.specs.Prelude.{◌≡◌, ◌↔◌, IsTrue};
+ghost use Rattle.tmw_defs.specs.Criteria.{so_far};
+
+use tmw_defs::{Criterion, Verdict};
+
+/// Whether the verdict is that of a history in which nothing is wrong by this criterion. Few steps, since it is asked at each event.
+#[inline(always)]
+pub fn is_so_far(criterion: Criterion, verdict: Verdict) -> bool
+    ensures { IsTrue result ↔ (verdict ≡ so_far criterion) }
+{
+    match verdict {
+        Verdict::OpaqueSoFar => matches!(criterion, Criterion::Opacity),
+        Verdict::StrictSoFar => matches!(criterion, Criterion::Strict),
+        Verdict::Violated(_) | Verdict::Undecided(_, _) | Verdict::Malformed(_) => false,
+    }
+}

@@ -1,0 +1,7 @@
+use Rattle.std.proofs.Common.{◌≡◌, ◌<◌, ℕ}
+use Rattle.std.specs.Int.{bit_at}
+use Rattle.std.specs.Prelude.{slice_index}
+use Rattle.tmw_search.proofs.blind.agree_outside.Given as goal
+
+abbrev pub invariant-loop-register : goal.invariant-loop-register
+invariant-loop-register l = (r : ℕ) → r < l.register → bit_at l.written r ≡ 0 → slice_index l.one r ≡ slice_index l.other r

@@ -1,0 +1,90 @@
+//! Whether the order that is kept is one with the next event too, as it stands: told before the event is taken, in few steps.
+ghost use Rattle.std.specs.Prelude.{◌≡◌, ◌<◌, ◌++◌, [], ◌∷◌, List, IsTrue};
+ghost use Rattle.tmw_defs.specs.Opaque.{State, reads_hold, after_writes};
+ghost use Rattle.tmw_events.specs.declared.event.Kind.TheVariants.{V};
+ghost use Rattle.tmw_cuts.specs.Views.{View, view, answered_ops};
+
+use crate::witness::Witness;
+use tmw_cuts::{State, Txn, Window};
+use tmw_events::{Event, Kind};
+
+/// Whether the transaction writes nothing, so that it leaves the state as it is.
+#[inline(always)]
+fn leaves(item: &Txn, state: &State) -> bool
+    ensures { IsTrue result → after_writes state.now item.now.ops.items ≡ state.now }
+{
+    let _registers = *state;
+    item.only_reads()
+}
+
+impl Witness {
+    ghost use Rattle.tmw_witness.specs.Witnessing.{Witnesses, rank_of, held_of, state_of};
+    ghost use Rattle.tmw_witness.specs.Turns.{TurnsAt};
+    ghost use Rattle.tmw_events.specs.declared.event.Event.{Event};
+    ghost use Rattle.tmw_cuts.specs.Standing.{StandsFor, views_of};
+    ghost use Rattle.tmw_cuts.specs.Views.{next_view};
+
+    /// Whether the reads of the transaction hold at its rank with this answer too, where they hold there so far.
+    #[inline(always)]
+    fn has_value(&self, item: &Txn, place: usize, value: u64) -> bool
+        requires { place < 8 }
+        ensures { IsTrue result → IsTrue (reads_hold (state_of self.now (rank_of self.now place)) item.now.ops.items)
+            → IsTrue (reads_hold (state_of self.now (rank_of self.now place)) (item.now.ops.items ++ answered_ops item.now.call (V value))) }
+    {
+        match self.states.get(usize::from(self.ranks[place])) {
+            Some(state) => item.fits_answer(state, value),
+            None => false,
+        }
+    }
+
+    /// Whether the transaction writes nothing, and so may be held as well as left out.
+    #[inline(always)]
+    fn leaves_nothing(&self, item: &Txn, place: usize) -> bool
+        requires { place < 8 }
+        ensures { IsTrue result → after_writes (state_of self.now (rank_of self.now place)) item.now.ops.items
+            ≡ state_of self.now (rank_of self.now place) }
+    {
+        match self.states.get(usize::from(self.ranks[place])) {
+            Some(state) => leaves(item, state),
+            None => false,
+        }
+    }
+
+    /// Whether the transaction at this place stands in the order with an event of this kind more as it stands now.
+    #[inline(always)]
+    fn explains_at(&self, item: &Txn, place: usize, kind: Kind) -> bool
+        ensures { IsTrue result → (starts : List State) (xs ys : List View) → TurnsAt xs ys place (view item.now) (next_view kind (view item.now))
+            → Witnesses starts xs self.now → Witnesses starts ys self.now }
+    {
+        if place >= 8 {
+            return false;
+        }
+        match kind {
+            Kind::V(value) => !self.held[place] && self.has_value(item, place, value),
+            Kind::C => self.held[place] || self.leaves_nothing(item, place),
+            Kind::T => !self.held[place] && item.only_reads(),
+            Kind::R(_) | Kind::W(_, _) | Kind::N(_, _) | Kind::X | Kind::K | Kind::A => {
+                !self.held[place]
+            }
+        }
+    }
+
+    /// Whether an order is known and is one with the next event too, as it stands.
+    #[inline(always)]
+    pub fn explains(&self, window: &Window, event: Event) -> bool
+        ensures known { IsTrue result → IsTrue self.now.known }
+        ensures stands { IsTrue result → (starts : List State) (events : List Event) → StandsFor window.now events
+            → Witnesses starts (views_of events) self.now → Witnesses starts (views_of (events ++ event ∷ [])) self.now }
+    {
+        if !self.known {
+            return false;
+        }
+        let Some(place) = window.open_place(event.thread) else {
+            return false;
+        };
+        match window.transactions().get(place) {
+            Some(item) => self.explains_at(item, place, event.kind),
+            None => false,
+        }
+    }
+}
