@@ -79,9 +79,11 @@ impl Witness {
         }
     }
 
-    /// Whether an order of the window's transactions is known, or is found where none is. It is then kept.
+    /// Whether an order of the window's transactions is known, or is found where none is. It is then kept. One that was known stays as it
+    /// was.
     pub fn finds(&mut self, starts: &States, window: &Window) -> bool
         ensures known { result ≡ self.new.known }
+        ensures keeps { IsTrue self.old.known → self.new ≡ self.old }
         ensures stays { (events : List Event) → StandsFor window.now events → Witnesses (members starts.now) (views_of events) self.old
             → Witnesses (members starts.now) (views_of events) self.new }
         ensures ends { IsTrue result → (events : List Event) → StandsFor window.now events
