@@ -137,10 +137,16 @@ expect_help 'Usage: tmwatch drive [OPTIONS]' help drive
 expect_help 'Usage: tmwatch bench [OPTIONS]' bench --help
 expect_help 'Usage: tmwatch bench [OPTIONS]' help bench
 expect_help 'Usage: tmwatch steps' steps --help
+expect_help '  -V, --version  Print version' --help
+expect_help 'Example: tmwatch judge --criterion both < run.trace' judge --help
+version='tmwatch 0.1.0, by opacity (Guerraoui and Kapalka 2008) and by strict serializability'
+expect_help "$version" --version
+expect_help "$version" -V
 
 expect_usage "error: 'tmwatch' requires a subcommand but one was not provided"
 expect_usage "error: unrecognized subcommand 'replay'" replay
 expect_usage "error: unrecognized subcommand 'replay'" help replay
+expect_usage "error: unexpected argument '--version' found" judge --version
 expect_usage "error: the argument '--window <N>' cannot be used multiple times" judge --window 3 --window 3
 expect_usage "error: invalid value '9' for '--window <N>': 9 is not in 1..=8" judge --window 9
 expect_usage "error: invalid value '65' for '--states <N>': 65 is not in 1..=64" judge --states=65

@@ -1,7 +1,7 @@
 -- What the definition says of words that are written out.
 use Rattle.std.proofs.Common.{◌≡◌, List, [], ◌∷◌, Option, Some, codes, option_map, refl}
 use Rattle.clap.specs.Words.{Text, first_of, one_of, subcommand_of}
-use Rattle.clap.specs.declared.error.kind.ErrorKind.TheVariants.{ArgumentConflict, DisplayHelp, InvalidSubcommand, InvalidValue, MissingSubcommand, TooManyValues, UnknownArgument, ValueValidation}
+use Rattle.clap.specs.declared.error.kind.ErrorKind.TheVariants.{ArgumentConflict, DisplayHelp, DisplayVersion, InvalidSubcommand, InvalidValue, MissingSubcommand, TooManyValues, UnknownArgument, ValueValidation}
 use Rattle.clap.proofs.OnLiterals.{clap_on_literals}
 use Rattle.tmw_command.specs.Program.{program}
 use Rattle.tmw_command.specs.Words.{help_as_flag, kinds_of}
@@ -252,3 +252,16 @@ help_of_bench = refl
 help_of_no_command : kinds_of (said (codes "help" ∷ codes "replay" ∷ [])) ≡ UnknownArgument ∷ InvalidSubcommand ∷ []
 unfolding clap_on_literals
 help_of_no_command = refl
+
+-- the version is asked for by a flag of the program, and of no command
+version_by_flag : kinds_of (said (codes "--version" ∷ [])) ≡ DisplayVersion ∷ []
+unfolding clap_on_literals
+version_by_flag = refl
+
+version_by_letter : kinds_of (said (codes "-V" ∷ [])) ≡ DisplayVersion ∷ []
+unfolding clap_on_literals
+version_by_letter = refl
+
+version_of_judge : kinds_of (said (codes "judge" ∷ codes "--version" ∷ [])) ≡ UnknownArgument ∷ []
+unfolding clap_on_literals
+version_of_judge = refl

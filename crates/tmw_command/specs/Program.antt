@@ -93,9 +93,9 @@ bench_among memories = with_bounds (with_counts (with_memory memories (new_app (
 abbrev pub steps : App
 steps = new_app (codes "steps")
 
--- the program, which wants one of its commands, and has none called `help`
+-- the program, which wants one of its commands, has none called `help`, and tells its version
 abbrev pub wanting : App → App
-wanting app = record app { top = record app.top { subcommand_required = true; disable_help_subcommand = true } }
+wanting app = record app { top = record app.top { subcommand_required = true; disable_help_subcommand = true; has_version = true } }
 
 -- with its commands, `judge` by one of these criteria, `drive` and `bench` over one of these memories
 abbrev pub program_among : ValueParser → ValueParser → App

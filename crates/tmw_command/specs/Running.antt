@@ -14,10 +14,11 @@ use Rattle.tmw_steps.specs.Running.{RunsSteps}
 use Rattle.tmw_tm.specs.Answers.{Call, Answer}
 use Rattle.tmw_command.specs.Options.{settings_of}
 use Rattle.tmw_command.specs.Reading.{IsReading}
+use Rattle.tmw_command.specs.Version.{version_line}
 use Rattle.tmw_command.specs.declared.order.Order.{Order}
 use Rattle.tmw_command.specs.declared.order.Order.TheVariants.{Judge, Drive, Bench, Steps}
 use Rattle.tmw_command.specs.declared.refusal.Refusal.{Refusal}
-use Rattle.tmw_command.specs.declared.refusal.Refusal.TheVariants.{Help, Usage, Memory}
+use Rattle.tmw_command.specs.declared.refusal.Refusal.TheVariants.{Help, Version, Usage, Memory}
 use Rattle.tmw_command.specs.declared.which.Which.{Which}
 use Rattle.tmw_command.specs.declared.which.Which.TheVariants.{NoRec, Lock, Torn}
 
@@ -38,11 +39,13 @@ RunsOrder From To memories (Drive memory trace bounds) = DrivesBytes From To (me
 RunsOrder From To memories (Bench memory trace options) = BenchesBytes From To (memories memory) trace (settings_of options)
 RunsOrder From To memories Steps = RunsSteps From To
 
--- What is answered to words that give no order. Help is put to the sink. The line of a wrong command line is put to it whatever
+-- What is answered to words that give no order. Help, and the line of the version, is put to the sink. The line of a wrong command line is put to it whatever
 -- becomes of the text that tells what is wrong, which is sent to the sink for errors.
 abbrev pub AnswersRefusal : {K E : Type 0} → ToSink K → ToSink E → Refusal → K → K → E → E → ℕ → Type 0
 AnswersRefusal To Errors (Help text) sink sink_after errors errors_after status =
     IsPut To sink sink_after (string_bytes text) 0 status × (errors_after ≡ errors)
+AnswersRefusal To Errors Version sink sink_after errors errors_after status =
+    IsPut To sink sink_after version_line 0 status × (errors_after ≡ errors)
 AnswersRefusal To Errors (Usage text) sink sink_after errors errors_after status =
     IsPut To sink sink_after (fault_line IsUsage) 4 status × IsSent Errors errors errors_after (string_bytes text)
 AnswersRefusal To Errors Memory sink sink_after errors errors_after status =

@@ -1,4 +1,4 @@
--- What the words of a command line ask for: an order, help, or nothing that the program knows.
+-- What the words of a command line ask for: an order, help, the version, or nothing that the program knows.
 use Rattle.std.specs.Prelude.{◌≡◌, ◌≢◌, ◌⊎◌, ℕ, Bool, false, List, [], ◌∷◌, ◌++◌, Option, Some, codes, if◌then◌else◌}
 use Rattle.std.specs.List.{remove}
 use Rattle.std.specs.Str.{bytes_eq}
@@ -6,7 +6,7 @@ use Rattle.std.specs.Str.Parse.{IsNumeral, digits_value, without_leading_plus}
 use Rattle.clap.specs.Values.{bool_text}
 use Rattle.clap.specs.Words.{IsAmong, Kinds, Row, Text, fault_of, first_of, one_of, subcommand_of}
 use Rattle.clap.specs.declared.error.kind.ErrorKind.{ErrorKind}
-use Rattle.clap.specs.declared.error.kind.ErrorKind.TheVariants.{DisplayHelp}
+use Rattle.clap.specs.declared.error.kind.ErrorKind.TheVariants.{DisplayHelp, DisplayVersion}
 use Rattle.tmw_defs.specs.declared.criterion.Asked.{Asked}
 use Rattle.tmw_monitor.specs.declared.bounds.Bounds.{Bounds}
 use Rattle.tmw_command.specs.Program.{asked_name, memory_name, program}
@@ -24,7 +24,7 @@ names_help _ = false
 abbrev pub help_as_flag : List Text → List Text
 help_as_flag words = if names_help words then remove words 1 ++ codes "--help" ∷ [] else words
 
--- The kinds of the fault that the parser finds in the words, or of the request for help: none where they are right.
+-- The kinds of the fault that the parser finds in the words, or of the request for help or for the version: none where they are right.
 abbrev pub kinds_of : List Text → Kinds
 kinds_of words = fault_of program (help_as_flag words)
 
@@ -77,10 +77,15 @@ Asks words order = (kinds_of words ≡ []) × IsOrder (subcommand_of program (he
 abbrev pub AsksForHelp : List Text → Type 0
 AsksForHelp words = IsAmong DisplayHelp (kinds_of words)
 
+-- The words ask for the program's version.
+abbrev pub AsksForVersion : List Text → Type 0
+AsksForVersion words = IsAmong DisplayVersion (kinds_of words)
+
 -- The parser finds no fault in the words, and still they give no order.
 abbrev pub AsksForNothing : List Text → Type 0
 AsksForNothing words = (kinds_of words ≡ []) × ((order : Order) → Asks words order → ⊥)
 
 -- The words are no command line of the program.
 abbrev pub IsWrong : List Text → Type 0
-IsWrong words = ((kind : ErrorKind) × IsAmong kind (kinds_of words) × (kind ≢ DisplayHelp)) ⊎ AsksForNothing words
+IsWrong words =
+    ((kind : ErrorKind) × IsAmong kind (kinds_of words) × (kind ≢ DisplayHelp) × (kind ≢ DisplayVersion)) ⊎ AsksForNothing words

@@ -35,6 +35,21 @@ const WINDOW_HELP: &str =
 const STATES_HELP: &str =
     "The most outcomes that the history may have at a cut, 1 to 64: past it the verdict is `undecided`";
 
+const PROGRAM_HELP: &str =
+    "Each command reads standard input and writes standard output; `tmwatch COMMAND --help` tells what goes in and what comes out, and gives an example.\n\nExit status: 0 where the run is opaque (or strict) so far, 1 violated, 2 undecided, 3 malformed; 4 for a fault of the command line, of the input, of memory, or of reading or writing, which one line names.";
+
+const JUDGE_HELP: &str =
+    "In goes a trace: a first line `opacity-trace 1 R` for R registers, then a line `THREAD KIND ..` an event. Out comes one line of JSON, or two for both criteria: the verdict, the number of events, and at which event it fell.\n\nExit status: 0 where the run is opaque (or strict) so far, 1 violated, 2 undecided, 3 malformed; 4 for a fault of the input, of memory, or of reading or writing, which one line names.\n\nExample: tmwatch judge --criterion both < run.trace";
+
+const DRIVE_HELP: &str =
+    "In goes a workload in JSON: the number of registers, a script for each thread, and the order in which they make their calls. Out comes the verdict on the run, as one line of JSON, and before it the trace where it is asked for.\n\nExit status: 0 where the run is opaque so far, 1 violated, 2 undecided, 3 malformed; 4 for a fault, which one line names.\n\nExample: tmwatch drive --memory torn --trace < workload.json";
+
+const BENCH_HELP: &str =
+    "In goes a workload in JSON, whose order is not used. Out comes the verdict on the run, as one line of JSON, then how each thread ended; before both the trace where it is asked for.\n\nExit status: 0 where the run is opaque so far, 1 violated, 2 undecided, 3 malformed; 4 for a fault, which one line names.\n\nExample: tmwatch bench --memory norec --rounds 1000 < workload.json";
+
+const STEPS_HELP: &str =
+    "In goes a first line `ring-steps 1 CELLS WRITERS LIMIT`, then a line a step. Out comes a line for the reply to each step, then how many places were claimed and how many events were taken.\n\nExit status: 0, or 4 for a fault, which one line names.\n\nExample: tmwatch steps < stopped_writer.steps";
+
 /// The program's commands, with their options and help.
 pub fn new_program<'a>(alloc: Global) -> Result<Command<'a>, AllocError>
     ensures { IfOk result (λ command. IsProgram (app_of command)) }
@@ -45,6 +60,8 @@ pub fn new_program<'a>(alloc: Global) -> Result<Command<'a>, AllocError>
         .about(
             "A monitor of opacity, and of strict serializability, for transactional memories, and the ring that events reach it by",
         )
+        .after_help(PROGRAM_HELP)
+        .version("0.1.0")
         .subcommand_required(true)
         .disable_help_subcommand(true)
         .subcommand(new_judge(alloc, criteria)?)?
@@ -57,9 +74,11 @@ pub fn new_program<'a>(alloc: Global) -> Result<Command<'a>, AllocError>
 fn new_judge<'a>(alloc: Global, criteria: &'a [&'a str]) -> Result<Command<'a>, AllocError>
     ensures { IfOk result (λ command. app_of command ≡ judge_among (Names criteria.entry)) }
 {
-    let judge = Command::new(alloc, "judge").about(
-        "Judge the trace on standard input: opaque so far, or strict so far, or which of its prefixes is the first that is not",
-    );
+    let judge = Command::new(alloc, "judge")
+        .about(
+            "Judge the trace on standard input: opaque so far, or strict so far, or which of its prefixes is the first that is not",
+        )
+        .after_help(JUDGE_HELP);
     with_bounds(alloc, with_criterion(alloc, judge, criteria)?)
 }
 
@@ -67,9 +86,9 @@ fn new_judge<'a>(alloc: Global, criteria: &'a [&'a str]) -> Result<Command<'a>, 
 fn new_drive<'a>(alloc: Global, memories: &'a [&'a str]) -> Result<Command<'a>, AllocError>
     ensures { IfOk result (λ command. app_of command ≡ drive_among (Names memories.entry)) }
 {
-    let drive = Command::new(alloc, "drive").about(
-        "Run the workload on standard input over a transactional memory, and judge the run",
-    );
+    let drive = Command::new(alloc, "drive")
+        .about("Run the workload on standard input over a transactional memory, and judge the run")
+        .after_help(DRIVE_HELP);
     with_bounds(alloc, with_memory(alloc, drive, memories)?)
 }
 
@@ -77,9 +96,11 @@ fn new_drive<'a>(alloc: Global, memories: &'a [&'a str]) -> Result<Command<'a>, 
 fn new_bench<'a>(alloc: Global, memories: &'a [&'a str]) -> Result<Command<'a>, AllocError>
     ensures { IfOk result (λ command. app_of command ≡ bench_among (Names memories.entry)) }
 {
-    let bench = Command::new(alloc, "bench").about(
-        "Run the workload on standard input over a transactional memory, with a thread for each of its scripts, and judge what they record",
-    );
+    let bench = Command::new(alloc, "bench")
+        .about(
+            "Run the workload on standard input over a transactional memory, with a thread for each of its scripts, and judge what they record",
+        )
+        .after_help(BENCH_HELP);
     let counted = with_counts(alloc, with_memory(alloc, bench, memories)?)?;
     with_bounds(alloc, counted)
 }
@@ -88,9 +109,11 @@ fn new_bench<'a>(alloc: Global, memories: &'a [&'a str]) -> Result<Command<'a>, 
 fn new_steps<'a>(alloc: Global) -> Command<'a>
     ensures { app_of result ≡ steps }
 {
-    Command::new(alloc, "steps").about(
-        "Take the ring's steps that standard input lists, one by one, and write what each of them answers",
-    )
+    Command::new(alloc, "steps")
+        .about(
+            "Take the ring's steps that standard input lists, one by one, and write what each of them answers",
+        )
+        .after_help(STEPS_HELP)
 }
 
 /// The command with what to judge by, one of these names, as an option.

@@ -3,6 +3,8 @@
 pub enum Refusal {
     /// They ask for help: its text.
     Help(String),
+    /// They ask for the program's version.
+    Version,
     /// They are no command line of the program: the text that tells what is wrong with them.
     Usage(String),
     /// Memory was refused.

@@ -20,11 +20,15 @@ use tmw_steps::run_steps;
 use tmw_streams::{Sink, Source, put_all};
 use tmw_tm::Tm;
 
+/// Which program this is: its name and version, and what it judges by.
+const VERSION_LINE: &str =
+    "tmwatch 0.1.0, by opacity (Guerraoui and Kapalka 2008) and by strict serializability\n";
+
 /// Runs the command line of these words, of which the first is the program's name, from the source to the sink: the order that
-/// they ask for, or the text of help. For words that are no command line of the program the fault's line goes to the
+/// they ask for, the text of help, or the line of the version. For words that are no command line of the program the fault's line goes to the
 /// sink, and the text that tells what is wrong to the sink for errors; for words that can't be had, the fault's line alone. An
 /// order to drive, or to bench, takes the memory that it names of these, each of which should be fresh. The result is the exit
-/// status: that of the order, 0 for help, or 4 for any fault and for help that was cut short.
+/// status: that of the order, 0 for help and for the version, or 4 for any fault and for either of these that was cut short.
 ///
 /// It waits in a bench alone, for the threads that this starts.
 pub fn run_command<S: Source, K: Sink, E: Sink, R: Threads + Wait>(
@@ -110,6 +114,7 @@ fn answer_refusal<K: Sink, E: Sink>(refusal: Refusal, sink: &mut K, errors: &mut
 {
     match refusal {
         Refusal::Help(text) => answer_text(sink, text.as_str()),
+        Refusal::Version => answer_text(sink, VERSION_LINE),
         Refusal::Usage(text) => {
             send(errors, text.as_str());
             answer_fault(sink, Fault::Usage)

@@ -29,6 +29,9 @@ fn refusal_of(alloc: Global, error: &Error) -> Refusal
     if kind == ErrorKind::OutOfMemory {
         return Refusal::Memory;
     }
+    if kind == ErrorKind::DisplayVersion {
+        return Refusal::Version;
+    }
     match error.to_string(alloc) {
         Ok(text) if kind == ErrorKind::DisplayHelp => Refusal::Help(text),
         Ok(text) => Refusal::Usage(text),

@@ -48,6 +48,9 @@ const WRITTEN: &str =
 
 const USAGE: &str = "{\"fault\":\"usage\"}\n";
 
+const VERSION: &str =
+    "tmwatch 0.1.0, by opacity (Guerraoui and Kapalka 2008) and by strict serializability\n";
+
 /// The words that spaces part.
 fn parted(alloc: Global, line: &str) -> Result<Vec<String>, AllocError> {
     let mut words = Vec::new(alloc);
@@ -297,8 +300,20 @@ fn wrong_command_lines(rt: HostRuntime) -> Result<(), Fail> {
             "error: unrecognized subcommand 'replay'",
         ),
         ("tmwatch", "error: 'tmwatch' requires a subcommand"),
+        (
+            "tmwatch judge --version",
+            "error: unexpected argument '--version' found",
+        ),
     ] {
         expect_usage(&rt, line, error)?;
+    }
+    Ok(())
+}
+
+#[test]
+fn requests_for_the_version(rt: HostRuntime) -> Result<(), Fail> {
+    for line in ["tmwatch --version", "tmwatch -V", "tmwatch -V judge"] {
+        expect(&rt, line, TRACE, VERSION, 0)?;
     }
     Ok(())
 }
@@ -323,6 +338,24 @@ fn requests_for_help(rt: HostRuntime) -> Result<(), Fail> {
         ("tmwatch bench --help", "Usage: tmwatch bench [OPTIONS]\n"),
         ("tmwatch help bench", "--ring <N>"),
         ("tmwatch steps --help", "Usage: tmwatch steps\n"),
+        ("tmwatch --help", "-V, --version"),
+        ("tmwatch --help", "Exit status: 0 where the run is opaque"),
+        (
+            "tmwatch judge --help",
+            "Example: tmwatch judge --criterion both < run.trace\n",
+        ),
+        (
+            "tmwatch drive --help",
+            "Example: tmwatch drive --memory torn --trace < workload.json\n",
+        ),
+        (
+            "tmwatch bench --help",
+            "Example: tmwatch bench --memory norec --rounds 1000 < workload.json\n",
+        ),
+        (
+            "tmwatch steps --help",
+            "Example: tmwatch steps < stopped_writer.steps\n",
+        ),
     ] {
         let mut source = MemorySource::new(TRACE);
         let mut sink = MemorySink::limited(rt.alloc(), 1, None);

@@ -1,4 +1,4 @@
--- A command's about-text is no part of what a parse reads.
+-- A command's texts for help are no part of what a parse reads.
 use Rattle.std.proofs.Common.{◌≡◌, ◌∙◌, ap, codes}
 use Rattle.std.proofs.lemmas.Result.{IfOk-weaker}
 use Rattle.clap.specs.Simple.{app_of_fields}
@@ -9,6 +9,7 @@ use Rattle.tmw_command.proofs.program.new_judge.Goals as goal
 
 pub returns : goal.returns
 returns c =
-    let about : app_of c.about-judge.result ≡ new_app (codes "judge") = ap app_of_fields c.about-judge.ensures ∙ c.new.ensures.app in
+    let about : app_of c.after_help-judge.result ≡ new_app (codes "judge") =
+    ap app_of_fields c.after_help-judge.ensures ∙ ap app_of_fields c.about.ensures ∙ c.new.ensures.app in
     let given = c.in_ok-with_criterion.ensures ∙ ap (λ (app : App). with_criterion (Names c.args.criteria) app) about in
     IfOk-weaker c.with_bounds.result _ _ (λ command bounded. bounded ∙ ap with_bounds given) c.with_bounds.ensures

@@ -11,6 +11,9 @@ use Rattle.tmw_command.proofs.program.new_program.Goals as goal
 abbrev needing : App → App
 needing app = record app { top = record app.top { subcommand_required = true } }
 
+abbrev telling : App → App
+telling app = record app { top = record app.top { has_version = true } }
+
 abbrev without_help : App → App
 without_help app = record app { top = record app.top { disable_help_subcommand = true } }
 
@@ -18,7 +21,9 @@ pub returns : goal.returns
 returns c =
     let top : app_of c.disable_help_subcommand.result ≡ wanting (new_app (codes "tmwatch")) =
     ap app_of_fields c.disable_help_subcommand.ensures
-    ∙ ap without_help (ap app_of_fields c.subcommand_required.ensures ∙ ap needing (ap app_of_fields c.about.ensures ∙ c.new.ensures.app)) in
+    ∙ ap without_help (ap app_of_fields c.subcommand_required.ensures
+    ∙ ap needing (ap app_of_fields c.version.ensures
+    ∙ ap telling (ap app_of_fields c.after_help.ensures ∙ ap app_of_fields c.about.ensures ∙ c.new.ensures.app))) in
     let judges = c.in_ok-new_judge.ensures in
     let drives = c.in_ok-new_drive.ensures in
     let benches = c.in_ok-new_bench.ensures in

@@ -2,7 +2,7 @@
 use super::*;
 
 /// Command lines and what they read, with what goes out and the exit status.
-const ANSWERED: [(&str, &[u8], &str, u8); 11] = [
+const ANSWERED: [(&str, &[u8], &str, u8); 12] = [
     ("tmwatch judge", TRACE, VIOLATED, 1),
     ("tmwatch steps", STEPS, REPLIES, 0),
     (
@@ -29,6 +29,7 @@ const ANSWERED: [(&str, &[u8], &str, u8); 11] = [
         4,
     ),
     ("tmwatch replay", TRACE, USAGE, 4),
+    ("tmwatch --version", TRACE, VERSION, 0),
 ];
 
 /// Runs a command line whose output is taken a byte a call, up to a call that fails: what went out before it are the first so
