@@ -18,7 +18,7 @@ pub record IsNew {F : Type 0} (lines : Lines F) : Type 0 where
 abbrev pub IsReading : {F : Type 0} → Lines F → Type 0
 IsReading lines = lines.state ≡ Reading
 
--- it has answered that the text has ended
+-- it has answered that the text has ended, or, before the header, that there is no item
 abbrev pub IsOver : {F : Type 0} → Lines F → Type 0
 IsOver lines = lines.state ≡ Over
 

@@ -20,15 +20,15 @@ pub enum State {
     New,
     /// The header was given, and a line may follow.
     Reading,
-    /// The text has ended.
+    /// The text has ended, or an item was asked for before the header.
     Over,
     /// A fault was found, which stays.
     Failed(TextFault),
 }
 
 /// Reads a text line by line, and holds at most 4,096 bytes of it. First `header` is called once; where that is `Ok`,
-/// `next` gives one item after another. No item is given before the header. All calls take the same source, which nobody else
-/// reads meanwhile. It allocates nothing, so `Memory` is not among its faults.
+/// `next` gives one item after another, and none before. All calls take the same source, which nobody else reads meanwhile.
+/// It allocates nothing, so `Memory` is not among its faults.
 #[derive(Drop)]
 pub struct Lines<F> {
     held: Held,
@@ -106,7 +106,8 @@ impl<F: LineFormat> Lines<F> {
     }
 
     /// Reads the next line: its item, `None` where the text has ended, or the fault of all bytes told. Once it
-    /// answered `None` or a fault, it answers so again and reads nothing. Before the header it answers `None` and reads nothing.
+    /// answered `None` or a fault, it answers so again and reads nothing. Before the header it answers `None` too and reads
+    /// nothing, and the header can then be asked for no more.
     pub fn next<S: Source>(&mut self, source: &mut S) -> Result<Option<F::Item>, TextFault>
         ensures item { IfOk result (λ found. IfSome found (λ item. (bytes : List ℕ)
             × Tells S.told S.remaining source.old bytes source.new
