@@ -1,5 +1,7 @@
-ghost use Rattle.std.specs.Prelude.{◌≡◌, ◌++◌, IfErr, OnOk};
+ghost use Rattle.std.specs.Prelude.{◌≡◌, ◌≢◌, ◌++◌, IfErr, OnOk};
+ghost use Rattle.tmw_lines.specs.Lines.{IsOver, HasFailed};
 ghost use Rattle.tmw_lines.specs.TextFault.{failures_after};
+ghost use Rattle.tmw_lines.specs.declared.text_fault.TextFault.TheVariants.{Memory};
 ghost use Rattle.tmw_judge.specs.Feeding.{AreFedAllRead, AreFedSoMany, FeedsEvents, TakeEvents, LackAnEvent};
 ghost use Rattle.std.proofs.Common.{append_assoc, append-nil};
 
@@ -32,7 +34,8 @@ impl Taker<Event> for ByCriterion<Monitor> {
 }
 
 /// Reads the events that are left, up to the source's end or the first fault, and feeds each to the monitors as its line is read.
-/// `Memory` answers want of memory for the event that was read last: nothing was read after its line.
+/// The reader then answers that end or fault again. `Memory` answers want of memory for the event that was read last: nothing was
+/// read after its line.
 pub fn feed_events<S: Source>(
     lines: &mut TraceLines,
     source: &mut S,
@@ -43,6 +46,8 @@ pub fn feed_events<S: Source>(
         monitors.old monitors.new result }
     ensures well { OnOk result (S.failures source.new ≡ S.failures source.old) }
     ensures failed { IfErr result (λ fault. S.failures source.new ≡ failures_after fault (S.failures source.old)) }
+    ensures over { OnOk result (IsOver lines.new) }
+    ensures stays { IfErr result (λ fault. fault ≢ Memory → HasFailed lines.new fault) }
 {
     give_items(lines, source, monitors)
 }

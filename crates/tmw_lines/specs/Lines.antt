@@ -5,20 +5,20 @@ use Rattle.tmw_lines.specs.Held.{bytes_of}
 use Rattle.tmw_lines.specs.LineRead.{HasLineFault}
 use Rattle.tmw_lines.specs.TextFault.{HasTextFault}
 use Rattle.tmw_lines.specs.declared.lines.Lines.{Lines}
-use Rattle.tmw_lines.specs.declared.lines.State.TheVariants.{Reading, Over, Failed}
+use Rattle.tmw_lines.specs.declared.lines.State.TheVariants.{New, Reading, Over, Failed}
 use Rattle.tmw_lines.specs.declared.text_fault.TextFault.{TextFault}
 
 -- it has read nothing
 pub record IsNew {F : Type 0} (lines : Lines F) : Type 0 where
-  pub reading : lines.state ≡ Reading
+  pub state : lines.state ≡ New
   pub none : lines.count ≡ 0
   pub nothing : bytes_of lines.held ≡ []
 
--- it has answered no fault and not the end
+-- it has given its header, and answered no fault and not the end
 abbrev pub IsReading : {F : Type 0} → Lines F → Type 0
 IsReading lines = lines.state ≡ Reading
 
--- it has answered that the text has ended
+-- it has answered that the text has ended, or, before the header, that there is no item
 abbrev pub IsOver : {F : Type 0} → Lines F → Type 0
 IsOver lines = lines.state ≡ Over
 
@@ -30,8 +30,8 @@ HasFailed lines fault = lines.state ≡ Failed fault
 abbrev pub unread : {F : Type 0} → Lines F → ℕ
 unread lines = length (bytes_of lines.held)
 
--- it has answered no fault and not the end, and the bytes read are the header's line, the lines of the items given,
--- and at most 4,096 bytes that it holds
+-- it has given its header, and answered no fault and not the end, and the bytes read are the header's line, the lines of the
+-- items given, and at most 4,096 bytes that it holds
 pub record HasRead {F H E : Type 0} (grammar : Grammar F H E) (lines : Lines F) (header : H) (items : List E)
     (bytes : List ℕ) : Type 0 where
   pub reading : lines.state ≡ Reading
@@ -51,7 +51,7 @@ abbrev pub GivesEnd : {F H E : Type 0} → Grammar F H E → Type 0 → Lines F 
 GivesEnd grammar Ended old bytes = (header : _) (items : List _) (before : List ℕ)
     → HasRead grammar old header items before → Ended × (before ++ bytes ≡ lines_text grammar header items)
 
--- where it had answered no fault and not the end, the line behind those given has this fault, whatever is behind that line
+-- where it had given its header, and answered no fault and not the end, the line behind those given has this fault, whatever is behind that line
 abbrev pub FailsAtLine : {F H E : Type 0} → Grammar F H E → Type 0 → Lines F → List ℕ → TextFault → Type 0
 FailsAtLine grammar Ended old bytes fault =
     IsReading old → HasLineFault grammar Ended old.format old.count (bytes_of old.held ++ bytes) fault

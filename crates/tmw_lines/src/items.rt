@@ -1,6 +1,7 @@
-ghost use Rattle.std.specs.Prelude.{◌≡◌, ◌≤◌, length, vec_capacity, IfErr, OnOk};
+ghost use Rattle.std.specs.Prelude.{◌≡◌, ◌≢◌, ◌≤◌, length, vec_capacity, IfErr, OnOk};
 ghost use Rattle.tmw_lines.specs.ItemsGiven.{GivesAll};
 ghost use Rattle.tmw_lines.specs.ItemsRead.{HasBegunToRead, ReadsItems};
+ghost use Rattle.tmw_lines.specs.Lines.{IsOver, HasFailed};
 ghost use Rattle.tmw_lines.specs.TextFault.{failures_after};
 ghost use Rattle.tmw_lines.specs.declared.text_fault.TextFault.TheVariants.{Memory};
 
@@ -11,7 +12,8 @@ use crate::text_fault::TextFault;
 use tmw_streams::Source;
 
 /// Reads the lines that are left, up to the source's end or the first fault, and gives the taker each item as its line is read.
-/// `Memory` answers want of memory for the item of the line that was read last: nothing was read after that line.
+/// The reader then answers that end or fault again. `Memory` answers want of memory for the item of the line that was read last:
+/// nothing was read after that line.
 pub fn give_items<F: LineFormat, S: Source, T: Taker<F::Item>>(
     lines: &mut Lines<F>,
     source: &mut S,
@@ -23,6 +25,8 @@ pub fn give_items<F: LineFormat, S: Source, T: Taker<F::Item>>(
         lines.new taker.old taker.new result }
     ensures well { OnOk result (S.failures source.new ≡ S.failures source.old) }
     ensures failed { IfErr result (λ fault. S.failures source.new ≡ failures_after fault (S.failures source.old)) }
+    ensures over { OnOk result (IsOver lines.new) }
+    ensures stays { IfErr result (λ fault. fault ≢ Memory → HasFailed lines.new fault) }
 {
     'lines: loop {
         let Ok(()) = lines.give_held(taker) else {
@@ -41,8 +45,9 @@ pub fn give_items<F: LineFormat, S: Source, T: Taker<F::Item>>(
 }
 
 /// Reads the lines that are left, up to the source's end or the first fault, and holds their items behind those that are there.
-/// `Memory` answers want of memory: the item of the line that was read last is not held, and nothing was read after that line. It
-/// comes only where the items fill the room that there was at first; only tests show that a growth was refused.
+/// The reader then answers that end or fault again. `Memory` answers want of memory: the item of the line that was read last is
+/// not held, and nothing was read after that line. It comes only where the items fill the room that there was at first; only
+/// tests show that a growth was refused.
 pub fn read_items<F: LineFormat, S: Source>(
     lines: &mut Lines<F>,
     source: &mut S,
@@ -54,6 +59,8 @@ pub fn read_items<F: LineFormat, S: Source>(
     ensures full { IfErr result (λ fault. fault ≡ Memory → vec_capacity items.old ≤ length items.new.items) }
     ensures well { OnOk result (S.failures source.new ≡ S.failures source.old) }
     ensures failed { IfErr result (λ fault. S.failures source.new ≡ failures_after fault (S.failures source.old)) }
+    ensures over { OnOk result (IsOver lines.new) }
+    ensures stays { IfErr result (λ fault. fault ≢ Memory → HasFailed lines.new fault) }
 {
     give_items(lines, source, items)
 }

@@ -16,16 +16,18 @@ use tmw_streams::Source;
 /// How far a reader has come.
 #[derive(Clone, Copy)]
 pub enum State {
-    /// A line may follow.
+    /// Nothing was read: the header comes first.
+    New,
+    /// The header was given, and a line may follow.
     Reading,
-    /// The text has ended.
+    /// The text has ended, or an item was asked for before the header.
     Over,
     /// A fault was found, which stays.
     Failed(TextFault),
 }
 
 /// Reads a text line by line, and holds at most 4,096 bytes of it. First `header` is called once; where that is `Ok`,
-/// `next` gives one item after another. All calls take the same source, which nobody else reads meanwhile.
+/// `next` gives one item after another, and none before. All calls take the same source, which nobody else reads meanwhile.
 /// It allocates nothing, so `Memory` is not among its faults.
 #[derive(Drop)]
 pub struct Lines<F> {
@@ -48,7 +50,7 @@ impl<F: LineFormat> Lines<F> {
             held: Held::new(),
             format: F::UNREAD,
             count: 0,
-            state: State::Reading,
+            state: State::New,
         }
     }
 
@@ -68,6 +70,7 @@ impl<F: LineFormat> Lines<F> {
         match first_line::<F, S>(&mut self.held, source) {
             Ok(header) => {
                 self.format = F::behind(&header);
+                self.state = State::Reading;
                 Ok(header)
             }
             Err(fault) => {
@@ -78,7 +81,8 @@ impl<F: LineFormat> Lines<F> {
     }
 
     /// Gives the taker the items of the lines that the bytes held begin with, as far as the format tells them in one pass, and reads
-    /// nothing. Where memory is refused for one, that item's line is the last that was read.
+    /// nothing. Where memory is refused for one, that item's line is the last that was read. Before the header, and once `next`
+    /// answered `None` or a fault was answered, it gives nothing and changes nothing.
     #[inline(always)]
     pub fn give_held<T: Taker<F::Item>>(&mut self, taker: &mut T) -> Result<(), AllocError>
         requires { T.counts taker.old self.old.count }
@@ -86,7 +90,15 @@ impl<F: LineFormat> Lines<F> {
         ensures counted { OnOk result (T.counts taker.new self.new.count) }
         ensures lacks { OnErr result (LacksLast F.grammar T.takes T.lacks self.old self.new taker.old taker.new) }
         ensures fewer { unread self.new ≤ unread self.old }
+        ensures before_header { IsNew self.old → (result ≡ Ok tt) × (self.new ≡ self.old) × (taker.new ≡ taker.old) }
+        ensures over_again { IsOver self.old → (result ≡ Ok tt) × (self.new ≡ self.old) × (taker.new ≡ taker.old) }
+        ensures fault_again { (fault : TextFault) → HasFailed self.old fault
+            → (result ≡ Ok tt) × (self.new ≡ self.old) × (taker.new ≡ taker.old) }
     {
+        match self.state {
+            State::Reading => {}
+            State::New | State::Over | State::Failed(_) => return Ok(()),
+        }
         let run = give_lines(self.format, self.held.bytes(), self.count, taker);
         self.held.consume(run.length);
         self.count = run.count;
@@ -94,7 +106,8 @@ impl<F: LineFormat> Lines<F> {
     }
 
     /// Reads the next line: its item, `None` where the text has ended, or the fault of all bytes told. Once it
-    /// answered `None` or a fault, it answers so again and reads nothing.
+    /// answered `None` or a fault, it answers so again and reads nothing. Before the header it answers `None` too and reads
+    /// nothing, and the header can then be asked for no more.
     pub fn next<S: Source>(&mut self, source: &mut S) -> Result<Option<F::Item>, TextFault>
         ensures item { IfOk result (λ found. IfSome found (λ item. (bytes : List ℕ)
             × Tells S.told S.remaining source.old bytes source.new
@@ -113,6 +126,7 @@ impl<F: LineFormat> Lines<F> {
         ensures well { OnOk result (S.failures source.new ≡ S.failures source.old) }
         ensures failed { IfErr result (λ fault. IsReading self.old
             → S.failures source.new ≡ failures_after fault (S.failures source.old)) }
+        ensures before_header { IsNew self.old → (result ≡ Ok None) × (source.new ≡ source.old) }
         ensures over { IfOk result (λ found. IfNone found (IsOver self.new)) }
         ensures over_again { IsOver self.old → (result ≡ Ok None) × (source.new ≡ source.old) }
         ensures stays { IfErr result (HasFailed self.new) }
@@ -122,6 +136,10 @@ impl<F: LineFormat> Lines<F> {
         match self.state {
             State::Failed(fault) => return Err(fault),
             State::Over => return Ok(None),
+            State::New => {
+                self.state = State::Over;
+                return Ok(None);
+            }
             State::Reading => {}
         }
         match next_line(&mut self.held, source, self.format, self.count) {

@@ -164,6 +164,20 @@ fn a_source_is_read_no_more_than_is_needed(rt: HostRuntime) {
 }
 
 #[test]
+fn nothing_is_read_before_the_header(rt: HostRuntime) {
+    let reads = Cell::new(0);
+    let mut source = Counted {
+        source: MemorySource::new(b"c\na\n"),
+        reads: &reads,
+    };
+    let mut lines = Lines::<UpTo>::new();
+    for _ in 0..2 {
+        assert_eq!(rt; lines.next(&mut source), Ok(None));
+    }
+    assert_eq!(rt; reads.get(), 0);
+}
+
+#[test]
 fn no_line_is_read_behind_an_item_that_is_not_held(rt: HostRuntime) {
     // One read tells one line.
     let reads = Cell::new(0);

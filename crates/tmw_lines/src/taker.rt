@@ -4,22 +4,22 @@ use std::alloc::AllocError;
 
 /// What takes the items of lines, one after another as they are read.
 pub trait Taker<I> {
-    /// From the one state to the other it took these items.
+    /// By taking these items, in this order, it comes from the first state to the second.
     ghost takes: { Self → List I → Self → Type 0 };
-    /// From the one state to the other it lacked memory for this item.
+    /// By being refused memory for this item it comes from the first state to the second.
     ghost lacks: { Self → I → Self → Type 0 };
-    /// It may have taken so many items since it was made.
+    /// The state allows that so many items were taken before. One that needs no bound on their number allows each.
     ghost counts: { Self → ℕ → Type 0 };
 
-    /// Takes an item. It is asked for fewer than 2^40 before it.
+    /// Takes an item, or is refused memory for it. The state has to allow that fewer than 2^40 were taken before.
     fn take(&mut self, item: I) -> Result<(), AllocError>
         requires { (count : ℕ) × (count < 2 ^ 40) × counts self.old count }
         ensures taken { OnOk result (takes self.old (item ∷ []) self.new) }
         ensures lacks { OnErr result (lacks self.old item self.new) }
         ensures counted { OnOk result ((count : ℕ) → counts self.old count → counts self.new (count + 1)) };
 
-    /// Where it takes nothing, it stays as it is.
+    /// One that stays as it is has taken no item. One that has taken none need not be as it was.
     ghost takes_none: { (s : Self) → takes s [] s };
-    /// Items that are taken behind others are taken with them.
+    /// What it takes in two steps it has taken in one: the items of the first step, and then those of the second.
     ghost takes_more: { (a b c : Self) (xs ys : List I) → takes a xs b → takes b ys c → takes a (xs ++ ys) c };
 }

@@ -121,3 +121,22 @@ fn lines_answer_a_fault_and_the_end_again(rt: HostRuntime) {
     assert_eq!(rt; none.next(&mut short), Ok(None));
     assert_eq!(rt; none.next(&mut short), Ok(None));
 }
+
+#[test]
+fn held_lines_are_given_behind_the_header_and_before_a_fault(rt: HostRuntime) -> Result<(), Fail> {
+    // One read tells all bytes, and behind the line that has the fault stand lines that one pass can tell.
+    let mut source = MemorySource::new(
+        b"opacity-trace 1 1\n0 T\n0 R 01\n0 C\n1 T\n1 C\n2 T\n2 C\n3 T\n3 C\n4 T\n4 C\n5 T\n5 C\n",
+    );
+    let mut lines = TraceLines::new();
+    let mut events = Vec::new(rt.alloc());
+    lines.give_held(&mut events)?;
+    assert_eq!(rt; events.len(), 0);
+    assert_eq!(rt; lines.header(&mut source).is_ok(), true);
+    lines.give_held(&mut events)?;
+    assert_eq!(rt; events.len(), 1);
+    assert_eq!(rt; lines.next(&mut source), Err(TraceFault::BadLine(3)));
+    lines.give_held(&mut events)?;
+    assert_eq!(rt; events.len(), 1);
+    Ok(())
+}

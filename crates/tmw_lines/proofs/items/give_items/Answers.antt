@@ -69,7 +69,7 @@ returns-in-Ok-None-clause-gives g c =
     let given = rw c.in-Ok-None.field-0-is at c.in-Ok-None.ensures.end in
     gives-end g.F.LineFormat.grammar g.S.Source.told g.S.Source.remaining g.T.Taker.takes c.args.source.now c.args.lines.now
     c.args.taker.now c.lines.source c.give_held.new.self c.give_held.new.taker held tt (g.S.Source.ended c.next.new.source)
-    g.T.Taker.lacks c.next.new.source c.next.new.self given.0 given.1 given.2
+    g.T.Taker.lacks c.next.new.source _ given.0 given.1 given.2
 
 pub returns-in-Err-clause-gives : goal.returns-in-Err-clause-gives
 returns-in-Err-clause-gives g c =
@@ -80,7 +80,7 @@ returns-in-Err-clause-gives g c =
     let given = c.in-Err.ensures.at_line in
     gives-fault g.F.LineFormat.grammar g.S.Source.told g.S.Source.remaining g.T.Taker.takes c.args.source.now c.args.lines.now
     c.args.taker.now c.lines.source c.give_held.new.self c.give_held.new.taker held _ (g.S.Source.ended c.next.new.source)
-    g.T.Taker.lacks c.next.new.source c.next.new.self given.0 c.in-Err.fault c.requires.begun given.1 given.2
+    g.T.Taker.lacks c.next.new.source _ given.0 c.in-Err.fault c.requires.begun given.1 given.2
 
 pub returns-in-Err-clause-failed : goal.returns-in-Err-clause-failed
 returns-in-Err-clause-failed g c =

@@ -1,3 +1,4 @@
+use Rattle.std.proofs.Common.{refl}
 use Rattle.tmw_lines.proofs.LinesRead.{HasRead-first}
 use Rattle.tmw_lines.proofs.lines.Lines.header.Goals as goal
 
@@ -6,6 +7,6 @@ returns-in-Ok-clause-header g c =
     let read = c.in-Ok.ensures.reads in (
       read.bytes,
       read.told,
-      HasRead-first g.F.LineFormat.grammar _ c.in-Ok.header _ read.bytes c.requires.reading c.behind-self.ensures c.requires.none
+      HasRead-first g.F.LineFormat.grammar _ c.in-Ok.header _ read.bytes refl c.behind-self.ensures c.requires.none
           c.requires.nothing read.is.1 read.is.0,
     )
