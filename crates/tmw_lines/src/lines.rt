@@ -80,8 +80,8 @@ impl<F: LineFormat> Lines<F> {
         }
     }
 
-    /// Gives the taker the items of the lines that the bytes held begin with, as far as the format tells them in one pass, and reads
-    /// nothing. Where memory is refused for one, that item's line is the last that was read. Before the header, and once `next`
+    /// Gives the taker the items of lines that the bytes held begin with, of none of them or of more, as the format tells them in one
+    /// pass, and reads nothing. Where memory is refused for one, that item's line is the last that was read. Before the header, and once `next`
     /// answered `None` or a fault was answered, it gives nothing and changes nothing.
     #[inline(always)]
     pub fn give_held<T: Taker<F::Item>>(&mut self, taker: &mut T) -> Result<(), AllocError>

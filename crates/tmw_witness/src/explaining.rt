@@ -69,7 +69,7 @@ impl Witness {
         }
     }
 
-    /// Whether an order is known and is one with the next event too, as it stands.
+    /// Whether an order is known and is one with the next event too, as it stands. Where it answers no, it may be one all the same.
     #[inline(always)]
     pub fn explains(&self, window: &Window, event: Event) -> bool
         ensures known { IsTrue result → IsTrue self.now.known }

@@ -79,8 +79,8 @@ impl Witness {
         }
     }
 
-    /// Whether an order of the window's transactions is known, or is found where none is. It is then kept. One that was known stays as it
-    /// was.
+    /// Whether an order of the window's transactions is known, or is found where none is, by a walk that may miss one. What is found is
+    /// kept, and one that was known stays as it was.
     pub fn finds(&mut self, starts: &States, window: &Window) -> bool
         ensures known { result ≡ self.new.known }
         ensures keeps { IsTrue self.old.known → self.new ≡ self.old }
