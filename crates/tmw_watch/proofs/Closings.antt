@@ -53,8 +53,8 @@ is_judged max pumped old new report wide rested counted gives =
     }
 
 -- Recorders in another order are the ring's still.
-pub of_ring-placed : (ring : RingIs) (given placed : List Recorder) → IsPermutation given placed → AreOf ring given → AreOf ring placed
-of_ring-placed ring given placed same of = All-permutation (λ (recorder : Recorder). recorder.ring.value ≡ ring) given placed same of
+pub of_ring_placed : (ring : RingIs) (given placed : List Recorder) → IsPermutation given placed → AreOf ring given → AreOf ring placed
+of_ring_placed ring given placed same of = All-permutation (λ (recorder : Recorder). recorder.ring.value ≡ ring) given placed same of
 
 -- What the recorders record by is the ring's.
 pub of_ring-writers : (ring : RingIs) (recorders : List Recorder) → AreOf ring recorders

@@ -19,7 +19,6 @@ use tmw_ring::Writer;
 impl Watch {
     /// Closes a watch with all its recorders, in any order, and answers with the number of all events that were recorded and the
     /// verdict on them. Where it can't, it gives back all that it was given, or what is left to be judged of it.
-    #[tactic(auto, using(crate::proofs::Closings::of_ring-placed))]
     pub fn close(self, recorders: Vec<Recorder>) -> Result<Report, CloseError>
         requires { AreOf self.ring.value recorders.items }
         ensures ok { IfOk result (IsClosed self recorders.items) }

@@ -18,7 +18,10 @@ pub enum CloseError {
     },
     /// The ring has an owner beside the watch and all its recorders. There is none, as no call makes one; what the recorders recorded
     /// by is given back.
-    Shared { watch: Watch, writers: Vec<Writer> },
+    Shared {
+        watch: Watch,
+        writers: Vec<Writer>,
+    },
     /// The ring has ended, and a growth of memory was refused before all that it had left was judged, which can be tried again.
     Unjudged(Closing),
 }

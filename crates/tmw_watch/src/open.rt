@@ -14,17 +14,25 @@ use tmw_pump::ForgettingPump;
 use tmw_ring::{Ring, RingFault, Writer, ring};
 
 impl Watch {
-    /// Opens a watch with so many recorders, in the order of their numbers; nothing is recorded yet. All memory that recording will ever
-    /// take is taken here. `BadSize`: the numbers of the cells or of the recorders are out of their range. `BadLimit`: they are not, but
-    /// the limit is. `Memory`: a growth of memory was refused.
+    /// Opens a watch, with its recorders in the order of their numbers. Nothing is recorded yet. Of memory, recording takes what is taken
+    /// here and no more. `BadSize`: the number of the cells or of the recorders is out of its range. `BadLimit`: these are not, but the
+    /// limit is. `Memory`: a growth of memory was refused.
     pub fn open(alloc: Global, settings: Settings) -> Result<(Watch, Vec<Recorder>), RingFault>
         ensures ok { IfOk result (λ opened. IsOpened settings opened.0 opened.1.items) }
         ensures err { IfErr result (IsNoRing settings.cells settings.recorders settings.limit) }
     {
-        let (made, writers, reader) =
-            ring(alloc, settings.cells, settings.recorders, settings.limit)?;
-        let monitor =
-            Monitor::new_from(alloc, settings.registers, settings.start, settings.bounds)?;
+        let (made, writers, reader) = ring(
+            alloc,
+            settings.cells,
+            settings.recorders,
+            settings.limit,
+        )?;
+        let monitor = Monitor::new_from(
+            alloc,
+            settings.registers,
+            settings.start,
+            settings.bounds,
+        )?;
         let ring = Arc::new(alloc, made)?;
         let recorders = share(alloc, &ring, writers)?;
         let watch = Watch {

@@ -35,8 +35,9 @@ impl Recorder {
     }
 
     /// Records one event of its thread, and answers with the event's place in the one log, counted from 0. It never waits and takes no
-    /// memory. `Full`: the ring has no room for an event of each recorder until the watch has pumped more; nothing was claimed, and the
-    /// same event may be tried again. `Spent`: the limit of events is reached, and no recorder records any more.
+    /// memory. Where it is refused, nothing was claimed. `Full`: there was no room for an event of each recorder; once the watch has
+    /// pumped more, the same event may be tried again. `Spent`: fewer places than there are recorders are left up to the limit of events,
+    /// and no recorder of this watch records any more.
     pub fn record(&mut self, kind: Kind) -> Result<u64, Refused>
         ensures ring { self.new.ring ≡ self.old.ring }
         ensures number { self.new.writer.number ≡ self.old.writer.number }

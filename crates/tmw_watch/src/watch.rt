@@ -25,9 +25,9 @@ pub struct Watch {
 }
 
 impl Watch {
-    /// Takes and judges up to `most` events, in the order of their places: fewer only where the next place is claimed by nobody yet, or
-    /// its recorder has not come to its end. It never waits. Where a growth of memory is refused, what was judged stays judged, and the
-    /// event that was to be judged next is held and is judged first by the next call.
+    /// Takes and judges up to `most` events, in the order of their places: fewer only where the next place has no event yet. It never
+    /// waits for one. Where a growth of memory is refused, what was judged stays judged, and the event that was to be judged next is held
+    /// and is judged first by the next call.
     pub fn pump(&mut self, most: u64) -> Result<Pumped, AllocError>
         ensures ring { self.new.ring ≡ self.old.ring }
         ensures ok { IfOk result (λ pumped. IsPumped most pumped self.old.pump self.new.pump) }

@@ -1,14 +1,28 @@
-use Rattle.std.proofs.Common.{rules, ◌≡◌, All, sym, ◌∙◌, subst}
+use Rattle.std.proofs.Common.{rules, ◌≡◌, All, refl, sym, ◌∙◌, subst}
 use Rattle.std.proofs.lemmas.List.Sorted.{IsPermutation-map}
 use Rattle.std.specs.List.Sorted.{IsPermutation}
 use Rattle.tmw_monitor.specs.Fitting.{Fits}
 use Rattle.tmw_pump.specs.Resting.{all_of}
 use Rattle.tmw_pump.specs.declared.front.Front.{Front}
 use Rattle.tmw_ring.specs.Ends.{WriterOf}
-use Rattle.tmw_watch.proofs.Closings.{has_ended, of_ring-placed, of_ring-writers, writers-given}
+use Rattle.tmw_watch.proofs.Closings.{has_ended, of_ring_placed, of_ring-writers, writers-given}
 use Rattle.tmw_watch.proofs.watch.Watch.close.Goals as goal
 use Rattle.tmw_watch.specs.Closing.{HasEnded, writers_of}
 use Rattle.tmw_watch.specs.declared.recorder.Recorder.{Recorder}
+
+pub returns-in-Err-clause-err : goal.returns-in-Err-clause-err
+returns-in-Err-clause-err c =
+    let given = c.args.recorders.items in
+    let back = c.in-Err.recorders.items in
+    let left = c.in-Err.ensures in
+    (refl, left.err, of_ring_placed c.args.self.ring.value given back left.err c.requires, left.not_all)
+
+pub returns-in_default-clause-err : goal.returns-in_default-clause-err
+returns-in_default-clause-err c =
+    let given = c.args.recorders.items in
+    let placed = c.in-Ok.recorders.items in
+    let same = c.in-Ok.ensures.ok in
+    (refl, same, of_ring_placed c.args.self.ring.value given placed same c.requires)
 
 pub settle-requires-clause-writers : goal.settle-requires-clause-writers
 settle-requires-clause-writers c =
@@ -16,7 +30,7 @@ settle-requires-clause-writers c =
     let placed = c.in-Ok.recorders.items in
     let are = writers-given c.give_up.result.items c.in-Ok-with_capacity.writers.items placed c.in-Ok-with_capacity.ensures.items c.give_up.ensures in
     subst (All (WriterOf ring)) (sym are)
-    (of_ring-writers ring placed (of_ring-placed ring c.args.recorders.items placed c.in-Ok.ensures.ok c.requires))
+    (of_ring-writers ring placed (of_ring_placed ring c.args.recorders.items placed c.in-Ok.ensures.ok c.requires))
 
 pub returns-in-Err-settle-clause-err : goal.returns-in-Err-settle-clause-err
 returns-in-Err-settle-clause-err c =
