@@ -5,7 +5,6 @@ use Rattle.std.proofs.lemmas.List.Elements.{All-map}
 use Rattle.std.proofs.lemmas.List.Sorted.{All-permutation, IsPermutation-map, IsPermutation-sym}
 use Rattle.std.specs.List.{All}
 use Rattle.std.specs.List.Sorted.{IsPermutation}
-use Rattle.tmw_defs.specs.declared.verdict.Verdict.{Verdict}
 use Rattle.tmw_events.specs.declared.event.Event.{Event}
 use Rattle.tmw_pump.specs.Fronts.{came}
 use Rattle.tmw_pump.specs.Headline.{GivesHeadline, Headline, IsLogOf}

@@ -1,5 +1,5 @@
 -- Writers that become recorders, one behind another.
-use Rattle.std.proofs.Common.{◌≡◌, ◌<◌, ◌++◌, ℕ, zero, suc, List, [], ◌∷◌, length, get_or, All, sym, ap, ◌∙◌, subst, arith}
+use Rattle.std.proofs.Common.{◌≡◌, ◌<◌, ◌++◌, ℕ, zero, suc, List, [], ◌∷◌, length, get_or, sym, ap, ◌∙◌, subst, arith}
 use Rattle.std.proofs.Math.Seq.{get_or-append_seam}
 use Rattle.tmw_ring.specs.Ends.{RingIs, WriterIs, WriterOf}
 use Rattle.tmw_ring.specs.NewRing.{IsNewWriter, AreNewWriters}

@@ -1,5 +1,5 @@
 -- What is left of a watch that was closed, and what is given back where it could not be.
-use Rattle.std.specs.Prelude.{◌≡◌, ◌⊎◌, ◌≤◌, ◌<◌, ◌++◌, ℕ, List, length, map, All, IsSome}
+use Rattle.std.specs.Prelude.{◌≡◌, ◌⊎◌, ◌<◌, ◌++◌, ℕ, List, length, map, All, IsSome}
 use Rattle.std.specs.List.Sorted.{IsPermutation}
 use Rattle.tmw_defs.specs.Verdict.{Rules}
 use Rattle.tmw_events.specs.declared.event.Event.{Event}
@@ -76,7 +76,7 @@ pub record IsLeft (watch : Watch) (recorders : List Recorder) (rest : Forgetting
 -- recorders are missing is answered only where they are.
 abbrev pub IsUnclosed : Watch → List Recorder → CloseError → Type 0
 IsUnclosed watch recorders (Missing same back) =
-    (same ≡ watch) × IsPermutation recorders back.items × AreOf watch.ring.value back.items × AreNotAll watch.recorders recorders
-IsUnclosed watch recorders (Memory same back) = (same ≡ watch) × IsPermutation recorders back.items × AreOf watch.ring.value back.items
+    (same ≡ watch) × IsPermutation recorders back.items × AreOf same.ring.value back.items × AreNotAll watch.recorders recorders
+IsUnclosed watch recorders (Memory same back) = (same ≡ watch) × IsPermutation recorders back.items × AreOf same.ring.value back.items
 IsUnclosed watch recorders (Shared same back) = (same ≡ watch) × IsPermutation (writers_of recorders) back.items
 IsUnclosed watch recorders (Unjudged closing) = IsLeft watch recorders closing.rest

@@ -46,7 +46,11 @@ fn done(judged: u64, verdict: Verdict) -> Result<Pumped, AllocError> {
 }
 
 /// A watch with two recorders.
-fn open_two(alloc: Global, cells: u64, limit: u64) -> Result<(Watch, Recorder, Recorder), RingFault>
+pub fn open_two(
+    alloc: Global,
+    cells: u64,
+    limit: u64,
+) -> Result<(Watch, Recorder, Recorder), RingFault>
     ensures first { IfOk result (λ opened. opened.1.ring.value ≡ opened.0.ring.value) }
     ensures second { IfOk result (λ opened. opened.2.ring.value ≡ opened.0.ring.value) }
 {
@@ -62,7 +66,7 @@ fn open_two(alloc: Global, cells: u64, limit: u64) -> Result<(Watch, Recorder, R
 
 /// Closes a watch with two recorders.
 #[tactic(auto, using(crate::proofs::Pairs::of_ring_two))]
-fn close_two(
+pub fn close_two(
     alloc: Global,
     watch: Watch,
     first: Recorder,
@@ -135,22 +139,30 @@ fn what_was_not_pumped_is_judged_at_the_end(rt: HostRuntime) -> Result<(), Fail>
     Ok(())
 }
 
+/// What is told of a read of this value, where the register holds 5 at first.
+#[tactic(auto, using(crate::proofs::Pairs::of_ring_one))]
+fn read_of(alloc: Global, value: u64) -> Option<Report> {
+    let mut asked = settings(8, 100, 1);
+    asked.start[0] = 5;
+    let Ok((watch, mut recorders)) = Watch::open(alloc, asked) else {
+        return None;
+    };
+    let Some(mut only) = recorders.pop() else {
+        return None;
+    };
+    let _ = only.record(Kind::R(FIRST));
+    let _ = only.record(Kind::V(value));
+    let Ok(recorders) = vec![in alloc; only] else {
+        return None;
+    };
+    watch.close(recorders).ok()
+}
+
 #[test]
 fn registers_hold_at_first_what_the_settings_say(rt: HostRuntime) -> Result<(), Fail> {
     for (value, verdict) in [(5, Verdict::OpaqueSoFar), (0, Verdict::Violated(2))] {
-        let mut asked = settings(8, 100, 1);
-        asked.start[0] = 5;
-        let (watch, mut recorders) = Watch::open(rt.alloc(), asked)?;
-        let Some(mut only) = recorders.pop() else {
-            panic!(rt; "no recorder");
-        };
-        let _ = only.record(Kind::R(FIRST));
-        let _ = only.record(Kind::V(value));
-        recorders.push(only)?;
-        assert_eq!(rt;
-            watch.close(recorders).ok(),
-            Some(Report { events: 2, verdict })
-        );
+        let report = Report { events: 2, verdict };
+        assert_eq!(rt; read_of(rt.alloc(), value), Some(report));
     }
     Ok(())
 }
@@ -194,11 +206,14 @@ fn a_full_ring_refuses_and_a_pump_makes_room(rt: HostRuntime) -> Result<(), Fail
     Ok(())
 }
 
-#[test]
-fn a_missing_recorder_is_waited_for(rt: HostRuntime) -> Result<(), Fail> {
-    let (watch, mut recorders) = Watch::open(rt.alloc(), settings(8, 100, 2))?;
-    let Some(last) = recorders.pop() else {
-        panic!(rt; "no recorder");
+/// Closes a watch with one recorder of two, and then with both, where the one comes back.
+#[tactic(auto, using(crate::proofs::Pairs::of_ring_one))]
+fn close_late(alloc: Global, watch: Watch, first: Recorder, second: Recorder) -> Option<Report>
+    requires first { first.ring.value ≡ watch.ring.value }
+    requires second { second.ring.value ≡ watch.ring.value }
+{
+    let Ok(recorders) = vec![in alloc; first] else {
+        return None;
     };
     let Err(
         CloseError::Missing {
@@ -207,14 +222,22 @@ fn a_missing_recorder_is_waited_for(rt: HostRuntime) -> Result<(), Fail> {
         },
     ) = watch.close(recorders)
     else {
-        panic!(rt; "closed without a recorder");
+        return None;
     };
-    recorders.push(last)?;
-    let report = Report {
-        events: 0,
-        verdict: Verdict::OpaqueSoFar,
+    let Some(first) = recorders.pop() else {
+        return None;
     };
-    assert_eq!(rt; watch.close(recorders).ok(), Some(report));
+    close_two(alloc, watch, first, second).ok()
+}
+
+#[test]
+fn a_missing_recorder_is_waited_for(rt: HostRuntime) -> Result<(), Fail> {
+    let (watch, mut first, mut second) = open_two(rt.alloc(), 8, 100)?;
+    let _ = record_dirty_read(&mut first, &mut second);
+    assert_eq!(rt;
+        close_late(rt.alloc(), watch, first, second),
+        Some(VIOLATED)
+    );
     Ok(())
 }
 

@@ -3,7 +3,7 @@ ghost use Rattle.std.specs.Prelude.{◌≡◌};
 ghost use Rattle.std.specs.Thread.{IsSync};
 
 use super::*;
-use crate::tests::settings;
+use crate::tests::{close_two, open_two};
 use std::alloc::Global;
 use std::sync::atomic::{AtomicBool, Ordering};
 use std::sync::{Mutex, Wait};
@@ -137,27 +137,17 @@ fn run<R: Threads + Wait + Sync>(
 }
 
 /// What is told of a run of two threads, if there was memory.
-#[tactic(auto, using(crate::proofs::Pairs::of_ring_two))]
 fn reported<R: Threads + Wait + Sync>(rt: &R, alloc: Global, broken: bool) -> Option<Report> {
     let memory = Memory {
         register: Mutex::new(0),
         broken,
         given_up: AtomicBool::new(false),
     };
-    let Ok((watch, mut recorders)) = Watch::open(alloc, settings(16, 1 << 40, 2)) else {
-        return None;
-    };
-    let Some(second) = recorders.pop() else {
-        return None;
-    };
-    let Some(first) = recorders.pop() else {
+    let Ok((watch, first, second)) = open_two(alloc, 16, 1 << 40) else {
         return None;
     };
     let (watch, first, second) = run(rt, &memory, watch, first, second);
-    let Ok(recorders) = vec![in alloc; first, second] else {
-        return None;
-    };
-    watch.close(recorders).ok()
+    close_two(alloc, watch, first, second).ok()
 }
 
 #[test]

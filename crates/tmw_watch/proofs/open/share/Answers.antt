@@ -1,7 +1,7 @@
 use Rattle.std.proofs.Common.{◌≡◌, ◌<◌, ◌+◌, ◌++◌, ℕ, List, [], ◌∷◌, length, get_or, sym, ap, ◌∙◌, subst, append_assoc, arith}
 use Rattle.std.proofs.lemmas.List.{length_push}
 use Rattle.std.specs.Vec.Iter.{into_iter_items}
-use Rattle.tmw_ring.specs.Ends.{RingIs, WriterIs}
+use Rattle.tmw_ring.specs.Ends.{WriterIs}
 use Rattle.tmw_ring.specs.NewRing.{IsNewWriter}
 use Rattle.tmw_watch.proofs.Recorders.{one_more, next_new}
 use Rattle.tmw_watch.proofs.open.share.Goals as goal
