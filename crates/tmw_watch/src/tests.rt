@@ -139,15 +139,23 @@ fn what_was_not_pumped_is_judged_at_the_end(rt: HostRuntime) -> Result<(), Fail>
     Ok(())
 }
 
+/// A watch with one recorder, of a register that holds this value at first.
+fn open_one(alloc: Global, value: u64) -> Result<(Watch, Recorder), RingFault>
+    ensures { IfOk result (λ opened. opened.1.ring.value ≡ opened.0.ring.value) }
+{
+    let mut asked = settings(8, 100, 1);
+    asked.start[0] = value;
+    let (watch, mut recorders) = Watch::open(alloc, asked)?;
+    let Some(only) = recorders.pop() else {
+        return Err(RingFault::BadSize);
+    };
+    Ok((watch, only))
+}
+
 /// What is told of a read of this value, where the register holds 5 at first.
 #[tactic(auto, using(crate::proofs::Pairs::of_ring_one))]
 fn read_of(alloc: Global, value: u64) -> Option<Report> {
-    let mut asked = settings(8, 100, 1);
-    asked.start[0] = 5;
-    let Ok((watch, mut recorders)) = Watch::open(alloc, asked) else {
-        return None;
-    };
-    let Some(mut only) = recorders.pop() else {
+    let Ok((watch, mut only)) = open_one(alloc, 5) else {
         return None;
     };
     let _ = only.record(Kind::R(FIRST));
