@@ -1,0 +1,92 @@
+-- From what a settled ring has left to the verdict on all of its log.
+use Rattle.std.proofs.Common.{◌≡◌, ◌<◌, ◌^◌, ◌++◌, ℕ, List, [], Option, length, get_or, sym, ap, ◌∙◌, subst, arith}
+use Rattle.std.proofs.lemmas.List.{append-nil, length-append}
+use Rattle.std.proofs.lemmas.List.Elements.{All-map}
+use Rattle.std.proofs.lemmas.List.Sorted.{All-permutation, IsPermutation-map, IsPermutation-sym}
+use Rattle.std.specs.List.{All}
+use Rattle.std.specs.List.Sorted.{IsPermutation}
+use Rattle.tmw_events.specs.declared.event.Event.{Event}
+use Rattle.tmw_pump.specs.Fronts.{came}
+use Rattle.tmw_pump.specs.Headline.{GivesHeadline, Headline, IsLogOf}
+use Rattle.tmw_pump.specs.Held.{listed}
+use Rattle.tmw_pump.specs.Resting.{all_of, IsRested}
+use Rattle.tmw_pump.specs.declared.forgetting_rest.ForgettingRest.{ForgettingRest}
+use Rattle.tmw_pump.specs.declared.front.Front.{Front}
+use Rattle.tmw_pump.specs.declared.pumped.Pumped.{Pumped}
+use Rattle.tmw_ring.specs.Ends.{RingIs, WriterIs, WriterOf}
+use Rattle.tmw_ring.specs.Parts.{made_from}
+use Rattle.tmw_ring.specs.Settling.{AreInOrder, IsSettled}
+use Rattle.tmw_watch.specs.Closing.{HasEnded, IsJudged, writers_of}
+use Rattle.tmw_watch.specs.Opening.{AreOf}
+use Rattle.tmw_watch.specs.declared.recorder.Recorder.{Recorder}
+use Rattle.tmw_watch.specs.declared.report.Report.{Report}
+use Rattle.tmw_watch.specs.declared.watch.Watch.{Watch}
+
+-- A call that was to judge more than a log can have has judged all.
+all_judged : (max : ℕ) (pumped : Pumped) (old new : ForgettingRest) → 2 ^ 40 < max → IsRested max pumped old new
+    → new.front.judged.items ≡ all_of old
+all_judged max pumped old new wide rested =
+    let done = rested.counted.judged in
+    let judged = new.front.judged.items in
+    let few = new.few in
+    let counted = done.counted in
+    let long = ap (λ (l : List Event). length l) done.judged ∙ length-append old.front.judged.items done.more in
+    let none = rested.none_left (omega (arith, few, counted, long, wide)) in
+    let free = rested.held (omega (arith, wide)) in
+    let here : all_of new ≡ judged =
+    ap (λ (l : List Event). came new.front ++ l) none ∙ append-nil (came new.front)
+    ∙ ap (λ (h : Option Event). judged ++ listed h) free ∙ append-nil judged in
+    sym here ∙ rested.counted.all
+
+-- So it gives the headline of all.
+pub is_judged : (max : ℕ) (pumped : Pumped) (old new : ForgettingRest) (report : Report) → 2 ^ 40 < max → IsRested max pumped old new
+    → report.events ≡ length new.front.judged.items → GivesHeadline new.front (all_of new) new.front.judged.items report.verdict
+    → IsJudged old report
+is_judged max pumped old new report wide rested counted gives =
+    let all = all_judged max pumped old new wide rested in
+    record {
+      counted = counted ∙ ap (λ (l : List Event). length l) all;
+      headline = λ rules log writers fits one_log.
+          subst (λ (judged : List Event). Headline rules log writers judged report.verdict) all
+          (gives rules log writers (rested.counted.judged.fits rules fits) (subst (IsLogOf log writers) (sym rested.counted.all) one_log));
+    }
+
+-- Recorders in another order are the ring's still.
+pub of_ring_placed : (ring : RingIs) (given placed : List Recorder) → IsPermutation given placed → AreOf ring given → AreOf ring placed
+of_ring_placed ring given placed same of = All-permutation (λ (recorder : Recorder). recorder.ring.value ≡ ring) given placed same of
+
+-- What the recorders record by is the ring's.
+pub of_ring-writers : (ring : RingIs) (recorders : List Recorder) → AreOf ring recorders
+    → All (WriterOf ring) (writers_of recorders)
+of_ring-writers ring recorders same =
+    All-map (WriterOf ring) (λ (recorder : Recorder). recorder.writer) recorders
+    (λ place fallback low. subst (λ (r : RingIs). WriterOf r (get_or recorders place fallback).writer) (same place fallback low)
+    (get_or recorders place fallback).of_ring)
+
+-- A log of the writers of these recorders is one of those in another order.
+log-again : (log : List Event) (given placed : List Recorder) → IsPermutation given placed → IsLogOf log (writers_of placed) log
+    → IsLogOf log (writers_of given) log
+log-again log given placed same is = record {
+  rest = is.rest;
+  begins = is.begins;
+  pairs = All-permutation (λ (writer : WriterIs). writer.made ≡ made_from writer.number.number 0 log) (writers_of placed) (writers_of given)
+      (IsPermutation-map (λ (recorder : Recorder). recorder.writer) placed given (IsPermutation-sym given placed same)) is.pairs;
+}
+
+-- The writers behind none are these.
+pub writers-given : (writers first : List WriterIs) (placed : List Recorder) → first ≡ [] → writers ≡ first ++ writers_of placed
+    → writers ≡ writers_of placed
+writers-given writers first placed none is = is ∙ ap (λ (l : List WriterIs). l ++ writers_of placed) none
+
+pub has_ended : (watch : Watch) (given placed : List Recorder) (writers : List WriterIs) (rest : ForgettingRest) → IsPermutation given placed
+    → writers ≡ writers_of placed → AreInOrder (writers_of placed) → IsSettled watch.pump.reader writers rest.settled
+    → rest.front ≡ watch.pump.front → IsLogOf (all_of rest) writers (all_of rest) → HasEnded watch given (all_of rest)
+has_ended watch given placed writers rest same are order settled front one_log = record {
+  writers = writers_of placed;
+  same = IsPermutation-map (λ (recorder : Recorder). recorder.writer) given placed same;
+  order = order;
+  left = rest.settled;
+  settled = subst (λ (l : List WriterIs). IsSettled watch.pump.reader l rest.settled) are settled;
+  whole = ap (λ (f : Front). came f ++ rest.settled) front ∙ ap (λ (l : List Event). l ++ rest.settled) watch.pump.all;
+  one_log = log-again (all_of rest) given placed same (subst (λ (l : List WriterIs). IsLogOf (all_of rest) l (all_of rest)) are one_log);
+}

@@ -1,0 +1,4 @@
+pub mod Closings
+pub mod Pairs
+pub mod Placing
+pub mod Recorders

@@ -1,0 +1,88 @@
+//! The end of a watch, once all its recorders have come back.
+ghost use Rattle.std.specs.Prelude.{◌≡◌, ◌+◌, ◌++◌, ◌≤◌, All, length, IfOk, IfErr, vec_len, vec_capacity};
+ghost use Rattle.tmw_pump.specs.Headline.{IsLogOf};
+ghost use Rattle.tmw_pump.specs.Resting.{all_of};
+ghost use Rattle.tmw_ring.specs.Ends.{WriterOf};
+ghost use Rattle.tmw_ring.specs.Settling.{AreInOrder, IsSettled};
+ghost use Rattle.tmw_watch.specs.Closing.{IsClosed, IsUnclosed, writers_of};
+ghost use Rattle.tmw_watch.specs.Opening.{AreOf};
+
+use crate::close_error::CloseError;
+use crate::closing::Closing;
+use crate::order::in_order;
+use crate::recorder::Recorder;
+use crate::report::Report;
+use crate::watch::Watch;
+use std::sync::Arc;
+use tmw_ring::Writer;
+
+impl Watch {
+    /// Closes a watch with all its recorders, in any order, and answers with the number of all events that were recorded and the
+    /// verdict on them. Where it can't, it gives back all that it was given, or what is left to be judged of it.
+    pub fn close(self, recorders: Vec<Recorder>) -> Result<Report, CloseError>
+        requires { AreOf self.ring.value recorders.items }
+        ensures ok { IfOk result (IsClosed self recorders.items) }
+        ensures err { IfErr result (IsUnclosed self recorders.items) }
+    {
+        let watch = self;
+        let recorders = match in_order(recorders, watch.recorders as usize) {
+            Ok(recorders) => recorders,
+            Err(recorders) => return Err(CloseError::Missing { watch, recorders }),
+        };
+        let Ok(writers) = Vec::with_capacity(watch.alloc, recorders.len()) else {
+            return Err(CloseError::Memory { watch, recorders });
+        };
+        let closing = match watch.settle(give_up(recorders, writers)) {
+            Ok(closing) => closing,
+            Err((watch, writers)) => return Err(CloseError::Shared { watch, writers }),
+        };
+        match closing.finish() {
+            Ok(report) => Ok(report),
+            Err(closing) => Err(CloseError::Unjudged(closing)),
+        }
+    }
+
+    /// Ends the ring, with writer i at place i.
+    fn settle(self, writers: Vec<Writer>) -> Result<Closing, (Watch, Vec<Writer>)>
+        requires writers { All (WriterOf self.ring.value) writers.items }
+        requires count { length writers.items ≡ self.recorders }
+        requires order { AreInOrder writers.items }
+        ensures settled { IfOk result (λ closing. IsSettled self.pump.reader writers.items closing.rest.settled) }
+        ensures front { IfOk result (λ closing. closing.rest.front ≡ self.pump.front) }
+        ensures one_log { IfOk result (λ closing. IsLogOf (all_of closing.rest) writers.items (all_of closing.rest)) }
+        ensures err { IfErr result (λ back. (back.0 ≡ self) × (back.1.items ≡ writers.items)) }
+    {
+        let Watch {
+            alloc,
+            ring,
+            pump,
+            recorders,
+        } = self;
+        match Arc::try_unwrap(ring) {
+            Ok(ring) => Ok(Closing::new(pump.settle(ring, writers))),
+            Err(ring) => Err((
+                Watch {
+                    alloc,
+                    ring,
+                    pump,
+                    recorders,
+                },
+                writers,
+            )),
+        }
+    }
+}
+
+/// The writers of these recorders, which own the ring no more.
+fn give_up(recorders: Vec<Recorder>, writers: Vec<Writer>) -> Vec<Writer>
+    requires { vec_len writers + length recorders.items ≤ vec_capacity writers }
+    ensures { result.items ≡ writers.items ++ writers_of recorders.items }
+{
+    let mut writers = writers;
+    for recorder in recorders {
+        let Recorder { ring, writer } = recorder;
+        drop(ring);
+        writers.push_reserved(writer);
+    }
+    writers
+}

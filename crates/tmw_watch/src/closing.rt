@@ -1,0 +1,34 @@
+//! What a closed ring has left to be judged.
+ghost use Rattle.std.specs.Prelude.{◌≡◌, IfOk, IfErr};
+ghost use Rattle.tmw_watch.specs.Closing.{IsJudged, IsUnjudged};
+
+use crate::report::Report;
+use tmw_pump::ForgettingRest;
+
+/// What a watch has still to judge whose ring has ended.
+#[derive(Drop)]
+pub struct Closing {
+    rest: ForgettingRest,
+}
+
+impl Closing {
+    /// What was left when the ring ended.
+    pub(crate) fn new(rest: ForgettingRest) -> Closing
+        ensures { result.rest ≡ rest }
+    {
+        Closing { rest }
+    }
+
+    /// Judges all that is left, and answers with the number of all events and the verdict on them. Where a growth of memory is
+    /// refused, what was judged stays judged, nothing is lost, and it may be called again.
+    pub fn finish(mut self) -> Result<Report, Closing>
+        ensures ok { IfOk result (IsJudged self.rest) }
+        ensures err { IfErr result (λ closing. IsUnjudged self.rest closing.rest) }
+    {
+        let Ok(_) = self.rest.pump(u64::MAX) else {
+            return Err(self);
+        };
+        let (events, verdict) = self.rest.finish();
+        Ok(Report { events, verdict })
+    }
+}

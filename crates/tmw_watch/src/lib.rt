@@ -1,0 +1,24 @@
+//! A watch in the program's own process: threads record what they do with a transactional memory, and one of them has it judged
+//! meanwhile. The watch and the recorders own their ring together, so that none has a lifetime.
+#![tactic(auto)]
+
+mod close;
+mod close_error;
+mod closing;
+mod open;
+mod order;
+mod recorder;
+mod report;
+mod settings;
+#[cfg(test)]
+mod tests;
+#[cfg(test)]
+mod thread_tests;
+mod watch;
+
+pub use close_error::CloseError;
+pub use closing::Closing;
+pub use recorder::Recorder;
+pub use report::Report;
+pub use settings::Settings;
+pub use watch::Watch;

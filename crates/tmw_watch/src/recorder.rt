@@ -1,0 +1,49 @@
+//! The end by which one thread records.
+ghost use Rattle.std.specs.Prelude.{◌≡◌, IfOk, IfErr};
+ghost use Rattle.tmw_ring.specs.Ends.{WriterOf};
+ghost use Rattle.tmw_ring.specs.Recording.{HasRecorded, IsRefusal};
+
+use std::alloc::Global;
+use std::sync::Arc;
+use tmw_events::{Ix, Kind};
+use tmw_ring::{Refused, Ring, Writer};
+
+/// The end by which one thread records what it calls and what it is answered. It may go to another thread, and is used by one call at
+/// a time.
+#[derive(Drop)]
+pub struct Recorder {
+    pub(crate) ring: Arc<Ring, Global>,
+    pub(crate) writer: Writer,
+    pub ghost of_ring: { WriterOf ring.value writer },
+}
+
+impl Recorder {
+    /// The recorder that records by this writer of the ring.
+    pub(crate) fn new(ring: Arc<Ring, Global>, writer: Writer) -> Recorder
+        requires { WriterOf ring.value writer }
+        ensures ring { result.ring ≡ ring }
+        ensures writer { result.writer ≡ writer }
+    {
+        Recorder { ring, writer }
+    }
+
+    /// The number of the thread whose events it records: 0 to 7, and below the number of the watch's recorders.
+    pub fn number(&self) -> Ix
+        ensures { result ≡ self.now.writer.number }
+    {
+        self.writer.number()
+    }
+
+    /// Records one event of its thread, and answers with the event's place in the one log, counted from 0. It never waits and takes no
+    /// memory. Where it is refused, nothing was claimed. `Full`: there was no room for an event of each recorder; once the watch has
+    /// pumped more, the same event may be tried again. `Spent`: fewer places than there are recorders are left up to the limit of events,
+    /// and no recorder of this watch records any more.
+    pub fn record(&mut self, kind: Kind) -> Result<u64, Refused>
+        ensures ring { self.new.ring ≡ self.old.ring }
+        ensures number { self.new.writer.number ≡ self.old.writer.number }
+        ensures ok { IfOk result (λ place. HasRecorded kind place self.old.writer self.new.writer) }
+        ensures err { IfErr result (λ refused. IsRefusal kind self.old.writer refused self.new.writer) }
+    {
+        self.ring.record(&mut self.writer, kind)
+    }
+}

@@ -1,0 +1,19 @@
+use tmw_events::Registers;
+use tmw_monitor::Bounds;
+
+/// What is watched, and how far.
+#[derive(Clone, Copy, PartialEq, Eq, Debug)]
+pub struct Settings {
+    /// How many registers the memory has.
+    pub registers: Registers,
+    /// What they hold at first, by their numbers. Those that the memory does not have are to be 0.
+    pub start: [u64; 8],
+    /// How many transactions a window may have, and how many outcomes there may be at a cut: past either the verdict is undecided.
+    pub bounds: Bounds,
+    /// How many events stand in the ring at once: from as many as there are recorders to 4,096.
+    pub cells: u64,
+    /// How many events are recorded in all: from as many as there are recorders to 2^40.
+    pub limit: u64,
+    /// How many threads record: 1 to 8.
+    pub recorders: u64,
+}
