@@ -19,7 +19,16 @@ transaction is live between two rounds, and a round has at most THREADS * ATTEMP
 #define WAIT_EVERY 1
 #endif
 
-enum { THREADS = 4, REGISTERS = 3, STEPS = 3 };
+/* How many threads, registers, and steps of a transaction. */
+#ifndef THREADS
+#define THREADS 4
+#endif
+#ifndef REGISTERS
+#define REGISTERS 3
+#endif
+#ifndef STEPS
+#define STEPS 3
+#endif
 
 /* Reads the register, and then, where `writes` is set, writes it. */
 struct step {

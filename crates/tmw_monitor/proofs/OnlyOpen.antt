@@ -8,7 +8,7 @@ use Rattle.tmw_cuts.specs.Members.{members}
 use Rattle.tmw_monitor.specs.declared.monitor.Monitor.{Monitor}
 use Rattle.tmw_monitor.specs.declared.open.Open.{Open}
 use Rattle.tmw_monitor.specs.Fitting.{Fits, Keeps, KeepsNothing}
-use Rattle.tmw_monitor.specs.Holding.{HoldsOpen, HoldsNone, KeepsOnlyOpen}
+use Rattle.tmw_monitor.specs.Holding.{AreLastOutcomes, HoldsOpen, HoldsNone, KeepsOnlyOpen}
 use Rattle.tmw_monitor.proofs.Counting.{more_than-rising}
 
 -- a history in which nothing is wrong has no more outcomes at its last cut than the bound
@@ -43,4 +43,15 @@ pub keeps_only_open : (rules : Rules) (history : List Event) (monitor : Monitor)
 keeps_only_open rules history monitor fits = record {
   holds = λ is. holds_open rules history monitor.kept (fits.keeps is);
   ended = λ final. holds_none monitor.kept (fits.forgets final);
+}
+
+-- what it keeps of them are the outcomes at the last cut
+pub last_outcomes : (rules : Rules) (history : List Event) (kept : Open) → Keeps rules history kept
+    → AreLastOutcomes rules history (members kept.states)
+last_outcomes rules history kept keeps = record {
+  cut = keeps.cut;
+  last = keeps.sums_up.last;
+  each = keeps.sums_up.states;
+  few = few_outcomes rules history kept keeps;
+  rising = kept.states.rising;
 }

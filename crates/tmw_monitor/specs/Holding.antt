@@ -1,6 +1,9 @@
 -- What a monitor holds of a history, which does not grow with what lies before the last cut.
 use Rattle.std.specs.Prelude.{◌≡◌, ◌↔◌, ◌≤◌, ℕ, List, [], length, take, drop}
+use Rattle.std.specs.Cmp.Lexicographic.{slice_cmp}
 use Rattle.std.specs.List.{Contains}
+use Rattle.std.specs.List.Sorted.{IsStrictlySortedBy}
+use Rattle.std.specs.Ordering.{nat_cmp}
 use Rattle.tmw_events.specs.declared.event.Event.{Event}
 use Rattle.tmw_defs.specs.Criteria.{outcomes_by, so_far}
 use Rattle.tmw_defs.specs.Opaque.{State}
@@ -29,3 +32,11 @@ pub record HoldsNone (kept : Open) : Type 0 where
 pub record KeepsOnlyOpen (rules : Rules) (history : List Event) (monitor : Monitor) : Type 0 where
   pub holds : monitor.verdict ≡ so_far monitor.criterion → HoldsOpen rules history monitor.kept
   pub ended : (monitor.verdict ≡ so_far monitor.criterion → ⊥) → HoldsNone monitor.kept
+
+-- These states are the history's outcomes at its last cut, in rising order and no more of them than the bound.
+pub record AreLastOutcomes (rules : Rules) (history : List Event) (states : List State) : Type 0 where
+  pub cut : ℕ
+  pub last : IsLastCut history cut
+  pub each : (s : State) → Contains states s ↔ outcomes_by rules.criterion rules.start (take cut history) s
+  pub few : length states ≤ rules.states
+  pub rising : IsStrictlySortedBy (slice_cmp nat_cmp) states

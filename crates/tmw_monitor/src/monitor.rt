@@ -1,7 +1,9 @@
-ghost use Rattle.std.specs.Prelude.{◌≡◌, ◌<◌, ◌^◌, List, [], ◌∷◌, ◌++◌, IfOk, IfErr, OnErr, Ok, length};
+ghost use Rattle.std.specs.Prelude.{◌≡◌, ◌↔◌, ◌<◌, ◌^◌, List, [], ◌∷◌, ◌++◌, IfOk, IfErr, OnErr, Ok, IsTrue, length};
 ghost use Rattle.tmw_events.specs.declared.event.Event.{Event};
 ghost use Rattle.tmw_defs.specs.declared.criterion.Criterion.TheVariants.{Opacity};
 ghost use Rattle.tmw_defs.specs.Criteria.{so_far};
+ghost use Rattle.tmw_cuts.specs.Members.{members};
+ghost use Rattle.tmw_defs.specs.Cuts.{is_cut};
 ghost use Rattle.tmw_defs.specs.Opaque.{zeros};
 ghost use Rattle.tmw_defs.specs.Verdict.{Rules, IsVerdict};
 
@@ -31,7 +33,7 @@ pub struct Monitor {
 
 impl Monitor {
     ghost use Rattle.tmw_monitor.specs.Fitting.{Fits, rules_for, rules_of};
-    ghost use Rattle.tmw_monitor.specs.Holding.{KeepsOnlyOpen};
+    ghost use Rattle.tmw_monitor.specs.Holding.{AreLastOutcomes, KeepsOnlyOpen};
 
     /// A monitor that judges by opacity a run whose registers all begin at 0, before its first event.
     pub fn new(alloc: Global, registers: Registers, bounds: Bounds) -> Result<Monitor, AllocError>
@@ -183,5 +185,31 @@ impl Monitor {
         ensures fits { (rules : Rules) (history : List Event) → Fits rules history self.now → IsVerdict rules history result }
     {
         self.verdict
+    }
+
+    /// Whether nothing is wrong with the events taken, so that what follows is judged too.
+    #[inline(always)]
+    pub fn is_open(&self) -> bool
+        ensures { IsTrue result ↔ (self.now.verdict ≡ so_far self.now.criterion) }
+    {
+        is_so_far(self.criterion, self.verdict)
+    }
+
+    /// Whether each transaction of the history has ended, where nothing is wrong with it.
+    pub fn is_at_cut(&self) -> bool
+        ensures { (rules : Rules) (history : List Event) → Fits rules history self.now
+            → self.now.verdict ≡ so_far self.now.criterion → (IsTrue result ↔ IsTrue (is_cut history)) }
+    {
+        self.kept.tracker.live() == 0
+    }
+
+    /// The history's outcomes at its last cut, in rising order, at most 64. After a final verdict there are none.
+    pub fn outcomes(&self) -> &States
+        ensures last { (rules : Rules) (history : List Event) → Fits rules history self.now
+            → self.now.verdict ≡ so_far self.now.criterion → AreLastOutcomes rules history (members result.now) }
+        ensures none { (rules : Rules) (history : List Event) → Fits rules history self.now
+            → (self.now.verdict ≡ so_far self.now.criterion → ⊥) → members result.now ≡ [] }
+    {
+        &self.kept.states
     }
 }

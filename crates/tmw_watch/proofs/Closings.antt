@@ -2,7 +2,7 @@
 use Rattle.std.proofs.Common.{◌≡◌, ◌<◌, ◌^◌, ◌++◌, ℕ, List, [], Option, length, get_or, sym, ap, ◌∙◌, subst, arith}
 use Rattle.std.proofs.lemmas.List.{append-nil, length-append}
 use Rattle.std.proofs.lemmas.List.Elements.{All-map}
-use Rattle.std.proofs.lemmas.List.Sorted.{All-permutation, IsPermutation-map, IsPermutation-sym}
+use Rattle.std.proofs.lemmas.List.Sorted.{length_permutation, All-permutation, IsPermutation-map, IsPermutation-sym}
 use Rattle.std.specs.List.{All}
 use Rattle.std.specs.List.Sorted.{IsPermutation}
 use Rattle.tmw_events.specs.declared.event.Event.{Event}
@@ -15,8 +15,8 @@ use Rattle.tmw_pump.specs.declared.front.Front.{Front}
 use Rattle.tmw_pump.specs.declared.pumped.Pumped.{Pumped}
 use Rattle.tmw_ring.specs.Ends.{RingIs, WriterIs, WriterOf}
 use Rattle.tmw_ring.specs.Parts.{made_from}
-use Rattle.tmw_ring.specs.Settling.{AreInOrder, IsSettled}
-use Rattle.tmw_watch.specs.Closing.{HasEnded, IsJudged, writers_of}
+use Rattle.tmw_ring.specs.Settling.{IsSettled}
+use Rattle.tmw_watch.specs.Closing.{AreAll, HasEnded, IsJudged, writers_of}
 use Rattle.tmw_watch.specs.Opening.{AreOf}
 use Rattle.tmw_watch.specs.declared.recorder.Recorder.{Recorder}
 use Rattle.tmw_watch.specs.declared.report.Report.{Report}
@@ -79,12 +79,13 @@ pub writers-given : (writers first : List WriterIs) (placed : List Recorder) →
 writers-given writers first placed none is = is ∙ ap (λ (l : List WriterIs). l ++ writers_of placed) none
 
 pub has_ended : (watch : Watch) (given placed : List Recorder) (writers : List WriterIs) (rest : ForgettingRest) → IsPermutation given placed
-    → writers ≡ writers_of placed → AreInOrder (writers_of placed) → IsSettled watch.pump.reader writers rest.settled
+    → writers ≡ writers_of placed → AreAll watch.recorders placed → IsSettled watch.pump.reader writers rest.settled
     → rest.front ≡ watch.pump.front → IsLogOf (all_of rest) writers (all_of rest) → HasEnded watch given (all_of rest)
-has_ended watch given placed writers rest same are order settled front one_log = record {
+has_ended watch given placed writers rest same are all settled front one_log = record {
+  all = sym {A = ℕ} (length_permutation given placed same) ∙ all.counted;
   writers = writers_of placed;
   same = IsPermutation-map (λ (recorder : Recorder). recorder.writer) given placed same;
-  order = order;
+  order = all.order;
   left = rest.settled;
   settled = subst (λ (l : List WriterIs). IsSettled watch.pump.reader l rest.settled) are settled;
   whole = ap (λ (f : Front). came f ++ rest.settled) front ∙ ap (λ (l : List Event). l ++ rest.settled) watch.pump.all;

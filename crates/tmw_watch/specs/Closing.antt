@@ -34,10 +34,11 @@ IsMissing recorders number = All (λ recorder. recorder.writer.number.number ≡
 abbrev pub AreNotAll : ℕ → List Recorder → Type 0
 AreNotAll count recorders = (count < length recorders) ⊎ ((number : ℕ) × (number < count) × IsMissing recorders number)
 
--- The ring of this watch has ended with these recorders. It has one log, which begins with what was taken; each recorder has claimed the
+-- The ring of this watch has ended with these recorders, which are all that it has. It has one log, which begins with what was taken; each recorder has claimed the
 -- places of its own events there, and no other, and the log has no events but theirs. One run of the ring's machine leads to it, of
 -- which each of them knew a beginning.
 pub record HasEnded (watch : Watch) (recorders : List Recorder) (log : List Event) : Type 0 where
+  pub all : length recorders ≡ watch.recorders
   pub writers : List WriterIs
   pub same : IsPermutation (writers_of recorders) writers
   pub order : AreInOrder writers
@@ -73,10 +74,11 @@ pub record IsLeft (watch : Watch) (recorders : List Recorder) (rest : Forgetting
   pub held : IsSome rest.front.held
 
 -- What an error gives back: the watch as it was and the same recorders, or what these recorded by; or what is left to be judged. That
--- recorders are missing is answered only where they are.
+-- recorders are missing is answered just where they are.
 abbrev pub IsUnclosed : Watch → List Recorder → CloseError → Type 0
 IsUnclosed watch recorders (Missing same back) =
     (same ≡ watch) × IsPermutation recorders back.items × AreOf same.ring.value back.items × AreNotAll watch.recorders recorders
-IsUnclosed watch recorders (Memory same back) = (same ≡ watch) × IsPermutation recorders back.items × AreOf same.ring.value back.items
+IsUnclosed watch recorders (Memory same back) =
+    (same ≡ watch) × IsPermutation recorders back.items × AreOf same.ring.value back.items × AreAll watch.recorders back.items
 IsUnclosed watch recorders (Shared same back) = (same ≡ watch) × IsPermutation (writers_of recorders) back.items
 IsUnclosed watch recorders (Unjudged closing) = IsLeft watch recorders closing.rest

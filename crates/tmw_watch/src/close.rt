@@ -18,7 +18,8 @@ use tmw_ring::Writer;
 
 impl Watch {
     /// Closes a watch with all its recorders, in any order, and answers with the number of all events that were recorded and the
-    /// verdict on them. Where it can't, it gives back all that it was given, or what is left to be judged of it.
+    /// verdict on them. The recorders that are given are to be this watch's. Where it can't, it gives back all that it was given, or what
+    /// is left to be judged of it.
     pub fn close(self, recorders: Vec<Recorder>) -> Result<Report, CloseError>
         requires { AreOf self.ring.value recorders.items }
         ensures ok { IfOk result (IsClosed self recorders.items) }

@@ -6,7 +6,7 @@ use tmw_monitor::Bounds;
 pub struct Settings {
     /// How many registers the memory has.
     pub registers: Registers,
-    /// What they hold at first, by their numbers. Those that the memory does not have are to be 0.
+    /// What they hold at first, by their numbers. Of those that the memory does not have nothing is read.
     pub start: [u64; 8],
     /// How many transactions a window may have, and how many outcomes there may be at a cut: past either the verdict is undecided.
     pub bounds: Bounds,

@@ -22,7 +22,7 @@ returns-in_default-clause-err c =
     let given = c.args.recorders.items in
     let placed = c.in-Ok.recorders.items in
     let same = c.in-Ok.ensures.ok in
-    (refl, same, of_ring_placed c.args.self.ring.value given placed same c.requires)
+    (refl, same, of_ring_placed c.args.self.ring.value given placed same c.requires, c.in-Ok.ensures.all)
 
 pub settle-requires-clause-writers : goal.settle-requires-clause-writers
 settle-requires-clause-writers c =
@@ -52,7 +52,7 @@ returns-in-Ok-finish-clause-ok c =
     let are = writers-given c.give_up.result.items c.in-Ok-with_capacity.writers.items placed c.in-Ok-with_capacity.ensures.items c.give_up.ensures in
     let rest = c.in-Ok-settle.closing.rest in
     let settled = c.in-Ok-settle.ensures in
-    let ended = has_ended watch given placed c.give_up.result.items rest c.in-Ok.ensures.ok are c.in-Ok.ensures.all.order
+    let ended = has_ended watch given placed c.give_up.result.items rest c.in-Ok.ensures.ok are c.in-Ok.ensures.all
     settled.settled settled.front settled.one_log in
     let judged = c.in-Ok-finish.ensures.ok in
     record {
@@ -71,7 +71,7 @@ returns-in-Err-finish-clause-err c =
     let are = writers-given c.give_up.result.items c.in-Ok-with_capacity.writers.items placed c.in-Ok-with_capacity.ensures.items c.give_up.ensures in
     let rest = c.in-Ok-settle.closing.rest in
     let settled = c.in-Ok-settle.ensures in
-    let ended = has_ended watch given placed c.give_up.result.items rest c.in-Ok.ensures.ok are c.in-Ok.ensures.all.order
+    let ended = has_ended watch given placed c.give_up.result.items rest c.in-Ok.ensures.ok are c.in-Ok.ensures.all
     settled.settled settled.front settled.one_log in
     let left = c.in-Err-finish.ensures.err in
     record {

@@ -1,0 +1,4 @@
+pub mod Judging
+pub mod Kinds
+pub mod Recording
+pub mod Statuses

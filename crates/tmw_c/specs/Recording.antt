@@ -1,0 +1,80 @@
+-- How a call to record is answered.
+use Rattle.std.specs.Prelude.{◌≡◌, ℕ, Option, Some, None}
+use Rattle.tmw_c.specs.Kinds.{AsksFor, IsNoLetter, IsNoRegister}
+use Rattle.tmw_c.specs.declared.status.Status.{Status}
+use Rattle.tmw_c.specs.declared.status.Status.TheVariants.{Done, NoHandle, Full, Spent, BadKind, BadRegister}
+use Rattle.tmw_events.specs.declared.event.Kind.{Kind}
+use Rattle.tmw_handles.specs.declared.held_recorder.HeldRecorder.{HeldRecorder}
+use Rattle.tmw_ring.specs.Recording.{HasRecorded, IsRefusal}
+use Rattle.tmw_ring.specs.declared.refused.Refused.TheVariants.{Full as IsFull, Spent as IsSpent}
+
+-- The status says why no kind is asked for.
+abbrev pub IsUnasked : (registers letter register : ℕ) → Status → Type 0
+IsUnasked registers letter register BadKind = IsNoLetter letter
+IsUnasked registers letter register BadRegister = IsNoRegister registers letter register
+IsUnasked registers letter register _ = ⊥
+
+-- The recorder of the same thread, of the same ring and the same memory.
+pub record IsSameEnd (old new : HeldRecorder) : Type 0 where
+  pub ring : new.recorder.ring ≡ old.recorder.ring
+  pub number : new.recorder.writer.number ≡ old.recorder.writer.number
+  pub registers : new.registers ≡ old.registers
+
+-- Just the event that is asked for was recorded, at this place of the one log.
+pub record HasRecordedAsked (letter register value : ℕ) (old : HeldRecorder) (place : ℕ) (new : HeldRecorder) : Type 0 where
+  pub kind : Kind
+  pub asked : AsksFor old.registers.number letter register value kind
+  pub same : IsSameEnd old new
+  pub recorded : HasRecorded kind place old.recorder.writer new.recorder.writer
+
+-- The event that is asked for was refused, and nothing was claimed: the ring was full.
+pub record WasFull (letter register value : ℕ) (old new : HeldRecorder) : Type 0 where
+  pub kind : Kind
+  pub front : ℕ
+  pub tail : ℕ
+  pub asked : AsksFor old.registers.number letter register value kind
+  pub same : IsSameEnd old new
+  pub refused : IsRefusal kind old.recorder.writer (IsFull front tail) new.recorder.writer
+
+-- The event that is asked for was refused, and nothing was claimed: the ring's places were spent.
+pub record WasSpent (letter register value : ℕ) (old new : HeldRecorder) : Type 0 where
+  pub kind : Kind
+  pub tail : ℕ
+  pub asked : AsksFor old.registers.number letter register value kind
+  pub same : IsSameEnd old new
+  pub refused : IsRefusal kind old.recorder.writer (IsSpent tail) new.recorder.writer
+
+-- why a recorder has recorded nothing, and what it is then
+abbrev pub HasRefused : (letter register value : ℕ) → HeldRecorder → HeldRecorder → Status → Type 0
+HasRefused letter register value old new Full = WasFull letter register value old new
+HasRefused letter register value old new Spent = WasSpent letter register value old new
+HasRefused letter register value old new BadKind = IsNoLetter letter × (new ≡ old)
+HasRefused letter register value old new BadRegister = IsNoRegister old.registers.number letter register × (new ≡ old)
+HasRefused letter register value old new _ = ⊥
+
+-- the same of a recorder that a handle holds
+pub record HasRefusedHeld (letter register value : ℕ) (old new : Option HeldRecorder) (status : Status) : Type 0 where
+  pub before : HeldRecorder
+  pub after : HeldRecorder
+  pub held : old ≡ Some before
+  pub holds : new ≡ Some after
+  pub refused : HasRefused letter register value before after status
+
+-- the same of one that has recorded
+pub record HasRecordedHeld (letter register value place : ℕ) (old new : Option HeldRecorder) : Type 0 where
+  pub before : HeldRecorder
+  pub after : HeldRecorder
+  pub held : old ≡ Some before
+  pub holds : new ≡ Some after
+  pub recorded : HasRecordedAsked letter register value before place after
+
+-- Each status of a call to record, with what the handle holds then, and what place the caller is told.
+abbrev pub IsRecording : (letter register value : ℕ) → (old new : Option HeldRecorder) → (old_place new_place : ℕ) → Status → Type 0
+IsRecording letter register value old new old_place new_place Done = HasRecordedHeld letter register value new_place old new
+IsRecording letter register value old new old_place new_place NoHandle = (old ≡ None) × (new ≡ None) × (new_place ≡ old_place)
+IsRecording letter register value old new old_place new_place status =
+    HasRefusedHeld letter register value old new status × (new_place ≡ old_place)
+
+-- The same of a call that tells no place.
+abbrev pub IsRecordingUntold : (letter register value : ℕ) → (old new : Option HeldRecorder) → Status → Type 0
+IsRecordingUntold letter register value old new status = (place : ℕ) × IsRecording letter register value old new 0 place status

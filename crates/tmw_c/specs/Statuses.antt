@@ -1,0 +1,26 @@
+-- The numbers by which a C program is answered.
+use Rattle.std.specs.Prelude.{◌≡◌, ℕ}
+use Rattle.tmw_c.specs.declared.status.Status.{Status}
+use Rattle.tmw_c.specs.declared.status.Status.TheVariants.{Done, NoHandle, FullHandle, BadRegisters, BadStart, BadBounds, BadSize, BadLimit, Memory, Full, Spent, BadKind, BadRegister, Missing, Closing}
+
+-- the number of a status
+abbrev pub number_of : Status → ℕ
+number_of Done = 0
+number_of NoHandle = 1
+number_of FullHandle = 2
+number_of BadRegisters = 3
+number_of BadStart = 4
+number_of BadBounds = 5
+number_of BadSize = 6
+number_of BadLimit = 7
+number_of Memory = 8
+number_of Full = 9
+number_of Spent = 10
+number_of BadKind = 11
+number_of BadRegister = 12
+number_of Missing = 13
+number_of Closing = 14
+
+-- The number is a status's, of which this holds.
+abbrev pub Tells : ℕ → (Status → Type 0) → Type 0
+Tells number Holds = (status : Status) × (number ≡ number_of status) × Holds status

@@ -1,0 +1,62 @@
+//! What a C program calls. Each function's number says how it was answered.
+ghost use Rattle.std.specs.Prelude.{◌≡◌, None};
+ghost use Rattle.tmw_c.specs.Judging.{IsPumping, IsReporting};
+ghost use Rattle.tmw_c.specs.Recording.{IsRecording};
+ghost use Rattle.tmw_c.specs.Statuses.{Tells};
+
+use crate::told::Told;
+use crate::{judge, record};
+use std::alloc::Global;
+use tmw_handles::{RecorderHandle, WatchHandle};
+
+/// Records the event of this letter.
+#[unsafe(no_mangle)]
+pub extern "C" fn tmwatch_record(
+    alloc: Global,
+    recorder: &mut RecorderHandle,
+    letter: u32,
+    register: u64,
+    value: u64,
+    place: &mut u64,
+) -> u32
+    ensures { Tells result (IsRecording letter register value recorder.old.slot.held recorder.new.slot.held place.old place.new) }
+{
+    record::record(alloc, recorder, letter, register, value, place).number()
+}
+
+/// Judges up to `most` events.
+#[unsafe(no_mangle)]
+pub extern "C" fn tmwatch_pump(
+    alloc: Global,
+    watch: &mut WatchHandle,
+    most: u64,
+    judged: &mut u64,
+) -> u32
+    ensures { Tells result (IsPumping most watch.old.slot.held watch.new.slot.held judged.old judged.new) }
+{
+    judge::pump(alloc, watch, most, judged).number()
+}
+
+/// Tells the verdict on what was judged so far.
+#[unsafe(no_mangle)]
+pub extern "C" fn tmwatch_report(alloc: Global, watch: &mut WatchHandle, out: &mut Told) -> u32
+    ensures { Tells result (IsReporting watch.old.slot.held watch.new.slot.held out.old out.new) }
+{
+    judge::report(alloc, watch, out).number()
+}
+
+/// Gives back all that the handle holds, and leaves it empty.
+#[unsafe(no_mangle)]
+pub extern "C" fn tmwatch_discard(alloc: Global, watch: &mut WatchHandle)
+    ensures { watch.new.slot.held ≡ None }
+{
+    drop(watch.take(alloc));
+}
+
+/// Gives back all that the handle holds, and leaves it empty.
+#[unsafe(no_mangle)]
+pub extern "C" fn tmwatch_discard_recorder(alloc: Global, recorder: &mut RecorderHandle)
+    ensures { recorder.new.slot.held ≡ None }
+{
+    drop(recorder.take(alloc));
+}

@@ -1,0 +1,69 @@
+//! Judging what was recorded, by a watch's handle.
+ghost use Rattle.std.specs.Prelude.{◌≡◌, IfOk, IfErr, IfSome, IfNone};
+ghost use Rattle.tmw_c.specs.Judging.{IsNotOpen, IsPumping, IsReporting, WasNotPumped, WasPumped, WasReported};
+
+use crate::status::Status;
+use crate::told::Told;
+use std::alloc::Global;
+use tmw_handles::{HeldWatch, WatchHandle};
+
+/// Judges up to `most` events, and answers with how many it has judged, or why not so many.
+fn pump_held(held: &mut HeldWatch, most: u64) -> Result<u64, Status>
+    ensures ok { IfOk result (λ judged. WasPumped most judged held.old held.new) }
+    ensures err { IfErr result (WasNotPumped most held.old held.new) }
+{
+    let HeldWatch::Open(watch) = held else {
+        return Err(Status::Closing);
+    };
+    match watch.pump(most) {
+        Ok(pumped) => Ok(pumped.judged),
+        Err(_) => Err(Status::Memory),
+    }
+}
+
+/// The same by what the handle holds, which it holds then again. The count is told where all was done, and else stays.
+pub fn pump(alloc: Global, watch: &mut WatchHandle, most: u64, judged: &mut u64) -> Status
+    ensures { IsPumping most watch.old.slot.held watch.new.slot.held judged.old judged.new result }
+{
+    let Some(mut held) = watch.take(alloc) else {
+        return Status::NoHandle;
+    };
+    let answer = pump_held(&mut held, most);
+    *watch = WatchHandle::of(held);
+    match answer {
+        Ok(count) => {
+            *judged = count;
+            Status::Done
+        }
+        Err(status) => status,
+    }
+}
+
+/// The verdict on what an open watch has judged.
+fn report_held(held: &HeldWatch) -> Option<Told>
+    ensures some { IfSome result (WasReported held.now) }
+    ensures none { IfNone result (IsNotOpen held.now) }
+{
+    let HeldWatch::Open(watch) = held else {
+        return None;
+    };
+    Some(Told::of(watch.report()))
+}
+
+/// The same of what the handle holds, which it holds then again.
+pub fn report(alloc: Global, watch: &mut WatchHandle, out: &mut Told) -> Status
+    ensures { IsReporting watch.old.slot.held watch.new.slot.held out.old out.new result }
+{
+    let Some(held) = watch.take(alloc) else {
+        return Status::NoHandle;
+    };
+    let told = report_held(&held);
+    *watch = WatchHandle::of(held);
+    match told {
+        Some(told) => {
+            *out = told;
+            Status::Done
+        }
+        None => Status::Closing,
+    }
+}

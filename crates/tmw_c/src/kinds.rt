@@ -1,0 +1,61 @@
+//! The kind of event that a C program asks for.
+ghost use Rattle.std.specs.Prelude.{◌≡◌, ◌<◌, ◌≤◌, IfOk, IfErr, IfSome, IfNone};
+ghost use Rattle.tmw_c.specs.Kinds.{AsksFor, IsNoLetter, IsNoRegister};
+ghost use Rattle.tmw_c.specs.Recording.{IsUnasked};
+
+use crate::status::Status;
+use tmw_events::{Ix, Kind, Registers};
+
+const R: u32 = 82;
+
+const V: u32 = 86;
+
+const W: u32 = 87;
+
+const K: u32 = 75;
+
+const T: u32 = 84;
+
+const C: u32 = 67;
+
+const X: u32 = 88;
+
+const A: u32 = 65;
+
+const N: u32 = 78;
+
+/// The register of this number, where the memory has it.
+fn register_of(registers: Registers, register: u64) -> Option<Ix>
+    ensures some { IfSome result (λ ix. (ix.number ≡ register) × (register < registers.number)) }
+    ensures none { IfNone result (registers.number ≤ register) }
+{
+    if register >= u64::from(registers.get()) {
+        return None;
+    }
+    Ix::new(register as u8)
+}
+
+/// The kind that this letter, register and value ask for. What the kind does not have is not looked at.
+pub fn asked(registers: Registers, letter: u32, register: u64, value: u64) -> Result<Kind, Status>
+    ensures ok { IfOk result (AsksFor registers.number letter register value) }
+    ensures err { IfErr result (IsUnasked registers.number letter register) }
+{
+    match letter {
+        V => return Ok(Kind::V(value)),
+        K => return Ok(Kind::K),
+        T => return Ok(Kind::T),
+        C => return Ok(Kind::C),
+        X => return Ok(Kind::X),
+        A => return Ok(Kind::A),
+        R | W | N => {}
+        _ => return Err(Status::BadKind),
+    }
+    let Some(ix) = register_of(registers, register) else {
+        return Err(Status::BadRegister);
+    };
+    match letter {
+        R => Ok(Kind::R(ix)),
+        W => Ok(Kind::W(ix, value)),
+        _ => Ok(Kind::N(ix, value)),
+    }
+}

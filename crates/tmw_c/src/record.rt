@@ -1,0 +1,69 @@
+//! Recording by a handle.
+ghost use Rattle.std.specs.Prelude.{◌≡◌, IfOk, IfErr};
+ghost use Rattle.tmw_c.specs.Recording.{HasRecordedAsked, HasRefused, IsRecording, IsRecordingUntold};
+
+use crate::kinds::asked;
+use crate::status::Status;
+use std::alloc::Global;
+use tmw_handles::{HeldRecorder, RecorderHandle};
+use tmw_ring::Refused;
+
+/// Records the event that is asked for, and answers with its place, or why not.
+fn record_held(
+    held: &mut HeldRecorder,
+    letter: u32,
+    register: u64,
+    value: u64,
+) -> Result<u64, Status>
+    ensures ok { IfOk result (λ place. HasRecordedAsked letter register value held.old place held.new) }
+    ensures err { IfErr result (HasRefused letter register value held.old held.new) }
+{
+    let kind = match asked(held.registers, letter, register, value) {
+        Ok(kind) => kind,
+        Err(status) => return Err(status),
+    };
+    match held.recorder.record(kind) {
+        Ok(place) => Ok(place),
+        Err(Refused::Full { .. }) => Err(Status::Full),
+        Err(Refused::Spent { .. }) => Err(Status::Spent),
+    }
+}
+
+/// The same by what the handle holds, which it holds then again. The place is told where the event was recorded, and else stays.
+pub fn record(
+    alloc: Global,
+    recorder: &mut RecorderHandle,
+    letter: u32,
+    register: u64,
+    value: u64,
+    place: &mut u64,
+) -> Status
+    ensures { IsRecording letter register value recorder.old.slot.held recorder.new.slot.held place.old place.new result }
+{
+    let Some(mut held) = recorder.take(alloc) else {
+        return Status::NoHandle;
+    };
+    let answer = record_held(&mut held, letter, register, value);
+    *recorder = RecorderHandle::of(held);
+    match answer {
+        Ok(at) => {
+            *place = at;
+            Status::Done
+        }
+        Err(status) => status,
+    }
+}
+
+/// The same, where the place is not told.
+pub fn record_untold(
+    alloc: Global,
+    recorder: &mut RecorderHandle,
+    letter: u32,
+    register: u64,
+    value: u64,
+) -> Status
+    ensures { IsRecordingUntold letter register value recorder.old.slot.held recorder.new.slot.held result }
+{
+    let mut place = 0;
+    record(alloc, recorder, letter, register, value, &mut place)
+}

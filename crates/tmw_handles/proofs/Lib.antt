@@ -1,0 +1,2 @@
+mod AsBoxes
+mod Steps

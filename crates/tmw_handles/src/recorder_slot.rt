@@ -1,0 +1,63 @@
+ghost use Rattle.std.specs.Prelude.{◌≡◌, Option, None, Some, IsSome};
+ghost use Rattle.tmw_handles.specs.Slots.{recorder_coded, recorder_owned};
+ghost use Rattle.tmw_handles.specs.declared.held_recorder.HeldRecorder.{HeldRecorder};
+
+use crate::held_recorder::HeldRecorder;
+use crate::parts::Parts;
+use std::alloc::Global;
+use std::marker::Model;
+
+/// A pointer as C keeps it, and what is held there, if anything.
+#[repr(C)]
+#[derive(Drop)]
+pub struct RecorderSlot {
+    at: *mut u8,
+    alloc: Global,
+    pub ghost held: { Option HeldRecorder } by { recorder_coded },
+}
+
+impl Model for RecorderSlot {
+    ghost also_owns = { λ slot. recorder_owned slot.alloc slot.at slot.held };
+}
+
+impl RecorderSlot {
+    /// A pointer at which nothing is held.
+    fn empty_at(at: *mut u8, alloc: Global) -> RecorderSlot
+        ensures { result.held ≡ None }
+    {
+        RecorderSlot { at, alloc }
+    }
+
+    /// Holds what the parts own.
+    pub(crate) fn of_parts(parts: Parts<HeldRecorder, Global>) -> RecorderSlot
+        ensures { result.held ≡ Some parts.held }
+    {
+        let Parts { at, alloc } = parts;
+        let at = at as *mut u8;
+        RecorderSlot { at, alloc }
+    }
+
+    /// Gives up what is held.
+    pub(crate) fn into_parts(self) -> Parts<HeldRecorder, Global>
+        requires { IsSome self.held }
+        ensures { self.held ≡ Some result.held }
+    {
+        let RecorderSlot { at, alloc } = self;
+        let at = at as *mut HeldRecorder;
+        Parts { at, alloc }
+    }
+
+    /// Nothing.
+    pub(crate) fn empty(alloc: Global) -> RecorderSlot
+        ensures { result.held ≡ None }
+    {
+        RecorderSlot::empty_at(nowhere(), alloc)
+    }
+}
+
+/// A pointer to nothing.
+fn nowhere() -> *mut u8 {
+    std::ptr::null_mut()
+}
+
+unsafe impl Send for RecorderSlot {}

@@ -1,0 +1,58 @@
+ghost use Rattle.std.specs.Prelude.{◌≡◌, ◌↔◌, Option, None, Some, IsSome, IsTrue, IfSome, IfNone};
+
+use crate::held_watch::HeldWatch;
+use crate::parts::Parts;
+use crate::watch_slot::WatchSlot;
+use std::alloc::Global;
+use std::mem;
+
+/// What a C program keeps of a watch. All bytes 0, it holds nothing.
+#[repr(C)]
+#[derive(Drop)]
+pub struct WatchHandle {
+    pub(crate) slot: WatchSlot,
+    pub(crate) full: bool,
+    pub ghost matches: { IsTrue full ↔ IsSome slot.held },
+}
+
+impl WatchHandle {
+    /// A handle that holds nothing.
+    pub fn empty(alloc: Global) -> WatchHandle
+        ensures { result.slot.held ≡ None }
+    {
+        WatchHandle {
+            slot: WatchSlot::empty(alloc),
+            full: false,
+        }
+    }
+
+    /// A handle that holds what the box does. It takes no memory.
+    pub fn of(held: Box<HeldWatch, Global>) -> WatchHandle
+        ensures { result.slot.held ≡ Some held.value }
+    {
+        WatchHandle {
+            slot: WatchSlot::of_parts(Parts::of_box(held)),
+            full: true,
+        }
+    }
+
+    /// Takes what is held, if anything, and leaves the handle empty.
+    pub fn take(&mut self, alloc: Global) -> Option<Box<HeldWatch, Global>>
+        ensures some { IfSome result (λ held. self.old.slot.held ≡ Some held.value) }
+        ensures none { IfNone result (self.old.slot.held ≡ None) }
+        ensures empty { self.new.slot.held ≡ None }
+    {
+        if !self.full {
+            return None;
+        }
+        let held = mem::replace(self, WatchHandle::empty(alloc));
+        Some(held.slot.into_parts().into_box())
+    }
+
+    /// Whether it holds anything.
+    pub fn is_full(&self) -> bool
+        ensures { IsTrue result ↔ IsSome self.now.slot.held }
+    {
+        self.full
+    }
+}
