@@ -1,9 +1,9 @@
 -- How the code finds the transaction of an event, against what is to be shown.
 use Rattle.std.proofs.Common.{◌≡◌, ◌<◌, ℕ, zero, suc, Bool, true, false, List, [], ◌∷◌, ◌++◌, length, map, drop, Some, None, get_or, IsTrue, IsFalse, refl, sym, ap, ◌∙◌, inl, inr, arith}
-use Rattle.std.specs.Prelude.{slice_set, position}
+use Rattle.std.specs.Prelude.{slice_set, position, nat_lt, IfSome}
 use Rattle.std.specs.List.{list_any, position_or_len, refill}
 use Rattle.std.proofs.Math.Seq.{take-append_seam}
-use Rattle.std.proofs.lemmas.Bool.{cases_Bool, or_parts, lt-ltb}
+use Rattle.std.proofs.lemmas.Bool.{cases_Bool, or_parts, lt-ltb, ltb-true}
 use Rattle.std.proofs.lemmas.List.Quantifiers.{position-Some}
 use Rattle.tmw_events.specs.declared.event.Event.{Event}
 use Rattle.tmw_cuts.specs.declared.txn.Txn.{Txn}
@@ -86,3 +86,11 @@ position_some p vs some nowhere =
 -- a list of the same length is written over the whole of another
 pub refill-whole : {X : Type 0} (xs ws : List X) → length ws ≡ length xs → refill (length xs) xs ws ≡ ws
 refill-whole xs ws same = rw (← same) (take-append_seam ws (drop (length ws) xs))
+
+-- a place that is found is one of the list
+pub position-within : (p : Txn → Bool) (txns : List Txn) → IfSome (position p txns) (λ place. place < length txns)
+position-within p txns =
+    elim (cases_Bool (nat_lt (position_or_len p txns) (length txns))) [
+      | inl within ↦ rw within (ltb-true (position_or_len p txns) (length txns) within)
+      | inr nowhere ↦ rw nowhere tt
+    ]

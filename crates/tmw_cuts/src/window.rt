@@ -1,4 +1,4 @@
-ghost use Rattle.std.specs.Prelude.{◌≡◌, ◌<◌, ◌≤◌, [], ◌∷◌, ◌++◌, List, IsTrue, IsFalse, length, map, position, slice_set};
+ghost use Rattle.std.specs.Prelude.{◌≡◌, ◌<◌, ◌≤◌, [], ◌∷◌, ◌++◌, List, Some, IfSome, IsTrue, IsFalse, true, length, map, position, slice_set};
 ghost use Rattle.std.specs.List.{list_all, list_any};
 ghost use Rattle.tmw_defs.specs.History.{is_over};
 ghost use Rattle.tmw_cuts.specs.Views.{view, is_open_for, awaits_commit_of, PushesEvent};
@@ -79,6 +79,7 @@ impl Window {
     ghost use Rattle.tmw_defs.specs.Cuts.{is_cut};
     ghost use Rattle.tmw_defs.specs.History.{transactions};
     ghost use Rattle.tmw_wellformed.specs.Notes.{Notes};
+    ghost use Rattle.tmw_wellformed.specs.declared.note.Note.{Note};
     ghost use Rattle.tmw_cuts.specs.Marking.{Marks};
     ghost use Rattle.tmw_cuts.specs.Standing.{StandsFor, views, views_of, count_of};
 
@@ -132,10 +133,33 @@ impl Window {
         }
     }
 
+    /// Takes the next event of a well-formed history, which begins a transaction.
+    #[inline(always)]
+    pub fn push_new(&mut self, event: Event)
+        requires room { count_of self.old < 8 }
+        ensures stands { (events : List Event) (note : Note) → note.begins ≡ true → StandsFor self.old events → Notes events event note
+            → StandsFor self.new (events ++ event ∷ []) }
+        ensures registers { self.new.registers ≡ self.old.registers }
+    {
+        begin(&mut self.txns, event);
+    }
+
+    /// Takes the next event of a well-formed history, that of the transaction at this place, which is open for its thread.
+    #[inline(always)]
+    pub fn push_at(&mut self, place: usize, event: Event)
+        requires within { place < count_of self.old }
+        ensures stands { (events : List Event) → StandsFor self.old events
+            → position (is_open_for event.thread.number) (views_of events) ≡ Some place → StandsFor self.new (events ++ event ∷ []) }
+        ensures registers { self.new.registers ≡ self.old.registers }
+    {
+        self.txns[place].add(event.kind);
+    }
+
     /// The place of the transaction to which the thread's next event belongs, if it has one that has not ended.
     #[inline(always)]
     pub fn open_place(&self, thread: Ix) -> Option<usize>
-        ensures { (events : List Event) → StandsFor self.now events → result ≡ position (is_open_for thread.number) (views_of events) }
+        ensures within { IfSome result (λ place. place < count_of self.now) }
+        ensures stands { (events : List Event) → StandsFor self.now events → result ≡ position (is_open_for thread.number) (views_of events) }
     {
         open_transaction(self.txns.as_slice(), thread)
     }

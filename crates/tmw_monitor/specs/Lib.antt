@@ -2,3 +2,4 @@ pub mod BadBounds
 pub mod Fitting
 pub mod Holding
 pub mod Weighing
+pub mod AtOnce

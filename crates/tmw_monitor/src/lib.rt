@@ -1,6 +1,7 @@
 //! The verdict on a history as its events come, with no event kept.
 #![tactic(auto)]
 
+mod at_once;
 mod bounds;
 #[cfg(test)]
 mod compared;

@@ -7,6 +7,7 @@ ghost use Rattle.tmw_defs.specs.Cuts.{is_cut};
 ghost use Rattle.tmw_defs.specs.Opaque.{zeros};
 ghost use Rattle.tmw_defs.specs.Verdict.{Rules, IsVerdict};
 
+use crate::at_once::take_at_once;
 use crate::bounds::Bounds;
 use crate::next::next_wrong;
 use crate::open::Open;
@@ -14,7 +15,7 @@ use crate::so_far::is_so_far;
 use std::alloc::{AllocError, Global};
 use tmw_cuts::{State, States, Window};
 use tmw_defs::{Criterion, Verdict};
-use tmw_events::{Event, Kind, Registers};
+use tmw_events::{Event, Registers};
 use tmw_wellformed::Tracker;
 use tmw_witness::Witness;
 
@@ -93,6 +94,7 @@ impl Monitor {
 
     /// Takes the next event, and answers the verdict on all events so far. A verdict that something is wrong stays for good, and
     /// from then on each call succeeds. Where memory is refused, the event is not taken.
+    #[inline(always)]
     pub fn feed(&mut self, event: Event) -> Result<Verdict, AllocError>
         requires room { self.old.count < 2 ^ 40 }
         ensures ok { IfOk result (λ verdict. (rules : Rules) (history : List Event) → Fits rules history self.old
@@ -108,22 +110,18 @@ impl Monitor {
         ensures keeps_err { OnErr result ((rules : Rules) (history : List Event) → Fits rules history self.old
             → KeepsOnlyOpen rules history self.new) }
     {
-        // The same body for each kind, so that it knows the kind of its event.
-        match event.kind {
-            Kind::R(_) => self.take(event),
-            Kind::V(_) => self.take(event),
-            Kind::W(_, _) => self.take(event),
-            Kind::K => self.take(event),
-            Kind::T => self.take(event),
-            Kind::C => self.take(event),
-            Kind::X => self.take(event),
-            Kind::A => self.take(event),
-            Kind::N(_, _) => self.take(event),
+        if self.criterion == Criterion::Opacity
+            && is_so_far(self.criterion, self.verdict)
+            && take_at_once(&mut self.kept, self.bounds, event)
+        {
+            self.count += 1;
+            return Ok(self.verdict);
         }
+        self.take(event)
     }
 
-    /// The same of an event of each kind.
-    #[inline(always)]
+    /// The same of any event.
+    #[inline(never)]
     fn take(&mut self, event: Event) -> Result<Verdict, AllocError>
         requires room { self.old.count < 2 ^ 40 }
         ensures ok { IfOk result (λ verdict. (rules : Rules) (history : List Event) → Fits rules history self.old

@@ -1,8 +1,8 @@
 -- A tracker that a history fits, one event further.
-use Rattle.std.proofs.Common.{◌≡◌, ◌==◌, ◌&&◌, ◌+◌, ◌++◌, ◌<◌, ◌↔◌, ℕ, zero, suc, true, false, not, List, [], ◌∷◌, length, Option, Some, None, Ok, Err, IsTrue, refl, sym, ap, ◌∙◌, inl, inr, arith}
+use Rattle.std.proofs.Common.{◌≡◌, ◌==◌, ◌&&◌, ◌+◌, ◌++◌, ◌<◌, ◌≤◌, ◌↔◌, ℕ, Bool, zero, suc, true, false, not, List, [], ◌∷◌, length, Option, Some, None, Ok, Err, IsTrue, refl, sym, ap, subst, ◌∙◌, inl, inr, arith}
 use Rattle.std.specs.Prelude.{slice_get, slice_set, slice_index_or, is_some, count_by}
 use Rattle.std.specs.List.{list_all}
-use Rattle.std.proofs.lemmas.Bool.{cases_Bool, cases_eq, both_ways, and_parts, not-true, ne_eqb}
+use Rattle.std.proofs.lemmas.Bool.{cases_Bool, cases_eq, both_ways, and_parts, not-true, ne_eqb, eqb-true, eq-eqb}
 use Rattle.std.proofs.lemmas.Option.{get_or_from_slice_get, slice_get_within}
 use Rattle.std.proofs.lemmas.List.Sums.{sum_by-set}
 use Rattle.tmw_events.specs.declared.event.Event.{Event}
@@ -18,6 +18,7 @@ use Rattle.tmw_wellformed.specs.declared.phases.Phases.{Phases}
 use Rattle.tmw_wellformed.specs.declared.tracker.Tracker.{Tracker}
 use Rattle.tmw_wellformed.specs.Pending.{live_of, pending_call, live_count}
 use Rattle.tmw_wellformed.specs.Faults.{lacks_register, Refuses}
+use Rattle.tmw_wellformed.specs.GoingOn.{TakesAs}
 use Rattle.tmw_wellformed.specs.Notes.{Notes, end_of}
 use Rattle.tmw_wellformed.specs.Phase.{phase_of, is_live, next_phase}
 use Rattle.tmw_wellformed.specs.Tracks.{Tracks}
@@ -200,3 +201,36 @@ is_cut-zero_live registers history tracker tracks = (
   λ none. all_ended (transactions history) (sym tracks.live ∙ none),
   λ ended. tracks.live ∙ count_by-all_ended (transactions history) ended,
 )
+
+-- the event is taken, and begins or ends a transaction as told
+pub takes_as-push : (registers : ℕ) (history : List Event) (e : Event) (old new : Tracker) (was next : Phase) (cut : Bool) → Tracks registers history old
+    → lacks_register old.registers.number e.kind ≡ false
+    → was ≡ slice_index_or old.phases.by_thread e.thread.number Between
+    → next_phase was e.kind ≡ Ok next
+    → new.registers ≡ old.registers → new.phases.by_thread ≡ slice_set old.phases.by_thread e.thread.number next
+    → ((new.phases.live + flag (is_live was) ≡ old.phases.live + flag (is_live next)) → flag (is_live was) ≤ old.phases.live → (new.phases.live == 0) ≡ cut)
+    → TakesAs registers history e (not (is_live was)) cut new
+takes_as-push registers history e old new was next cut tracks has at is same_registers one_phase live =
+    let thread = e.thread.number in
+    let within = slice_get_within old.phases.by_thread thread _ (tracks.phases thread e.thread.below) in
+    let note : Note = record { begins = not (is_live was); ends = end_of e.kind } in
+    let after = tracks-push registers history e old new next tracks has (subst (λ (p : Phase). next_phase p e.kind ≡ Ok next) at is) same_registers one_phase in
+    let counted = live-set old.phases new.phases thread next within one_phase in
+    let without = sum_by-set (λ p. flag (is_live p)) old.phases.by_thread thread Between Between within in
+    let same : flag (is_live was) ≡ flag (is_live (slice_index_or old.phases.by_thread thread Between)) = ap (λ (p : Phase). flag (is_live p)) at in
+    let tells = is_cut-zero_live registers (history ++ e ∷ []) new after in
+    let counted_cut : (new.phases.live == 0) ≡ cut = live (omega (arith, counted, same)) (omega (arith, without, same, old.phases.counted)) in
+    record {
+      tracks = after;
+      note = note;
+      first = refl;
+      notes = notes-push registers history e old note tracks (ap (λ (p : Phase). not (is_live p)) at) refl;
+      ended =
+          elim (cases_Bool (new.phases.live == 0)) [
+            | inl none ↦ tells.0 (eqb-true new.phases.live 0 none) ∙ sym none ∙ counted_cut
+            | inr some ↦ elim (cases_Bool (is_cut (history ++ e ∷ []))) [
+              | inl ends_all ↦ let bad : true ≡ false = sym (eq-eqb new.phases.live 0 (tells.1 ends_all)) ∙ some in absurd (cc)
+              | inr uncut ↦ uncut ∙ sym some ∙ counted_cut
+            ]
+          ];
+    }

@@ -1,5 +1,5 @@
 //! Whether the order that is kept is one with the next event too, as it stands: told before the event is taken, in few steps.
-ghost use Rattle.std.specs.Prelude.{◌≡◌, ◌<◌, ◌++◌, [], ◌∷◌, List, IsTrue};
+ghost use Rattle.std.specs.Prelude.{◌≡◌, ◌<◌, ◌++◌, [], ◌∷◌, List, Some, IsTrue, position};
 ghost use Rattle.tmw_defs.specs.Opaque.{State, reads_hold, after_writes};
 ghost use Rattle.tmw_events.specs.declared.event.Kind.TheVariants.{V};
 ghost use Rattle.tmw_cuts.specs.Views.{View, view, answered_ops};
@@ -22,7 +22,7 @@ impl Witness {
     ghost use Rattle.tmw_witness.specs.Turns.{TurnsAt};
     ghost use Rattle.tmw_events.specs.declared.event.Event.{Event};
     ghost use Rattle.tmw_cuts.specs.Standing.{StandsFor, views_of};
-    ghost use Rattle.tmw_cuts.specs.Views.{next_view};
+    ghost use Rattle.tmw_cuts.specs.Views.{next_view, is_open_for};
 
     /// Whether the reads of the transaction hold at its rank with this answer too, where they hold there so far.
     #[inline(always)]
@@ -76,12 +76,23 @@ impl Witness {
         ensures stands { IsTrue result → (starts : List State) (events : List Event) → StandsFor window.now events
             → Witnesses starts (views_of events) self.now → Witnesses starts (views_of (events ++ event ∷ [])) self.now }
     {
+        match window.open_place(event.thread) {
+            Some(place) => self.explains_open(window, place, event),
+            None => false,
+        }
+    }
+
+    /// The same of an event of the transaction at this place, which is open for its thread.
+    #[inline(always)]
+    pub fn explains_open(&self, window: &Window, place: usize, event: Event) -> bool
+        ensures known { IsTrue result → IsTrue self.now.known }
+        ensures stands { IsTrue result → (starts : List State) (events : List Event) → StandsFor window.now events
+            → Some place ≡ position (is_open_for event.thread.number) (views_of events)
+            → Witnesses starts (views_of events) self.now → Witnesses starts (views_of (events ++ event ∷ [])) self.now }
+    {
         if !self.known {
             return false;
         }
-        let Some(place) = window.open_place(event.thread) else {
-            return false;
-        };
         match window.transactions().get(place) {
             Some(item) => self.explains_at(item, place, event.kind),
             None => false,

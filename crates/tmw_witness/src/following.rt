@@ -1,4 +1,4 @@
-ghost use Rattle.std.specs.Prelude.{◌≡◌, ◌+◌, ◌≤◌, ◌<◌, ℕ, [], ◌∷◌, ◌++◌, List, IfSome, IsTrue, IsFalse, length, false, true, Some};
+ghost use Rattle.std.specs.Prelude.{◌≡◌, ◌+◌, ◌≤◌, ◌<◌, ℕ, [], ◌∷◌, ◌++◌, List, IfSome, IsTrue, IsFalse, length, false, true, Some, None};
 ghost use Rattle.tmw_defs.specs.History.{status_after};
 ghost use Rattle.std.specs.Int.{bit_at};
 ghost use Rattle.tmw_defs.specs.Opaque.{State, may_hold, reads_hold, after_writes};
@@ -18,6 +18,7 @@ impl Witness {
     ghost use Rattle.std.specs.Prelude.{position};
 
     /// Takes in that a transaction begins with an event of this kind, with which there are so many.
+    #[inline(always)]
     fn begin(&mut self, count: usize, kind: Kind)
         ensures { (starts : List State) (xs : List View) (y : View) → length xs + 1 ≡ count → y.ops ≡ []
             → y.status ≡ status_after (Some kind) → ((j : ℕ) → bit_at y.before j ≡ 1 → j < length xs)
@@ -221,14 +222,24 @@ impl Witness {
             → place ≡ position (is_open_for event.thread.number) (views_of events) → Witnesses starts (views_of events) self.old
             → Witnesses starts (views_of (events ++ event ∷ [])) self.new }
     {
+        let Some(place) = place else {
+            self.follow_new(window, event);
+            return;
+        };
         let items = window.transactions();
-        let count = items.len();
-        match place {
-            None => self.begin(count, event.kind),
-            Some(place) => match items.get(place) {
-                Some(item) => self.go_on(item, place, count, event.kind),
-                None => self.known = false,
-            },
+        match items.get(place) {
+            Some(item) => self.go_on(item, place, items.len(), event.kind),
+            None => self.known = false,
         }
+    }
+
+    /// The same of the first event of a transaction.
+    #[inline(always)]
+    pub fn follow_new(&mut self, window: &Window, event: Event)
+        ensures { (starts : List State) (events : List Event) → StandsFor window.now (events ++ event ∷ [])
+            → None ≡ position (is_open_for event.thread.number) (views_of events) → Witnesses starts (views_of events) self.old
+            → Witnesses starts (views_of (events ++ event ∷ [])) self.new }
+    {
+        self.begin(window.transactions().len(), event.kind);
     }
 }

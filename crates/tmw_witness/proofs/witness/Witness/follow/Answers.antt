@@ -7,17 +7,8 @@ use Rattle.tmw_search.proofs.WindowViews.{shown_at}
 use Rattle.tmw_witness.proofs.Pushed.{turns-pushed, begun-pushed, completed-within}
 use Rattle.tmw_witness.proofs.witness.Witness.follow.Goals as goal
 
-pub returns-in-None : goal.returns-in-None
-returns-in-None c = λ starts events stands found was.
-    let nowhere = sym c.in-None.is ∙ found in
-    let xs = views_of events in
-    let y : View = new_view c.args.event.thread.number c.args.event.kind (completed_mask xs) in
-    let begun = begun-pushed events c.args.event nowhere in
-    let shown : map view c.transactions-items.result.now ≡ xs ++ y ∷ [] = c.transactions-items.ensures.stands (events ++ c.args.event ∷ []) stands ∙ begun in
-    let size : length xs + 1 ≡ length c.transactions-items.result.now =
-    (let one = length-map c.transactions-items.result.now view in let two = ap length shown in let more = length-append xs (y ∷ []) in
-    omega (arith, one, two, more)) in
-    rw begun (c.begin.ensures starts xs y size refl refl (λ j one. completed-within xs j one) was)
+pub returns-in_default : goal.returns-in_default
+returns-in_default c = λ starts events stands found was. c.follow_new.ensures starts events stands (sym c.in_default.is ∙ found) was
 
 pub returns-in-Some-get : goal.returns-in-Some-get
 returns-in-Some-get c = λ starts events stands found was.

@@ -1,0 +1,18 @@
+-- What was taken at once left the history fine.
+use Rattle.std.proofs.Common.{rules, ◌≡◌, ◌∷◌, [], ◌++◌, refl, sym, ◌∙◌}
+use Rattle.tmw_defs.specs.declared.criterion.Criterion.TheVariants.{Opacity}
+use Rattle.tmw_defs.specs.Criteria.{so_far}
+use Rattle.tmw_monitor.proofs.Feeding.{fits-next}
+use Rattle.tmw_monitor.proofs.OnlyOpen.{keeps_only_open}
+use Rattle.tmw_monitor.proofs.monitor.Monitor.feed.Goals as goal
+
+pub returns-then-take_at_once-clause-ok : goal.returns-then-take_at_once-clause-ok
+returns-then-take_at_once-clause-ok c judged_by history fits =
+    let fine : c.args.self.now.verdict ≡ so_far c.args.self.now.criterion = search rules in
+    let opacity : c.args.self.now.criterion ≡ Opacity = search rules in
+    fits-next judged_by history c.args.event c.args.self.now c.take_at_once.new.kept fits fine
+    (c.if-take_at_once.ensures.taken refl judged_by history (sym fits.criterion ∙ opacity) (fits.keeps fine))
+
+pub returns-then-take_at_once-clause-keeps : goal.returns-then-take_at_once-clause-keeps
+returns-then-take_at_once-clause-keeps c judged_by history fits =
+    keeps_only_open judged_by (history ++ c.args.event ∷ []) _ (returns-then-take_at_once-clause-ok c judged_by history fits)

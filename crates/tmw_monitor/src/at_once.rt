@@ -1,0 +1,84 @@
+//! The way that most events go: few steps, nothing searched and no memory taken.
+ghost use Rattle.std.specs.Prelude.{◌≡◌, ◌<◌, ℕ, None, Some, IsTrue, IsFalse};
+ghost use Rattle.tmw_cuts.specs.Standing.{count_of};
+ghost use Rattle.tmw_monitor.specs.AtOnce.{IsOpenAt, StaysFine};
+
+use crate::bounds::Bounds;
+use crate::open::Open;
+use tmw_defs::Criterion;
+use tmw_events::Event;
+
+/// Takes the next event, where nothing has to be searched to see that nothing is wrong with it by opacity. Else it answers no and
+/// changes nothing. It is made part of its callers, which mostly know the kind of their event.
+#[inline(always)]
+pub fn take_at_once(kept: &mut Open, bounds: Bounds, event: Event) -> bool
+    ensures taken { IsTrue result → StaysFine bounds.window event kept.old kept.new }
+    ensures left { IsFalse result → kept.new ≡ kept.old }
+{
+    match kept.window.open_place(event.thread) {
+        None => begin_at_once(kept, bounds, event),
+        Some(place) => go_on_at_once(kept, place, event),
+    }
+}
+
+/// The same of an event for whose thread no transaction is open, where it begins one, for which the window has room.
+#[inline(always)]
+fn begin_at_once(kept: &mut Open, bounds: Bounds, event: Event) -> bool
+    requires none { IsOpenAt None event kept.old }
+    ensures taken { IsTrue result → StaysFine bounds.window event kept.old kept.new }
+    ensures left { IsFalse result → kept.new ≡ kept.old }
+{
+    if kept.window.count() >= bounds.window {
+        return false;
+    }
+    if !kept.window.is_quiet(Criterion::Opacity, event) || !kept.tracker.begin(event) {
+        return false;
+    }
+    kept.window.push_new(event);
+    kept.witness.follow_new(&kept.window, event);
+    true
+}
+
+/// The same of an event of the transaction at this place. Where the serial order that is kept explains it and it ends the only
+/// transaction, from the only outcome before it, the order leads to the only outcome.
+#[inline(always)]
+fn go_on_at_once(kept: &mut Open, place: usize, event: Event) -> bool
+    requires within { place < count_of kept.old.window }
+    requires open { IsOpenAt (Some place) event kept.old }
+    ensures taken { IsTrue result → (window : ℕ) → StaysFine window event kept.old kept.new }
+    ensures left { IsFalse result → kept.new ≡ kept.old }
+{
+    if !kept.witness.explains_open(&kept.window, place, event) {
+        return ask_at_once(kept, place, event);
+    }
+    if kept.tracker.go_on(event) {
+        kept.window.push_at(place, event);
+        return true;
+    }
+    if kept.window.count() != 1 || kept.states.len() != 1 || kept.witness.top >= 9 {
+        return false;
+    }
+    if !kept.tracker.end_last(event) {
+        return false;
+    }
+    let end = kept.witness.restart_at_end();
+    kept.states.put_only(end);
+    kept.window.clear();
+    true
+}
+
+/// The same of an event that the order does not explain as it stands, where the event is quiet, as a request to commit is.
+#[inline(always)]
+fn ask_at_once(kept: &mut Open, place: usize, event: Event) -> bool
+    requires within { place < count_of kept.old.window }
+    requires open { IsOpenAt (Some place) event kept.old }
+    ensures taken { IsTrue result → (window : ℕ) → StaysFine window event kept.old kept.new }
+    ensures left { IsFalse result → kept.new ≡ kept.old }
+{
+    if !kept.window.is_quiet(Criterion::Opacity, event) || !kept.tracker.go_on(event) {
+        return false;
+    }
+    kept.window.push_at(place, event);
+    kept.witness.follow(&kept.window, Some(place), event);
+    true
+}
