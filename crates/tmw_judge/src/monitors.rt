@@ -56,10 +56,28 @@ fn monitor_for(
     Monitor::for_criterion(alloc, criterion, header.registers, header.initial, bounds)
 }
 
-/// Feeds an event to each of them. Where memory is refused none has taken it, or of two the first alone. It is made part of the
-/// reading of each kind's line, so that an event is no value in memory.
+/// Feeds an event to each of them. Where memory is refused none has taken it, or of two the first alone. Where opacity alone is asked
+/// for it is made part of the reading of each kind's line, so that an event is no value in memory.
 #[inline(always)]
 pub fn feed_each(monitors: &mut ByCriterion<Monitor>, event: Event) -> Result<(), AllocError>
+    requires { Each (λ _ monitor. monitor.count < 2 ^ 40) monitors.old }
+    ensures fed { OnOk result ((header : Header) (bounds : Bounds) (asked : Asked) (history : List Event)
+        → AreFed header bounds asked history monitors.old → AreFed header bounds asked (history ++ event ∷ []) monitors.new) }
+    ensures refused { OnErr result ((header : Header) (bounds : Bounds) (asked : Asked) (history : List Event)
+        → AreFed header bounds asked history monitors.old → LackEvent header bounds asked history event monitors.new) }
+{
+    match monitors {
+        ByCriterion::Opacity(monitor) => {
+            monitor.feed(event)?;
+            Ok(())
+        }
+        _ => feed_others(monitors, event),
+    }
+}
+
+/// The same, apart from its callers.
+#[inline(never)]
+fn feed_others(monitors: &mut ByCriterion<Monitor>, event: Event) -> Result<(), AllocError>
     requires { Each (λ _ monitor. monitor.count < 2 ^ 40) monitors.old }
     ensures fed { OnOk result ((header : Header) (bounds : Bounds) (asked : Asked) (history : List Event)
         → AreFed header bounds asked history monitors.old → AreFed header bounds asked (history ++ event ∷ []) monitors.new) }

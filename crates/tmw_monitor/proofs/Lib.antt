@@ -5,3 +5,4 @@ mod OnlyOpen
 mod Opening
 mod SoFar
 mod Told
+mod AtOnce

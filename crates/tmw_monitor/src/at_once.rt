@@ -1,5 +1,5 @@
 //! The way that most events go: few steps, nothing searched and no memory taken.
-ghost use Rattle.std.specs.Prelude.{◌≡◌, ◌<◌, ℕ, None, Some, IsTrue, IsFalse};
+ghost use Rattle.std.specs.Prelude.{◌≡◌, ◌<◌, None, Some, IsTrue, IsFalse};
 ghost use Rattle.tmw_cuts.specs.Standing.{count_of};
 ghost use Rattle.tmw_monitor.specs.AtOnce.{IsOpenAt, StaysFine};
 
@@ -12,12 +12,12 @@ use tmw_events::Event;
 /// changes nothing. It is made part of its callers, which mostly know the kind of their event.
 #[inline(always)]
 pub fn take_at_once(kept: &mut Open, bounds: Bounds, event: Event) -> bool
-    ensures taken { IsTrue result → StaysFine bounds.window event kept.old kept.new }
+    ensures taken { IsTrue result → StaysFine bounds event kept.old kept.new }
     ensures left { IsFalse result → kept.new ≡ kept.old }
 {
     match kept.window.open_place(event.thread) {
         None => begin_at_once(kept, bounds, event),
-        Some(place) => go_on_at_once(kept, place, event),
+        Some(place) => go_on_at_once(kept, bounds, place, event),
     }
 }
 
@@ -25,7 +25,7 @@ pub fn take_at_once(kept: &mut Open, bounds: Bounds, event: Event) -> bool
 #[inline(always)]
 fn begin_at_once(kept: &mut Open, bounds: Bounds, event: Event) -> bool
     requires none { IsOpenAt None event kept.old }
-    ensures taken { IsTrue result → StaysFine bounds.window event kept.old kept.new }
+    ensures taken { IsTrue result → StaysFine bounds event kept.old kept.new }
     ensures left { IsFalse result → kept.new ≡ kept.old }
 {
     if kept.window.count() >= bounds.window {
@@ -42,14 +42,14 @@ fn begin_at_once(kept: &mut Open, bounds: Bounds, event: Event) -> bool
 /// The same of an event of the transaction at this place. Where the serial order that is kept explains it and it ends the only
 /// transaction, from the only outcome before it, the order leads to the only outcome.
 #[inline(always)]
-fn go_on_at_once(kept: &mut Open, place: usize, event: Event) -> bool
+fn go_on_at_once(kept: &mut Open, bounds: Bounds, place: usize, event: Event) -> bool
     requires within { place < count_of kept.old.window }
     requires open { IsOpenAt (Some place) event kept.old }
-    ensures taken { IsTrue result → (window : ℕ) → StaysFine window event kept.old kept.new }
+    ensures taken { IsTrue result → StaysFine bounds event kept.old kept.new }
     ensures left { IsFalse result → kept.new ≡ kept.old }
 {
     if !kept.witness.explains_open(&kept.window, place, event) {
-        return ask_at_once(kept, place, event);
+        return ask_at_once(kept, bounds, place, event);
     }
     if kept.tracker.go_on(event) {
         kept.window.push_at(place, event);
@@ -69,12 +69,13 @@ fn go_on_at_once(kept: &mut Open, place: usize, event: Event) -> bool
 
 /// The same of an event that the order does not explain as it stands, where the event is quiet, as a request to commit is.
 #[inline(always)]
-fn ask_at_once(kept: &mut Open, place: usize, event: Event) -> bool
+fn ask_at_once(kept: &mut Open, bounds: Bounds, place: usize, event: Event) -> bool
     requires within { place < count_of kept.old.window }
     requires open { IsOpenAt (Some place) event kept.old }
-    ensures taken { IsTrue result → (window : ℕ) → StaysFine window event kept.old kept.new }
+    ensures taken { IsTrue result → StaysFine bounds event kept.old kept.new }
     ensures left { IsFalse result → kept.new ≡ kept.old }
 {
+    let _bounds = bounds;
     if !kept.window.is_quiet(Criterion::Opacity, event) || !kept.tracker.go_on(event) {
         return false;
     }

@@ -7,9 +7,8 @@ ghost use Rattle.tmw_defs.specs.History.{transactions};
 ghost use Rattle.tmw_wellformed.specs.Notes.{Notes};
 ghost use Rattle.tmw_cuts.specs.Members.{members};
 ghost use Rattle.tmw_cuts.specs.Standing.{StandsFor, count_of, views_of};
-ghost use Rattle.tmw_witness.specs.Witnessing.{Witnesses, state_of};
+ghost use Rattle.tmw_witness.specs.Witnessing.{Witnesses};
 ghost use Rattle.tmw_monitor.specs.Weighing.{Tells};
-ghost use Rattle.tmw_monitor.specs.declared.weighed.Weighed.TheVariants.{Outcome};
 
 use crate::open::Open;
 use crate::weigh::weigh;
@@ -33,7 +32,6 @@ pub fn take_event(
     note: Note,
 ) -> Result<Weighed, AllocError>
     requires room { IsTrue note.begins → count_of kept.old.window < 8 }
-    requires some { 0 < cap }
     ensures ok { IfOk result (λ found. (events : List Event) → StandsFor kept.old.window events → Notes events event note
         → cut ≡ is_cut (events ++ event ∷ []) → Witnesses (members kept.old.states) (views_of events) kept.old.witness
         → Tells criterion kept.old.states cap (is_quiet_by criterion (transactions events) event.thread.number event.kind)
@@ -45,49 +43,10 @@ pub fn take_event(
     ensures witness { OnErr result ((events : List Event) → Witnesses (members kept.old.states) (views_of events) kept.old.witness
         → Witnesses (members kept.old.states) (views_of events) kept.new.witness) }
 {
-    if cut {
-        // Mostly a transaction that is alone ends, from the only outcome before it: then it has one end state.
-        if criterion == Criterion::Opacity
-            && !note.begins
-            && kept.window.count() == 1
-            && kept.states.len() == 1
-            && kept.witness.top < 9
-            && kept.witness.explains(&kept.window, event)
-        {
-            return take_last(kept, event, note);
-        }
-    } else {
-        // Mostly the order that is kept explains the event, and then nothing is changed but the window.
-        if criterion == Criterion::Opacity && kept.witness.explains(&kept.window, event) {
-            kept.window.push(event, note);
-            return Ok(Weighed::Outcome);
-        }
-        if kept.window.is_quiet(criterion, event) {
-            return take_quiet(kept, event, note);
-        }
+    if !cut && kept.window.is_quiet(criterion, event) {
+        return take_quiet(kept, event, note);
     }
     take_weighed(criterion, alloc, kept, cap, cut, event, note)
-}
-
-/// The same of an event at a cut, where the window has one transaction, from one outcome, and the order that is kept explains it: it
-/// leads to the only outcome.
-#[inline(always)]
-fn take_last(kept: &mut Open, event: Event, note: Note) -> Result<Weighed, AllocError>
-    requires room { IsTrue note.begins → count_of kept.old.window < 8 }
-    requires one { length (members kept.old.states) ≡ 1 }
-    requires top { kept.old.witness.top < 9 }
-    ensures ok { IfOk result (λ found. (found ≡ Outcome) × (members kept.new.states ≡ state_of kept.old.witness kept.old.witness.top ∷ [])
-        × StandsFor kept.new.window [] × Witnesses (members kept.new.states) [] kept.new.witness) }
-    ensures tracker { kept.new.tracker ≡ kept.old.tracker }
-    ensures err_states { OnErr result (members kept.new.states ≡ members kept.old.states) }
-    ensures err_window { OnErr result ((events : List Event) → StandsFor kept.old.window events → StandsFor kept.new.window events) }
-    ensures err_witness { OnErr result (kept.new.witness ≡ kept.old.witness) }
-{
-    kept.window.push(event, note);
-    let end = kept.witness.restart_at_end();
-    kept.states.put_only(end);
-    kept.window.clear();
-    Ok(Weighed::Outcome)
 }
 
 /// The same of an event that is quiet and at no cut: nothing is searched, so that nothing can fail once the event is taken.

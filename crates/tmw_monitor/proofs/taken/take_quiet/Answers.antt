@@ -11,5 +11,5 @@ returns-clause-ok c = λ criterion cap events stands notes uncut was.
       ends = inl refl;
       states = refl;
       stands = pushed;
-      witness = c.follow.ensures (members c.args.kept.now.states) events pushed (c.open_place-place.ensures events stands) was;
+      witness = c.follow.ensures (members c.args.kept.now.states) events pushed (c.open_place-place.ensures.stands events stands) was;
     })

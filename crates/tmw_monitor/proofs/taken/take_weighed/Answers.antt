@@ -15,7 +15,7 @@ returns-else-is_err-clause-ok c =
     let pushed = c.push.ensures.stands events stands notes in
     elim c.if-not-explained.branch [
       | then-not-explained w ↦ (rw w.kept-is at told) quiet (events ++ c.args.event ∷ []) pushed cut
-          (w.follow.ensures starts events pushed (c.open_place-place.ensures events stands) was)
+          (w.follow.ensures starts events pushed (c.open_place-place.ensures.stands events stands) was)
       | else-not-explained w ↦ (rw w.kept-is at told) quiet (events ++ c.args.event ∷ []) pushed cut
           (c.explains-explained.ensures.stands w.if-not-explained.false starts events stands was)
     ])
