@@ -98,6 +98,7 @@ impl Effect {
     }
 
     /// Whether each register that is needed has the needed value in the state.
+    #[inline(always)]
     fn is_met(&self, state: &State) -> bool
         ensures { result ≡ have (chosen self.now.needed) self.now.needs state.now }
     {
@@ -110,6 +111,7 @@ impl Effect {
     }
 
     /// The state with what is left in the registers.
+    #[inline(always)]
     fn put(&self, state: &State) -> State
         ensures { result ≡ put (chosen self.now.left) self.now.leaves state.now }
     {
@@ -123,6 +125,7 @@ impl Effect {
     }
 
     /// Whether each of the operations was answered what the registers held then.
+    #[inline(always)]
     pub fn fits(&self, state: &State) -> bool
         ensures { (ops : List Op) → IsEffectOf self.now ops → result ≡ reads_hold state.now ops }
     {
@@ -130,6 +133,7 @@ impl Effect {
     }
 
     /// What the registers hold after the operations, if each of them was answered what the registers held then.
+    #[inline(always)]
     pub fn after(&self, state: &State) -> Option<State>
         ensures { (ops : List Op) → IsEffectOf self.now ops → Replays state.now ops result }
     {

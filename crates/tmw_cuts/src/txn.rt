@@ -86,6 +86,7 @@ impl Txn {
     }
 
     /// Whether each of its operations was answered what the registers held then.
+    #[inline(always)]
     pub fn fits(&self, state: &State) -> bool
         ensures { result ≡ reads_hold state.now self.now.ops.items }
     {
@@ -93,6 +94,7 @@ impl Txn {
     }
 
     /// What the registers hold after its operations, if each of them was answered what the registers held then.
+    #[inline(always)]
     pub fn after(&self, state: &State) -> Option<State>
         ensures { Replays state.now self.now.ops.items result }
     {
@@ -122,6 +124,7 @@ impl Txn {
     }
 
     /// Whether its operations write nothing.
+    #[inline(always)]
     pub fn only_reads(&self) -> bool
         ensures shown { result ≡ leaves_none (effect_of self.now) }
         ensures leaves { IsTrue result → (s : State) → length s ≡ 8 → after_writes s self.now.ops.items ≡ s }

@@ -71,7 +71,14 @@ pub fn feed_each(monitors: &mut ByCriterion<Monitor>, event: Event) -> Result<()
             monitor.feed(event)?;
             Ok(())
         }
-        _ => feed_others(monitors, event),
+        _ => {
+            // A copy that only this way needs, so that the event is mostly no value in memory.
+            let copied = Event {
+                thread: event.thread,
+                kind: event.kind,
+            };
+            feed_others(monitors, copied)
+        }
     }
 }
 

@@ -1,4 +1,4 @@
-ghost use Rattle.std.specs.Prelude.{◌≡◌, ◌↔◌, ◌<◌, ◌^◌, List, [], ◌∷◌, ◌++◌, IfOk, IfErr, OnErr, Ok, IsTrue, length};
+ghost use Rattle.std.specs.Prelude.{◌≡◌, ◌↔◌, ◌<◌, ◌^◌, List, [], ◌∷◌, ◌++◌, IfOk, IfErr, OnOk, OnErr, Ok, IsOk, IsTrue, length};
 ghost use Rattle.tmw_events.specs.declared.event.Event.{Event};
 ghost use Rattle.tmw_defs.specs.declared.criterion.Criterion.TheVariants.{Opacity};
 ghost use Rattle.tmw_defs.specs.Criteria.{so_far};
@@ -117,22 +117,25 @@ impl Monitor {
             self.count += 1;
             return Ok(self.verdict);
         }
-        self.take(event)
+        // A copy that only this way needs, so that the event is mostly no value in memory.
+        let copied = Event {
+            thread: event.thread,
+            kind: event.kind,
+        };
+        self.take(copied)?;
+        Ok(self.verdict)
     }
 
-    /// The same of any event.
+    /// The same of any event. What the verdict is then, the monitor knows.
     #[inline(never)]
-    fn take(&mut self, event: Event) -> Result<Verdict, AllocError>
+    fn take(&mut self, event: Event) -> Result<(), AllocError>
         requires room { self.old.count < 2 ^ 40 }
-        ensures ok { IfOk result (λ verdict. (rules : Rules) (history : List Event) → Fits rules history self.old
+        ensures ok { OnOk result ((rules : Rules) (history : List Event) → Fits rules history self.old
             → Fits rules (history ++ event ∷ []) self.new) }
-        ensures verdict { IfOk result (λ verdict. verdict ≡ self.new.verdict) }
         ensures err { OnErr result ((rules : Rules) (history : List Event) → Fits rules history self.old → Fits rules history self.new) }
-        ensures stays { (self.old.verdict ≡ so_far self.old.criterion → ⊥) → result ≡ Ok self.old.verdict }
+        ensures stays { (self.old.verdict ≡ so_far self.old.criterion → ⊥) → IsOk result × (self.new.verdict ≡ self.old.verdict) }
         ensures criterion { self.new.criterion ≡ self.old.criterion }
-
-        // What is kept, whether the event was taken or not.
-        ensures keeps { IfOk result (λ verdict. (rules : Rules) (history : List Event) → Fits rules history self.old
+        ensures keeps { OnOk result ((rules : Rules) (history : List Event) → Fits rules history self.old
             → KeepsOnlyOpen rules (history ++ event ∷ []) self.new) }
         ensures keeps_err { OnErr result ((rules : Rules) (history : List Event) → Fits rules history self.old
             → KeepsOnlyOpen rules history self.new) }
@@ -140,7 +143,7 @@ impl Monitor {
         let at = self.count + 1;
         if !is_so_far(self.criterion, self.verdict) {
             self.count = at;
-            return Ok(self.verdict);
+            return Ok(());
         }
         let wrong = next_wrong(
             self.alloc,
@@ -151,14 +154,11 @@ impl Monitor {
             event,
         )?;
         self.count = at;
-        match wrong {
-            None => Ok(self.verdict),
-            Some(verdict) => {
-                self.kept.forget(self.alloc);
-                self.verdict = verdict;
-                Ok(verdict)
-            }
+        if let Some(verdict) = wrong {
+            self.kept.forget(self.alloc);
+            self.verdict = verdict;
         }
+        Ok(())
     }
 
     /// What the history is judged by.

@@ -21,7 +21,7 @@ impl Witness {
     ghost use Rattle.tmw_witness.specs.Witnessing.{Witnesses, rank_of, held_of, state_of};
     ghost use Rattle.tmw_witness.specs.Turns.{TurnsAt};
     ghost use Rattle.tmw_events.specs.declared.event.Event.{Event};
-    ghost use Rattle.tmw_cuts.specs.Standing.{StandsFor, views_of};
+    ghost use Rattle.tmw_cuts.specs.Standing.{StandsFor, count_of, views_of};
     ghost use Rattle.tmw_cuts.specs.Views.{next_view, is_open_for};
 
     /// Whether the reads of the transaction hold at its rank with this answer too, where they hold there so far.
@@ -53,12 +53,10 @@ impl Witness {
     /// Whether the transaction at this place stands in the order with an event of this kind more as it stands now.
     #[inline(always)]
     fn explains_at(&self, item: &Txn, place: usize, kind: Kind) -> bool
+        requires { place < 8 }
         ensures { IsTrue result → (starts : List State) (xs ys : List View) → TurnsAt xs ys place (view item.now) (next_view kind (view item.now))
             → Witnesses starts xs self.now → Witnesses starts ys self.now }
     {
-        if place >= 8 {
-            return false;
-        }
         match kind {
             Kind::V(value) => !self.held[place] && self.has_value(item, place, value),
             Kind::C => self.held[place] || self.leaves_nothing(item, place),
@@ -85,6 +83,7 @@ impl Witness {
     /// The same of an event of the transaction at this place, which is open for its thread.
     #[inline(always)]
     pub fn explains_open(&self, window: &Window, place: usize, event: Event) -> bool
+        requires { place < count_of window.now }
         ensures known { IsTrue result → IsTrue self.now.known }
         ensures stands { IsTrue result → (starts : List State) (events : List Event) → StandsFor window.now events
             → Some place ≡ position (is_open_for event.thread.number) (views_of events)
@@ -93,9 +92,7 @@ impl Witness {
         if !self.known {
             return false;
         }
-        match window.transactions().get(place) {
-            Some(item) => self.explains_at(item, place, event.kind),
-            None => false,
-        }
+        let item = &window.transactions()[place];
+        self.explains_at(item, place, event.kind)
     }
 }

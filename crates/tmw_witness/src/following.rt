@@ -24,7 +24,7 @@ impl Witness {
             → y.status ≡ status_after (Some kind) → ((j : ℕ) → bit_at y.before j ≡ 1 → j < length xs)
             → Witnesses starts xs self.old → Witnesses starts (xs ++ y ∷ []) self.new }
     {
-        if kind == Kind::C || count == 0 || count > 8 {
+        if matches!(kind, Kind::C) || count == 0 || count > 8 {
             self.known = false;
             return;
         }
@@ -96,6 +96,7 @@ impl Witness {
     }
 
     /// Puts the transaction, which was left out, at the end and holds it, where its reads hold there.
+    #[inline(always)]
     fn hold(&mut self, item: &Txn, place: usize) -> bool
         ensures held { IsTrue result → (starts : List State) (xs ys : List View) (x : View) → TurnsAt xs ys place x (view item.now)
             → IsTrue (may_hold item.now.status true) → Witnesses starts xs self.old → Witnesses starts ys self.new }
@@ -116,6 +117,7 @@ impl Witness {
     }
 
     /// Takes in an event after which the transaction stands as before, and is to be left out.
+    #[inline(always)]
     fn keep(&mut self, place: usize)
         ensures { (starts : List State) (xs ys : List View) (x y : View) → TurnsAt xs ys place x y → IsTrue (may_hold y.status false)
             → ((s : State) → IsTrue (reads_hold s x.ops) → IsTrue (reads_hold s y.ops))
@@ -127,6 +129,7 @@ impl Witness {
     }
 
     /// Takes in that the transaction has asked to commit: it goes to the end, where its reads hold there.
+    #[inline(always)]
     fn ask(&mut self, item: &Txn, place: usize)
         ensures { (starts : List State) (xs ys : List View) (x : View) → TurnsAt xs ys place x (view item.now)
             → item.now.status ≡ Pending → item.now.ops.items ≡ x.ops → Witnesses starts xs self.old → Witnesses starts ys self.new }
@@ -202,6 +205,7 @@ impl Witness {
     }
 
     /// Takes in that the transaction at the place has an event of this kind more.
+    #[inline(always)]
     fn go_on(&mut self, item: &Txn, place: usize, count: usize, kind: Kind)
         ensures { (starts : List State) (xs ys : List View) (x : View) → TurnsAt xs ys place x (view item.now)
             → view item.now ≡ next_view kind x → length ys ≡ count → Witnesses starts xs self.old → Witnesses starts ys self.new }
@@ -217,6 +221,7 @@ impl Witness {
 
     /// Takes in the event that the window has taken last: that of the transaction at this place, which was open for its thread, or the
     /// first of another.
+    #[inline(always)]
     pub fn follow(&mut self, window: &Window, place: Option<usize>, event: Event)
         ensures { (starts : List State) (events : List Event) → StandsFor window.now (events ++ event ∷ [])
             → place ≡ position (is_open_for event.thread.number) (views_of events) → Witnesses starts (views_of events) self.old

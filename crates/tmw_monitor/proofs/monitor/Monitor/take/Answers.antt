@@ -32,16 +32,16 @@ pub returns-in-Some-clause-keeps : goal.returns-in-Some-clause-keeps
 returns-in-Some-clause-keeps c judged_by history fits =
     keeps_only_open judged_by (history ++ c.args.event ∷ []) _ (returns-in-Some-clause-ok c judged_by history fits)
 
-pub returns-in-None-clause-ok : goal.returns-in-None-clause-ok
-returns-in-None-clause-ok c judged_by history fits =
+pub returns-in_default-clause-ok : goal.returns-in_default-clause-ok
+returns-in_default-clause-ok c judged_by history fits =
     let fine : c.args.self.now.verdict ≡ so_far c.args.self.now.criterion = search rules in
     let n : c.args.self.now.count ≡ length history = fits.counted in
     fits-next judged_by history c.args.event c.args.self.now c.next_wrong.new.kept fits fine
-    (rw c.in-None.is at (c.in_ok-wrong.ensures.ok judged_by history fits.criterion fits.window fits.states (omega (arith, n)) (fits.keeps fine)))
+    (rw c.in_default.is at (c.in_ok-wrong.ensures.ok judged_by history fits.criterion fits.window fits.states (omega (arith, n)) (fits.keeps fine)))
 
-pub returns-in-None-clause-keeps : goal.returns-in-None-clause-keeps
-returns-in-None-clause-keeps c judged_by history fits =
-    keeps_only_open judged_by (history ++ c.args.event ∷ []) _ (returns-in-None-clause-ok c judged_by history fits)
+pub returns-in_default-clause-keeps : goal.returns-in_default-clause-keeps
+returns-in_default-clause-keeps c judged_by history fits =
+    keeps_only_open judged_by (history ++ c.args.event ∷ []) _ (returns-in_default-clause-ok c judged_by history fits)
 
 pub returns-then-not-is_so_far-clause-keeps : goal.returns-then-not-is_so_far-clause-keeps
 returns-then-not-is_so_far-clause-keeps c judged_by history fits =
