@@ -1,5 +1,5 @@
 -- Lists that rise strictly in a total order: what a binary search finds in one, and what one element more makes of it.
-use Rattle.std.proofs.Common.{◌≡◌, ◌↔◌, ◌⊎◌, ◌<◌, ◌≤◌, ℕ, zero, suc, List, [], ◌∷◌, length, take, drop, get_or, Result, Ok, Err, IsTrue, refl, sym, ap, ◌∙◌, inl, inr, arith}
+use Rattle.std.proofs.Common.{◌≡◌, ◌↔◌, ◌⊎◌, ◌+◌, ◌++◌, ◌<◌, ◌≤◌, ℕ, zero, suc, List, [], ◌∷◌, length, take, drop, get_or, Result, Ok, Err, IsTrue, refl, sym, ap, ◌∙◌, inl, inr, arith}
 use Rattle.std.specs.Prelude.{is_ok}
 use Rattle.std.specs.declared.cmp.Ordering.{Ordering}
 use Rattle.std.specs.declared.cmp.Ordering.TheVariants.{Less, Equal, Greater}
@@ -54,6 +54,18 @@ Contains-insert xs i x s =
       ],
     )
 
+-- one more at the end
+insert-end : {K : Type 0} (xs : List K) (x : K) → insert xs (length xs) x ≡ xs ++ x ∷ []
+insert-end [] x = refl
+insert-end (y ∷ ys) x = ap (λ l. y ∷ l) (insert-end ys x)
+
+pub Contains-push : {K : Type 0} (xs : List K) (x s : K) → Contains (xs ++ x ∷ []) s ↔ ((s ≡ x) ⊎ Contains xs s)
+Contains-push xs x s = rw (← insert-end xs x) (Contains-insert xs (length xs) x s)
+
+all_push : {K : Type 0} (P : K → Type 0) (xs : List K) (x : K) → P x → AllByRecursion P xs → AllByRecursion P (xs ++ x ∷ [])
+all_push P [] x here all = (here, tt)
+all_push P (y ∷ ys) x here all = (all.0, all_push P ys x here all.1)
+
 module _ {K : Type 0} {R : K → K → Ordering} (o : IsTotalOrder R) where
   -- of a smaller one and a greater one, how each compares to a third
   index_rises : (x a b : K) → R a b ≡ Less → (r : Ordering) → R b x ≡ r → ordering_index (R a x) ≤ ordering_index r
@@ -89,6 +101,26 @@ module _ {K : Type 0} {R : K → K → Ordering} (o : IsTotalOrder R) where
       λ k d low high. parted.1 (suc k) d (omega arith) (omega arith),
     ),
   )
+
+  -- one that is above the last of a rising list is above all of it
+  above_all : (d : K) (xs : List K) (x : K) → IsStrictlySortedBy R xs → ((i : ℕ) → i + 1 ≡ length xs → R (get_or xs i d) x ≡ Less)
+      → AllByRecursion (λ y. R y x ≡ Less) xs
+  unfolding IsStrictlySortedBy
+  above_all d [] x rising last = tt
+  above_all d (y ∷ []) x rising last = (last 0 (omega arith), tt)
+  above_all d (y ∷ z ∷ zs) x rising last =
+      let rest = above_all d (z ∷ zs) x rising.1 (λ i is. last (suc i) (omega arith)) in
+      (o.trans y z x rising.0.0 rest.0, rest)
+
+  push_rising : (xs : List K) (x : K) → IsStrictlySortedBy R xs → AllByRecursion (λ y. R y x ≡ Less) xs → IsStrictlySortedBy R (xs ++ x ∷ [])
+  unfolding IsStrictlySortedBy
+  push_rising [] x rising above = (tt, tt)
+  push_rising (y ∷ ys) x rising above = (all_push (λ z. R y z ≡ Less) ys x above.0 rising.0, push_rising ys x rising.1 above.1)
+
+  -- and leaves it rising at its end
+  pub IsStrictlySortedBy-push : (d : K) (xs : List K) (x : K) → IsStrictlySortedBy R xs
+      → ((i : ℕ) → i + 1 ≡ length xs → R (get_or xs i d) x ≡ Less) → IsStrictlySortedBy R (xs ++ x ∷ [])
+  IsStrictlySortedBy-push d xs x rising last = push_rising xs x rising (above_all d xs x rising last)
 
   -- the place that a search answers for one that is not there
   pub place_by_search : (xs found : List K) (x : K) (i : ℕ) → found ≡ xs → IsStrictlySortedBy R xs

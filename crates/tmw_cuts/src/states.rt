@@ -1,11 +1,13 @@
-ghost use Rattle.std.specs.Prelude.{◌≡◌, ◌↔◌, [], ◌∷◌, IfOk, OnOk, OnErr, IsTrue, Contains, length, slice_get};
+ghost use Rattle.std.specs.Prelude.{◌≡◌, ◌↔◌, ◌+◌, ℕ, [], ◌∷◌, get_or, IfOk, OnOk, OnErr, IsTrue, Contains, length, slice_get};
 ghost use Rattle.std.specs.List.Sorted.{IsStrictlySortedBy};
 ghost use Rattle.std.specs.Cmp.Lexicographic.{slice_cmp};
 ghost use Rattle.std.specs.Ordering.{nat_cmp};
+ghost use Rattle.std.specs.declared.cmp.Ordering.TheVariants.{Less};
 ghost use Rattle.std.proofs.lemmas.Map.Keys.{IsStrictlySortedBy-prop};
 ghost use Rattle.tmw_defs.specs.Opaque.{zeros};
 
 use std::alloc::{AllocError, Global};
+use std::cmp::Ordering;
 
 /// What each register holds. Registers that the run does not have hold 0.
 pub type State = [u64; 8];
@@ -81,11 +83,29 @@ impl States {
         self.items.binary_search(state).is_ok()
     }
 
+    /// Whether each state of the set comes before this one.
+    #[inline(always)]
+    fn are_below(&self, state: &State) -> bool
+        ensures { IsTrue result → (i : ℕ) → i + 1 ≡ length (members self.now)
+            → slice_cmp nat_cmp (get_or (members self.now) i []) state.now ≡ Less }
+    {
+        let items = self.states();
+        if items.is_empty() {
+            return true;
+        }
+        matches!(items[items.len() - 1].cmp(state), Ordering::Less)
+    }
+
     /// Adds the state, where the set does not have it. Where memory is refused the set stays as it was.
     pub fn insert(&mut self, state: State) -> Result<(), AllocError>
         ensures ok { OnOk result (AddsMember (members self.old) (members self.new) state) }
         ensures err { OnErr result (members self.new ≡ members self.old) }
     {
+        // Ends are mostly found in rising order.
+        if self.are_below(&state) {
+            self.items.push(state)?;
+            return Ok(());
+        }
         if let Err(place) = self.items.binary_search(&state) {
             self.items.insert(place, state)?;
         }

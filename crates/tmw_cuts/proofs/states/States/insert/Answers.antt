@@ -1,15 +1,21 @@
 -- The state goes to its place in the order, where the set does not have it.
-use Rattle.std.proofs.Common.{nat_cmp}
+use Rattle.std.proofs.Common.{[], nat_cmp}
 use Rattle.std.specs.Cmp.Lexicographic.{slice_cmp}
 use Rattle.std.specs.List.Sorted.{IsStrictlySortedBy}
 use Rattle.std.proofs.lemmas.Bool.{cond_both}
 use Rattle.std.proofs.lemmas.Cmp.{nat_list_cmp_total}
 use Rattle.std.proofs.lemmas.Map.Lookups.{exact_bytes}
-use Rattle.tmw_cuts.proofs.Rising.{Contains-insert, place_by_search, found_is_member}
+use Rattle.tmw_cuts.proofs.Rising.{Contains-insert, Contains-push, IsStrictlySortedBy-push, place_by_search, found_is_member}
 use Rattle.tmw_cuts.proofs.states.States.insert.Goals as goal
 
 pub invariant_of-self : goal.invariant_of-self
 invariant_of-self c =
+    let pushed = IsStrictlySortedBy-push nat_list_cmp_total [] c.args.self.now.items.items c.args.state c.args.self.now.rising
+    (c.are_below.ensures c.if-are_below.true) in
+    record { rising = rw c.push.ensures.items (cond_both _ _ _ (IsStrictlySortedBy (slice_cmp nat_cmp)) (λ _. pushed) (λ _. c.args.self.now.rising)) }
+
+pub invariant_of-self-in-Err : goal.invariant_of-self-in-Err
+invariant_of-self-in-Err c =
     let placed = place_by_search nat_list_cmp_total c.args.self.now.items.items _ c.args.state c.in-Err.place
     c.deref.ensures.value c.args.self.now.rising c.in-Err.ensures.position in
     record { rising = rw c.insert.ensures.items (cond_both _ _ _ (IsStrictlySortedBy (slice_cmp nat_cmp)) (λ _. placed) (λ _. c.args.self.now.rising)) }
