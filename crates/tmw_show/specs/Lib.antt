@@ -1,2 +1,4 @@
+pub mod Feeding
+pub mod Showing
 pub mod Shown
 pub mod Watching

@@ -1,8 +1,11 @@
 //! The place where a run went wrong: its last window, and the states from which that begins.
 #![tactic(auto)]
 
+mod feeding;
 mod last_window;
+mod showing;
 #[cfg(test)]
 mod tests;
 
 pub use last_window::LastWindow;
+pub use showing::Showing;
