@@ -1,7 +1,7 @@
 ghost use Rattle.std.specs.Prelude.{◌≡◌, IfOk, false};
 ghost use Rattle.clap.specs.Words.{app_of, rule_of};
 ghost use Rattle.clap.specs.declared.builder.value_parser.ValueParser.TheVariants.{Names};
-ghost use Rattle.tmw_command.specs.Program.{IsProgram, bench_among, count_to, drive_among, judge_among, one_to, show_among, steps, value_rule, with_bounds, with_counts, with_criterion, with_memory, with_trace};
+ghost use Rattle.tmw_command.specs.Program.{IsProgram, bench_among, count_to, drive_among, judge_among, one_to, show_among, steps, trace_rule, value_rule, with_bounds, with_counts, with_criterion, with_memory, with_trace};
 
 use clap::builder::ValueParser;
 use clap::{Arg, ArgAction, Command, value_parser};
@@ -163,11 +163,7 @@ fn with_criterion<'a>(
 fn with_trace<'a>(alloc: Global, command: Command<'a>) -> Result<Command<'a>, AllocError>
     ensures { IfOk result (λ given. app_of given ≡ with_trace (app_of command.entry)) }
 {
-    let trace = Arg::new(alloc, "trace")
-        .long("trace")
-        .help(SHOW_TRACE_HELP)
-        .action(ArgAction::SetTrue);
-    command.arg(trace)
+    command.arg(trace_option(alloc, SHOW_TRACE_HELP))
 }
 
 /// The command with a memory, one of these names, and with the flag `--trace` as options.
@@ -186,10 +182,7 @@ fn with_memory<'a>(
         "norec",
         MEMORY_HELP,
     );
-    let trace = Arg::new(alloc, "trace")
-        .long("trace")
-        .help(TRACE_HELP)
-        .action(ArgAction::SetTrue);
+    let trace = trace_option(alloc, TRACE_HELP);
     command.arg(memory)?.arg(trace)
 }
 
@@ -210,6 +203,17 @@ fn with_bounds<'a>(alloc: Global, command: Command<'a>) -> Result<Command<'a>, A
     let window = number_option(alloc, "window", 8, "8", WINDOW_HELP);
     let states = number_option(alloc, "states", 64, "64", STATES_HELP);
     command.arg(window)?.arg(states)
+}
+
+/// The flag `--trace`.
+fn trace_option<'a>(alloc: Global, help: &'a str) -> Arg<'a>
+    ensures rule { rule_of result ≡ trace_rule }
+    ensures local { result.global ≡ false }
+{
+    Arg::new(alloc, "trace")
+        .long("trace")
+        .help(help)
+        .action(ArgAction::SetTrue)
 }
 
 /// An option that takes one number, from 1 to `most`.

@@ -1,2 +1,4 @@
+mod Alike
+mod Behind
 mod Taking
 mod Windows

@@ -2,3 +2,4 @@ pub mod Feeding
 pub mod Showing
 pub mod Shown
 pub mod Watching
+pub mod WindowLaw

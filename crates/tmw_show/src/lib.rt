@@ -3,9 +3,11 @@
 
 mod feeding;
 mod last_window;
+mod law;
 mod showing;
 #[cfg(test)]
 mod tests;
 
 pub use last_window::LastWindow;
+pub use law::law_window;
 pub use showing::Showing;
