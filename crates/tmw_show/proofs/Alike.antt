@@ -1,5 +1,5 @@
 -- What is shown of a history, as a history of its own from each of its states, is judged like it.
-use Rattle.std.proofs.Common.{◌≡◌, ◌≢◌, ◌+◌, ◌-◌, ◌++◌, ◌<◌, ◌≤◌, ◌⊎◌, ◌↔◌, ◌&&◌, ℕ, List, [], ◌∷◌, length, true, false, IsTrue, IsFalse, refl, sym, ap, ap₂, subst, ◌∙◌, inl, inr, get_or, take-append-drop, arith}
+use Rattle.std.proofs.Common.{◌≡◌, ◌+◌, ◌-◌, ◌++◌, ◌<◌, ◌≤◌, ◌↔◌, ◌&&◌, ℕ, List, [], ◌∷◌, length, true, false, IsTrue, refl, sym, ap, ap₂, subst, ◌∙◌, inl, inr, get_or, take-append-drop, arith}
 use Rattle.std.specs.Prelude.{take, drop}
 use Rattle.std.specs.List.{Contains}
 use Rattle.std.proofs.Math.Seq.{take-add, take-length}
@@ -13,15 +13,14 @@ use Rattle.tmw_defs.specs.Criteria.{IsFinalBy, outcomes_by}
 use Rattle.tmw_defs.specs.Cuts.{is_cut}
 use Rattle.tmw_defs.specs.History.{is_well_formed, transactions}
 use Rattle.tmw_defs.specs.Opaque.{State}
-use Rattle.tmw_defs.specs.Outcomes.{MoreThan}
 use Rattle.tmw_defs.specs.Summary.{IsLastCut}
-use Rattle.tmw_defs.specs.Verdict.{Rules, HasMany, IsFine, AreFine, IsFirst, IsMalformed, IsTooWide, IsTooMany, IsViolated, IsVerdict}
-use Rattle.tmw_defs.specs.Windows.{between, IsCutAt, HasWide}
+use Rattle.tmw_defs.specs.Verdict.{Rules, HasMany, IsFine, IsFirst, IsViolated, IsVerdict}
+use Rattle.tmw_defs.specs.Windows.{HasWide}
 use Rattle.tmw_defs.proofs.Criteria.{formed-final, final-outcome, outcome-final}
 use Rattle.tmw_defs.proofs.VerdictProof.{sums_up-new}
 use Rattle.tmw_defs.proofs.WindowsProof.{is_cut-append, HasWide_push}
-use Rattle.tmw_show.specs.Shown.{shown_length, before_shown, IsShown}
-use Rattle.tmw_show.specs.WindowLaw.{from_state, IsJudgedAlike, WindowLaw}
+use Rattle.tmw_show.specs.Shown.{shown_length, IsShown}
+use Rattle.tmw_show.specs.WindowLaw.{from_state, WindowLaw}
 use Rattle.tmw_show.proofs.Behind.{formed-append, formed-behind, HasWide-behind, final-behind}
 
 -- the events from a history's last cut before its length m on, up to that length, with its outcomes at the cut
@@ -321,6 +320,11 @@ answered rules h m from states events part some first s is (Undecided k States) 
           (subst (IsFinalBy rules.criterion rules.registers s) all final))
     ]
 
+sole : (s t : State) → Contains (s ∷ []) t → t ≡ s
+sole s t (i, below, is) =
+    let first : 0 ≡ i = omega (arith, below) in
+    sym (ap (λ n. get_or (s ∷ []) n t) first ∙ is)
+
 -- and from a single state it is so at its end
 single : (rules : Rules) (h : List Event) (m from : ℕ) (states : List State) (events : List Event)
     → IsPart rules h m from states events → 0 < rules.states → IsFirst IsViolated rules h m
@@ -328,12 +332,12 @@ single : (rules : Rules) (h : List Event) (m from : ℕ) (states : List State) (
 single rules h m from states events part some first s one = record {
   within = omega arith;
   here = subst (IsViolated (from_state rules s)) (sym (take-length events))
-      (violated-each rules h m from states events part first.here s (subst (λ (ss : List State). Contains ss s) (sym one) (inl refl)));
+      (violated-each rules h m from states events part first.here s (subst (λ (ss : List State). Contains ss s) (sym one) (0, omega arith, refl)));
   before = λ k below.
       let size = long rules h m from states events part in
       let fine = first.before (from + k) (omega (arith, below, size)) in
       let (t, is, final) = final-part rules h m from states events part k (omega (arith, below, size)) fine.final in
-      let same : t ≡ s = elim (subst (λ (ss : List State). Contains ss t) one is) [ | inl here ↦ here | inr other ↦ absurd other ] in
+      let same : t ≡ s = sole s t (subst (λ (ss : List State). Contains ss t) one is) in
       fine-before rules h m from states events part k below some fine s
       (subst (λ x. IsFinalBy rules.criterion rules.registers x (take k events)) same final);
 }

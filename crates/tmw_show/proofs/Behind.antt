@@ -1,9 +1,9 @@
 -- What follows a cut, as a history of its own, and the whole.
-use Rattle.std.proofs.Common.{◌≡◌, ◌+◌, ◌-◌, ◌++◌, ◌<◌, ◌≤◌, ◌⊎◌, ◌↔◌, ◌&&◌, ℕ, List, [], ◌∷◌, length, IsTrue, refl, sym, ap, subst, ◌∙◌, inl, inr, arith}
+use Rattle.std.proofs.Common.{◌≡◌, ◌+◌, ◌-◌, ◌++◌, ◌<◌, ◌↔◌, ◌&&◌, ℕ, List, [], ◌∷◌, length, IsTrue, refl, sym, ap, subst, ◌∙◌, inl, inr, arith}
 use Rattle.std.specs.Prelude.{take, drop}
 use Rattle.std.specs.List.{list_all}
-use Rattle.std.proofs.Math.Seq.{take-append-add}
-use Rattle.std.proofs.lemmas.Bool.{and_parts, cases_lt}
+use Rattle.std.proofs.Math.Seq.{drop-append-add, take-append-add}
+use Rattle.std.proofs.lemmas.Bool.{and_parts}
 use Rattle.std.proofs.lemmas.List.{length-append}
 use Rattle.std.proofs.lemmas.List.Folds.{list_all-append}
 use Rattle.tmw_events.specs.declared.event.Event.{Event}
@@ -12,7 +12,7 @@ use Rattle.tmw_defs.specs.Criteria.{IsFinalBy, outcomes_by}
 use Rattle.tmw_defs.specs.Cuts.{is_cut}
 use Rattle.tmw_defs.specs.History.{Txn, is_text, is_well_formed, transactions}
 use Rattle.tmw_defs.specs.Opaque.{State}
-use Rattle.tmw_defs.specs.Windows.{between, IsCutAt, HasWide}
+use Rattle.tmw_defs.specs.Windows.{IsCutAt, HasWide}
 use Rattle.tmw_defs.proofs.Along.{Pairs}
 use Rattle.tmw_defs.proofs.Criteria.{final-outcome, outcome-final}
 use Rattle.tmw_defs.proofs.CutLaws.{cut_law}
@@ -55,11 +55,6 @@ IsCutAt_behind : (past rest : List Event) (at : ℕ) → IsTrue (is_cut past) �
 IsCutAt_behind past rest at cut (within, is) =
     (let long = length-append past rest in omega (arith, within, long), sym (cut-behind past rest at cut) ∙ is)
 
-drop-behind : {A : Type 0} (past rest : List A) (at : ℕ) → drop (length past + at) (past ++ rest) ≡ drop at rest
-drop-behind [] rest at = ap (λ n. drop n rest) (let same : 0 + at ≡ at = omega arith in same)
-drop-behind (x ∷ past) rest at =
-    ap (λ n. drop n (x ∷ (past ++ rest))) (let same : length (x ∷ past) + at ≡ (length past + at) + 1 = omega arith in same) ∙ drop-behind past rest at
-
 -- and its windows are windows of the whole
 pub HasWide-behind : (most : ℕ) (past rest : List Event) → IsTrue (is_cut past) → HasWide most rest → HasWide most (past ++ rest)
 HasWide-behind most past rest cut w =
@@ -81,7 +76,7 @@ HasWide-behind most past rest cut w =
         ];
       };
       wide = subst (λ (es : List Event). most < length (transactions es))
-          (sym (ap (drop (length past + w.from)) (take-append-add past rest w.upto) ∙ drop-behind past (take w.upto rest) w.from)) w.wide;
+          (sym (ap (drop (length past + w.from)) (take-append-add past rest w.upto) ∙ drop-append-add past (take w.upto rest) w.from)) w.wide;
     }
 
 -- the whole is final-state opaque, or strict, exactly where it is so from some outcome of the past

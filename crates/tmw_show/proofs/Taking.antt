@@ -1,5 +1,5 @@
 -- A watcher of the last window takes events by being fed them.
-use Rattle.std.proofs.Common.{◌≡◌, ℕ, ◌+◌, ◌<◌, ◌^◌, Result, Ok, Err, OnOk, List, [], ◌∷◌, ◌++◌, length, length-append, arith}
+use Rattle.std.proofs.Common.{ℕ, ◌+◌, ◌<◌, ◌^◌, Result, Ok, Err, OnOk, [], ◌∷◌, ◌++◌, length-append, arith}
 use Rattle.tmw_events.specs.declared.event.Event.{Event}
 use Rattle.tmw_show.specs.Feeding.{TakeEvents, WatchesSoMany}
 use Rattle.tmw_show.specs.declared.last_window.LastWindow.{LastWindow}

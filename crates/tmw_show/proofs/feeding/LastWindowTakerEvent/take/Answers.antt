@@ -2,8 +2,8 @@
 use Rattle.tmw_show.proofs.Taking.{counted-taken, has_room}
 use Rattle.tmw_show.proofs.feeding.LastWindowTakerEvent.take.Goals as goal
 
-pub feed-requires-clause-room : goal.feed-requires-clause-room
-feed-requires-clause-room c = has_room c.args.self.now c.requires.0 c.requires.1 c.requires.2
+pub feed-requires : goal.feed-requires
+feed-requires c = record { room = has_room c.args.self.now c.requires.0 c.requires.1 c.requires.2 }
 
 pub returns-clause-counted : goal.returns-clause-counted
 returns-clause-counted c =
