@@ -1,7 +1,7 @@
-ghost use Rattle.std.specs.Prelude.{◌≡◌, IfOk, false};
-ghost use Rattle.clap.specs.Words.{app_of, rule_of};
+ghost use Rattle.std.specs.Prelude.{◌≡◌, IfOk, codes, false};
+ghost use Rattle.clap.specs.Words.{app_of, new_app, rule_of};
 ghost use Rattle.clap.specs.declared.builder.value_parser.ValueParser.TheVariants.{Names};
-ghost use Rattle.tmw_command.specs.Program.{IsProgram, bench_among, count_to, drive_among, judge_among, one_to, show_among, steps, trace_rule, value_rule, with_bounds, with_counts, with_criterion, with_memory, with_trace};
+ghost use Rattle.tmw_command.specs.Program.{IsProgram, bench_among, count_to, drive_among, judge_among, one_to, show_among, steps, trace_rule, value_rule, wanting, with_bounds, with_counts, with_criterion, with_memory, with_trace};
 
 use clap::builder::ValueParser;
 use clap::{Arg, ArgAction, Command, value_parser};
@@ -66,6 +66,18 @@ pub fn new_program<'a>(alloc: Global) -> Result<Command<'a>, AllocError>
     let criteria = CRITERIA.as_slice();
     let shown = SHOWN.as_slice();
     let memories = MEMORIES.as_slice();
+    bare_program(alloc)
+        .subcommand(new_judge(alloc, criteria)?)?
+        .subcommand(new_show(alloc, shown)?)?
+        .subcommand(new_drive(alloc, memories)?)?
+        .subcommand(new_bench(alloc, memories)?)?
+        .subcommand(new_steps(alloc))
+}
+
+/// The program without its commands.
+fn bare_program<'a>(alloc: Global) -> Command<'a>
+    ensures { app_of result ≡ wanting (new_app (codes "tmwatch")) }
+{
     Command::new(alloc, "tmwatch")
         .about(
             "A monitor of opacity, and of strict serializability, for transactional memories, and the ring that events reach it by",
@@ -74,11 +86,6 @@ pub fn new_program<'a>(alloc: Global) -> Result<Command<'a>, AllocError>
         .version("0.1.0")
         .subcommand_required(true)
         .disable_help_subcommand(true)
-        .subcommand(new_judge(alloc, criteria)?)?
-        .subcommand(new_show(alloc, shown)?)?
-        .subcommand(new_drive(alloc, memories)?)?
-        .subcommand(new_bench(alloc, memories)?)?
-        .subcommand(new_steps(alloc))
 }
 
 /// The command `judge`, by criteria of these names.

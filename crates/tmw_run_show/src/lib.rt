@@ -4,6 +4,7 @@
 
 mod answer;
 mod kind_text;
+mod law;
 mod numbers;
 mod reading;
 mod run;
@@ -15,5 +16,6 @@ mod told;
 mod traces;
 mod window;
 
+pub use law::law_traces;
 pub use run::run_show;
 pub use shown::Shown;

@@ -1,29 +1,15 @@
 -- Each builder says which part of the command it changes.
-use Rattle.std.proofs.Common.{◌≡◌, ◌∙◌, ap, ap₂, codes, rules, true}
+use Rattle.std.proofs.Common.{◌≡◌, ◌∙◌, ap, ap₂, rules}
 use Rattle.std.proofs.lemmas.Result.{IfOk-weaker}
-use Rattle.clap.specs.Simple.{app_of_fields}
 use Rattle.clap.specs.Walk.{texts}
-use Rattle.clap.specs.Words.{App, app_of, new_app, with_subcommand}
+use Rattle.clap.specs.Words.{App, with_subcommand}
 use Rattle.clap.proofs.SimpleLemmas.{plain_fields}
-use Rattle.tmw_command.specs.Program.{criteria_names, memory_names, shown_names, wanting}
+use Rattle.tmw_command.specs.Program.{criteria_names, memory_names, shown_names}
 use Rattle.tmw_command.proofs.program.new_program.Goals as goal
-
-abbrev needing : App → App
-needing app = record app { top = record app.top { subcommand_required = true } }
-
-abbrev telling : App → App
-telling app = record app { top = record app.top { has_version = true } }
-
-abbrev without_help : App → App
-without_help app = record app { top = record app.top { disable_help_subcommand = true } }
 
 pub returns : goal.returns
 returns c =
-    let top : app_of c.disable_help_subcommand.result ≡ wanting (new_app (codes "tmwatch")) =
-    ap app_of_fields c.disable_help_subcommand.ensures
-    ∙ ap without_help (ap app_of_fields c.subcommand_required.ensures
-    ∙ ap needing (ap app_of_fields c.version.ensures
-    ∙ ap telling (ap app_of_fields c.after_help.ensures ∙ ap app_of_fields c.about.ensures ∙ c.new.ensures.app))) in
+    let top = c.bare_program.ensures in
     let judges = c.in_ok-new_judge.ensures in
     let shows = c.in_ok-new_show.ensures in
     let drives = c.in_ok-new_drive.ensures in
