@@ -105,7 +105,7 @@ expect examples/stale_read.trace 1 "$(printf '%s\n' '{"at":6,"events":6,"verdict
     '        5              R 0' '        6              V 0       violated, by opacity')" show --criterion=opacity
 expect examples/stale_read.trace 1 "$(printf '%s\n' 'opacity-trace 2 1 1' '1 R 0' '1 V 0')" show --trace
 expect examples/own_write.trace 0 "$(printf '%s\n' '{"events":6,"verdict":"opaque so far"}' '    state  0' '    event  thread 0' \
-    '        1  W 0 1' '        2  K' '        3  R 0' '        4  V 1' '        5  T' '        6  C')" show
+    '        1  W 0 7' '        2  K' '        3  R 0' '        4  V 7' '        5  T' '        6  C')" show
 expect examples/dirty_read.trace 2 "$(printf '%s\n' '{"at":3,"criterion":"strict","events":8,"verdict":"undecided","why":"transactions"}' '    state  0' \
     '    event  thread 0    thread 1' '        1  W 0 1' '        2  K' '        3              R 0       undecided, by transactions')" \
     show --criterion strict --window 1
