@@ -98,6 +98,39 @@ both_of add 6 0 0 0
 both_of two_writers 8 0 0 0
 expect examples/left_open.trace 2 "$(printf '%s\n' '{"at":16,"events":16,"verdict":"undecided","why":"transactions"}' \
     '{"at":16,"criterion":"strict","events":16,"verdict":"undecided","why":"transactions"}')" judge --criterion both
+# where each went wrong: the report's line, the states, the heads and the window's events
+expect examples/dirty_read.trace 1 "$(printf '%s\n' '{"at":4,"events":8,"verdict":"violated"}' '    state  0' '    event  thread 0    thread 1' \
+    '        1  W 0 1' '        2  K' '        3              R 0' '        4              V 1       violated, by opacity')" show
+expect examples/stale_read.trace 1 "$(printf '%s\n' '{"at":6,"events":6,"verdict":"violated"}' '    state  1' '    event  thread 0    thread 1' \
+    '        5              R 0' '        6              V 0       violated, by opacity')" show --criterion=opacity
+expect examples/stale_read.trace 1 "$(printf '%s\n' 'opacity-trace 2 1 1' '1 R 0' '1 V 0')" show --trace
+expect examples/own_write.trace 0 "$(printf '%s\n' '{"events":6,"verdict":"opaque so far"}' '    state  0' '    event  thread 0' \
+    '        1  W 0 7' '        2  K' '        3  R 0' '        4  V 7' '        5  T' '        6  C')" show
+expect examples/dirty_read.trace 2 "$(printf '%s\n' '{"at":3,"criterion":"strict","events":8,"verdict":"undecided","why":"transactions"}' '    state  0' \
+    '    event  thread 0    thread 1' '        1  W 0 1' '        2  K' '        3              R 0       undecided, by transactions')" \
+    show --criterion strict --window 1
+expect examples/two_writers.trace 2 "$(printf '%s\n' 'opacity-trace 2 1 0' "$(sed 1d "$top/examples/two_writers.trace")")" show --states=1 --trace
+# two states at the cut: each of the two traces is answered as the run is
+printf '%s\n' '0 R 0' '0 V 3' | cat "$top/examples/two_writers.trace" - >"$folder/two_states"
+run show --trace <"$folder/two_states"
+count 'show --trace of two states' "1 $(printf '%s\n' 'opacity-trace 2 1 1' '0 R 0' '0 V 3' 'opacity-trace 2 1 2' '0 R 0' '0 V 3')" \
+    "$status $(cat "$folder/output")"
+for place in 1 2; do
+    awk -v place="$place" '/^opacity-trace/ { n++ } n == place' "$folder/output" >"$folder/one_state"
+    count "judge of trace $place" '{"at":2,"events":2,"verdict":"violated"}' "$("$top/tmwatch" judge <"$folder/one_state")"
+done
+# the window of each example, from its one state, is answered as the example is
+for trace in "$top"/examples/*.trace; do
+    for criterion in opacity strict; do
+        run show --criterion "$criterion" --trace <"$trace"
+        [ "$(grep -c opacity-trace "$folder/output")" = 1 ] || continue
+        shown=$status
+        mv "$folder/output" "$folder/window"
+        run judge --criterion "$criterion" <"$folder/window"
+        count "show --criterion $criterion --trace < $(basename "$trace") | judge" "$shown" "$status"
+    done
+done
+expect examples/stopped_writer.steps 4 '{"fault":"bad header"}' show
 expect examples/stopped_writer.steps 4 '{"fault":"bad header"}' judge --criterion both
 expect examples/stopped_writer.steps 4 '{"fault":"bad header"}' judge
 expect examples/stopped_writer.steps 0 "$(printf '%s\n' 'saw 0' cleared 'place 0' stopped 'not now' 'saw 0' cleared 'place 1' \
@@ -132,6 +165,8 @@ expect_help 'Usage: tmwatch <COMMAND>' --help
 expect_help 'Usage: tmwatch <COMMAND>' help
 expect_help 'Usage: tmwatch judge [OPTIONS]' judge --help
 expect_help 'Usage: tmwatch judge [OPTIONS]' help judge
+expect_help 'Usage: tmwatch show [OPTIONS]' show --help
+expect_help 'Example: tmwatch show < run.trace' help show
 expect_help 'Usage: tmwatch drive [OPTIONS]' drive --help
 expect_help 'Usage: tmwatch drive [OPTIONS]' help drive
 expect_help 'Usage: tmwatch bench [OPTIONS]' bench --help
@@ -151,6 +186,8 @@ expect_usage "error: the argument '--window <N>' cannot be used multiple times" 
 expect_usage "error: invalid value '9' for '--window <N>': 9 is not in 1..=8" judge --window 9
 expect_usage "error: invalid value '65' for '--states <N>': 65 is not in 1..=64" judge --states=65
 expect_usage "error: invalid value 'serial' for '--criterion <CRITERION>'" judge --criterion serial
+expect_usage "error: invalid value 'both' for '--criterion <CRITERION>'" show --criterion both
+expect_usage "error: the argument '--trace' cannot be used multiple times" show --trace --trace
 expect_usage "error: the argument '--criterion <CRITERION>' cannot be used multiple times" judge --criterion strict --criterion strict
 expect_usage "error: unexpected argument '--criterion' found" drive --criterion strict
 expect_usage "error: invalid value 'norec2' for '--memory <MEMORY>'" drive --memory norec2
@@ -175,7 +212,7 @@ expect_hostile '{"registers":1,"scripts":[[]],"order":["' a '"]}' '{"fault":"sha
 expect_hostile '{"registers":1,"scripts":[[]],"order":[1' 1 ']}' '{"fault":"json"}'
 
 # standard output that takes nothing, and standard error that takes nothing
-for words in 'judge' 'drive' 'bench' 'steps' '--help' 'replay'; do
+for words in 'judge' 'show' 'drive' 'bench' 'steps' '--help' 'replay'; do
     status=0
     "$top/tmwatch" $words <"$top/examples/dirty_read.trace" >/dev/full 2>/dev/null || status=$?
     count "$words > /dev/full" 4 "$status"

@@ -1,6 +1,7 @@
 #!/usr/bin/env bash
 # Judges each trace of examples/ by each criterion and compares the lines and the exit status with its row in examples/verdicts.txt.
-# Then it draws each trace that docs/GALLERY.md shows, with these lines, and compares that with what stands in the page.
+# Then it draws each trace that docs/GALLERY.md shows, with these lines, and compares that with what stands in the page; and looks for
+# the lines of the window that `show` draws of it among them.
 #
 #   bench/gallery.sh
 #   bench/gallery.sh draw NAME
@@ -66,6 +67,16 @@ for name in $(sed -n 's/^    \$ .* examples\/\(.*\)\.trace$/\1/p' "$top/docs/GAL
     *$'\n\n'"$(draw "$name")"$'\n\n'*) count "$name in the page" right ;;
     *) count "$name in the page" "is not as 'bench/gallery.sh draw $name' writes it" ;;
     esac
+done
+
+# the rows of the window that the page has: up to the first mark by opacity, for a run that opacity forbids
+for name in $(sed -n 's/^    \$ .* examples\/\(.*\)\.trace$/\1/p' "$top/docs/GALLERY.md"); do
+    drawn=$(draw "$name" | sed 's/violated, by both$/violated, by opacity/')
+    how=right
+    while IFS= read -r row; do
+        grep -qxF -- "$row" <<<"$drawn" || how="has no line '$row' in the page"
+    done < <("$top/tmwatch" show <"$top/examples/$name.trace" | grep '^ *[0-9]')
+    count "show of $name" "$how"
 done
 
 echo "$passed passed, $failed failed"

@@ -15,7 +15,7 @@ use Rattle.clap.specs.declared.builder.value_parser.ValueParser.TheVariants as p
 use Rattle.clap.specs.declared.error.kind.ErrorKind.TheVariants.{InvalidValue}
 use Rattle.clap.proofs.OnLiterals.{clap_on_literals}
 use Rattle.clap.proofs.WalkLemmas.{both}
-use Rattle.tmw_command.specs.Program.{IsProgram, criteria_names, lent, memory_names, one_of_names, program, program_among}
+use Rattle.tmw_command.specs.Program.{IsProgram, criteria_names, lent, memory_names, one_of_names, program, program_among, shown_names}
 use Rattle.tmw_command.proofs.OtherFaults.{fault-other}
 use Rattle.tmw_command.proofs.OtherParsers.{app, subcommand-other}
 
@@ -48,18 +48,18 @@ placed-takes ignore_case (Some p) text = refl
 -- ---- the program
 
 -- whatever the criteria and the memories are, it is simple
-free_among : (criteria memories : ValueParser) → is_simple_and_free (program_among criteria memories) ≡ true
+free_among : (criteria shown memories : ValueParser) → is_simple_and_free (program_among criteria shown memories) ≡ true
 unfolding clap_on_literals
-free_among criteria memories = refl
+free_among criteria shown memories = refl
 
-module _ (criteria memories : Bor (List (Bor Text))) (criteria_are : texts criteria.now ≡ criteria_names)
-    (memories_are : texts memories.now ≡ memory_names) where
+module _ (criteria shown memories : Bor (List (Bor Text))) (criteria_are : texts criteria.now ≡ criteria_names)
+    (shown_are : texts shown.now ≡ shown_names) (memories_are : texts memories.now ≡ memory_names) where
   -- the names as they stand, and at the address 0
   standing : App
-  standing = program_among (parser.Names criteria) (parser.Names memories)
+  standing = program_among (parser.Names criteria) (parser.Names shown) (parser.Names memories)
 
   at_zero : App
-  at_zero = program_among (one_of_names (texts criteria.now)) (one_of_names (texts memories.now))
+  at_zero = program_among (one_of_names (texts criteria.now)) (one_of_names (texts shown.now)) (one_of_names (texts memories.now))
 
   built-placed : built at_zero ≡ app placed_if (built standing)
   unfolding standing at_zero
@@ -68,11 +68,12 @@ module _ (criteria memories : Bor (List (Bor Text))) (criteria_are : texts crite
   at_zero-program : {A : Type 0} (f : App → A) → f at_zero ≡ f program
   unfolding at_zero
   at_zero-program f =
-      ap (λ (ts : List Text). f (program_among (one_of_names ts) (one_of_names (texts memories.now)))) criteria_are
-      ∙ ap (λ (ts : List Text). f (program_among (one_of_names criteria_names) (one_of_names ts))) memories_are
+      ap (λ (ts : List Text). f (program_among (one_of_names ts) (one_of_names (texts shown.now)) (one_of_names (texts memories.now)))) criteria_are
+      ∙ ap (λ (ts : List Text). f (program_among (one_of_names criteria_names) (one_of_names ts) (one_of_names (texts memories.now)))) shown_are
+      ∙ ap (λ (ts : List Text). f (program_among (one_of_names criteria_names) (one_of_names shown_names) (one_of_names ts))) memories_are
 
   -- wherever the names stand, the faults of the words are the same
-  pub fault-anywhere : (words : List Text) → fault_of (program_among (parser.Names criteria) (parser.Names memories)) words ≡ fault_of program words
+  pub fault-anywhere : (words : List Text) → fault_of (program_among (parser.Names criteria) (parser.Names shown) (parser.Names memories)) words ≡ fault_of program words
   unfolding standing at_zero
   fault-anywhere words =
       sym (fault-other placed_if placed-reads placed-takes (built standing) (drop 1 words))
@@ -81,7 +82,7 @@ module _ (criteria memories : Bor (List (Bor Text))) (criteria_are : texts crite
 
   -- and so is what is read of a command's words
   pub subcommand-anywhere : (words : List Text)
-      → subcommand_of (program_among (parser.Names criteria) (parser.Names memories)) words ≡ subcommand_of program words
+      → subcommand_of (program_among (parser.Names criteria) (parser.Names shown) (parser.Names memories)) words ≡ subcommand_of program words
   unfolding standing at_zero
   subcommand-anywhere words =
       sym (subcommand-other placed_if placed-reads (built standing) (drop 1 words))
@@ -91,17 +92,17 @@ module _ (criteria memories : Bor (List (Bor Text))) (criteria_are : texts crite
 -- ---- the same of a command that is the program
 
 pub is_free : (app : App) → IsProgram app → is_simple_and_free app ≡ true
-is_free app p = ap is_simple_and_free p.is ∙ free_among (parser.Names p.criteria) (parser.Names p.memories)
+is_free app p = ap is_simple_and_free p.is ∙ free_among (parser.Names p.criteria) (parser.Names p.shown) (parser.Names p.memories)
 
 pub is_plain : (app : App) → IsProgram app → is_simple app ≡ true
 is_plain app program_is = (both (is_simple app) (is_free_app (built app)) (is_free app program_is)).0
 
 pub fault-program : (app : App) (given words : List Text) → IsProgram app → given ≡ words → fault_of app given ≡ fault_of program words
 fault-program app given words p same =
-    ap (λ (a : App). fault_of a given) p.is ∙ fault-anywhere p.criteria p.memories p.criteria_are p.memories_are given
+    ap (λ (a : App). fault_of a given) p.is ∙ fault-anywhere p.criteria p.shown p.memories p.criteria_are p.shown_are p.memories_are given
     ∙ ap (λ (ws : List Text). fault_of program ws) same
 
 pub subcommand-program : (app : App) (given words : List Text) → IsProgram app → given ≡ words → subcommand_of app given ≡ subcommand_of program words
 subcommand-program app given words p same =
-    ap (λ (a : App). subcommand_of a given) p.is ∙ subcommand-anywhere p.criteria p.memories p.criteria_are p.memories_are given
+    ap (λ (a : App). subcommand_of a given) p.is ∙ subcommand-anywhere p.criteria p.shown p.memories p.criteria_are p.shown_are p.memories_are given
     ∙ ap (λ (ws : List Text). subcommand_of program ws) same

@@ -265,3 +265,30 @@ version_by_letter = refl
 version_of_judge : kinds_of (said (codes "judge" ∷ codes "--version" ∷ [])) ≡ UnknownArgument ∷ []
 unfolding clap_on_literals
 version_of_judge = refl
+
+-- by which criterion `show` shows, and whether it writes traces
+abbrev the_criterion : List Text → Option (Option Text)
+the_criterion words = option_map (λ p. first_of (codes "criterion") p.1) (subcommand_of program (help_as_flag (said (codes "show" ∷ words))))
+
+abbrev of_traces : List Text → Option (Option Text)
+of_traces words = option_map (λ p. one_of (codes "trace") p.1) (subcommand_of program (help_as_flag (said (codes "show" ∷ words))))
+
+shown_by_default : the_criterion [] ≡ Some (Some (codes "opacity"))
+unfolding clap_on_literals
+shown_by_default = refl
+
+shown_by_strict : the_criterion (codes "--trace" ∷ codes "--criterion=strict" ∷ []) ≡ Some (Some (codes "strict"))
+unfolding clap_on_literals
+shown_by_strict = refl
+
+shown_by_both : kinds_of (said (codes "show" ∷ codes "--criterion" ∷ codes "both" ∷ [])) ≡ InvalidValue ∷ []
+unfolding clap_on_literals
+shown_by_both = refl
+
+drawn_by_default : of_traces [] ≡ Some (Some (codes "false"))
+unfolding clap_on_literals
+drawn_by_default = refl
+
+traces_asked_for : of_traces (codes "--states=2" ∷ codes "--trace" ∷ []) ≡ Some (Some (codes "true"))
+unfolding clap_on_literals
+traces_asked_for = refl

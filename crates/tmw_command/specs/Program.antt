@@ -8,6 +8,8 @@ use Rattle.clap.specs.declared.builder.value_parser.ValueParser.{ValueParser}
 use Rattle.clap.specs.declared.builder.value_parser.ValueParser.TheVariants.{Names, Signed, Unsigned}
 use Rattle.tmw_defs.specs.declared.criterion.Asked.{Asked}
 use Rattle.tmw_defs.specs.declared.criterion.Asked.TheVariants.{Opacity, Strict, Both}
+use Rattle.tmw_defs.specs.declared.criterion.Criterion.{Criterion}
+use Rattle.tmw_defs.specs.declared.criterion.Criterion.TheVariants as by
 use Rattle.tmw_command.specs.declared.which.Which.{Which}
 use Rattle.tmw_command.specs.declared.which.Which.TheVariants.{NoRec, Lock, Torn}
 
@@ -19,6 +21,14 @@ asked_name Both = codes "both"
 
 abbrev pub criteria_names : List Text
 criteria_names = asked_name Opacity ∷ asked_name Strict ∷ asked_name Both ∷ []
+
+-- the name of a criterion
+abbrev pub criterion_name : Criterion → Text
+criterion_name by.Opacity = codes "opacity"
+criterion_name by.Strict = codes "strict"
+
+abbrev pub shown_names : List Text
+shown_names = criterion_name by.Opacity ∷ criterion_name by.Strict ∷ []
 
 -- the name of a memory
 abbrev pub memory_name : Which → Text
@@ -67,6 +77,10 @@ with_criterion criteria app = with_rule app (value_rule (codes "criterion") crit
 abbrev pub trace_rule : Rule
 trace_rule = record (new_rule (codes "trace")) { long = Some (codes "trace"); action = Some SetTrue }
 
+-- with `--trace`
+abbrev pub with_trace : App → App
+with_trace app = with_rule app trace_rule
+
 -- with a memory, one of these, and with `--trace`
 abbrev pub with_memory : ValueParser → App → App
 with_memory memories app = with_rule (with_rule app (value_rule (codes "memory") memories (memory_name NoRec))) trace_rule
@@ -80,6 +94,10 @@ with_counts app = with_rule (with_rule (with_rule app (value_rule (codes "ring")
 -- `judge`, by one of these criteria
 abbrev pub judge_among : ValueParser → App
 judge_among criteria = with_bounds (with_criterion criteria (new_app (codes "judge")))
+
+-- `show`, by one of these criteria
+abbrev pub show_among : ValueParser → App
+show_among criteria = with_bounds (with_trace (with_criterion criteria (new_app (codes "show"))))
 
 -- `drive`, over one of these memories
 abbrev pub drive_among : ValueParser → App
@@ -97,19 +115,21 @@ steps = new_app (codes "steps")
 abbrev pub wanting : App → App
 wanting app = record app { top = record app.top { subcommand_required = true; disable_help_subcommand = true; has_version = true } }
 
--- with its commands, `judge` by one of these criteria, `drive` and `bench` over one of these memories
-abbrev pub program_among : ValueParser → ValueParser → App
-program_among criteria memories =
-    with_subcommand (with_subcommand (with_subcommand (with_subcommand (wanting (new_app (codes "tmwatch"))) (judge_among criteria).top)
-    (drive_among memories).top) (bench_among memories).top) steps.top
+-- with its commands, `judge` and `show` each by one of these criteria, `drive` and `bench` over one of these memories
+abbrev pub program_among : ValueParser → ValueParser → ValueParser → App
+program_among criteria shown memories =
+    with_subcommand (with_subcommand (with_subcommand (with_subcommand (with_subcommand (wanting (new_app (codes "tmwatch")))
+    (judge_among criteria).top) (show_among shown).top) (drive_among memories).top) (bench_among memories).top) steps.top
 
 abbrev pub program : App
-program = program_among (one_of_names criteria_names) (one_of_names memory_names)
+program = program_among (one_of_names criteria_names) (one_of_names shown_names) (one_of_names memory_names)
 
 -- the program, whatever the addresses of the criteria's and of the memories' names are
 pub record IsProgram (app : App) : Type 0 where
   pub criteria : Bor (List (Bor Text))
+  pub shown : Bor (List (Bor Text))
   pub memories : Bor (List (Bor Text))
   pub criteria_are : texts criteria.now ≡ criteria_names
+  pub shown_are : texts shown.now ≡ shown_names
   pub memories_are : texts memories.now ≡ memory_names
-  pub is : app ≡ program_among (Names criteria) (Names memories)
+  pub is : app ≡ program_among (Names criteria) (Names shown) (Names memories)

@@ -10,13 +10,14 @@ use Rattle.tmw_report.specs.declared.fault.Fault.TheVariants.{Memory as WantsMem
 use Rattle.tmw_judge.specs.Judging.{JudgesBytes}
 use Rattle.tmw_run_bench.specs.Running.{BenchesBytes}
 use Rattle.tmw_run_drive.specs.Running.{DrivesBytes}
+use Rattle.tmw_run_show.specs.Running.{ShowsBytes}
 use Rattle.tmw_steps.specs.Running.{RunsSteps}
 use Rattle.tmw_tm.specs.Answers.{Call, Answer}
 use Rattle.tmw_command.specs.Options.{settings_of}
 use Rattle.tmw_command.specs.Reading.{IsReading}
 use Rattle.tmw_command.specs.Version.{version_line}
 use Rattle.tmw_command.specs.declared.order.Order.{Order}
-use Rattle.tmw_command.specs.declared.order.Order.TheVariants.{Judge, Drive, Bench, Steps}
+use Rattle.tmw_command.specs.declared.order.Order.TheVariants.{Judge, Show, Drive, Bench, Steps}
 use Rattle.tmw_command.specs.declared.refusal.Refusal.{Refusal}
 use Rattle.tmw_command.specs.declared.refusal.Refusal.TheVariants.{Help, Version, Usage, Memory}
 use Rattle.tmw_command.specs.declared.which.Which.{Which}
@@ -35,6 +36,7 @@ by_name norec lock torn Torn = torn
 -- What the order's command does.
 abbrev pub RunsOrder : {S K : Type 0} → FromSource S → ToSink K → MemoryAnswers → Order → S → S → K → K → ℕ → Type 0
 RunsOrder From To memories (Judge bounds asked) = JudgesBytes From To bounds asked
+RunsOrder From To memories (Show criterion trace bounds) = ShowsBytes From To criterion trace bounds
 RunsOrder From To memories (Drive memory trace bounds) = DrivesBytes From To (memories memory) trace bounds
 RunsOrder From To memories (Bench memory trace options) = BenchesBytes From To (memories memory) trace (settings_of options)
 RunsOrder From To memories Steps = RunsSteps From To

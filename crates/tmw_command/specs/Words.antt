@@ -8,11 +8,12 @@ use Rattle.clap.specs.Words.{IsAmong, Kinds, Row, Text, fault_of, first_of, one_
 use Rattle.clap.specs.declared.error.kind.ErrorKind.{ErrorKind}
 use Rattle.clap.specs.declared.error.kind.ErrorKind.TheVariants.{DisplayHelp, DisplayVersion}
 use Rattle.tmw_defs.specs.declared.criterion.Asked.{Asked}
+use Rattle.tmw_defs.specs.declared.criterion.Criterion.{Criterion}
 use Rattle.tmw_monitor.specs.declared.bounds.Bounds.{Bounds}
-use Rattle.tmw_command.specs.Program.{asked_name, memory_name, program}
+use Rattle.tmw_command.specs.Program.{asked_name, criterion_name, memory_name, program}
 use Rattle.tmw_command.specs.declared.bench_options.BenchOptions.{BenchOptions}
 use Rattle.tmw_command.specs.declared.order.Order.{Order}
-use Rattle.tmw_command.specs.declared.order.Order.TheVariants.{Judge, Drive, Bench, Steps}
+use Rattle.tmw_command.specs.declared.order.Order.TheVariants.{Judge, Show, Drive, Bench, Steps}
 use Rattle.tmw_command.specs.declared.which.Which.{Which}
 
 -- `help` stands in place of a command, behind the program's name.
@@ -44,6 +45,10 @@ HasBounds rows bounds = Gives (codes "window") rows bounds.window × Gives (code
 abbrev pub NamesCriteria : List Row → Asked → Type 0
 NamesCriteria rows asked = first_of (codes "criterion") rows ≡ Some (asked_name asked)
 
+-- The words name this criterion, or the option's default does where they name none.
+abbrev pub NamesCriterion : List Row → Criterion → Type 0
+NamesCriterion rows criterion = first_of (codes "criterion") rows ≡ Some (criterion_name criterion)
+
 -- The words name this memory, or the option's default does where they name none.
 abbrev pub NamesMemory : List Row → Which → Type 0
 NamesMemory rows memory = first_of (codes "memory") rows ≡ Some (memory_name memory)
@@ -63,6 +68,8 @@ pub record HasOptions (rows : List Row) (options : BenchOptions) : Type 0 where
 abbrev pub IsOrder : Option (Text × List Row) → Order → Type 0
 IsOrder found (Judge bounds asked) =
     (rows : List Row) × (found ≡ Some (codes "judge", rows)) × NamesCriteria rows asked × HasBounds rows bounds
+IsOrder found (Show criterion trace bounds) =
+    (rows : List Row) × (found ≡ Some (codes "show", rows)) × NamesCriterion rows criterion × HasTrace rows trace × HasBounds rows bounds
 IsOrder found (Drive memory trace bounds) =
     (rows : List Row) × (found ≡ Some (codes "drive", rows)) × NamesMemory rows memory × HasTrace rows trace × HasBounds rows bounds
 IsOrder found (Bench memory trace options) =

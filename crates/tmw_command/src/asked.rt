@@ -1,8 +1,9 @@
 ghost use Rattle.std.specs.Prelude.{◌≡◌, IfNone, IfSome};
-ghost use Rattle.tmw_command.specs.Program.{asked_name};
+ghost use Rattle.tmw_command.specs.Program.{asked_name, criterion_name};
 ghost use Rattle.tmw_defs.specs.declared.criterion.Asked.{Asked};
+ghost use Rattle.tmw_defs.specs.declared.criterion.Criterion.{Criterion};
 
-use tmw_defs::Asked;
+use tmw_defs::{Asked, Criterion};
 
 /// The criteria of this name: `opacity`, `strict` or `both`. There are none of another name.
 pub fn asked_named(name: &str) -> Option<Asked>
@@ -13,6 +14,18 @@ pub fn asked_named(name: &str) -> Option<Asked>
         "opacity" => Some(Asked::Opacity),
         "strict" => Some(Asked::Strict),
         "both" => Some(Asked::Both),
+        _ => None,
+    }
+}
+
+/// The criterion of this name: `opacity` or `strict`. There is none of another name.
+pub fn criterion_named(name: &str) -> Option<Criterion>
+    ensures some { IfSome result (λ criterion. name.now ≡ criterion_name criterion) }
+    ensures none { IfNone result ((criterion : Criterion) → name.now ≡ criterion_name criterion → ⊥) }
+{
+    match name {
+        "opacity" => Some(Criterion::Opacity),
+        "strict" => Some(Criterion::Strict),
         _ => None,
     }
 }

@@ -1,6 +1,6 @@
 use crate::bench_options::BenchOptions;
 use crate::which::Which;
-use tmw_defs::Asked;
+use tmw_defs::{Asked, Criterion};
 use tmw_monitor::Bounds;
 
 /// What the command line asks the program to do.
@@ -10,6 +10,13 @@ pub enum Order {
     Judge {
         bounds: Bounds,
         asked: Asked,
+    },
+    /// To judge the trace on standard input by this criterion within these bounds, and to show where it went wrong: its last window
+    /// drawn, or as traces of its own where that is asked for.
+    Show {
+        criterion: Criterion,
+        trace: bool,
+        bounds: Bounds,
     },
     /// To run the workload on standard input over this memory, and to judge the run within these bounds. Its trace is written
     /// before the report where that is asked for.

@@ -2,14 +2,15 @@ ghost use Rattle.std.specs.Prelude.{◌≡◌, ◌≤◌, ℕ, Bool, IfErr, IfNo
 ghost use Rattle.clap.specs.Walk.{texts};
 ghost use Rattle.clap.specs.Words.{found_of, kind_of, rows_of, subcommand_rows_of};
 ghost use Rattle.tmw_command.specs.Reading.{FailsAs};
-ghost use Rattle.tmw_command.specs.Words.{Asks, Gives, HasBounds, HasOptions, HasTrace, IsOrder, NamesCriteria, NamesMemory, help_as_flag, names_help};
+ghost use Rattle.tmw_command.specs.Words.{Asks, Gives, HasBounds, HasOptions, HasTrace, IsOrder, NamesCriteria, NamesCriterion, NamesMemory, help_as_flag, names_help};
 ghost use Rattle.tmw_command.specs.declared.bench_options.BenchOptions.{BenchOptions};
 ghost use Rattle.tmw_command.specs.declared.order.Order.{Order};
 ghost use Rattle.tmw_command.specs.declared.which.Which.{Which};
 ghost use Rattle.tmw_defs.specs.declared.criterion.Asked.{Asked};
+ghost use Rattle.tmw_defs.specs.declared.criterion.Criterion.{Criterion};
 ghost use Rattle.tmw_monitor.specs.declared.bounds.Bounds.{Bounds};
 
-use crate::asked::asked_named;
+use crate::asked::{asked_named, criterion_named};
 use crate::bench_options::BenchOptions;
 use crate::order::Order;
 use crate::program::new_program;
@@ -18,7 +19,7 @@ use clap::error::ErrorKind;
 use clap::{ArgMatches, Error};
 use std::alloc::{AllocError, Global};
 use std::convert::AsStr;
-use tmw_defs::Asked;
+use tmw_defs::{Asked, Criterion};
 use tmw_monitor::Bounds;
 
 /// Parses the words of the command line, of which the first is the program's name and is passed over. The error is clap's, and
@@ -76,6 +77,7 @@ fn order_of(matches: &ArgMatches<'_>) -> Option<Order>
 {
     match matches.subcommand() {
         Some(("judge", judge)) => judge_of(judge),
+        Some(("show", show)) => show_of(show),
         Some(("drive", drive)) => drive_of(drive),
         Some(("bench", bench)) => bench_of(bench),
         Some(("steps", _)) => Some(Order::Steps),
@@ -109,6 +111,42 @@ fn asked_of(judge: &ArgMatches<'_>) -> Option<Asked>
         return None;
     };
     Some(asked)
+}
+
+/// The order that the matches of `show` hold. There is none where they lack one of its values.
+fn show_of(show: &ArgMatches<'_>) -> Option<Order>
+    ensures some { IfSome result (IsOrder (Some (codes "show", rows_of (found_of show.now)))) }
+    ensures none { IfNone result ((order : Order) → IsOrder (Some (codes "show", rows_of (found_of show.now))) order → ⊥) }
+{
+    let Some((criterion, trace)) = criterion_and_trace_of(show) else {
+        return None;
+    };
+    let Some(bounds) = bounds_of(show) else {
+        return None;
+    };
+    Some(Order::Show {
+        criterion,
+        trace,
+        bounds,
+    })
+}
+
+/// The criterion that the matches of `show` name, and whether they have the flag `--trace`.
+fn criterion_and_trace_of(matches: &ArgMatches<'_>) -> Option<(Criterion, bool)>
+    ensures some { IfSome result (λ found. NamesCriterion (rows_of (found_of matches.now)) found.0 × HasTrace (rows_of (found_of matches.now)) found.1) }
+    ensures none { IfNone result ((criterion : Criterion) (trace : Bool) → NamesCriterion (rows_of (found_of matches.now)) criterion
+        → HasTrace (rows_of (found_of matches.now)) trace → ⊥) }
+{
+    let Some(name) = matches.get_str("criterion") else {
+        return None;
+    };
+    let Some(criterion) = criterion_named(name) else {
+        return None;
+    };
+    let Some(trace) = matches.get_one::<bool>("trace") else {
+        return None;
+    };
+    Some((criterion, trace))
 }
 
 /// The order that the matches of `drive` hold. There is none where they lack one of its values.

@@ -1,7 +1,7 @@
-ghost use Rattle.std.specs.Prelude.{◌≡◌, IfOk, false};
-ghost use Rattle.clap.specs.Words.{app_of, rule_of};
+ghost use Rattle.std.specs.Prelude.{◌≡◌, IfOk, codes, false};
+ghost use Rattle.clap.specs.Words.{app_of, new_app, rule_of};
 ghost use Rattle.clap.specs.declared.builder.value_parser.ValueParser.TheVariants.{Names};
-ghost use Rattle.tmw_command.specs.Program.{IsProgram, bench_among, count_to, drive_among, judge_among, one_to, steps, value_rule, with_bounds, with_counts, with_criterion, with_memory};
+ghost use Rattle.tmw_command.specs.Program.{IsProgram, bench_among, count_to, drive_among, judge_among, one_to, show_among, steps, trace_rule, value_rule, wanting, with_bounds, with_counts, with_criterion, with_memory, with_trace};
 
 use clap::builder::ValueParser;
 use clap::{Arg, ArgAction, Command, value_parser};
@@ -13,12 +13,18 @@ static MEMORIES: [&str; 3] = ["norec", "lock", "torn"];
 /// The names of what a trace is judged by.
 static CRITERIA: [&str; 3] = ["opacity", "strict", "both"];
 
+/// The names of what a trace is shown by.
+static SHOWN: [&str; 2] = ["opacity", "strict"];
+
 const CRITERION_HELP: &str =
     "What the run is judged by: opacity, strict serializability, or both, with a line for each";
 
 const MEMORY_HELP: &str = "The memory that the workload is run over";
 
 const TRACE_HELP: &str = "Write the trace of the run before the report";
+
+const SHOW_TRACE_HELP: &str =
+    "Write the last window as a trace of its own, one for each state from which it may begin, and nothing else";
 
 const RING_HELP: &str =
     "The cells of the ring that the threads record in, 1 to 4096: no fewer than the workload has scripts";
@@ -41,6 +47,9 @@ const PROGRAM_HELP: &str =
 const JUDGE_HELP: &str =
     "In goes a trace: a first line `opacity-trace 1 R` for R registers, then a line `THREAD KIND ..` an event. Out comes one line of JSON, or two for both criteria: the verdict, the number of events, and at which event it fell.\n\nExit status: 0 where the run is opaque (or strict) so far, 1 violated, 2 undecided, 3 malformed; 4 for a fault of the input, of memory, or of reading or writing, which one line names.\n\nExample: tmwatch judge --criterion both < run.trace";
 
+const SHOW_HELP: &str =
+    "In goes a trace, as `judge` reads it. Out comes the line that `judge` writes; then a line for each state in which the registers may have been at the last moment at which no transaction was live; then the events since, up to the one at which something is wrong, each with its number, in a column for each thread. With --trace, these events alone come out, as a trace that begins with such a state, and one behind the other where there are several.\n\nExit status: 0 where the run is opaque (or strict) so far, 1 violated, 2 undecided, 3 malformed; 4 for a fault of the input, of memory, or of reading or writing, which one line names.\n\nExample: tmwatch show < run.trace";
+
 const DRIVE_HELP: &str =
     "In goes a workload in JSON: the number of registers, a script for each thread, and the order in which they make their calls. Out comes the verdict on the run, as one line of JSON, and before it the trace where it is asked for.\n\nExit status: 0 where the run is opaque so far, 1 violated, 2 undecided, 3 malformed; 4 for a fault, which one line names.\n\nExample: tmwatch drive --memory torn --trace < workload.json";
 
@@ -55,7 +64,20 @@ pub fn new_program<'a>(alloc: Global) -> Result<Command<'a>, AllocError>
     ensures { IfOk result (λ command. IsProgram (app_of command)) }
 {
     let criteria = CRITERIA.as_slice();
+    let shown = SHOWN.as_slice();
     let memories = MEMORIES.as_slice();
+    bare_program(alloc)
+        .subcommand(new_judge(alloc, criteria)?)?
+        .subcommand(new_show(alloc, shown)?)?
+        .subcommand(new_drive(alloc, memories)?)?
+        .subcommand(new_bench(alloc, memories)?)?
+        .subcommand(new_steps(alloc))
+}
+
+/// The program without its commands.
+fn bare_program<'a>(alloc: Global) -> Command<'a>
+    ensures { app_of result ≡ wanting (new_app (codes "tmwatch")) }
+{
     Command::new(alloc, "tmwatch")
         .about(
             "A monitor of opacity, and of strict serializability, for transactional memories, and the ring that events reach it by",
@@ -64,10 +86,6 @@ pub fn new_program<'a>(alloc: Global) -> Result<Command<'a>, AllocError>
         .version("0.1.0")
         .subcommand_required(true)
         .disable_help_subcommand(true)
-        .subcommand(new_judge(alloc, criteria)?)?
-        .subcommand(new_drive(alloc, memories)?)?
-        .subcommand(new_bench(alloc, memories)?)?
-        .subcommand(new_steps(alloc))
 }
 
 /// The command `judge`, by criteria of these names.
@@ -80,6 +98,19 @@ fn new_judge<'a>(alloc: Global, criteria: &'a [&'a str]) -> Result<Command<'a>, 
         )
         .after_help(JUDGE_HELP);
     with_bounds(alloc, with_criterion(alloc, judge, criteria)?)
+}
+
+/// The command `show`, by criteria of these names.
+fn new_show<'a>(alloc: Global, criteria: &'a [&'a str]) -> Result<Command<'a>, AllocError>
+    ensures { IfOk result (λ command. app_of command ≡ show_among (Names criteria.entry)) }
+{
+    let show = Command::new(alloc, "show")
+        .about(
+            "Judge the trace on standard input, and show where it went wrong: its last window, drawn in a column for each thread",
+        )
+        .after_help(SHOW_HELP);
+    let traced = with_trace(alloc, with_criterion(alloc, show, criteria)?)?;
+    with_bounds(alloc, traced)
 }
 
 /// The command `drive`, over memories of these names.
@@ -135,6 +166,13 @@ fn with_criterion<'a>(
     command.arg(criterion)
 }
 
+/// The command with the flag `--trace` of a window as an option.
+fn with_trace<'a>(alloc: Global, command: Command<'a>) -> Result<Command<'a>, AllocError>
+    ensures { IfOk result (λ given. app_of given ≡ with_trace (app_of command.entry)) }
+{
+    command.arg(trace_option(alloc, SHOW_TRACE_HELP))
+}
+
 /// The command with a memory, one of these names, and with the flag `--trace` as options.
 fn with_memory<'a>(
     alloc: Global,
@@ -151,10 +189,7 @@ fn with_memory<'a>(
         "norec",
         MEMORY_HELP,
     );
-    let trace = Arg::new(alloc, "trace")
-        .long("trace")
-        .help(TRACE_HELP)
-        .action(ArgAction::SetTrue);
+    let trace = trace_option(alloc, TRACE_HELP);
     command.arg(memory)?.arg(trace)
 }
 
@@ -175,6 +210,17 @@ fn with_bounds<'a>(alloc: Global, command: Command<'a>) -> Result<Command<'a>, A
     let window = number_option(alloc, "window", 8, "8", WINDOW_HELP);
     let states = number_option(alloc, "states", 64, "64", STATES_HELP);
     command.arg(window)?.arg(states)
+}
+
+/// The flag `--trace`.
+fn trace_option<'a>(alloc: Global, help: &'a str) -> Arg<'a>
+    ensures rule { rule_of result ≡ trace_rule }
+    ensures local { result.global ≡ false }
+{
+    Arg::new(alloc, "trace")
+        .long("trace")
+        .help(help)
+        .action(ArgAction::SetTrue)
 }
 
 /// An option that takes one number, from 1 to `most`.

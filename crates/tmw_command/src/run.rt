@@ -16,6 +16,7 @@ use tmw_judge::run_judge;
 use tmw_report::{FAULT_STATUS, Fault, answer_fault};
 use tmw_run_bench::run_bench_cmd;
 use tmw_run_drive::run_drive;
+use tmw_run_show::run_show;
 use tmw_steps::run_steps;
 use tmw_streams::{Sink, Source, put_all};
 use tmw_tm::Tm;
@@ -87,6 +88,11 @@ fn run_order<S: Source, K: Sink, R: Threads + Wait>(
 {
     match order {
         Order::Judge { bounds, asked } => run_judge(alloc, source, sink, bounds, asked),
+        Order::Show {
+            criterion,
+            trace,
+            bounds,
+        } => run_show(alloc, source, sink, criterion, trace, bounds),
         Order::Drive {
             memory,
             trace,

@@ -1,1 +1,4 @@
+mod Alike
+mod Behind
+mod Taking
 mod Windows

@@ -1,5 +1,5 @@
 -- What is shown of a history with an event more.
-use Rattle.std.proofs.Common.{◌≡◌, ◌≢◌, ◌+◌, ◌-◌, ◌<◌, ◌≤◌, ◌↔◌, ℕ, List, [], ◌∷◌, ◌++◌, length, true, false, IsTrue, IsFalse, refl, sym, ap, subst, ◌∙◌, inl, inr, arith}
+use Rattle.std.proofs.Common.{◌≡◌, ◌+◌, ◌-◌, ◌<◌, ◌≤◌, ◌↔◌, ℕ, List, [], ◌∷◌, ◌++◌, length, true, false, IsTrue, IsFalse, refl, sym, ap, subst, ◌∙◌, inl, inr, arith}
 use Rattle.std.specs.Prelude.{take, drop}
 use Rattle.std.specs.List.{Contains}
 use Rattle.std.proofs.Math.Seq.{take-length}
@@ -17,10 +17,10 @@ use Rattle.tmw_defs.specs.Cuts.{is_cut}
 use Rattle.tmw_defs.specs.Opaque.{State}
 use Rattle.tmw_defs.specs.Summary.{IsLastCut}
 use Rattle.tmw_defs.specs.Verdict.{Rules, IsFine, AreFine, IsFirst, IsMalformed, IsTooWide, IsTooMany, IsViolated, IsVerdict}
-use Rattle.tmw_defs.specs.Windows.{between, IsCutAt}
+use Rattle.tmw_defs.specs.Windows.{between}
 use Rattle.tmw_defs.proofs.Criteria.{formed-final}
 use Rattle.tmw_defs.proofs.VerdictProof.{verdict-one, so_far-fine, sums_up-new}
-use Rattle.tmw_defs.proofs.WindowsProof.{length-push, take-push, take_all-push, between-open}
+use Rattle.tmw_defs.proofs.WindowsProof.{length-push, take-push, between-open}
 use Rattle.tmw_monitor.specs.Holding.{AreLastOutcomes}
 use Rattle.tmw_monitor.specs.Fitting.{Fits}
 use Rattle.tmw_monitor.specs.declared.monitor.Monitor.{Monitor}

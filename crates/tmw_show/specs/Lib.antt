@@ -1,2 +1,5 @@
+pub mod Feeding
+pub mod Showing
 pub mod Shown
 pub mod Watching
+pub mod WindowLaw

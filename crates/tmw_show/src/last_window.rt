@@ -6,6 +6,7 @@ ghost use Rattle.tmw_defs.specs.Verdict.{Rules, IsVerdict};
 ghost use Rattle.tmw_cuts.specs.Members.{members};
 ghost use Rattle.tmw_monitor.specs.Fitting.{rules_for};
 
+use crate::showing::Showing;
 use std::alloc::{AllocError, Global};
 use tmw_cuts::{State, States};
 use tmw_events::{Event, Registers};
@@ -23,6 +24,7 @@ pub struct LastWindow {
 }
 
 impl LastWindow {
+    ghost use Rattle.tmw_show.specs.Showing.{IsShowing};
     ghost use Rattle.tmw_show.specs.Shown.{IsShown};
     ghost use Rattle.tmw_show.specs.Watching.{Watches};
 
@@ -139,5 +141,18 @@ impl LastWindow {
         ensures { (rules : Rules) (history : List Event) → Watches rules history self.now → IsVerdict rules history result }
     {
         self.monitor.verdict()
+    }
+
+    /// What is shown of the run, where no event follows.
+    pub fn finish(self) -> Showing
+        ensures { (rules : Rules) (history : List Event) → Watches rules history self → IsShowing rules history result }
+    {
+        Showing {
+            fed: self.monitor.fed(),
+            verdict: self.monitor.verdict(),
+            from: self.from,
+            states: self.states,
+            events: self.events,
+        }
     }
 }

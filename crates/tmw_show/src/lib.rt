@@ -1,8 +1,13 @@
 //! The place where a run went wrong: its last window, and the states from which that begins.
 #![tactic(auto)]
 
+mod feeding;
 mod last_window;
+mod law;
+mod showing;
 #[cfg(test)]
 mod tests;
 
 pub use last_window::LastWindow;
+pub use law::law_window;
+pub use showing::Showing;

@@ -7,7 +7,7 @@ use clap::error::ErrorKind;
 use std::alloc::{AllocError, Global};
 use std::process::Abort;
 use std::test::Fail;
-use tmw_defs::Asked;
+use tmw_defs::{Asked, Criterion};
 use tmw_monitor::Bounds;
 
 #[test]
@@ -68,6 +68,38 @@ fn criteria_of_judge(rt: HostRuntime) {
         match parse(rt.alloc(), words) {
             Ok(Order::Judge { bounds: _, asked }) => {
                 assert_eq!(rt; asked, criteria, "of {words:?}");
+            }
+            Ok(order) => assert!(rt; false, "{words:?} was read as {order:?}"),
+            Err(error) => assert!(rt; false, "{words:?} was refused: {error}"),
+        }
+    }
+}
+
+#[test]
+fn orders_of_show(rt: HostRuntime) {
+    for (words, wanted, traced) in [
+        (["tmwatch", "show"].as_slice(), Criterion::Opacity, false),
+        (
+            ["tmwatch", "show", "--trace"].as_slice(),
+            Criterion::Opacity,
+            true,
+        ),
+        (
+            ["tmwatch", "show", "--criterion=strict", "--window", "3"].as_slice(),
+            Criterion::Strict,
+            false,
+        ),
+    ] {
+        match parse(rt.alloc(), words) {
+            Ok(
+                Order::Show {
+                    criterion,
+                    trace,
+                    bounds: _,
+                },
+            ) => {
+                assert_eq!(rt; criterion, wanted, "of {words:?}");
+                assert_eq!(rt; trace, traced, "of {words:?}");
             }
             Ok(order) => assert!(rt; false, "{words:?} was read as {order:?}"),
             Err(error) => assert!(rt; false, "{words:?} was refused: {error}"),

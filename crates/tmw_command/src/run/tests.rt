@@ -25,6 +25,12 @@ const STRICT: &str = "{\"criterion\":\"strict\",\"events\":8,\"verdict\":\"stric
 const BOTH: &str =
     "{\"at\":4,\"events\":8,\"verdict\":\"violated\"}\n{\"criterion\":\"strict\",\"events\":8,\"verdict\":\"strict so far\"}\n";
 
+/// The last window of the trace, drawn and as a trace of its own.
+const SHOWN: &str =
+    "{\"at\":4,\"events\":8,\"verdict\":\"violated\"}\n    state  0\n    event  thread 0    thread 1\n        1  W 0 1\n        2  K\n        3              R 0\n        4              V 1       violated, by opacity\n";
+
+const SHOWN_TRACE: &str = "opacity-trace 2 1 0\n0 W 0 1\n0 K\n1 R 0\n1 V 1\n";
+
 /// A writer of a ring of four cells sees room and claims a place.
 const STEPS: &[u8] = b"ring-steps 1 4 2 100\nfront 0 T\ntail 0\nclaim 0\n";
 
@@ -132,6 +138,22 @@ fn orders(rt: HostRuntime) -> Result<(), Fail> {
     expect(
         &rt,
         "tmwatch judge",
+        STEPS,
+        "{\"fault\":\"bad header\"}\n",
+        4,
+    )?;
+    expect(&rt, "tmwatch show", TRACE, SHOWN, 1)?;
+    expect(&rt, "tmwatch show --trace", TRACE, SHOWN_TRACE, 1)?;
+    expect(
+        &rt,
+        "tmwatch show --criterion strict --window=1 --trace",
+        TRACE,
+        "opacity-trace 2 1 0\n0 W 0 1\n0 K\n1 R 0\n",
+        2,
+    )?;
+    expect(
+        &rt,
+        "tmwatch show",
         STEPS,
         "{\"fault\":\"bad header\"}\n",
         4,

@@ -9,6 +9,9 @@ use Rattle.tmw_command.proofs.run.run_order.Goals as goal
 pub returns-in-Judge : goal.returns-in-Judge
 returns-in-Judge g c = rw c.in-Judge.is c.run_judge.ensures
 
+pub returns-in-Show : goal.returns-in-Show
+returns-in-Show g c = rw c.in-Show.is c.run_show.ensures
+
 pub returns-in-Drive : goal.returns-in-Drive
 returns-in-Drive g c =
     let drives = rw c.named-picked.ensures at c.run_drive.ensures in

@@ -1,5 +1,5 @@
 -- After a final verdict the monitor alone takes the event.
-use Rattle.std.proofs.Common.{rules, ◌≡◌, List, [], ◌∷◌, ◌++◌, sym, ap, subst, ◌∙◌}
+use Rattle.std.proofs.Common.{rules, ◌≡◌, [], ◌∷◌, ◌++◌, sym, ap, subst, ◌∙◌}
 use Rattle.tmw_cuts.specs.Members.{members}
 use Rattle.tmw_defs.specs.Criteria.{so_far}
 use Rattle.tmw_show.specs.Shown.{IsShown}

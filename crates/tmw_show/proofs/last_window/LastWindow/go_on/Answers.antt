@@ -1,5 +1,5 @@
 -- The window goes on with the event.
-use Rattle.std.proofs.Common.{rules, ◌≡◌, ◌-◌, length, List, [], ◌∷◌, ◌++◌, sym, ap, ◌∙◌}
+use Rattle.std.proofs.Common.{rules, ◌≡◌, ◌-◌, length, [], ◌∷◌, ◌++◌, ap, ◌∙◌}
 use Rattle.std.specs.Prelude.{take}
 use Rattle.std.proofs.lemmas.List.{take_at}
 use Rattle.tmw_defs.specs.Criteria.{so_far}

@@ -1,9 +1,7 @@
 -- Before the first event the window is empty, and begins at the start.
-use Rattle.std.proofs.Common.{rules, ◌≡◌, List, [], sym, subst, ◌∙◌, ap}
+use Rattle.std.proofs.Common.{List, [], sym, subst, ◌∙◌, ap}
 use Rattle.tmw_defs.specs.Opaque.{State}
 use Rattle.tmw_defs.specs.Criteria.{so_far}
-use Rattle.tmw_defs.specs.Verdict.{IsVerdict}
-use Rattle.tmw_defs.proofs.VerdictProof.{verdict-one, so_far-fine}
 use Rattle.tmw_monitor.specs.Fitting.{rules_for}
 use Rattle.tmw_monitor.specs.Holding.{AreLastOutcomes}
 use Rattle.tmw_show.proofs.Windows.{shown-none, fine-empty}

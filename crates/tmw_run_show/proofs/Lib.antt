@@ -1,0 +1,3 @@
+mod GivenFaults
+mod Rows
+mod Shows

@@ -1,0 +1,87 @@
+-- How a window is drawn: the states from which it begins, and its events in a column for each thread. Numbers are decimal, without
+-- sign and without leading zeros.
+use Rattle.std.specs.Prelude.{ℕ, ◌+◌, ◌-◌, ◌*◌, ◌==◌, List, [], ◌∷◌, ◌++◌, length, take, replicate, max, codes, if◌then◌else◌}
+use Rattle.std.specs.List.{flat_map}
+use Rattle.std.specs.Fmt.{decimal}
+use Rattle.tmw_events.specs.Text.{kind_text}
+use Rattle.tmw_events.specs.declared.event.Event.{Event}
+use Rattle.tmw_events.specs.declared.registers.Registers.{Registers}
+use Rattle.tmw_lines.specs.Text.{line}
+use Rattle.tmw_trace.specs.Text.{values_text}
+use Rattle.tmw_defs.specs.Opaque.{State}
+use Rattle.tmw_defs.specs.declared.criterion.Criterion.{Criterion}
+use Rattle.tmw_defs.specs.declared.criterion.Criterion.TheVariants.{Opacity, Strict}
+use Rattle.tmw_defs.specs.declared.verdict.Verdict.{Verdict}
+use Rattle.tmw_defs.specs.declared.verdict.Verdict.TheVariants.{OpaqueSoFar, StrictSoFar, Violated, Undecided, Malformed}
+use Rattle.tmw_defs.specs.declared.verdict.Why.{Why}
+use Rattle.tmw_defs.specs.declared.verdict.Why.TheVariants.{Transactions, States}
+
+-- so many blanks
+abbrev pub blanks : ℕ → List ℕ
+blanks count = replicate count 32
+
+-- what the run's registers hold, each value after one space
+abbrev pub state_text : Registers → State → List ℕ
+state_text registers state = codes "    state " ++ values_text (take registers.number state)
+
+-- a line for each state
+abbrev pub states_text : Registers → List State → List ℕ
+states_text registers states = flat_map (λ state. line (state_text registers state)) states
+
+-- the greatest number of a thread that has one of these events, or 0
+abbrev pub last_thread : List Event → ℕ
+last_thread [] = 0
+last_thread (event ∷ events) = max event.thread.number (last_thread events)
+
+-- the heads of eight columns
+abbrev pub all_heads : List ℕ
+all_heads = codes "    event  thread 0    thread 1    thread 2    thread 3    thread 4    thread 5    thread 6    thread 7"
+
+-- the heads of the columns up to this thread's, of which each has 12 places
+abbrev pub heads_text : ℕ → List ℕ
+heads_text last = take (19 + 12 * last) all_heads
+
+-- a number that ends at the ninth place, or beyond it where it is longer
+abbrev pub number_text : ℕ → List ℕ
+number_text number = blanks (9 - length (decimal number)) ++ decimal number
+
+-- the event of this number, in its thread's column
+abbrev pub event_row : ℕ → Event → List ℕ
+event_row number event = number_text number ++ (blanks (2 + 12 * event.thread.number) ++ kind_text event.kind)
+
+-- the words for what the prefix that ends here is, by the verdict
+abbrev pub violated_text : Criterion → List ℕ
+violated_text Opacity = codes "violated, by opacity"
+violated_text Strict = codes "violated, by strict serializability"
+
+abbrev pub undecided_text : Why → List ℕ
+undecided_text Transactions = codes "undecided, by transactions"
+undecided_text States = codes "undecided, by states"
+
+-- what is told of the event of this number: what is wrong there, where it is the verdict's, and else nothing
+abbrev pub told_text : Criterion → Verdict → ℕ → List ℕ
+told_text criterion (Violated at) number = if number == at then violated_text criterion else []
+told_text criterion (Undecided at why) number = if number == at then undecided_text why else []
+told_text criterion (Malformed at) number = if number == at then codes "malformed" else []
+told_text criterion _ number = []
+
+-- what is told stands two places behind the heads, or behind a row that is longer than they
+abbrev pub beside : ℕ → List ℕ → List ℕ
+beside gap [] = []
+beside gap (first ∷ rest) = blanks gap ++ (codes "  " ++ first ∷ rest)
+
+abbrev pub told_row : ℕ → List ℕ → List ℕ → List ℕ
+told_row width row told = row ++ beside (width - length row) told
+
+-- a line for each event, of which the first has this number
+abbrev pub rows_text : Criterion → Verdict → ℕ → ℕ → List Event → List ℕ
+rows_text criterion verdict width number [] = []
+rows_text criterion verdict width number (event ∷ events) =
+    line (told_row width (event_row number event) (told_text criterion verdict number))
+    ++ rows_text criterion verdict width (number + 1) events
+
+-- the line of the heads, and a line for each event: the first has the number that follows `from`
+abbrev pub window_text : Criterion → Verdict → ℕ → List Event → List ℕ
+window_text criterion verdict from events =
+    line (heads_text (last_thread events))
+    ++ rows_text criterion verdict (length (heads_text (last_thread events))) (from + 1) events

@@ -1,0 +1,4 @@
+pub mod Drawing
+pub mod Running
+pub mod TracesLaw
+pub mod TracesText

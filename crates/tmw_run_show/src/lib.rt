@@ -1,0 +1,21 @@
+//! The command `show`: a trace, read and judged event by event, and the place where it went wrong: its last window, drawn in columns,
+//! or as traces of its own.
+#![tactic(auto)]
+
+mod answer;
+mod kind_text;
+mod law;
+mod numbers;
+mod reading;
+mod run;
+mod shown;
+mod states;
+#[cfg(test)]
+mod tests;
+mod told;
+mod traces;
+mod window;
+
+pub use law::law_traces;
+pub use run::run_show;
+pub use shown::Shown;

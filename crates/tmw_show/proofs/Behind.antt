@@ -1,0 +1,92 @@
+-- What follows a cut, as a history of its own, and the whole.
+use Rattle.std.proofs.Common.{◌≡◌, ◌+◌, ◌-◌, ◌++◌, ◌<◌, ◌↔◌, ◌&&◌, ℕ, List, [], ◌∷◌, length, IsTrue, refl, sym, ap, subst, ◌∙◌, inl, inr, arith}
+use Rattle.std.specs.Prelude.{take, drop}
+use Rattle.std.specs.List.{list_all}
+use Rattle.std.proofs.Math.Seq.{drop-append-add, take-append-add}
+use Rattle.std.proofs.lemmas.Bool.{and_parts}
+use Rattle.std.proofs.lemmas.List.{length-append}
+use Rattle.std.proofs.lemmas.List.Folds.{list_all-append}
+use Rattle.tmw_events.specs.declared.event.Event.{Event}
+use Rattle.tmw_defs.specs.declared.criterion.Criterion.{Criterion}
+use Rattle.tmw_defs.specs.Criteria.{IsFinalBy, outcomes_by}
+use Rattle.tmw_defs.specs.Cuts.{is_cut}
+use Rattle.tmw_defs.specs.History.{Txn, is_text, is_well_formed, transactions}
+use Rattle.tmw_defs.specs.Opaque.{State}
+use Rattle.tmw_defs.specs.Windows.{IsCutAt, HasWide}
+use Rattle.tmw_defs.proofs.Along.{Pairs}
+use Rattle.tmw_defs.proofs.Criteria.{final-outcome, outcome-final}
+use Rattle.tmw_defs.proofs.CutLaws.{cut_law}
+use Rattle.tmw_defs.proofs.CutsProof.{behind, behind-later, transactions-cut}
+use Rattle.tmw_defs.proofs.Places.{IsLater}
+use Rattle.tmw_defs.proofs.WindowsProof.{is_cut-append}
+
+-- it is well-formed where the whole is
+formed-later : (registers n : ℕ) (ts us : List Txn) → Pairs (IsLater n) ts us
+    → list_all (λ t. is_text registers t.text) ts ≡ list_all (λ t. is_text registers t.text) us
+formed-later registers n [] [] pairs = refl
+formed-later registers n [] (u ∷ us) pairs = absurd pairs
+formed-later registers n (t ∷ ts) [] pairs = absurd pairs
+formed-later registers n (t ∷ ts) (u ∷ us) pairs =
+    ap (λ text. is_text registers text && list_all (λ x. is_text registers x.text) ts) pairs.0.text
+    ∙ ap (λ b. is_text registers u.text && b) (formed-later registers n ts us pairs.1)
+
+pub formed-append : (registers : ℕ) (past rest : List Event) → IsTrue (is_cut past)
+    → is_well_formed registers (past ++ rest) ≡ is_well_formed registers past && is_well_formed registers rest
+formed-append registers past rest cut =
+    ap (list_all (λ t. is_text registers t.text)) (transactions-cut past rest cut)
+    ∙ list_all-append (λ t. is_text registers t.text) (transactions past) (behind past rest)
+    ∙ ap (λ b. is_well_formed registers past && b)
+    (formed-later registers (length past) (behind past rest) (transactions rest) (behind-later past rest))
+
+pub formed-behind : (registers : ℕ) (past rest : List Event) → IsTrue (is_cut past) → IsTrue (is_well_formed registers (past ++ rest))
+    → IsTrue (is_well_formed registers rest)
+formed-behind registers past rest cut formed =
+    (and_parts (is_well_formed registers past) (is_well_formed registers rest) (sym (formed-append registers past rest cut) ∙ formed)).1
+
+-- its cuts are those of the whole behind the cut
+cut-behind : (past rest : List Event) (at : ℕ) → IsTrue (is_cut past) → is_cut (take (length past + at) (past ++ rest)) ≡ is_cut (take at rest)
+cut-behind past rest at cut = ap is_cut (take-append-add past rest at) ∙ is_cut-append past (take at rest) cut
+
+IsCutAt-behind : (past rest : List Event) (at : ℕ) → IsTrue (is_cut past) → IsCutAt rest at → IsCutAt (past ++ rest) (length past + at)
+IsCutAt-behind past rest at cut (within, is) =
+    (let long = length-append past rest in omega (arith, within, long), cut-behind past rest at cut ∙ is)
+
+IsCutAt_behind : (past rest : List Event) (at : ℕ) → IsTrue (is_cut past) → IsCutAt (past ++ rest) (length past + at) → IsCutAt rest at
+IsCutAt_behind past rest at cut (within, is) =
+    (let long = length-append past rest in omega (arith, within, long), sym (cut-behind past rest at cut) ∙ is)
+
+-- and its windows are windows of the whole
+pub HasWide-behind : (most : ℕ) (past rest : List Event) → IsTrue (is_cut past) → HasWide most rest → HasWide most (past ++ rest)
+HasWide-behind most past rest cut w =
+    let order = w.window.order in
+    let long = length-append past rest in
+    record {
+      from = length past + w.from;
+      upto = length past + w.upto;
+      window = record {
+        order = omega (arith, order);
+        opens = IsCutAt-behind past rest w.from cut w.window.opens;
+        inside = λ at after before is.
+            let place : at ≡ length past + (at - length past) = omega (arith, after) in
+            w.window.inside (at - length past) (omega (arith, after)) (omega (arith, before, after))
+            (IsCutAt_behind past rest (at - length past) cut (subst (IsCutAt (past ++ rest)) place is));
+        closes = elim w.window.closes [
+          | inl end ↦ inl (omega (arith, end, long))
+          | inr closing ↦ inr (IsCutAt-behind past rest w.upto cut closing)
+        ];
+      };
+      wide = subst (λ (es : List Event). most < length (transactions es))
+          (sym (ap (drop (length past + w.from)) (take-append-add past rest w.upto) ∙ drop-append-add past (take w.upto rest) w.from)) w.wide;
+    }
+
+-- the whole is final-state opaque, or strict, exactly where it is so from some outcome of the past
+pub final-behind : (c : Criterion) (registers : ℕ) (start : State) (past rest : List Event) → IsTrue (is_cut past)
+    → IsTrue (is_well_formed registers (past ++ rest))
+    → IsFinalBy c registers start (past ++ rest) ↔ ((s : State) × outcomes_by c start past s × IsFinalBy c registers s rest)
+final-behind c registers start past rest cut formed =
+    let law = (cut_law c registers start past rest formed cut).final in
+    let own = formed-behind registers past rest cut formed in (
+      λ final. let (end, (s, is, leads)) = law.0 final in (s, is, outcome-final c registers s rest own end (s, refl, leads)),
+      λ (s, is, final). let (end, (t, same, leads)) = final-outcome c registers s rest final in
+          law.1 (end, (t, subst (outcomes_by c start past) (sym same) is, leads)),
+    )

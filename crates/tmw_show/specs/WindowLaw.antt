@@ -1,0 +1,28 @@
+-- The law of the window that is shown: as a history of its own, from each of the states from which it begins.
+use Rattle.std.specs.Prelude.{◌≡◌, ◌↔◌, ◌<◌, ◌≤◌, ℕ, List, [], ◌∷◌, length}
+use Rattle.std.specs.List.{Contains}
+use Rattle.tmw_events.specs.declared.event.Event.{Event}
+use Rattle.tmw_defs.specs.declared.verdict.Verdict.{Verdict}
+use Rattle.tmw_defs.specs.declared.verdict.Verdict.TheVariants.{Violated}
+use Rattle.tmw_defs.specs.Opaque.{State}
+use Rattle.tmw_defs.specs.Verdict.{Rules, IsViolated, IsVerdict}
+use Rattle.tmw_show.specs.Shown.{IsShown}
+
+-- What a history is judged by that begins with this state, and else as another.
+abbrev pub from_state : Rules → State → Rules
+from_state rules state = record rules { start = state }
+
+-- A history is violated at its event exactly when these events, up to it, are violated at their end from each of these states. Then
+-- each verdict on them is that they are violated, at their end or before; and from a single state it is at their end.
+pub record IsJudgedAlike (rules : Rules) (verdict : Verdict) (states : List State) (events : List Event) : Type 0 where
+  pub violated : ((at : ℕ) × (verdict ≡ Violated at)) ↔ ((s : State) → Contains states s → IsViolated (from_state rules s) events)
+  pub answered : (at : ℕ) → verdict ≡ Violated at → (s : State) → Contains states s → (answer : Verdict)
+      → IsVerdict (from_state rules s) events answer → (k : ℕ) × (answer ≡ Violated k) × (k ≤ length events)
+  pub single : (at : ℕ) → verdict ≡ Violated at → (s : State) → states ≡ s ∷ []
+      → IsVerdict (from_state rules s) events (Violated (length events))
+
+-- What is shown of a history is judged like it.
+abbrev pub WindowLaw : Type 0
+WindowLaw = (rules : Rules) (history : List Event) (verdict : Verdict) (from : ℕ) (states : List State) (events : List Event)
+    → 0 < rules.states → IsVerdict rules history verdict → IsShown rules history verdict from states events
+    → IsJudgedAlike rules verdict states events
