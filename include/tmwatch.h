@@ -20,8 +20,8 @@ as it was, where the function says no other.
 What the program owes. Nothing of it is tested:
 
 1. A handle is all bytes 0 before its first call, or as the last call left it. Its fields are the library's, and it isn't copied.
-2. A handle is used by one call at a time. Before another thread uses it, that thread is started, or the thread before is joined, or a lock
-   or a sequentially consistent atomic is handed over in between.
+2. A handle is used by one call at a time. A watch's handle is used by the thread that has opened it. Before a recorder's handle is used by
+   another thread, that thread is started, or the thread before is joined, or a lock or a sequentially consistent atomic hands it over.
 3. A pointer is to what its type says, for as long as the call runs, and never null; `recorders` is to `count` handles. What two pointers
    of one call point to doesn't overlap.
 4. The recorders that are given to tmwatch_close, if any are held, are those that were opened with this watch.

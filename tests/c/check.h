@@ -15,19 +15,16 @@
         }                                                                      \
     } while (0)
 
-/* Whether a handle holds nothing: a watch's, or a recorder's. */
-static inline bool is_empty(const void *handle)
+static inline bool is_empty(const tmwatch *watch)
 {
-    static const tmwatch_recorder empty;
-    _Static_assert(sizeof(tmwatch) == sizeof(tmwatch_recorder), "the handles have one size");
-    return memcmp(handle, &empty, sizeof empty) == 0;
+    return !watch->at && !watch->full;
 }
 
 /* Whether none of these handles holds anything. */
 static inline bool are_empty(const tmwatch_recorder *recorders, size_t count)
 {
     for (size_t i = 0; i < count; i++)
-        if (!is_empty(&recorders[i]))
+        if (recorders[i].at || recorders[i].full || recorders[i].number)
             return false;
     return true;
 }

@@ -105,7 +105,7 @@ static void a_full_handle_is_not_opened_over(void)
     CHECK(tmwatch_open(&other, recorders, 2, &settings) == TMWATCH_FULL_HANDLE);
     CHECK(is_empty(&other));
     CHECK(tmwatch_open(&other, &recorders[1], 2, &settings) == TMWATCH_FULL_HANDLE);
-    CHECK(is_empty(&other) && is_empty(&recorders[2]));
+    CHECK(is_empty(&other) && are_empty(&recorders[2], 1));
     record_dirty_read(recorders);
     CHECK(tells(close_all(2), 4, TMWATCH_VIOLATED, 4, 0));
 }
@@ -172,8 +172,9 @@ static void nothing_is_recorded_after_a_close(void)
 static void is_missing(tmwatch_recorder *given, size_t count)
 {
     tmwatch_told told = untold;
-    tmwatch before = watch;
+    tmwatch before;
     tmwatch_recorder all[9], others[9];
+    memcpy(&before, &watch, sizeof watch);
     memcpy(all, recorders, sizeof all);
     memcpy(others, given, count * sizeof *given);
     CHECK(tmwatch_close(&watch, given, count, &told) == TMWATCH_MISSING && told_nothing(told));
@@ -201,7 +202,7 @@ static void a_discarded_recorder_is_missing(void)
 {
     open_small(2, 8, 100);
     tmwatch_discard_recorder(&recorders[1]);
-    CHECK(is_empty(&recorders[1]) && !is_empty(&recorders[0]));
+    CHECK(are_empty(&recorders[1], 1) && !are_empty(recorders, 1));
     is_missing(recorders, 2);
     tmwatch_discard(&watch);
     CHECK(is_empty(&watch));
