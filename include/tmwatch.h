@@ -27,7 +27,8 @@ What the program owes. Nothing of it is tested:
 4. The recorders that are given to tmwatch_close, if any are held, are those that were opened with this watch.
 5. malloc, realloc and free are one allocator's. It aligns a block to each power of two up to 16 that divides its size.
 6. No call is made in a signal handler, nor in a forked child of a process that has threads.
-7. Recorder i is used by the thread whose events are to be those of thread i. It records a call before the memory is asked, and an answer
+7. The stack has room for the call: 64 KiB are ample for tmwatch_pump and tmwatch_close, of which 27 were the most that was seen.
+8. Recorder i is used by the thread whose events are to be those of thread i. It records a call before the memory is asked, and an answer
    after the memory has answered, all of them: else the verdict is on another run than that of the memory.
 */
 #ifndef TMWATCH_H
@@ -126,7 +127,7 @@ The statuses come in this order; where it isn't TMWATCH_DONE, all handles are as
 TMWATCH_FULL_HANDLE: one of the handles holds something, and this stays. TMWATCH_BAD_REGISTERS, TMWATCH_BAD_START, TMWATCH_BAD_BOUNDS,
 TMWATCH_BAD_SIZE, TMWATCH_BAD_LIMIT: the first that is out of its range. TMWATCH_MEMORY.
 
-Memory: all that recording takes, about 16 bytes a cell and some hundreds of bytes a recorder, and what the judge begins with.
+Memory: all that recording takes, and what the judge begins with: 16 bytes a cell, 24 a recorder, and 3 KiB.
 */
 uint32_t tmwatch_open(tmwatch *watch, tmwatch_recorder *recorders, size_t count, const tmwatch_settings *settings);
 
