@@ -7,7 +7,7 @@ use Rattle.tmw_defs.specs.declared.verdict.Verdict.{Verdict}
 use Rattle.tmw_defs.specs.declared.verdict.Verdict.TheVariants.{OpaqueSoFar, StrictSoFar, Violated, Undecided, Malformed}
 use Rattle.tmw_defs.specs.declared.verdict.Why.TheVariants.{Transactions, States}
 use Rattle.tmw_handles.specs.declared.held_watch.HeldWatch.{HeldWatch}
-use Rattle.tmw_handles.specs.declared.held_watch.HeldWatch.TheVariants.{Open, Left, Closed}
+use Rattle.tmw_handles.specs.declared.held_watch.HeldWatch.TheVariants.{Open, Left, Shared, Closed}
 use Rattle.tmw_pump.specs.Fronts.{TellsVerdict, WasRefusedMemory}
 use Rattle.tmw_pump.specs.Headline.{GivesHeadline}
 use Rattle.tmw_pump.specs.Pumping.{HasPumped, IsPumped}
@@ -49,7 +49,8 @@ pub record IsTold (events : ℕ) (verdict : Verdict) (told : Told) : Type 0 wher
 -- The watch is open no more.
 abbrev pub IsNotOpen : HeldWatch → Type 0
 IsNotOpen (Open watch) = ⊥
-IsNotOpen (Left error) = Unit {0}
+IsNotOpen (Left closing) = Unit {0}
+IsNotOpen (Shared watch writers) = Unit {0}
 IsNotOpen Closed = Unit {0}
 
 -- The ring is the same, and the headline holds of what is judged now.

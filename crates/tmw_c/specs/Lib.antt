@@ -1,4 +1,6 @@
+pub mod Closing
 pub mod Judging
 pub mod Kinds
+pub mod Opening
 pub mod Recording
 pub mod Statuses

@@ -1,13 +1,44 @@
 //! What a C program calls. Each function's number says how it was answered.
 ghost use Rattle.std.specs.Prelude.{◌≡◌, None};
+ghost use Rattle.tmw_c.specs.Closing.{AreOfWatch, IsClosing};
 ghost use Rattle.tmw_c.specs.Judging.{IsPumping, IsReporting};
+ghost use Rattle.tmw_c.specs.Opening.{IsOpening};
 ghost use Rattle.tmw_c.specs.Recording.{IsRecording};
 ghost use Rattle.tmw_c.specs.Statuses.{Tells};
 
 use crate::told::Told;
-use crate::{judge, record};
+use crate::wanted::Wanted;
+use crate::{closing, judge, opening, record};
 use std::alloc::Global;
 use tmw_handles::{RecorderHandle, WatchHandle};
+
+/// Opens a watch of what is wanted, with a recorder for each handle.
+#[unsafe(no_mangle)]
+pub extern "C" fn tmwatch_open(
+    alloc: Global,
+    watch: &mut WatchHandle,
+    recorders: &mut [RecorderHandle],
+    wanted: &Wanted,
+) -> u32
+    ensures { Tells result (IsOpening wanted.now watch.old watch.new recorders.old recorders.new) }
+{
+    opening::open(alloc, watch, recorders, wanted).number()
+}
+
+/// Closes a watch with all its recorders, each in the handle at the place of its number, and tells the verdict on all that was
+/// recorded.
+#[unsafe(no_mangle)]
+pub extern "C" fn tmwatch_close(
+    alloc: Global,
+    watch: &mut WatchHandle,
+    recorders: &mut [RecorderHandle],
+    told: &mut Told,
+) -> u32
+    requires { AreOfWatch watch.old.slot.held recorders.old }
+    ensures { Tells result (IsClosing watch.old.slot.held watch.new.slot.held recorders.old recorders.new told.old told.new) }
+{
+    closing::close(alloc, watch, recorders, told).number()
+}
 
 /// Records the event of this letter.
 #[unsafe(no_mangle)]

@@ -1,10 +1,13 @@
 //! The watch for C programs: functions by handles that the program keeps.
 #![tactic(auto)]
 
+mod closing;
 mod exports;
 mod judge;
 mod kind_exports;
 mod kinds;
+mod opening;
 mod record;
 mod status;
 mod told;
+mod wanted;

@@ -1,4 +1,6 @@
 ghost use Rattle.std.specs.Prelude.{◌≡◌, ◌↔◌, Option, None, Some, IsSome, IsTrue, IfSome, IfNone};
+ghost use Rattle.std.specs.Option.{ForSome};
+ghost use Rattle.tmw_handles.specs.Held.{HasNumber};
 
 use crate::held_recorder::HeldRecorder;
 use crate::parts::Parts;
@@ -12,7 +14,10 @@ use std::mem;
 pub struct RecorderHandle {
     pub(crate) slot: RecorderSlot,
     pub(crate) full: bool,
+    // The number of the recorder that is held.
+    pub(crate) number: u8,
     pub ghost matches: { IsTrue full ↔ IsSome slot.held },
+    pub ghost numbered: { ForSome slot.held (λ held. held.recorder.writer.number.number ≡ number) },
 }
 
 impl RecorderHandle {
@@ -23,6 +28,7 @@ impl RecorderHandle {
         RecorderHandle {
             slot: RecorderSlot::empty(alloc),
             full: false,
+            number: 0,
         }
     }
 
@@ -30,9 +36,11 @@ impl RecorderHandle {
     pub fn of(held: Box<HeldRecorder, Global>) -> RecorderHandle
         ensures { result.slot.held ≡ Some held.value }
     {
+        let number = held.recorder.number().get();
         RecorderHandle {
             slot: RecorderSlot::of_parts(Parts::of_box(held)),
             full: true,
+            number,
         }
     }
 
@@ -47,6 +55,22 @@ impl RecorderHandle {
         }
         let held = mem::replace(self, RecorderHandle::empty(alloc));
         Some(held.slot.into_parts().into_box())
+    }
+
+    /// What is held.
+    pub fn into_held(self) -> Box<HeldRecorder, Global>
+        requires { IsSome self.slot.held }
+        ensures { self.slot.held ≡ Some result.value }
+    {
+        self.slot.into_parts().into_box()
+    }
+
+    /// The number of the recorder that is held, if one is.
+    pub fn number(&self) -> Option<u8>
+        ensures some { IfSome result (λ number. HasNumber number self.now.slot.held) }
+        ensures none { IfNone result (self.now.slot.held ≡ None) }
+    {
+        if self.full { Some(self.number) } else { None }
     }
 
     /// Whether it holds anything.

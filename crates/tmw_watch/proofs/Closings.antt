@@ -2,7 +2,8 @@
 use Rattle.std.proofs.Common.{◌≡◌, ◌<◌, ◌^◌, ◌++◌, ℕ, List, [], Option, length, get_or, sym, ap, ◌∙◌, subst, arith}
 use Rattle.std.proofs.lemmas.List.{append-nil, length-append}
 use Rattle.std.proofs.lemmas.List.Elements.{All-map}
-use Rattle.std.proofs.lemmas.List.Sorted.{length_permutation, All-permutation, IsPermutation-map, IsPermutation-sym}
+use Rattle.std.proofs.lemmas.List.Sorted.{length_permutation, All-permutation, IsPermutation-map, IsPermutation-refl, IsPermutation-sym, IsPermutation-trans}
+use Rattle.std.specs.Prelude.{Result, Ok, Err, IfOk}
 use Rattle.std.specs.List.{All}
 use Rattle.std.specs.List.Sorted.{IsPermutation}
 use Rattle.tmw_events.specs.declared.event.Event.{Event}
@@ -16,8 +17,10 @@ use Rattle.tmw_pump.specs.declared.pumped.Pumped.{Pumped}
 use Rattle.tmw_ring.specs.Ends.{RingIs, WriterIs, WriterOf}
 use Rattle.tmw_ring.specs.Parts.{made_from}
 use Rattle.tmw_ring.specs.Settling.{IsSettled}
-use Rattle.tmw_watch.specs.Closing.{AreAll, HasEnded, IsJudged, writers_of}
+use Rattle.tmw_monitor.specs.Fitting.{Fits}
+use Rattle.tmw_watch.specs.Closing.{AreAll, HasEnded, IsClosed, IsJudged, IsLeft, IsUnjudged, writers_of}
 use Rattle.tmw_watch.specs.Opening.{AreOf}
+use Rattle.tmw_watch.specs.declared.closing.Closing.{Closing}
 use Rattle.tmw_watch.specs.declared.recorder.Recorder.{Recorder}
 use Rattle.tmw_watch.specs.declared.report.Report.{Report}
 use Rattle.tmw_watch.specs.declared.watch.Watch.{Watch}
@@ -78,16 +81,63 @@ pub writers-given : (writers first : List WriterIs) (placed : List Recorder) →
     → writers ≡ writers_of placed
 writers-given writers first placed none is = is ∙ ap (λ (l : List WriterIs). l ++ writers_of placed) none
 
-pub has_ended : (watch : Watch) (given placed : List Recorder) (writers : List WriterIs) (rest : ForgettingRest) → IsPermutation given placed
-    → writers ≡ writers_of placed → AreAll watch.recorders placed → IsSettled watch.pump.reader writers rest.settled
-    → rest.front ≡ watch.pump.front → IsLogOf (all_of rest) writers (all_of rest) → HasEnded watch given (all_of rest)
-has_ended watch given placed writers rest same are all settled front one_log = record {
-  all = sym {A = ℕ} (length_permutation given placed same) ∙ all.counted;
-  writers = writers_of placed;
-  same = IsPermutation-map (λ (recorder : Recorder). recorder.writer) given placed same;
+-- So is the one whose log that is: the ring has ended with these recorders.
+has_ended : (watch : Watch) (recorders : List Recorder) (writers : List WriterIs) (rest : ForgettingRest) → writers ≡ writers_of recorders
+    → AreAll watch.recorders recorders → IsSettled watch.pump.reader writers rest.settled → rest.front ≡ watch.pump.front
+    → IsLogOf (all_of rest) writers (all_of rest) → HasEnded watch recorders (all_of rest)
+has_ended watch recorders writers rest are all settled front one_log = record {
+  all = all.counted;
+  writers = writers_of recorders;
+  same = IsPermutation-refl (writers_of recorders);
   order = all.order;
   left = rest.settled;
   settled = subst (λ (l : List WriterIs). IsSettled watch.pump.reader l rest.settled) are settled;
   whole = ap (λ (f : Front). came f ++ rest.settled) front ∙ ap (λ (l : List Event). l ++ rest.settled) watch.pump.all;
-  one_log = log-again (all_of rest) given placed same (subst (λ (l : List WriterIs). IsLogOf (all_of rest) l (all_of rest)) are one_log);
+  one_log = subst (λ (l : List WriterIs). IsLogOf (all_of rest) l (all_of rest)) are one_log;
+}
+
+-- The same of what was settled, where it was.
+pub ended_settled : {E : Type 0} (settled : Result Closing E) (watch : Watch) (recorders : List Recorder) (writers : List WriterIs)
+    → writers ≡ writers_of recorders → AreAll watch.recorders recorders
+    → IfOk settled (λ (closing : Closing). IsSettled watch.pump.reader writers closing.rest.settled)
+    → IfOk settled (λ (closing : Closing). closing.rest.front ≡ watch.pump.front)
+    → IfOk settled (λ (closing : Closing). IsLogOf (all_of closing.rest) writers (all_of closing.rest))
+    → IfOk settled (λ (closing : Closing). HasEnded watch recorders (all_of closing.rest))
+ended_settled (Ok closing) watch recorders writers are all settled front one_log =
+    has_ended watch recorders writers closing.rest are all settled front one_log
+ended_settled (Err back) watch recorders writers are all settled front one_log = tt
+
+-- A ring that has ended with recorders in one order has ended with them in another.
+pub ended_again : (watch : Watch) (given placed : List Recorder) (log : List Event) → IsPermutation given placed
+    → HasEnded watch placed log → HasEnded watch given log
+ended_again watch given placed log same ended = record {
+  all = sym {A = ℕ} (length_permutation given placed same) ∙ ended.all;
+  writers = ended.writers;
+  same = IsPermutation-trans (writers_of given) (writers_of placed) ended.writers
+      (IsPermutation-map (λ (recorder : Recorder). recorder.writer) given placed same) ended.same;
+  order = ended.order;
+  left = ended.left;
+  settled = ended.settled;
+  whole = ended.whole;
+  one_log = log-again log given placed same ended.one_log;
+}
+
+-- A watch whose ring has ended, and of which all was judged, is closed.
+pub is_closed : (watch : Watch) (recorders : List Recorder) (rest : ForgettingRest) (report : Report) → HasEnded watch recorders (all_of rest)
+    → rest.front ≡ watch.pump.front → IsJudged rest report → IsClosed watch recorders report
+is_closed watch recorders rest report ended front judged = record {
+  log = all_of rest;
+  ended = ended;
+  counted = judged.counted;
+  headline = λ by fits. judged.headline by (all_of rest) (writers_of recorders)
+      (subst (λ (front : Front). Fits by front.judged.items front.monitor) (sym front) fits) ended.one_log;
+}
+
+-- One of which not all was judged is what is left.
+pub is_left : (watch : Watch) (recorders : List Recorder) (rest left : ForgettingRest) → HasEnded watch recorders (all_of rest)
+    → rest.front ≡ watch.pump.front → IsUnjudged rest left → IsLeft watch recorders left
+is_left watch recorders rest left ended front unjudged = record {
+  ended = subst (HasEnded watch recorders) (sym unjudged.all) ended;
+  fits = λ by fits. unjudged.fits by (subst (λ (front : Front). Fits by front.judged.items front.monitor) (sym front) fits);
+  held = unjudged.held;
 }

@@ -1,10 +1,10 @@
 //! The end of a watch, once all its recorders have come back.
-ghost use Rattle.std.specs.Prelude.{◌≡◌, ◌+◌, ◌++◌, ◌≤◌, All, length, IfOk, IfErr, vec_len, vec_capacity};
+ghost use Rattle.std.specs.Prelude.{◌≡◌, ◌+◌, ◌++◌, ◌≤◌, [], All, length, IfOk, IfErr, vec_len, vec_capacity};
 ghost use Rattle.tmw_pump.specs.Headline.{IsLogOf};
 ghost use Rattle.tmw_pump.specs.Resting.{all_of};
 ghost use Rattle.tmw_ring.specs.Ends.{WriterOf};
 ghost use Rattle.tmw_ring.specs.Settling.{AreInOrder, IsSettled};
-ghost use Rattle.tmw_watch.specs.Closing.{IsClosed, IsUnclosed, writers_of};
+ghost use Rattle.tmw_watch.specs.Closing.{AreAll, HasEnded, IsClosed, IsUnclosed, writers_of};
 ghost use Rattle.tmw_watch.specs.Opening.{AreOf};
 
 use crate::close_error::CloseError;
@@ -33,7 +33,7 @@ impl Watch {
         let Ok(writers) = Vec::with_capacity(watch.alloc, recorders.len()) else {
             return Err(CloseError::Memory { watch, recorders });
         };
-        let closing = match watch.settle(give_up(recorders, writers)) {
+        let closing = match watch.end(recorders, writers) {
             Ok(closing) => closing,
             Err((watch, writers)) => return Err(CloseError::Shared { watch, writers }),
         };
@@ -41,6 +41,32 @@ impl Watch {
             Ok(report) => Ok(report),
             Err(closing) => Err(CloseError::Unjudged(closing)),
         }
+    }
+
+    /// Ends the ring with all its recorders, in the order of their numbers. What was recorded and not judged is left to be judged. It
+    /// takes no memory: the room is to be for what each of them records by. There is an error where the ring has an owner beside the
+    /// watch and these recorders. There is none, as no call makes one.
+    pub fn end(
+        self,
+        recorders: Vec<Recorder>,
+        room: Vec<Writer>,
+    ) -> Result<Closing, (Watch, Vec<Writer>)>
+        requires of_ring { AreOf self.ring.value recorders.items }
+        requires all { AreAll self.recorders recorders.items }
+        requires empty { room.items ≡ [] }
+        requires room { vec_len room + length recorders.items ≤ vec_capacity room }
+        ensures ok { IfOk result (λ closing. HasEnded self recorders.items (all_of closing.rest)) }
+        ensures front { IfOk result (λ closing. closing.rest.front ≡ self.pump.front) }
+        ensures err { IfErr result (λ back. (back.0 ≡ self) × (back.1.items ≡ writers_of recorders.items)) }
+    {
+        self.settle(give_up(recorders, room))
+    }
+
+    /// How many recorders the watch has.
+    pub fn recorders(&self) -> u64
+        ensures { result ≡ self.now.recorders }
+    {
+        self.recorders
     }
 
     /// Ends the ring, with writer i at place i.

@@ -1,6 +1,6 @@
 -- The pointer of a place that holds something is told its type again, and the parts own what the place owned.
 use contract.Running.{tables, tables_of}
-use Rattle.tmw_handles.proofs.Steps.{refl, sym, subst, List, [], ◌∷◌, ◌++◌, Some, ftrue, fsep, SProp, ent, emp, id⊢, Fun, Val, Memory, Routine, WpFn, Tables, Ura, WpFn-mono, alloc_all, pass_all, free_all, look_at, get, get_in, sets, ⋆, Item, ‵, raw, ◌⊛◌, ◌$◌, ◌∵◌, !, qed, by, move, drop, use1, join, split, fsplit, fjoin, suffices, done, Logic, whole, sub, agg, stop, fld, no_more, and_then, of_opd, returns, enter, yes, nothing, heard, rewrite, fact, ◌≡◌, Option, None, IsSome, triple_of, entered, says, Stays, stay_dropped, walk_of, ends_at, Goes-dropped, walk_Meets, D, B, word, box_typed, box_out, box_in}
+use Rattle.tmw_handles.proofs.Steps.{refl, sym, subst, List, [], ◌∷◌, ◌++◌, Some, ftrue, fsep, SProp, ent, id⊢, Fun, Val, Memory, Routine, WpFn, Tables, Ura, WpFn-mono, alloc_all, pass_all, free_all, look_at, get, get_in, sets, ⋆, Item, ‵, raw, ◌⊛◌, ◌$◌, ◌∵◌, !, qed, by, move, drop, use1, join, split, fsplit, fjoin, suffices, done, Logic, whole, sub, agg, stop, fld, no_more, and_then, of_opd, returns, enter, yes, nothing, heard, rewrite, fact, ◌≡◌, Option, None, IsSome, triple_of, entered, says, Stays, stay_dropped, walk_of, ends_at, Goes-dropped, walk_Meets, D, B, word, box_typed, box_out, box_in}
 use Rattle.tmw_handles.proofs.AsBoxes.{recorder_box as E, none_is_some, recorder_slot as Given}
 use Rattle.tmw_handles.specs.Slots.{recorder_owned}
 use Rattle.tmw_handles.specs.contracts.held_recorder.HeldRecorder as Held

@@ -1,0 +1,109 @@
+use Rattle.std.proofs.Common.{◌≡◌, ℕ, refl, sym, ap, ◌∙◌, subst, inl, inr}
+use Rattle.tmw_c.proofs.Taken.{all_held, of_ring_held, take_whole}
+use Rattle.tmw_c.proofs.closing.close_open.Goals as goal
+use Rattle.tmw_c.specs.Closing.{AreHeld, AreInPlace}
+use Rattle.tmw_c.specs.Opening.{AreEmpty}
+use Rattle.tmw_handles.specs.declared.held_watch.HeldWatch.TheVariants.{Shared}
+use Rattle.tmw_watch.proofs.Closings.{is_closed, is_left}
+use Rattle.tmw_watch.specs.declared.watch.Watch.{Watch}
+
+pub returns-then-not-are_in_place-clause-err : goal.returns-then-not-are_in_place-clause-err
+returns-then-not-are_in_place-clause-err c = record {
+  watch = c.args.watch;
+  opened = refl;
+  lacks = λ all. c.if-not-are_in_place.ensures.no refl
+      (subst (λ (n : ℕ). AreInPlace n c.args.handles.now) (sym {A = ℕ} c.recorders.ensures) all);
+  same = record { watch_same = refl; handles_same = refl };
+}
+
+pub returns-in_default-clause-err : goal.returns-in_default-clause-err
+returns-in_default-clause-err c =
+    inl (record {
+      watch = c.args.watch;
+      opened = refl;
+      all = subst (λ (n : ℕ). AreInPlace n c.args.handles.now) c.recorders.ensures (c.if-not-are_in_place.ensures.yes refl);
+      same = record { watch_same = refl; handles_same = refl };
+    })
+
+pub end-requires-clause-of_ring : goal.end-requires-clause-of_ring
+end-requires-clause-of_ring c =
+    let recorders = c.recorders_of.result.items in
+    let other = c.swap_with_slice.new.other in
+    let swapped = c.swap_with_slice.ensures in
+    let held : AreHeld recorders c.args.handles.now =
+    subst (AreHeld recorders) (take_whole c.in-Ok.taken.len other _ (swapped.other_len ∙ c.deref_mut.ensures.len) ∙ swapped.other_after)
+    c.recorders_of.ensures in
+    of_ring_held c.args.watch.ring.value recorders c.args.handles.now held c.requires
+
+pub end-requires-clause-all : goal.end-requires-clause-all
+end-requires-clause-all c =
+    let recorders = c.recorders_of.result.items in
+    let other = c.swap_with_slice.new.other in
+    let swapped = c.swap_with_slice.ensures in
+    let held : AreHeld recorders c.args.handles.now =
+    subst (AreHeld recorders) (take_whole c.in-Ok.taken.len other _ (swapped.other_len ∙ c.deref_mut.ensures.len) ∙ swapped.other_after)
+    c.recorders_of.ensures in
+    let placed = subst (λ (n : ℕ). AreInPlace n c.args.handles.now) c.recorders.ensures (c.if-not-are_in_place.ensures.yes refl) in
+    all_held c.args.watch.recorders recorders c.args.handles.now held placed
+
+pub returns-in-Err-clause-err : goal.returns-in-Err-clause-err
+returns-in-Err-clause-err c =
+    let recorders = c.recorders_of.result.items in
+    let other = c.swap_with_slice.new.other in
+    let swapped = c.swap_with_slice.ensures in
+    let held : AreHeld recorders c.args.handles.now =
+    subst (AreHeld recorders) (take_whole c.in-Ok.taken.len other _ (swapped.other_len ∙ c.deref_mut.ensures.len) ∙ swapped.other_after)
+    c.recorders_of.ensures in
+    let gone : AreEmpty c.swap_with_slice.new.self =
+    subst AreEmpty (sym (swapped.after ∙ c.deref_mut.ensures.value)) c.in-Ok.ensures.empty.0 in
+    let same : c.in-Err.watch ≡ c.args.watch = c.in-Err.ensures.err.0 in
+    inl (record {
+      watch = c.args.watch;
+      opened = refl;
+      recorders = recorders;
+      taken = record { held = held; as_many = swapped.len; gone = gone };
+      writers = c.in-Err.writers;
+      shared = ap (λ (w : Watch). Shared w c.in-Err.writers) same;
+      theirs = c.in-Err.ensures.err.1;
+    })
+
+pub returns-in-Ok-finish-clause-ok : goal.returns-in-Ok-finish-clause-ok
+returns-in-Ok-finish-clause-ok c =
+    let recorders = c.recorders_of.result.items in
+    let other = c.swap_with_slice.new.other in
+    let swapped = c.swap_with_slice.ensures in
+    let held : AreHeld recorders c.args.handles.now =
+    subst (AreHeld recorders) (take_whole c.in-Ok.taken.len other _ (swapped.other_len ∙ c.deref_mut.ensures.len) ∙ swapped.other_after)
+    c.recorders_of.ensures in
+    let gone : AreEmpty c.swap_with_slice.new.self =
+    subst AreEmpty (sym (swapped.after ∙ c.deref_mut.ensures.value)) c.in-Ok.ensures.empty.0 in
+    let ended = c.in-Ok-end.ensures in
+    record {
+      watch = c.args.watch;
+      opened = refl;
+      recorders = recorders;
+      taken = record { held = held; as_many = swapped.len; gone = gone };
+      closed = is_closed c.args.watch recorders c.in-Ok-end.closing.rest c.in-Ok-finish.whole ended.ok ended.front c.in-Ok-finish.ensures.ok;
+    }
+
+pub returns-in-Err-finish-clause-err : goal.returns-in-Err-finish-clause-err
+returns-in-Err-finish-clause-err c =
+    let recorders = c.recorders_of.result.items in
+    let other = c.swap_with_slice.new.other in
+    let swapped = c.swap_with_slice.ensures in
+    let held : AreHeld recorders c.args.handles.now =
+    subst (AreHeld recorders) (take_whole c.in-Ok.taken.len other _ (swapped.other_len ∙ c.deref_mut.ensures.len) ∙ swapped.other_after)
+    c.recorders_of.ensures in
+    let gone : AreEmpty c.swap_with_slice.new.self =
+    subst AreEmpty (sym (swapped.after ∙ c.deref_mut.ensures.value)) c.in-Ok.ensures.empty.0 in
+    let ended = c.in-Ok-end.ensures in
+    inr (inl (record {
+      watch = c.args.watch;
+      opened = refl;
+      recorders = recorders;
+      taken = record { held = held; as_many = swapped.len; gone = gone };
+      closing = c.in-Err-finish.closing;
+      left = refl;
+      is_left = is_left c.args.watch recorders c.in-Ok-end.closing.rest c.in-Err-finish.closing.rest ended.ok ended.front
+          c.in-Err-finish.ensures.err;
+    }))

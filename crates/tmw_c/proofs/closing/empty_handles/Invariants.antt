@@ -1,0 +1,7 @@
+-- So many handles are there, and none holds anything.
+use Rattle.std.proofs.Common.{◌≡◌, length}
+use Rattle.tmw_c.specs.Opening.{AreEmpty}
+use Rattle.tmw_c.proofs.closing.empty_handles.Given as goal
+
+abbrev pub invariant-loop : goal.invariant-loop
+invariant-loop l = AreEmpty l.handles.items × (length l.handles.items ≡ l.counter)

@@ -1,0 +1,12 @@
+-- So many handles have given what they held, and the others are still to come.
+use Rattle.std.proofs.Common.{◌≡◌, ◌≤◌, ◌+◌, ◌++◌, length, vec_len, vec_capacity}
+use Rattle.std.specs.Vec.Iter.{into_iter_items, into_iter_len}
+use Rattle.tmw_c.specs.Closing.{AreHeld}
+use Rattle.tmw_c.proofs.closing.recorders_of.Given as goal
+
+abbrev pub invariant-loop-handle : goal.invariant-loop-handle
+invariant-loop-handle l =
+    AreHeld l.recorders.items l.yielded
+    × (l.yielded ++ into_iter_items l.handle-iterator ≡ l.fn.handles.items)
+    × (into_iter_len l.handle-iterator ≡ length (into_iter_items l.handle-iterator))
+    × (vec_len l.recorders + into_iter_len l.handle-iterator ≤ vec_capacity l.recorders)

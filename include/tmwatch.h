@@ -1,0 +1,205 @@
+/*
+tmwatch: a watch over a transactional memory, in the program's own process.
+
+Each thread records what it calls and what it is answered, by a recorder of its own. Meanwhile one thread has what they record judged: the
+watch tells whether the run is opaque so far (Guerraoui and Kapalka 2008), or which of its prefixes is the first that isn't.
+
+    static tmwatch watch;
+    static tmwatch_recorder recorders[2];
+    tmwatch_settings settings = TMWATCH_SETTINGS(1);
+    tmwatch_told told;
+
+    tmwatch_open(&watch, recorders, 2, &settings);
+    ... thread 0: tmwatch_read(&recorders[0], 0), the read, tmwatch_value(&recorders[0], value) ...
+    ... meanwhile: tmwatch_pump(&watch, 64, &judged) ...
+    tmwatch_close(&watch, recorders, 2, &told);
+
+No call waits for another thread, and none ends the program. Every call but the discards answers with a status; what isn't done leaves all
+as it was, where the function says no other.
+
+What the program owes. Nothing of it is tested:
+
+1. A handle is all bytes 0 before its first call, or as the last call left it. Its fields are the library's, and it isn't copied.
+2. A handle is used by one call at a time. A watch's handle is used by the thread that has opened it. Before a recorder's handle is used by
+   another thread, that thread is started, or the thread before is joined, or a lock or a sequentially consistent atomic hands it over.
+3. A pointer is to what its type says, for as long as the call runs, and never null; `recorders` is to `count` handles. What two pointers
+   of one call point to doesn't overlap.
+4. The recorders that are given to tmwatch_close, if any are held, are those that were opened with this watch.
+5. malloc, realloc and free are one allocator's. It aligns a block to each power of two up to 16 that divides its size.
+6. No call is made in a signal handler, nor in a forked child of a process that has threads.
+7. The stack has room for the call: 64 KiB are ample for tmwatch_pump and tmwatch_close, of which 27 were the most that was seen.
+8. Recorder i is used by the thread whose events are to be those of thread i. It records a call before the memory is asked, and an answer
+   after the memory has answered, all of them: else the verdict is on another run than that of the memory.
+*/
+#ifndef TMWATCH_H
+#define TMWATCH_H
+
+#include <stdbool.h>
+#include <stddef.h>
+#include <stdint.h>
+
+#ifdef __cplusplus
+extern "C" {
+#endif
+
+/* A function that GCC's transactions may call. A roll-back doesn't undo what it does. */
+#if defined(__GNUC__) && !defined(__clang__)
+#define TMWATCH_PURE __attribute__((transaction_pure))
+#else
+#define TMWATCH_PURE
+#endif
+
+/* How a call was answered. */
+enum tmwatch_status {
+    TMWATCH_DONE = 0,          /* it has done what it does */
+    TMWATCH_NO_HANDLE = 1,     /* the handle holds nothing */
+    TMWATCH_FULL_HANDLE = 2,   /* a handle that is to be filled holds something */
+    TMWATCH_BAD_REGISTERS = 3, /* the memory has not 1 to 8 registers */
+    TMWATCH_BAD_START = 4,     /* a register that the memory doesn't have begins at another value than 0 */
+    TMWATCH_BAD_BOUNDS = 5,    /* the window has not 1 to 8 transactions, or there are not 1 to 64 states */
+    TMWATCH_BAD_SIZE = 6,      /* there are not 1 to 8 recorders, or fewer cells than recorders, or more than 4,096 */
+    TMWATCH_BAD_LIMIT = 7,     /* the limit is below the number of recorders, or above 2^40 */
+    TMWATCH_MEMORY = 8,        /* a growth of memory was refused */
+    TMWATCH_FULL = 9,          /* there was no room for an event of each recorder */
+    TMWATCH_SPENT = 10,        /* the watch records no more: its limit is reached */
+    TMWATCH_BAD_KIND = 11,     /* no kind of event has this letter */
+    TMWATCH_BAD_REGISTER = 12, /* the memory has no such register */
+    TMWATCH_MISSING = 13,      /* the handles don't hold all recorders of the watch, each at its place */
+    TMWATCH_CLOSING = 14       /* the watch was being closed, and isn't open any more */
+};
+
+/* What a watch says of the events that it has judged. */
+enum tmwatch_verdict {
+    TMWATCH_OPAQUE_SO_FAR = 0, /* each prefix is opaque */
+    TMWATCH_VIOLATED = 1,      /* the prefix of length `at` is the first that isn't */
+    TMWATCH_UNDECIDED = 2,     /* at length `at` a bound was passed, and nothing was wrong before */
+    TMWATCH_MALFORMED = 3      /* the event at length `at` fits no run at all: the recorder is wrong */
+};
+
+/* Which bound was passed, where the verdict is TMWATCH_UNDECIDED, and else 0. */
+enum tmwatch_why {
+    TMWATCH_TRANSACTIONS = 1, /* more transactions than `window` between two moments at which none was live */
+    TMWATCH_STATES = 2        /* more states than `states` that the registers may hold at such a moment */
+};
+
+/* A watch's handle. */
+typedef struct tmwatch {
+    void *at;
+    bool full;
+} tmwatch;
+
+/* A recorder's handle. */
+typedef struct tmwatch_recorder {
+    void *at;
+    bool full;
+    uint8_t number;
+} tmwatch_recorder;
+
+/* What is to be watched, and how far. */
+typedef struct tmwatch_settings {
+    uint64_t registers; /* how many registers the memory has: 1 to 8 */
+    uint64_t start[8];  /* what they hold at first; 0 for those that the memory doesn't have */
+    uint64_t window;    /* how many transactions may lie between two moments at which none is live: 1 to 8 */
+    uint64_t states;    /* how many states the registers may have at such a moment: 1 to 64 */
+    uint64_t cells;     /* how many events are recorded and not yet pumped, at most: from the number of recorders to 4,096 */
+    uint64_t limit;     /* how many events are recorded in all, at most: from the number of recorders to 2^40 */
+} tmwatch_settings;
+
+/* What was judged, and the verdict on it. */
+typedef struct tmwatch_told {
+    uint64_t events;  /* how many events were judged */
+    uint64_t at;      /* the length of the prefix that the verdict names, and 0 where it names none */
+    uint32_t verdict; /* a tmwatch_verdict */
+    uint32_t why;     /* a tmwatch_why, or 0 */
+} tmwatch_told;
+
+/* A handle that holds nothing. */
+#define TMWATCH_EMPTY {0, false}
+#define TMWATCH_EMPTY_RECORDER {0, false, 0}
+
+/* The widest settings for a memory of so many registers, which hold 0 at first. */
+#define TMWATCH_SETTINGS(registers) {(registers), {0, 0, 0, 0, 0, 0, 0, 0}, 8, 64, 4096, UINT64_C(1) << 40}
+
+/*
+Opens a watch, and `count` recorders, with recorder i in recorders[i]. Nothing is recorded yet.
+
+The statuses come in this order; where it isn't TMWATCH_DONE, all handles are as they were.
+TMWATCH_FULL_HANDLE: one of the handles holds something, and this stays. TMWATCH_BAD_REGISTERS, TMWATCH_BAD_START, TMWATCH_BAD_BOUNDS,
+TMWATCH_BAD_SIZE, TMWATCH_BAD_LIMIT: the first that is out of its range. TMWATCH_MEMORY.
+
+Memory: all that recording takes, and what the judge begins with: 16 bytes a cell, 24 a recorder, and 3 KiB.
+*/
+uint32_t tmwatch_open(tmwatch *watch, tmwatch_recorder *recorders, size_t count, const tmwatch_settings *settings);
+
+/*
+Each of these records one event of the recorder's thread, as docs/RECORDING.md tells which and when: the call of a read; the answer of a
+read or an add, which is the value that the register had; the call of a write and its answer; the call of an add (the register's new value
+is the sum modulo 2^64, its answer the value before); the call to commit and the answer that the transaction has committed; the call to
+abort; and that the transaction has aborted, which may answer any call.
+
+TMWATCH_NO_HANDLE. TMWATCH_BAD_REGISTER. TMWATCH_FULL: nothing is recorded, and the same event may be tried again once the watch has pumped
+more. TMWATCH_SPENT: nothing is recorded, and nothing will be. An event that fits no run, as an answer without its call, is recorded, and the
+watch's verdict is then TMWATCH_MALFORMED.
+
+They never wait, and take no memory.
+*/
+TMWATCH_PURE uint32_t tmwatch_read(tmwatch_recorder *recorder, uint64_t register_number);
+TMWATCH_PURE uint32_t tmwatch_value(tmwatch_recorder *recorder, uint64_t value);
+TMWATCH_PURE uint32_t tmwatch_write(tmwatch_recorder *recorder, uint64_t register_number, uint64_t value);
+TMWATCH_PURE uint32_t tmwatch_stored(tmwatch_recorder *recorder);
+TMWATCH_PURE uint32_t tmwatch_add(tmwatch_recorder *recorder, uint64_t register_number, uint64_t value);
+TMWATCH_PURE uint32_t tmwatch_commit(tmwatch_recorder *recorder);
+TMWATCH_PURE uint32_t tmwatch_committed(tmwatch_recorder *recorder);
+TMWATCH_PURE uint32_t tmwatch_abort(tmwatch_recorder *recorder);
+TMWATCH_PURE uint32_t tmwatch_aborted(tmwatch_recorder *recorder);
+
+/*
+Records the event of this letter, as a trace has it: R, V, W, K, N, T, C, X, A. Its place in the one log of all threads' events, counted
+from 0, is stored in *place. What the kind doesn't have of a register and a value isn't looked at.
+
+As those above, and TMWATCH_BAD_KIND. Where it isn't TMWATCH_DONE, *place stays.
+*/
+TMWATCH_PURE uint32_t tmwatch_record(tmwatch_recorder *recorder, uint32_t letter, uint64_t register_number, uint64_t value,
+                                     uint64_t *place);
+
+/*
+Judges up to `most` events, in the order of the log, and stores in *judged how many: fewer only where no more is there yet.
+
+TMWATCH_NO_HANDLE, TMWATCH_CLOSING. TMWATCH_MEMORY: what was judged stays judged, the next event is kept, and the next call judges it first;
+*judged stays, and tmwatch_report tells how far it came.
+
+Memory: the judge's, of which nothing depends on how long the run is. It never waits, but one event may take long to judge
+(docs/PERFORMANCE.md).
+*/
+uint32_t tmwatch_pump(tmwatch *watch, uint64_t most, uint64_t *judged);
+
+/*
+Tells what was judged so far.
+
+TMWATCH_NO_HANDLE, TMWATCH_CLOSING: *told stays. It takes no memory.
+*/
+uint32_t tmwatch_report(tmwatch *watch, tmwatch_told *told);
+
+/*
+Closes a watch with all its recorders, with recorder i in recorders[i], as tmwatch_open has filled them: judges what was recorded and not yet
+judged, leaves all handles empty, and tells the verdict on all events that were ever recorded.
+
+TMWATCH_NO_HANDLE: the watch's handle holds nothing. TMWATCH_MISSING: the handles aren't as many as the watch has recorders, or one of
+them doesn't hold the recorder of its place; all is as it was. TMWATCH_MEMORY: the same call may be made again. Either all is as it was; or
+recording has ended, the recorders' handles are empty, and the watch's handle holds what is left to be judged, of which no event is lost.
+TMWATCH_CLOSING: can't come of a watch that was opened. But for TMWATCH_DONE, *told stays.
+
+Memory: some hundreds of bytes for the time of the call, and the judge's.
+*/
+uint32_t tmwatch_close(tmwatch *watch, tmwatch_recorder *recorders, size_t count, tmwatch_told *told);
+
+/* Each gives back all that the handle holds, if anything, and leaves it empty. What was recorded and not judged is lost. A watch of which a
+   recorder was discarded can't be closed any more, and is discarded too. */
+void tmwatch_discard(tmwatch *watch);
+void tmwatch_discard_recorder(tmwatch_recorder *recorder);
+
+#ifdef __cplusplus
+}
+#endif
+
+#endif

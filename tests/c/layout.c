@@ -1,0 +1,3 @@
+/* The header as C11. */
+#define ASSERT _Static_assert
+#include "layout.h"

@@ -1,0 +1,18 @@
+// The header as C++17, from which the library is called.
+#define ASSERT static_assert
+#include "layout.h"
+
+int main()
+{
+    tmwatch watch = TMWATCH_EMPTY;
+    tmwatch_recorder recorders[2] = {TMWATCH_EMPTY_RECORDER, TMWATCH_EMPTY_RECORDER};
+    tmwatch_settings settings = TMWATCH_SETTINGS(1);
+    tmwatch_told told = {};
+    if (tmwatch_open(&watch, recorders, 2, &settings) != TMWATCH_DONE)
+        return 1;
+    if (tmwatch_add(&recorders[1], 0, 5) != TMWATCH_DONE || tmwatch_value(&recorders[1], 0) != TMWATCH_DONE)
+        return 1;
+    if (tmwatch_close(&watch, recorders, 2, &told) != TMWATCH_DONE)
+        return 1;
+    return told.events == 2 && told.verdict == TMWATCH_OPAQUE_SO_FAR ? 0 : 1;
+}

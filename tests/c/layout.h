@@ -1,0 +1,13 @@
+/* The layouts by which the library and a program in C meet, on a machine of 64 bits. In C++ `ASSERT` is another word. */
+#include "tmwatch.h"
+
+ASSERT(sizeof(tmwatch) == 16 && offsetof(tmwatch, at) == 0 && offsetof(tmwatch, full) == 8, "a watch's handle");
+ASSERT(sizeof(tmwatch_recorder) == 16 && offsetof(tmwatch_recorder, at) == 0, "a recorder's handle");
+ASSERT(offsetof(tmwatch_recorder, full) == 8 && offsetof(tmwatch_recorder, number) == 9, "a recorder's handle");
+ASSERT(sizeof(tmwatch_settings) == 104 && offsetof(tmwatch_settings, registers) == 0, "the settings");
+ASSERT(offsetof(tmwatch_settings, start) == 8 && offsetof(tmwatch_settings, window) == 72, "the settings");
+ASSERT(offsetof(tmwatch_settings, states) == 80 && offsetof(tmwatch_settings, cells) == 88, "the settings");
+ASSERT(offsetof(tmwatch_settings, limit) == 96, "the settings");
+ASSERT(sizeof(tmwatch_told) == 24 && offsetof(tmwatch_told, events) == 0 && offsetof(tmwatch_told, at) == 8, "what is told");
+ASSERT(offsetof(tmwatch_told, verdict) == 16 && offsetof(tmwatch_told, why) == 20, "what is told");
+ASSERT(sizeof(bool) == 1 && sizeof(size_t) == 8 && sizeof(void *) == 8, "the machine");

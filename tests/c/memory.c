@@ -1,0 +1,152 @@
+/*
+Want of memory at each call for some, and whether any stays behind. A run of eight threads over seven registers, which has 64 states at a
+time and a reader of one of them, so that judging takes memory too. Half of it is pumped, and the rest is judged by the close.
+*/
+#include "check.h"
+#include "heap.h"
+
+enum { WRITERS = 7, THREADS = 8, HALF = 20, EVENTS = 46, SOON = 1000, OPENS = 10000 };
+
+static tmwatch watch;
+static tmwatch_recorder recorders[THREADS];
+
+static void record_write(unsigned thread, unsigned number)
+{
+    CHECK(tmwatch_write(&recorders[thread], number, thread + 1) == TMWATCH_DONE);
+    CHECK(tmwatch_stored(&recorders[thread]) == TMWATCH_DONE);
+}
+
+/* Seven writers, each of one register with the thread before it and of one with the thread behind it, and then a reader. */
+static void record_all(void)
+{
+    for (unsigned thread = 0; thread < WRITERS; thread++) {
+        if (thread > 0)
+            record_write(thread, thread - 1);
+        if (thread < WRITERS - 1)
+            record_write(thread, thread);
+    }
+    for (unsigned thread = 0; thread < WRITERS; thread++)
+        CHECK(tmwatch_commit(&recorders[thread]) == TMWATCH_DONE);
+    for (unsigned thread = 0; thread < WRITERS; thread++)
+        CHECK(tmwatch_committed(&recorders[thread]) == TMWATCH_DONE);
+    /* The last of two writers of register 0 may be either, and so of register 5. */
+    CHECK(tmwatch_read(&recorders[7], 0) == TMWATCH_DONE && tmwatch_value(&recorders[7], 1) == TMWATCH_DONE);
+    CHECK(tmwatch_read(&recorders[7], 5) == TMWATCH_DONE && tmwatch_value(&recorders[7], 6) == TMWATCH_DONE);
+    CHECK(tmwatch_commit(&recorders[7]) == TMWATCH_DONE && tmwatch_committed(&recorders[7]) == TMWATCH_DONE);
+    CHECK(tmwatch_read(&recorders[7], 0) == TMWATCH_DONE && tmwatch_value(&recorders[7], 2) == TMWATCH_DONE);
+}
+
+static bool tells_all(tmwatch_told told)
+{
+    return tells(told, EVENTS, TMWATCH_VIOLATED, EVENTS, 0);
+}
+
+/* Opens a watch, as soon as there is memory; before that all is empty and nothing is taken. */
+static void open_soon(void)
+{
+    tmwatch_settings settings = TMWATCH_SETTINGS(7);
+    settings.cells = 64;
+    for (int tries = 0;; tries++) {
+        uint32_t status = tmwatch_open(&watch, recorders, THREADS, &settings);
+        if (status == TMWATCH_DONE)
+            return;
+        CHECK(status == TMWATCH_MEMORY && tries < SOON);
+        CHECK(is_empty(&watch) && are_empty(recorders, THREADS) && blocks == 0);
+        refuses_all = false;
+    }
+}
+
+/* Judges half of the events, as soon as there is memory. */
+static void pump_soon(void)
+{
+    tmwatch_told told = {0, 0, 0, 0};
+    for (int tries = 0; told.events < HALF; tries++) {
+        uint64_t judged = 99, before = told.events;
+        uint32_t status = tmwatch_pump(&watch, HALF - before, &judged);
+        CHECK(tmwatch_report(&watch, &told) == TMWATCH_DONE && told.events >= before);
+        if (status == TMWATCH_DONE)
+            CHECK(judged == HALF - before && told.events == HALF);
+        else
+            CHECK(status == TMWATCH_MEMORY && judged == 99 && told.events < HALF && tries < SOON);
+        CHECK(told.verdict == TMWATCH_OPAQUE_SO_FAR);
+        refuses_all = false;
+    }
+}
+
+/* Closes the watch, as soon as there is memory. Before that the recorders' handles are as they were, or all empty. */
+static tmwatch_told close_soon(void)
+{
+    tmwatch_told told = {9, 9, 9, 9};
+    tmwatch_recorder before[THREADS];
+    memcpy(before, recorders, sizeof before);
+    for (int tries = 0;; tries++) {
+        uint64_t judged = 9;
+        uint32_t status = tmwatch_close(&watch, recorders, THREADS, &told);
+        if (status == TMWATCH_DONE)
+            return told;
+        CHECK(status == TMWATCH_MEMORY && tries < SOON && tells(told, 9, 9, 9, 9) && !is_empty(&watch));
+        bool is_open = memcmp(before, recorders, sizeof before) == 0;
+        CHECK(is_open || are_empty(recorders, THREADS));
+        if (!is_open)
+            CHECK(tmwatch_pump(&watch, 1, &judged) == TMWATCH_CLOSING && judged == 9 && tmwatch_report(&watch, &told) == TMWATCH_CLOSING);
+        refuses_all = false;
+    }
+}
+
+/* A whole run, in which this call for memory is refused: whether there was such a call. */
+static bool run(unsigned long number, bool all)
+{
+    calls = 0;
+    refused = number;
+    refuses_all = all;
+    open_soon();
+    record_all();
+    pump_soon();
+    CHECK(tells_all(close_soon()));
+    CHECK(is_empty(&watch) && are_empty(recorders, THREADS) && blocks == 0 && bytes == 0);
+    return refused <= calls;
+}
+
+/* All calls for memory in a close are refused, from this one on: the close can be made again. */
+static bool close_refused(unsigned long number)
+{
+    calls = refused = 0;
+    open_soon();
+    record_all();
+    calls = 0;
+    refused = number;
+    refuses_all = true;
+    tmwatch_told told = {9, 9, 9, 9};
+    uint32_t status = TMWATCH_MEMORY;
+    for (int tries = 0; tries < 3 && status == TMWATCH_MEMORY; tries++)
+        status = tmwatch_close(&watch, recorders, THREADS, &told);
+    bool had = status == TMWATCH_MEMORY;
+    CHECK(had || status == TMWATCH_DONE);
+    CHECK(had == tells(told, 9, 9, 9, 9));
+    refused = 0;
+    if (had)
+        told = close_soon();
+    CHECK(tells_all(told) && blocks == 0 && bytes == 0);
+    return had;
+}
+
+int main(void)
+{
+    unsigned long one = 1, from = 1, closing = 1;
+    while (run(one, false))
+        one++;
+    while (run(from, true))
+        from++;
+    while (close_refused(closing))
+        closing++;
+    CHECK(one > 30 && from > 30 && closing > 5);
+    peak = 0;
+    run(0, false);
+    long first = peak;
+    for (int i = 0; i < OPENS; i++)
+        run(0, false);
+    CHECK(peak == first);
+    printf("refused %lu calls for memory, %lu with those behind, %lu in a close; %d opens and closes take %ld bytes at most\n", one - 1,
+           from - 1, closing - 1, OPENS, first);
+    return 0;
+}

@@ -1,0 +1,92 @@
+/* Threads that record the run of a little memory, a correct one and a broken one, and one that has them judged meanwhile. */
+#define _POSIX_C_SOURCE 200809L
+#include "check.h"
+#include <pthread.h>
+#include <sched.h>
+
+enum { THREADS = 3, EACH = 500, EVENTS = 6 };
+
+static tmwatch watch;
+static tmwatch_recorder recorders[THREADS];
+static pthread_mutex_t lock = PTHREAD_MUTEX_INITIALIZER;
+static uint64_t memory;
+/* A broken memory forgets each tenth write of a thread, though it has committed it. */
+static bool is_broken;
+
+/* Records an event as soon as there is room. */
+static void record_soon(tmwatch_recorder *recorder, uint32_t letter, uint64_t value)
+{
+    uint64_t place;
+    uint32_t status;
+    while ((status = tmwatch_record(recorder, letter, 0, value, &place)) == TMWATCH_FULL)
+        sched_yield();
+    CHECK(status == TMWATCH_DONE);
+}
+
+/* Adds one to the register in a transaction, whose events are recorded while the lock is held. */
+static void add_one(tmwatch_recorder *recorder, bool forgets)
+{
+    pthread_mutex_lock(&lock);
+    uint64_t read = memory;
+    if (!forgets)
+        memory = read + 1;
+    record_soon(recorder, 'R', 0);
+    record_soon(recorder, 'V', read);
+    record_soon(recorder, 'W', read + 1);
+    record_soon(recorder, 'K', 0);
+    record_soon(recorder, 'T', 0);
+    record_soon(recorder, 'C', 0);
+    pthread_mutex_unlock(&lock);
+}
+
+static void *record_run(void *recorder)
+{
+    for (int done = 0; done < EACH; done++)
+        add_one(recorder, is_broken && done % 10 == 9);
+    return NULL;
+}
+
+/* Judges the events as they come, and tells what was judged. */
+static tmwatch_told pump_all(uint64_t count)
+{
+    tmwatch_told told;
+    do {
+        uint64_t judged;
+        CHECK(tmwatch_pump(&watch, 64, &judged) == TMWATCH_DONE);
+        CHECK(tmwatch_report(&watch, &told) == TMWATCH_DONE);
+        if (judged == 0)
+            sched_yield();
+    } while (told.events < count);
+    return told;
+}
+
+static tmwatch_told run(bool broken)
+{
+    const uint64_t count = THREADS * EACH * EVENTS;
+    tmwatch_settings settings = TMWATCH_SETTINGS(1);
+    pthread_t threads[THREADS];
+    tmwatch_told told, all;
+    is_broken = broken;
+    memory = 0;
+    settings.cells = 16;
+    CHECK(tmwatch_open(&watch, recorders, THREADS, &settings) == TMWATCH_DONE);
+    for (int i = 0; i < THREADS; i++)
+        CHECK(pthread_create(&threads[i], NULL, record_run, &recorders[i]) == 0);
+    told = pump_all(count);
+    for (int i = 0; i < THREADS; i++)
+        CHECK(pthread_join(threads[i], NULL) == 0);
+    CHECK(tmwatch_close(&watch, recorders, THREADS, &all) == TMWATCH_DONE);
+    CHECK(is_empty(&watch) && are_empty(recorders, THREADS));
+    CHECK(told.events == count && memcmp(&told, &all, sizeof told) == 0);
+    return all;
+}
+
+int main(void)
+{
+    tmwatch_told told = run(false);
+    CHECK(told.verdict == TMWATCH_OPAQUE_SO_FAR && told.at == 0);
+    told = run(true);
+    /* Within the first ten transactions of some thread, and the one behind: at the answer to its read. */
+    CHECK(told.verdict == TMWATCH_VIOLATED && told.at % EVENTS == 2 && told.at <= EVENTS * (THREADS * 10 + 1));
+    return 0;
+}
