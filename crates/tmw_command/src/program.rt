@@ -17,7 +17,7 @@ static CRITERIA: [&str; 3] = ["opacity", "strict", "both"];
 static SHOWN: [&str; 2] = ["opacity", "strict"];
 
 const CRITERION_HELP: &str =
-    "What the run is judged by: opacity, strict serializability, or both, with a line for each";
+    "What the run is judged by: opacity or strict serializability; `judge` takes both too, with a line for each";
 
 const MEMORY_HELP: &str = "The memory that the workload is run over";
 
@@ -48,7 +48,7 @@ const JUDGE_HELP: &str =
     "In goes a trace: a first line `opacity-trace 1 R` for R registers, then a line `THREAD KIND ..` an event. Out comes one line of JSON, or two for both criteria: the verdict, the number of events, and at which event it fell.\n\nExit status: 0 where the run is opaque (or strict) so far, 1 violated, 2 undecided, 3 malformed; 4 for a fault of the input, of memory, or of reading or writing, which one line names.\n\nExample: tmwatch judge --criterion both < run.trace";
 
 const SHOW_HELP: &str =
-    "In goes a trace, as `judge` reads it. Out comes the line that `judge` writes; then a line for each state in which the registers may have been at the last moment at which no transaction was live; then the events since, up to the one at which something is wrong, each with its number, in a column for each thread. With --trace, these events alone come out, as a trace that begins with such a state, and one behind the other where there are several.\n\nExit status: 0 where the run is opaque (or strict) so far, 1 violated, 2 undecided, 3 malformed; 4 for a fault of the input, of memory, or of reading or writing, which one line names.\n\nExample: tmwatch show < run.trace";
+    "In goes a trace, as `judge` reads it. Out comes the line that `judge` writes; then a line for each state in which the registers may have been when each transaction had ended, the last time before the event at which something is wrong, or before the last one; then the events since, up to that one, each with its number, in a column for each thread. With --trace, these events alone come out, as a trace that begins with such a state, and one behind the other where there are several.\n\nExit status: 0 where the run is opaque (or strict) so far, 1 violated, 2 undecided, 3 malformed; 4 for a fault of the input, of memory, or of reading or writing, which one line names.\n\nExample: tmwatch show < run.trace";
 
 const DRIVE_HELP: &str =
     "In goes a workload in JSON: the number of registers, a script for each thread, and the order in which they make their calls. Out comes the verdict on the run, as one line of JSON, and before it the trace where it is asked for.\n\nExit status: 0 where the run is opaque so far, 1 violated, 2 undecided, 3 malformed; 4 for a fault, which one line names.\n\nExample: tmwatch drive --memory torn --trace < workload.json";

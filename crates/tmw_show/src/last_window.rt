@@ -1,4 +1,4 @@
-ghost use Rattle.std.specs.Prelude.{◌≡◌, ◌<◌, ◌^◌, ℕ, List, [], ◌∷◌, ◌++◌, IfOk, OnOk, OnErr, IsTrue, IsFalse, length};
+ghost use Rattle.std.specs.Prelude.{◌≡◌, ◌<◌, ◌^◌, ℕ, List, [], ◌∷◌, ◌++◌, IfOk, IsOk, OnOk, OnErr, IsTrue, IsFalse, length};
 ghost use Rattle.tmw_events.specs.declared.event.Event.{Event};
 ghost use Rattle.tmw_defs.specs.Criteria.{so_far};
 ghost use Rattle.tmw_defs.specs.Cuts.{is_cut};
@@ -56,6 +56,9 @@ impl LastWindow {
             → Watches rules (history ++ event ∷ []) self.new) }
         ensures err { OnErr result ((rules : Rules) (history : List Event) → Watches rules history self.old
             → Watches rules history self.new) }
+
+        // After a verdict that something is wrong each call succeeds.
+        ensures stays { (self.old.monitor.verdict ≡ so_far self.old.monitor.criterion → ⊥) → IsOk result }
     {
         if !self.monitor.is_open() {
             self.monitor.feed(event)?;
