@@ -19,11 +19,13 @@ as it was, where the function says no other.
 
 What the program owes. Nothing of it is tested:
 
-1. A handle is all bytes 0 before its first call, or as the last call left it. Its fields are the library's, and it isn't copied.
+1. A handle is all bytes 0, or TMWATCH_EMPTY, before its first call, and then as the last call left it. Its fields and what they point to
+   are the library's, and it isn't copied.
 2. A handle is used by one call at a time. A watch's handle is used by the thread that has opened it. Before a recorder's handle is used by
    another thread, that thread is started, or the thread before is joined, or a lock or a sequentially consistent atomic hands it over.
 3. A pointer is to what its type says, for as long as the call runs, and never null; `recorders` is to `count` handles. What two pointers
-   of one call point to doesn't overlap.
+   of one call point to doesn't overlap, and nothing else reads or writes it meanwhile (`settings` may be read). Each call runs to its
+   return: its thread isn't cancelled or killed within it, and no signal handler jumps out of it.
 4. The recorders that are given to tmwatch_close, if any are held, are those that were opened with this watch.
 5. malloc, realloc and free are one allocator's. It aligns a block to each power of two up to 16 that divides its size.
 6. No call is made in a signal handler, nor in a forked child of a process that has threads.
@@ -42,7 +44,7 @@ What the program owes. Nothing of it is tested:
 extern "C" {
 #endif
 
-/* A function that GCC's transactions may call. A roll-back doesn't undo what it does. */
+/* A function that GCC's transactions may call. The roll-back of a software transaction doesn't undo what it does. */
 #if defined(__GNUC__) && !defined(__clang__)
 #define TMWATCH_PURE __attribute__((transaction_pure))
 #else
@@ -61,7 +63,7 @@ enum tmwatch_status {
     TMWATCH_BAD_LIMIT = 7,     /* the limit is below the number of recorders, or above 2^40 */
     TMWATCH_MEMORY = 8,        /* a growth of memory was refused */
     TMWATCH_FULL = 9,          /* there was no room for an event of each recorder */
-    TMWATCH_SPENT = 10,        /* the watch records no more: its limit is reached */
+    TMWATCH_SPENT = 10,        /* the watch records no more: up to its limit there are fewer places left than recorders */
     TMWATCH_BAD_KIND = 11,     /* no kind of event has this letter */
     TMWATCH_BAD_REGISTER = 12, /* the memory has no such register */
     TMWATCH_MISSING = 13,      /* the handles don't hold all recorders of the watch, each at its place */
@@ -102,7 +104,8 @@ typedef struct tmwatch_settings {
     uint64_t window;    /* how many transactions may lie between two moments at which none is live: 1 to 8 */
     uint64_t states;    /* how many states the registers may have at such a moment: 1 to 64 */
     uint64_t cells;     /* how many events are recorded and not yet pumped, at most: from the number of recorders to 4,096 */
-    uint64_t limit;     /* how many events are recorded in all, at most: from the number of recorders to 2^40 */
+    uint64_t limit;     /* how many events are recorded in all, at most, and fewer by less than the number of recorders: from that number
+                           to 2^40 */
 } tmwatch_settings;
 
 /* What was judged, and the verdict on it. */
@@ -118,7 +121,7 @@ typedef struct tmwatch_told {
 #define TMWATCH_EMPTY_RECORDER {0, false, 0}
 
 /* The widest settings for a memory of so many registers, which hold 0 at first. */
-#define TMWATCH_SETTINGS(registers) {(registers), {0, 0, 0, 0, 0, 0, 0, 0}, 8, 64, 4096, UINT64_C(1) << 40}
+#define TMWATCH_SETTINGS(registers) {(uint64_t)(registers), {0, 0, 0, 0, 0, 0, 0, 0}, 8, 64, 4096, UINT64_C(1) << 40}
 
 /*
 Opens a watch, and `count` recorders, with recorder i in recorders[i]. Nothing is recorded yet.
@@ -138,8 +141,8 @@ is the sum modulo 2^64, its answer the value before); the call to commit and the
 abort; and that the transaction has aborted, which may answer any call.
 
 TMWATCH_NO_HANDLE. TMWATCH_BAD_REGISTER. TMWATCH_FULL: nothing is recorded, and the same event may be tried again once the watch has pumped
-more. TMWATCH_SPENT: nothing is recorded, and nothing will be. An event that fits no run, as an answer without its call, is recorded, and the
-watch's verdict is then TMWATCH_MALFORMED.
+more. TMWATCH_SPENT: nothing is recorded, nor by any call that begins later. An event that fits no run, as an answer without its call, is
+recorded, and once it is judged the watch's verdict is TMWATCH_MALFORMED, where nothing was wrong before.
 
 They never wait, and take no memory.
 */
@@ -163,7 +166,8 @@ TMWATCH_PURE uint32_t tmwatch_record(tmwatch_recorder *recorder, uint32_t letter
                                      uint64_t *place);
 
 /*
-Judges up to `most` events, in the order of the log, and stores in *judged how many: fewer only where no more is there yet.
+Judges up to `most` events, in the order of the log, and stores in *judged how many: fewer only where the next place of the log has no event
+yet, also while a thread is still recording it.
 
 TMWATCH_NO_HANDLE, TMWATCH_CLOSING. TMWATCH_MEMORY: what was judged stays judged, the next event is kept, and the next call judges it first;
 *judged stays, and tmwatch_report tells how far it came.
@@ -184,17 +188,19 @@ uint32_t tmwatch_report(tmwatch *watch, tmwatch_told *told);
 Closes a watch with all its recorders, with recorder i in recorders[i], as tmwatch_open has filled them: judges what was recorded and not yet
 judged, leaves all handles empty, and tells the verdict on all events that were ever recorded.
 
-TMWATCH_NO_HANDLE: the watch's handle holds nothing. TMWATCH_MISSING: the handles aren't as many as the watch has recorders, or one of
-them doesn't hold the recorder of its place; all is as it was. TMWATCH_MEMORY: the same call may be made again. Either all is as it was; or
+TMWATCH_NO_HANDLE: the watch's handle holds nothing. TMWATCH_MISSING, while the watch is open: the handles aren't as many as it has
+recorders, or one of them doesn't hold the recorder of its place; all is as it was. TMWATCH_MEMORY: the same call may be made again. Either all is as it was; or
 recording has ended, the recorders' handles are empty, and the watch's handle holds what is left to be judged, of which no event is lost.
-TMWATCH_CLOSING: can't come of a watch that was opened. But for TMWATCH_DONE, *told stays.
+TMWATCH_CLOSING: isn't expected, since no call makes a further owner of a watch; that it doesn't come is tested, not proved, and the handle
+is only good to be discarded then. But for TMWATCH_DONE, *told stays.
 
 Memory: some hundreds of bytes for the time of the call, and the judge's.
 */
 uint32_t tmwatch_close(tmwatch *watch, tmwatch_recorder *recorders, size_t count, tmwatch_told *told);
 
 /* Each gives back all that the handle holds, if anything, and leaves it empty. What was recorded and not judged is lost. A watch of which a
-   recorder was discarded can't be closed any more, and is discarded too. */
+   recorder was discarded can't be closed any more, and is discarded too. Recorders of a discarded watch record until they are full; discard
+   them too. */
 void tmwatch_discard(tmwatch *watch);
 void tmwatch_discard_recorder(tmwatch_recorder *recorder);
 

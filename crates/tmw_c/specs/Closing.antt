@@ -50,11 +50,13 @@ pub record WereTaken (recorders : List Recorder) (olds news : List RecorderHandl
   pub as_many : length news ≡ length olds
   pub gone : AreEmpty news
 
--- An open watch was closed with all its recorders, which the handles hold no more: this is the report of its whole log.
+-- An open watch was closed with all its recorders, each in its place, which the handles hold no more: this is the report of its
+-- whole log.
 pub record WasClosed (held : HeldWatch) (olds news : List RecorderHandle) (report : Report) : Type 0 where
   pub watch : Watch
   pub opened : held ≡ Open watch
   pub recorders : List Recorder
+  pub placed : AreInPlace watch.recorders olds
   pub taken : WereTaken recorders olds news
   pub closed : IsClosed watch recorders report
 
@@ -90,6 +92,7 @@ pub record WasLeft (old new : HeldWatch) (olds news : List RecorderHandle) : Typ
   pub watch : Watch
   pub opened : old ≡ Open watch
   pub recorders : List Recorder
+  pub placed : AreInPlace watch.recorders olds
   pub taken : WereTaken recorders olds news
   pub closing : WhatIsLeft
   pub left : new ≡ Left closing
@@ -110,6 +113,7 @@ pub record WasShared (old new : HeldWatch) (olds news : List RecorderHandle) : T
   pub watch : Watch
   pub opened : old ≡ Open watch
   pub recorders : List Recorder
+  pub placed : AreInPlace watch.recorders olds
   pub taken : WereTaken recorders olds news
   pub writers : Vec WriterIs
   pub shared : new ≡ Shared watch writers

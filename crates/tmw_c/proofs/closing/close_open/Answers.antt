@@ -61,6 +61,7 @@ returns-in-Err-clause-err c =
       watch = c.args.watch;
       opened = refl;
       recorders = recorders;
+      placed = subst (λ (n : ℕ). AreInPlace n c.args.handles.now) c.recorders.ensures (c.if-not-are_in_place.ensures.yes refl);
       taken = record { held = held; as_many = swapped.len; gone = gone };
       writers = c.in-Err.writers;
       shared = ap (λ (w : Watch). Shared w c.in-Err.writers) same;
@@ -82,6 +83,7 @@ returns-in-Ok-finish-clause-ok c =
       watch = c.args.watch;
       opened = refl;
       recorders = recorders;
+      placed = subst (λ (n : ℕ). AreInPlace n c.args.handles.now) c.recorders.ensures (c.if-not-are_in_place.ensures.yes refl);
       taken = record { held = held; as_many = swapped.len; gone = gone };
       closed = is_closed c.args.watch recorders c.in-Ok-end.closing.rest c.in-Ok-finish.whole ended.ok ended.front c.in-Ok-finish.ensures.ok;
     }
@@ -101,6 +103,7 @@ returns-in-Err-finish-clause-err c =
       watch = c.args.watch;
       opened = refl;
       recorders = recorders;
+      placed = subst (λ (n : ℕ). AreInPlace n c.args.handles.now) c.recorders.ensures (c.if-not-are_in_place.ensures.yes refl);
       taken = record { held = held; as_many = swapped.len; gone = gone };
       closing = c.in-Err-finish.closing;
       left = refl;
