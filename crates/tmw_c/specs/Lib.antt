@@ -3,4 +3,5 @@ pub mod Judging
 pub mod Kinds
 pub mod Opening
 pub mod Recording
+pub mod Rooms
 pub mod Statuses

@@ -4,11 +4,12 @@ ghost use Rattle.tmw_c.specs.Closing.{AreOfWatch, IsClosing};
 ghost use Rattle.tmw_c.specs.Judging.{IsPumping, IsReporting};
 ghost use Rattle.tmw_c.specs.Opening.{IsOpening};
 ghost use Rattle.tmw_c.specs.Recording.{IsRecording};
+ghost use Rattle.tmw_c.specs.Rooms.{IsAsking};
 ghost use Rattle.tmw_c.specs.Statuses.{Tells};
 
 use crate::told::Told;
 use crate::wanted::Wanted;
-use crate::{closing, judge, opening, record};
+use crate::{closing, judge, opening, record, room};
 use std::alloc::Global;
 use tmw_handles::{RecorderHandle, WatchHandle};
 
@@ -53,6 +54,18 @@ pub extern "C" fn tmwatch_record(
     ensures { Tells result (IsRecording letter register value recorder.old.slot.held recorder.new.slot.held place.old place.new) }
 {
     record::record(alloc, recorder, letter, register, value, place).number()
+}
+
+/// Tells whether so many records find room.
+#[unsafe(no_mangle)]
+pub extern "C" fn tmwatch_room(
+    alloc: Global,
+    recorder: &mut RecorderHandle,
+    records: u64,
+) -> u32
+    ensures { Tells result (IsAsking records recorder.old.slot.held recorder.new.slot.held) }
+{
+    room::ask(alloc, recorder, records).number()
 }
 
 /// Judges up to `most` events.

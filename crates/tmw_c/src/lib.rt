@@ -8,6 +8,7 @@ mod kind_exports;
 mod kinds;
 mod opening;
 mod record;
+mod room;
 mod status;
 mod told;
 mod wanted;

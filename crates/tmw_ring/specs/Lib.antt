@@ -3,6 +3,7 @@ pub mod Meeting
 pub mod NewRing
 pub mod Parts
 pub mod Recording
+pub mod Rooms
 pub mod Rule
 pub mod RunLaws
 pub mod Seats

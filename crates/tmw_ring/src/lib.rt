@@ -14,6 +14,9 @@ mod record;
 #[cfg(test)]
 mod record_tests;
 mod refused;
+mod room;
+#[cfg(test)]
+mod room_tests;
 mod rule;
 mod run_laws;
 mod settle;
@@ -31,6 +34,7 @@ pub use ends::{Reader, Ring, Writer};
 pub use make::ring;
 pub use part::{Made, Part, ReaderPart, WriterPart};
 pub use refused::Refused;
+pub use room::law_room_stays;
 pub use rule::{RingRule, RingSeat, RingTable};
 pub use run_laws::{law_claims, law_runs};
 pub use settled::Settled;

@@ -14,5 +14,7 @@ pub mod RingStores
 pub mod RingTakes
 pub mod RingWrites
 pub mod RunsActors
+pub mod RunsCounts
 pub mod RunsMachine
 pub mod RunsProof
+pub mod RunsRoom

@@ -34,6 +34,33 @@ none-parts actor first run none = by_test (actor_of first.step == actor) refl no
     by_test true is none = absurd (cc)
     by_test false is none = (λ same. let also = eq-eqb (actor_of first.step) actor same in absurd (cc), none)
 
+-- A step that is among an actor's own stands in the run, behind those of its own that precede it.
+pub own-cut : (actor : ℕ) (run past : List Answered) (mine : Answered) (rest : List Answered) → own actor run ≡ past ++ mine ∷ rest
+    → (early late : List Answered) × (run ≡ early ++ mine ∷ late) × (own actor early ≡ past)
+own-cut actor [] [] mine rest is = absurd (cc)
+own-cut actor [] (item ∷ past) mine rest is = absurd (cc)
+own-cut actor (first ∷ run) past mine rest is =
+    by_test (actor_of first.step == actor) refl is (λ before same. own-cut actor run before mine rest same)
+  where
+    at_first : (before : List Answered) → (actor_of first.step == actor) ≡ true → first ∷ own actor run ≡ before ++ mine ∷ rest
+        → ((past : List Answered) → own actor run ≡ past ++ mine ∷ rest
+        → (early late : List Answered) × (run ≡ early ++ mine ∷ late) × (own actor early ≡ past))
+        → (early late : List Answered) × (first ∷ run ≡ early ++ mine ∷ late) × (own actor early ≡ before)
+    at_first [] test same later = ([], run, cc, refl)
+    at_first (item ∷ before) test same later =
+        let (early, late, cut, own_steps) = later before (cc) in
+        (first ∷ early, late, ap (λ (steps : List Answered). first ∷ steps) cut, rw test (cc))
+
+    by_test : (test : Bool) → (actor_of first.step == actor) ≡ test
+        → (if test then first ∷ own actor run else own actor run) ≡ past ++ mine ∷ rest
+        → ((before : List Answered) → own actor run ≡ before ++ mine ∷ rest
+        → (early late : List Answered) × (run ≡ early ++ mine ∷ late) × (own actor early ≡ before))
+        → (early late : List Answered) × (first ∷ run ≡ early ++ mine ∷ late) × (own actor early ≡ past)
+    by_test true test same later = at_first past test same later
+    by_test false test same later =
+        let (early, late, cut, own_steps) = later past same in
+        (first ∷ early, late, ap (λ (steps : List Answered). first ∷ steps) cut, rw test own_steps)
+
 -- Lists with a last item have one.
 last-same : {A : Type 0} (past others : List A) (last other : A) → past ++ last ∷ [] ≡ others ++ other ∷ [] → last ≡ other
 last-same [] [] last other is = cc

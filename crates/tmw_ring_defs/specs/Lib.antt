@@ -5,5 +5,6 @@ pub mod RingMachine
 pub mod RingSound
 pub mod RingSteps
 pub mod Room
+pub mod RoomLaw
 pub mod Runs
 pub mod Sizes

@@ -1,5 +1,5 @@
 -- Whether a ring has room for one more event of each writer, and what a look at tail leads to.
-use Rattle.std.specs.Prelude.{◌-◌, ℕ, Bool, true, false, nat_lt}
+use Rattle.std.specs.Prelude.{◌+◌, ◌-◌, ℕ, Bool, true, false, IsFalse, nat_lt}
 use Rattle.tmw_events.specs.declared.event.Kind.{Kind}
 use Rattle.tmw_ring_defs.specs.declared.ring_phase.WriterPhase.{WriterPhase}
 use Rattle.tmw_ring_defs.specs.declared.ring_phase.WriterPhase.TheVariants.{Idle, Cleared}
@@ -26,3 +26,12 @@ abbrev pub room_reply : (spent full : Bool) → ℕ → ℕ → Reply
 room_reply true full front tail = Spent tail
 room_reply false true front tail = Full front tail
 room_reply false false front tail = IsCleared
+
+-- what tail is when the last of so many records looks at it, if they claim one place after another from this tail on
+abbrev pub last_tail : ℕ → ℕ → ℕ
+last_tail tail records = tail + (records - 1)
+
+-- From this tail on, and with no place freed behind this front, each of so many records finds room.
+pub record HasRoomFor (size : RingSize) (front tail records : ℕ) : Type 0 where
+  pub given : IsFalse (is_spent size (last_tail tail records))
+  pub free : IsFalse (is_full size front (last_tail tail records))

@@ -8,7 +8,7 @@ mod ring_phase;
 mod ring_size;
 mod ring_step;
 
-pub use ring::{law_4, law_one_log, law_one_run};
+pub use ring::{law_4, law_one_log, law_one_run, law_room};
 pub use ring_cell::RingCell;
 pub use ring_fault::RingFault;
 pub use ring_phase::{ReaderPhase, WriterPhase};

@@ -1,5 +1,6 @@
 ghost use Rattle.tmw_ring_defs.specs.OneLog.{OneLogLaw, OneRunLaw};
 ghost use Rattle.tmw_ring_defs.specs.RingSound.{StepLaw};
+ghost use Rattle.tmw_ring_defs.specs.RoomLaw.{RoomLaw};
 
 /// Inductive invariant of the ring's protocol.
 ///
@@ -23,4 +24,12 @@ pub fn law_one_log()
 /// are the answers of one sequential log, which is the log that the ring then has.
 pub fn law_one_run()
     ensures { OneRunLaw }
+{}
+
+/// How long room for several records holds good.
+///
+/// Where front was seen, and then a tail from which there is room for so many records, whoever begins a record after that finds
+/// room, until so many places more are claimed, by whomever.
+pub fn law_room()
+    ensures { RoomLaw }
 {}

@@ -2,6 +2,7 @@
 ghost use Rattle.std.specs.Prelude.{◌≡◌, IfOk, IfErr};
 ghost use Rattle.tmw_ring.specs.Ends.{WriterOf};
 ghost use Rattle.tmw_ring.specs.Recording.{HasRecorded, IsRefusal};
+ghost use Rattle.tmw_ring.specs.Rooms.{HasFoundRoom, LacksRoom};
 
 use std::alloc::Global;
 use std::sync::Arc;
@@ -45,5 +46,17 @@ impl Recorder {
         ensures err { IfErr result (λ refused. IsRefusal kind self.old.writer refused self.new.writer) }
     {
         self.ring.record(&mut self.writer, kind)
+    }
+    /// Whether so many records find room, one after another: asked before a transaction begins, so that its records aren't refused. 0 is
+    /// taken for 1. It claims nothing, never waits and takes no memory. A yes holds good until as many events more are recorded, by this
+    /// recorder and the others together: no record that begins meanwhile is refused (`law_room_stays` of `tmw_ring`). `Full`: the ring
+    /// has no room for so many now, or never, where it hasn't as many cells as these and an event of each other recorder take; `Spent`:
+    /// so many places are not left up to the limit of events, nor will they be. Fewer may find room yet.
+    pub fn room(&mut self, records: u64) -> Result<(), Refused>
+        ensures ring { self.new.ring ≡ self.old.ring }
+        ensures ok { IfOk result (λ _. HasFoundRoom records self.old.writer self.new.writer) }
+        ensures err { IfErr result (λ refused. LacksRoom records self.old.writer refused self.new.writer) }
+    {
+        self.ring.room(&mut self.writer, records)
     }
 }

@@ -1,0 +1,141 @@
+-- A writer may look at front, and what it then knows with the tail that it finds next.
+use Rattle.std.proofs.Common.{◌≡◌, ◌++◌, ◌+◌, ◌-◌, ◌≤◌, ℕ, zero, suc, Bool, true, false, List, [], ◌∷◌, set, slice_index, min, append-nil, refl, sym, ap, ◌∙◌, subst, arith}
+use Rattle.std.proofs.lemmas.Bool.{ltb-true, ltb-false, lt-ltb}
+use mathlib.Core.Option.{some-injective, some-ne-none}
+use Rattle.atomic_table.specs.Table.{Me, Allows, keeps}
+use Rattle.atomic_table.specs.Seated.{TableId}
+use Rattle.tmw_events.specs.declared.ix.Ix.{Ix}
+use Rattle.tmw_ring_defs.specs.Ring.{Core, new_core}
+use Rattle.tmw_ring_defs.specs.Room.{is_spent, is_full, last_tail}
+use Rattle.tmw_ring_defs.specs.RoomLaw.{places_freed}
+use Rattle.tmw_ring_defs.specs.Runs.{Runs}
+use Rattle.tmw_ring_defs.specs.declared.ring_size.RingSize.{RingSize}
+use Rattle.tmw_ring_defs.specs.declared.ring_step.Answered.{Answered}
+use Rattle.tmw_ring_defs.proofs.RunsRoom.{places_freed-append, run-counted, runs-front}
+use Rattle.tmw_ring.specs.Ends.{WriterIs}
+use Rattle.tmw_ring.specs.Meeting.{FindsTail}
+use Rattle.tmw_ring.specs.Parts.{Parts, key, run_of}
+use Rattle.tmw_ring.specs.Rooms.{with_run, FindsFront, HasFoundFront}
+use Rattle.tmw_ring.specs.Rule.{PartFits, Shown, WriterFits}
+use Rattle.tmw_ring.specs.Seats.{writer_in, writer_is, IsIdleWriter}
+use Rattle.tmw_ring.specs.Words.{words_of, front_word}
+use Rattle.tmw_ring.specs.declared.part.Part.TheVariants.{Writes}
+use Rattle.tmw_ring.specs.declared.part.WriterPart.{WriterPart}
+use Rattle.tmw_ring.proofs.Moves.{Follows, Remains, knows_all, moves_each}
+use Rattle.tmw_ring.proofs.Writing.{writer_fits}
+
+module _ {S : Type 0} where
+  front_found : (size : RingSize) (slots seat : ℕ) (part : WriterPart)
+      → Allows {S = S} {V = Parts} (Shown size) slots seat (Writes part ∷ [], []) front_word (λ n. n) (HasFoundFront (Writes part ∷ [], []))
+  front_found size slots seat part state shown none_lent seated small =
+      let run : List Answered = shown.run in
+      let new : WriterPart = with_run run part in
+      let fits : WriterFits shown.core part = writer_fits size state shown seat part seated in
+      let still : WriterFits shown.core new = record { sized = fits.sized; phase = fits.phase; made = fits.made; seen = fits.seen } in
+      let found : slice_index state.words front_word ≡ shown.core.front = ap (λ (words : List ℕ). slice_index words front_word) shown.words in
+      let words : set state.words front_word (slice_index state.words front_word) ≡ words_of shown.core =
+      ap (λ (words : List ℕ). set words front_word (slice_index words front_word)) shown.words in
+      let follows : Follows shown.core (run ++ []) (Writes part ∷ []) (Writes new ∷ []) =
+      λ place now placed. follow shown.core run part still place now placed in
+      let remains : Remains (Writes part ∷ []) (Writes new ∷ []) = λ place was placed. remain run part place was placed in
+      let counted = runs-front (new_core size) shown.core run shown.ran in (
+        Writes new ∷ [],
+        keeps,
+        tt,
+        moves_each size state shown seat front_word (slice_index state.words front_word) (Writes part ∷ []) (Writes new ∷ []) shown.core []
+            seated refl shown.sound shown.real words refl follows remains (λ other apart fit. fit) (λ other apart. refl),
+        (
+          refl,
+          record {
+            gone = shown.knows seat 0 (Writes part) (record { view = Writes part ∷ []; seated = seated; placed = refl });
+            is_run = (shown.core, subst (λ (z : RingSize). Runs (new_core z) run shown.core) (sym (fits.sized ∙ shown.sized)) shown.ran);
+          },
+          omega (arith, found, counted),
+        ),
+      )
+    where
+      follow : (core : Core) (run : List Answered) (part : WriterPart) → WriterFits core (with_run run part)
+          → Follows core (run ++ []) (Writes part ∷ []) (Writes (with_run run part) ∷ [])
+      follow core run part fits zero now placed =
+          let is = some-injective (Writes (with_run run part)) now placed in (
+            Writes part,
+            refl,
+            ap key (sym is),
+            subst (PartFits core) is fits,
+            knows_all (run ++ []) now (ap run_of (sym is) ∙ sym (append-nil run)),
+          )
+      follow core run part fits (suc place) now placed = absurd (some-ne-none now (sym placed))
+
+      remain : (run : List Answered) (part : WriterPart) → Remains (Writes part ∷ []) (Writes (with_run run part) ∷ [])
+      remain run part zero was placed = (Writes (with_run run part), refl, ap key (some-injective (Writes part) was placed))
+      remain run part (suc place) was placed = absurd (some-ne-none was (sym placed))
+
+  -- The load changes no word, so the ring stays as it was.
+  pub finds_front : (size : RingSize) (slots seat : ℕ) (number : Ix) (me : Me S Parts) → IsIdleWriter number me
+      → Allows {S = S} {V = Parts} (Shown size) slots seat me front_word (λ n. n) (HasFoundFront me)
+  finds_front size slots seat number me idle =
+      subst (λ (m : Me S Parts). Allows {S = S} {V = Parts} (Shown size) slots seat m front_word (λ n. n) (HasFoundFront m)) (sym idle.seated)
+      (front_found size slots seat (writer_in me.0))
+
+  -- A writer is idle still.
+  pub idle_yet : (number : Ix) (front : ℕ) (before after : Me S Parts) → IsIdleWriter number before → HasFoundFront before front after
+      → IsIdleWriter number after
+  idle_yet number front before after idle found =
+      subst (λ (m : Me S Parts). IsIdleWriter number m) (sym found.0)
+      (record { seated = refl; idle = idle.idle; numbered = idle.numbered })
+
+  -- What callers see of a writer that has found front.
+  pub front_met : (front : ℕ) (table table_after : TableId) (before after : Me S Parts) (writer : WriterIs) → table_after ≡ table
+      → HasFoundFront before front after → writer_is table (writer_in before.0) ≡ writer
+      → FindsFront front writer (writer_is table_after (writer_in after.0))
+  front_met front table table_after before after writer same found seen =
+      let run : List Answered = (writer_in after.0).run in
+      let left : writer_in after.0 ≡ with_run run (writer_in before.0) = ap (λ (m : Me S Parts). writer_in m.0) found.0 in
+      subst (λ (w : WriterIs). FindsFront front w (writer_is table_after (writer_in after.0))) seen
+      (record {
+        same = ap (λ (w : WriterPart). writer_is table_after w) left ∙ ap (λ (t : TableId). writer_is t (with_run run (writer_in before.0))) same;
+        since = found.1;
+        counted = found.2;
+      })
+
+-- The sum that stops at the greatest number is as good as the sum.
+last-is : (size : RingSize) (tail records last : ℕ) → last ≡ min (tail + (records - 1)) 18446744073709551615
+    → is_spent size last ≡ false → last ≡ last_tail tail records
+last-is size tail records last is unspent =
+    let low = ltb-false (size.limit - size.writers) last unspent in omega (arith, is, low, size.most_places)
+
+last-spent : (size : RingSize) (tail records last : ℕ) → last ≡ min (tail + (records - 1)) 18446744073709551615
+    → is_spent size last ≡ is_spent size (last_tail tail records)
+last-spent size tail records last is = by_flag (is_spent size last) refl
+  where
+    by_flag : (flag : Bool) → is_spent size last ≡ flag → is_spent size last ≡ is_spent size (last_tail tail records)
+    by_flag true spent =
+        let low = ltb-true (size.limit - size.writers) last spent in
+        spent ∙ sym (lt-ltb (size.limit - size.writers) (last_tail tail records) (omega (arith, is, low)))
+    by_flag false unspent = ap (is_spent size) (last-is size tail records last is unspent)
+
+-- So both tests of the sum that stops are those of the sum.
+pub same-tests : (own size : RingSize) → own ≡ size → (front tail records before last : ℕ) → before ≡ records - 1
+    → last ≡ min (tail + before) 18446744073709551615
+    → (is_spent own last ≡ is_spent size (last_tail tail records))
+    × (is_spent own last ≡ false → (last ≡ last_tail tail records) × (is_full own front last ≡ is_full size front (last_tail tail records)))
+same-tests own size sized front tail records before last less is =
+    let sum : last ≡ min (tail + (records - 1)) 18446744073709551615 = is ∙ ap (λ (n : ℕ). min (tail + n) 18446744073709551615) less in (
+      last-spent own tail records last sum ∙ ap (λ (z : RingSize). is_spent z (last_tail tail records)) sized,
+      λ unspent.
+          let same : last ≡ last_tail tail records = last-is own tail records last sum unspent in
+          (same, ap (is_full own front) same ∙ ap (λ (z : RingSize). is_full z front (last_tail tail records)) sized),
+    )
+
+-- Front is not above the tail that was found behind it.
+pub front-le : (front tail : ℕ) (old between new : WriterIs) → FindsFront front old between → FindsTail tail between new → front ≤ tail
+front-le front tail old between new fronted tailed =
+    let freed = ap places_freed tailed.meets.gone.longer in
+    omega (
+      arith,
+      fronted.counted,
+      tailed.counted,
+      freed,
+      places_freed-append between.run tailed.meets.gone.since,
+      (run-counted between.size tailed.run tailed.log tailed.meets.run_to).1,
+    )
