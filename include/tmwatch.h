@@ -62,8 +62,8 @@ enum tmwatch_status {
     TMWATCH_BAD_SIZE = 6,      /* there are not 1 to 8 recorders, or fewer cells than recorders, or more than 4,096 */
     TMWATCH_BAD_LIMIT = 7,     /* the limit is below the number of recorders, or above 2^40 */
     TMWATCH_MEMORY = 8,        /* a growth of memory was refused */
-    TMWATCH_FULL = 9,          /* there was no room for an event of each recorder */
-    TMWATCH_SPENT = 10,        /* the watch records no more: up to its limit there are fewer places left than recorders */
+    TMWATCH_FULL = 9,          /* no room was found for what is asked and an event of each other recorder */
+    TMWATCH_SPENT = 10,        /* up to the watch's limit fewer places are left than that takes */
     TMWATCH_BAD_KIND = 11,     /* no kind of event has this letter */
     TMWATCH_BAD_REGISTER = 12, /* the memory has no such register */
     TMWATCH_MISSING = 13,      /* the handles don't hold all recorders of the watch, each at its place */
@@ -80,7 +80,7 @@ enum tmwatch_verdict {
 
 /* Which bound was passed, where the verdict is TMWATCH_UNDECIDED, and else 0. */
 enum tmwatch_why {
-    TMWATCH_TRANSACTIONS = 1, /* more transactions than `window` between two moments at which none was live */
+    TMWATCH_TRANSACTIONS = 1, /* more transactions than `window` since the last moment at which all had ended */
     TMWATCH_STATES = 2        /* more states than `states` that the registers may hold at such a moment */
 };
 
@@ -101,7 +101,7 @@ typedef struct tmwatch_recorder {
 typedef struct tmwatch_settings {
     uint64_t registers; /* how many registers the memory has: 1 to 8 */
     uint64_t start[8];  /* what they hold at first; 0 for those that the memory doesn't have */
-    uint64_t window;    /* how many transactions may lie between two moments at which none is live: 1 to 8 */
+    uint64_t window;    /* how many transactions there may be from one moment at which all have ended to the next: 1 to 8 */
     uint64_t states;    /* how many states the registers may have at such a moment: 1 to 64 */
     uint64_t cells;     /* how many events are recorded and not yet pumped, at most: from the number of recorders to 4,096 */
     uint64_t limit;     /* how many events are recorded in all, at most, and fewer by less than the number of recorders: from that number
@@ -140,8 +140,10 @@ read or an add, which is the value that the register had; the call of a write an
 is the sum modulo 2^64, its answer the value before); the call to commit and the answer that the transaction has committed; the call to
 abort; and that the transaction has aborted, which may answer any call.
 
-TMWATCH_NO_HANDLE. TMWATCH_BAD_REGISTER. TMWATCH_FULL: nothing is recorded, and the same event may be tried again once the watch has pumped
-more. TMWATCH_SPENT: nothing is recorded, nor by any call that begins later. An event that fits no run, as an answer without its call, is
+TMWATCH_NO_HANDLE. TMWATCH_BAD_REGISTER. TMWATCH_FULL: nothing is recorded, since the call found no room for an event of each recorder; the
+same event may be tried again once the watch has pumped more. (It may come where there was room: the call looks first how many events were
+pumped and then how many were recorded, and others record and pump in between. tmwatch_room tells beforehand that it doesn't come.)
+TMWATCH_SPENT: nothing is recorded, nor by a later call of this recorder. An event that fits no run, as an answer without its call, is
 recorded, and once it is judged the watch's verdict is TMWATCH_MALFORMED, where nothing was wrong before.
 
 They never wait, and take no memory.
@@ -164,6 +166,18 @@ As those above, and TMWATCH_BAD_KIND. Where it isn't TMWATCH_DONE, *place stays.
 */
 TMWATCH_PURE uint32_t tmwatch_record(tmwatch_recorder *recorder, uint32_t letter, uint64_t register_number, uint64_t value,
                                      uint64_t *place);
+
+/*
+Tells whether this many events find room, one after another: asked before a transaction begins, so that none of its events is refused while
+the memory may hold a lock. 0 is taken for 1. It records nothing, reserves nothing, never waits and takes no memory.
+
+TMWATCH_DONE holds good until as many events more are recorded, by all recorders of the watch together: no record that begins meanwhile is
+answered TMWATCH_FULL or TMWATCH_SPENT. So a thread whose transaction has at most k events, while the other threads record at most m, asks
+for k + m.
+TMWATCH_NO_HANDLE. TMWATCH_FULL: so many don't find room now; they never do where the watch has fewer cells than they and an event of each
+other recorder take. TMWATCH_SPENT: so many places are not left up to the limit, nor will they be.
+*/
+TMWATCH_PURE uint32_t tmwatch_room(tmwatch_recorder *recorder, uint64_t events);
 
 /*
 Judges up to `most` events, in the order of the log, and stores in *judged how many: fewer only where the next place of the log has no event
@@ -199,8 +213,8 @@ Memory: some hundreds of bytes for the time of the call, and the judge's.
 uint32_t tmwatch_close(tmwatch *watch, tmwatch_recorder *recorders, size_t count, tmwatch_told *told);
 
 /* Each gives back all that the handle holds, if anything, and leaves it empty. What was recorded and not judged is lost. A watch of which a
-   recorder was discarded can't be closed any more, and is discarded too. Recorders of a discarded watch record until they are full; discard
-   them too. */
+   recorder was discarded can't be closed any more, and is discarded too. Recorders of a discarded watch record until they are full or spent;
+   discard them too. */
 void tmwatch_discard(tmwatch *watch);
 void tmwatch_discard_recorder(tmwatch_recorder *recorder);
 

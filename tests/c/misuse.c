@@ -38,6 +38,7 @@ static void an_empty_handle_is_answered(void)
     CHECK(tmwatch_add(none, 0, 0) == TMWATCH_NO_HANDLE && tmwatch_commit(none) == TMWATCH_NO_HANDLE);
     CHECK(tmwatch_committed(none) == TMWATCH_NO_HANDLE && tmwatch_abort(none) == TMWATCH_NO_HANDLE);
     CHECK(tmwatch_aborted(none) == TMWATCH_NO_HANDLE);
+    CHECK(tmwatch_room(none, 1) == TMWATCH_NO_HANDLE && tmwatch_room(none, UINT64_MAX) == TMWATCH_NO_HANDLE);
     CHECK(tmwatch_record(none, 'R', 0, 0, &number) == TMWATCH_NO_HANDLE && number == 9);
     CHECK(tmwatch_record(none, 'Q', 99, 0, &number) == TMWATCH_NO_HANDLE && number == 9);
     CHECK(tmwatch_pump(&watch, 1, &number) == TMWATCH_NO_HANDLE && number == 9);
@@ -228,6 +229,31 @@ static void a_ring_that_is_full_refuses_until_it_is_pumped(void)
     CHECK(tells(close_all(2), 3, TMWATCH_OPAQUE_SO_FAR, 0, 0));
 }
 
+/* A recorder reads register 0 and is answered, again and again: so many events, of which the first is a call, or an answer. */
+static void record_reads(tmwatch_recorder *recorder, int count, bool is_call)
+{
+    for (int i = 0; i < count; i++, is_call = !is_call)
+        CHECK((is_call ? tmwatch_read(recorder, 0) : tmwatch_value(recorder, 0)) == TMWATCH_DONE);
+}
+
+static void room_for_several_events_is_told(void)
+{
+    uint64_t judged = 9;
+    open_small(2, 8, 12);
+    CHECK(tmwatch_room(&recorders[0], 0) == TMWATCH_DONE && tmwatch_room(&recorders[0], 7) == TMWATCH_DONE);
+    CHECK(tmwatch_room(&recorders[0], 8) == TMWATCH_FULL && tmwatch_room(&recorders[0], 11) == TMWATCH_FULL);
+    CHECK(tmwatch_room(&recorders[0], 12) == TMWATCH_SPENT && tmwatch_room(&recorders[0], UINT64_MAX) == TMWATCH_SPENT);
+    record_reads(&recorders[0], 3, true);
+    CHECK(tmwatch_room(&recorders[0], 4) == TMWATCH_DONE && tmwatch_room(&recorders[0], 5) == TMWATCH_FULL);
+    CHECK(tmwatch_room(&recorders[1], 4) == TMWATCH_DONE && tmwatch_room(&recorders[1], 5) == TMWATCH_FULL);
+    CHECK(tmwatch_pump(&watch, 9, &judged) == TMWATCH_DONE && judged == 3);
+    CHECK(tmwatch_room(&recorders[0], 7) == TMWATCH_DONE && tmwatch_room(&recorders[0], 8) == TMWATCH_FULL);
+    CHECK(tmwatch_room(&recorders[0], 9) == TMWATCH_SPENT);
+    record_reads(&recorders[0], 7, false);
+    CHECK(tmwatch_room(&recorders[0], 1) == TMWATCH_FULL && tmwatch_read(&recorders[0], 0) == TMWATCH_FULL);
+    CHECK(tells(close_all(2), 10, TMWATCH_OPAQUE_SO_FAR, 0, 0));
+}
+
 /* A recorder writes 1 to register 0 and commits. */
 static void record_write(tmwatch_recorder *recorder, uint64_t value)
 {
@@ -276,6 +302,7 @@ int main(void)
     a_missing_recorder_is_waited_for();
     a_discarded_recorder_is_missing();
     a_ring_that_is_full_refuses_until_it_is_pumped();
+    room_for_several_events_is_told();
     what_passes_a_bound_is_undecided();
     registers_begin_as_the_settings_say();
     return 0;

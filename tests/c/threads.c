@@ -13,29 +13,40 @@ static uint64_t memory;
 /* A broken memory forgets each tenth write of a thread, though it has committed it. */
 static bool is_broken;
 
-/* Records an event as soon as there is room. */
-static void record_soon(tmwatch_recorder *recorder, uint32_t letter, uint64_t value)
+/* Records an event, for which there is room. */
+static void record(tmwatch_recorder *recorder, uint32_t letter, uint64_t value)
 {
     uint64_t place;
+    CHECK(tmwatch_record(recorder, letter, 0, value, &place) == TMWATCH_DONE);
+}
+
+/* Takes the lock where there is room for a transaction's events. Only who holds the lock records, so that there is room until it is given
+   back, and nobody waits for room with the lock. */
+static void lock_with_room(tmwatch_recorder *recorder)
+{
     uint32_t status;
-    while ((status = tmwatch_record(recorder, letter, 0, value, &place)) == TMWATCH_FULL)
+    pthread_mutex_lock(&lock);
+    while ((status = tmwatch_room(recorder, EVENTS)) == TMWATCH_FULL) {
+        pthread_mutex_unlock(&lock);
         sched_yield();
+        pthread_mutex_lock(&lock);
+    }
     CHECK(status == TMWATCH_DONE);
 }
 
 /* Adds one to the register in a transaction, whose events are recorded while the lock is held. */
 static void add_one(tmwatch_recorder *recorder, bool forgets)
 {
-    pthread_mutex_lock(&lock);
+    lock_with_room(recorder);
     uint64_t read = memory;
     if (!forgets)
         memory = read + 1;
-    record_soon(recorder, 'R', 0);
-    record_soon(recorder, 'V', read);
-    record_soon(recorder, 'W', read + 1);
-    record_soon(recorder, 'K', 0);
-    record_soon(recorder, 'T', 0);
-    record_soon(recorder, 'C', 0);
+    record(recorder, 'R', 0);
+    record(recorder, 'V', read);
+    record(recorder, 'W', read + 1);
+    record(recorder, 'K', 0);
+    record(recorder, 'T', 0);
+    record(recorder, 'C', 0);
     pthread_mutex_unlock(&lock);
 }
 
