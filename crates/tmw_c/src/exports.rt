@@ -58,11 +58,7 @@ pub extern "C" fn tmwatch_record(
 
 /// Tells whether so many records find room.
 #[unsafe(no_mangle)]
-pub extern "C" fn tmwatch_room(
-    alloc: Global,
-    recorder: &mut RecorderHandle,
-    records: u64,
-) -> u32
+pub extern "C" fn tmwatch_room(alloc: Global, recorder: &mut RecorderHandle, records: u64) -> u32
     ensures { Tells result (IsAsking records recorder.old.slot.held recorder.new.slot.held) }
 {
     room::ask(alloc, recorder, records).number()

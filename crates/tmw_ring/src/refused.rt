@@ -1,12 +1,13 @@
 use thiserror::Error;
 
-/// Why an event was not recorded. Whether all places were given is tested first.
+/// Why an event was not recorded, or why there is no room for several. Whether all places were given is tested first.
 #[derive(Clone, Copy, PartialEq, Eq, Debug, Error)]
 pub enum Refused {
-    /// There was no room for an event of each writer: so many places were given up to tail, and up to front they were free again.
+    /// There was no room for what is asked and an event of each other writer: so many places were given up to tail, and up to front
+    /// they were free again.
     #[error("the ring is full: {tail} places were given, and {front} of them are free again")]
     Full { front: u64, tail: u64 },
-    /// Fewer places than there are writers are left up to the ring's limit.
+    /// Fewer places than that takes are left up to the ring's limit.
     #[error("the ring's places are spent: {tail} were given")]
     Spent { tail: u64 },
 }

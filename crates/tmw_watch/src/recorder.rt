@@ -36,9 +36,9 @@ impl Recorder {
     }
 
     /// Records one event of its thread, and answers with the event's place in the one log, counted from 0. It never waits and takes no
-    /// memory. Where it is refused, nothing was claimed. `Full`: there was no room for an event of each recorder; once the watch has
-    /// pumped more, the same event may be tried again. `Spent`: fewer places than there are recorders are left up to the limit of events,
-    /// and no call to record that begins later is given a place.
+    /// memory. Where it is refused, nothing was claimed. `Full`: at the front and then the tail that the call found there was no room for
+    /// an event of each recorder; once the watch has pumped more, the same event may be tried again. `Spent`: fewer places than there are
+    /// recorders are left up to the limit of events, and no later call of this recorder is given a place.
     pub fn record(&mut self, kind: Kind) -> Result<u64, Refused>
         ensures ring { self.new.ring ≡ self.old.ring }
         ensures number { self.new.writer.number ≡ self.old.writer.number }
