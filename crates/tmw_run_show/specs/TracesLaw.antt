@@ -23,7 +23,7 @@ pub record IsHeaderFor (registers : Registers) (events : List Event) (header : H
   pub same_registers : header.registers ≡ registers
   pub are_events : AreEvents header events
 
--- What `judge` judges a trace with this header by.
+-- What `judge` judges a trace with this header by, as `trace_rules` of `tmw_judge` says.
 abbrev pub rules_from : Criterion → Bounds → Header → Rules
 rules_from criterion bounds header = rules_for criterion header.registers header.initial bounds
 
