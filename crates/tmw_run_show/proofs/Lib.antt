@@ -1,3 +1,5 @@
 mod GivenFaults
 mod Rows
 mod Shows
+mod StateHeaders
+mod TracesProof

@@ -1,6 +1,6 @@
 -- What is shown of a trace has a verdict of its own criterion, and its events are numbered up to the trace's length.
 use Rattle.std.proofs.Common.{◌≡◌, ◌+◌, ◌-◌, ◌≤◌, ◌^◌, ℕ, List, [], length, ap, sym, refl, subst, ◌∙◌, append-nil, arith}
-use Rattle.std.specs.Prelude.{take, drop}
+use Rattle.std.specs.Prelude.{take}
 use Rattle.std.proofs.lemmas.List.{length-take, length-drop}
 use Rattle.tmw_lines.specs.TextFault.{EndsSoon}
 use Rattle.tmw_trace.specs.Text.{trace_grammar}

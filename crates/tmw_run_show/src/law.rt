@@ -1,6 +1,12 @@
 ghost use Rattle.tmw_run_show.specs.TracesLaw.{TracesLaw};
 
-/// What is written for a state from which a window begins is the text of the trace that begins with it and has the window's events.
+use tmw_show::{law_states, law_window};
+
+/// What `show --trace` writes is traces, which `judge` reads and judges as it judges the run: one for each state from which the window
+/// begins, with just that state at its start and the window's events.
 pub fn law_traces()
     ensures { TracesLaw }
-{}
+{
+    law_window();
+    law_states();
+}

@@ -1,4 +1,9 @@
 mod Alike
 mod Behind
+mod Outcomes
+mod Part
+mod ShownStates
+mod Single
 mod Taking
 mod Windows
+mod Writes

@@ -1,5 +1,6 @@
 pub mod Feeding
 pub mod Showing
 pub mod Shown
+pub mod StatesLaw
 pub mod Watching
 pub mod WindowLaw

@@ -3,7 +3,7 @@ use Rattle.std.specs.Prelude.{◌≡◌, ◌↔◌, ◌<◌, ◌≤◌, ℕ, Lis
 use Rattle.std.specs.List.{Contains}
 use Rattle.tmw_events.specs.declared.event.Event.{Event}
 use Rattle.tmw_defs.specs.declared.verdict.Verdict.{Verdict}
-use Rattle.tmw_defs.specs.declared.verdict.Verdict.TheVariants.{Violated}
+use Rattle.tmw_defs.specs.declared.verdict.Verdict.TheVariants.{OpaqueSoFar, StrictSoFar, Violated, Undecided, Malformed}
 use Rattle.tmw_defs.specs.Opaque.{State}
 use Rattle.tmw_defs.specs.Verdict.{Rules, IsViolated, IsVerdict}
 use Rattle.tmw_show.specs.Shown.{IsShown}
@@ -12,14 +12,22 @@ use Rattle.tmw_show.specs.Shown.{IsShown}
 abbrev pub from_state : Rules → State → Rules
 from_state rules state = record rules { start = state }
 
+-- The same verdict on a history of so many events, where what is wrong with it is so at its end.
+abbrev pub at_end : ℕ → Verdict → Verdict
+at_end events OpaqueSoFar = OpaqueSoFar
+at_end events StrictSoFar = StrictSoFar
+at_end events (Violated at) = Violated events
+at_end events (Undecided at why) = Undecided events why
+at_end events (Malformed at) = Malformed events
+
 -- A history is violated at its event exactly when these events, up to it, are violated at their end from each of these states. Then
--- each verdict on them is that they are violated, at their end or before; and from a single state it is at their end.
+-- each verdict on them is that they are violated, at their end or before. From a single state they have the history's own verdict,
+-- whichever it is, at their end.
 pub record IsJudgedAlike (rules : Rules) (verdict : Verdict) (states : List State) (events : List Event) : Type 0 where
   pub violated : ((at : ℕ) × (verdict ≡ Violated at)) ↔ ((s : State) → Contains states s → IsViolated (from_state rules s) events)
   pub answered : (at : ℕ) → verdict ≡ Violated at → (s : State) → Contains states s → (answer : Verdict)
       → IsVerdict (from_state rules s) events answer → (k : ℕ) × (answer ≡ Violated k) × (k ≤ length events)
-  pub single : (at : ℕ) → verdict ≡ Violated at → (s : State) → states ≡ s ∷ []
-      → IsVerdict (from_state rules s) events (Violated (length events))
+  pub single : (s : State) → states ≡ s ∷ [] → IsVerdict (from_state rules s) events (at_end (length events) verdict)
 
 -- What is shown of a history is judged like it.
 abbrev pub WindowLaw : Type 0

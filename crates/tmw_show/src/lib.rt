@@ -9,5 +9,5 @@ mod showing;
 mod tests;
 
 pub use last_window::LastWindow;
-pub use law::law_window;
+pub use law::{law_states, law_window};
 pub use showing::Showing;

@@ -1,5 +1,5 @@
 -- One blank more.
-use Rattle.std.proofs.Common.{rules, ◌≡◌, ◌+◌, [], ◌∷◌, ◌++◌, ap, ◌∙◌, append_assoc}
+use Rattle.std.proofs.Common.{rules, ◌≡◌, [], ◌∷◌, ◌++◌, ap, ◌∙◌, append_assoc}
 use Rattle.std.proofs.lemmas.List.{replicate-append-replicate}
 use Rattle.tmw_run_show.specs.Drawing.{blanks}
 use Rattle.tmw_run_show.proofs.numbers.push_blanks.Goals as goal

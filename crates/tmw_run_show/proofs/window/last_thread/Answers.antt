@@ -1,5 +1,5 @@
 -- The greatest so far, and that of the events that are left.
-use Rattle.std.proofs.Common.{rules, ◌≡◌, ◌+◌, ◌<◌, ◌≤◌, ℕ, List, [], ◌∷◌, length, max, drop, get_or, drop-cons, add-one, ap, sym, ◌∙◌, arith}
+use Rattle.std.proofs.Common.{rules, ◌≡◌, ◌+◌, ◌<◌, ℕ, List, [], ◌∷◌, length, max, drop, get_or, drop-cons, add-one, ap, sym, ◌∙◌, arith}
 use Rattle.std.proofs.lemmas.List.{drop_all}
 use Rattle.tmw_events.specs.declared.event.Event.{Event}
 use Rattle.tmw_run_show.specs.Drawing.{last_thread}
