@@ -1,6 +1,7 @@
 /*
-What the C library costs: nanoseconds of a record, beside a recorder in C that appends to an array by one addition, of one, two and three
-threads; of an event that is judged; and the heap's bytes after few and many events.
+What the C library costs: nanoseconds of a record, beside a recorder in C that appends to an array by one addition, and beside the same
+atomic steps of the ring made by a few lines of C, of one, two and three threads; of an event that is judged; and the heap's bytes after few
+and many events.
 
     c [EVENTS]
 */
@@ -42,6 +43,32 @@ static void appends(unsigned thread, unsigned count)
         append((uint8_t)thread, 'V', 0, 0);
         append((uint8_t)thread, 'T', 0, 0);
         append((uint8_t)thread, 'C', 0, 0);
+    }
+}
+
+/* The ring's words: tail, front on a line of the cache of its own, and two for each cell. */
+enum { TAIL = 0, FRONT = 16, FIRST_CELL = 32 };
+static _Alignas(128) _Atomic uint64_t words[FIRST_CELL + 2 * CELLS];
+
+/* The atomic steps of a record, each sequentially consistent as the library's are. */
+static inline void step(uint64_t header, uint64_t value)
+{
+    uint64_t front = words[FRONT], tail = words[TAIL];
+    if (tail > (UINT64_C(1) << 40) - THREADS || tail - front > CELLS - THREADS)
+        abort();
+    uint64_t place = atomic_fetch_add(&words[TAIL], 1);
+    _Atomic uint64_t *cell = &words[FIRST_CELL + 2 * (place & (CELLS - 1))];
+    cell[1] = value;
+    cell[0] = (place + 1) << 10 | header;
+}
+
+static void steps(unsigned thread, unsigned count)
+{
+    for (unsigned i = 0; i < count; i += 4) {
+        step(thread << 7 | 0, 0);
+        step(thread << 7 | 16, 0);
+        step(thread << 7 | 32, 0);
+        step(thread << 7 | 48, 0);
     }
 }
 
@@ -108,6 +135,7 @@ static void empty_all(void)
 {
     uint64_t judged;
     recorded = 0;
+    words[FRONT] = words[TAIL];
     if (tmwatch_pump(&watch, UINT64_MAX, &judged) != TMWATCH_DONE)
         abort();
 }
@@ -209,14 +237,15 @@ static void show_heap(uint64_t count)
 int main(int count, char **words)
 {
     uint64_t many = count > 1 ? strtoull(words[1], NULL, 10) : 100000000;
-    printf("threads  append ns  record ns  ratio\n");
+    printf("threads  append ns  steps ns  record ns  record/append  record/steps\n");
     for (unsigned threads = 1; threads <= THREADS; threads++) {
         open_watch(THREADS);
-        double by_append = measure(appends, threads), by_record = measure(records, threads);
+        double by_append = measure(appends, threads), by_step = measure(steps, threads), by_record = measure(records, threads);
         tmwatch_discard(&watch);
         for (unsigned i = 0; i < THREADS; i++)
             tmwatch_discard_recorder(&recorders[i]);
-        printf("%7u %10.1f %10.1f %6.2f\n", threads, by_append, by_record, by_record / by_append);
+        printf("%7u %10.1f %9.1f %10.1f %14.2f %13.2f\n", threads, by_append, by_step, by_record, by_record / by_append,
+               by_record / by_step);
     }
     for (unsigned threads = 1; threads <= THREADS; threads += 2) {
         double pumped = measure_pump(threads);
