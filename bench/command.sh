@@ -110,7 +110,7 @@ expect examples/dirty_read.trace 2 "$(printf '%s\n' '{"at":3,"criterion":"strict
     '    event  thread 0    thread 1' '        1  W 0 1' '        2  K' '        3              R 0       undecided, by transactions')" \
     show --criterion strict --window 1
 expect examples/two_writers.trace 2 "$(printf '%s\n' 'opacity-trace 2 1 0' "$(sed 1d "$top/examples/two_writers.trace")")" show --states=1 --trace
-# two states at the cut: each of the two traces is answered as the run is
+# two states at the cut of a violated run: each of the two traces is violated
 printf '%s\n' '0 R 0' '0 V 3' | cat "$top/examples/two_writers.trace" - >"$folder/two_states"
 run show --trace <"$folder/two_states"
 count 'show --trace of two states' "1 $(printf '%s\n' 'opacity-trace 2 1 1' '0 R 0' '0 V 3' 'opacity-trace 2 1 2' '0 R 0' '0 V 3')" \

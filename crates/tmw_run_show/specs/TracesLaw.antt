@@ -1,4 +1,5 @@
--- The law of the traces that `show --trace` writes: `judge` reads each of them as a trace, and judges it as it judges the run.
+-- The law of the traces that `show --trace` writes: `judge` reads each of them as a trace, and what it may say of them tells whether
+-- the run is violated.
 use Rattle.std.specs.Prelude.{◌≡◌, ◌↔◌, ◌≤◌, ℕ, true, List, [], ◌∷◌, length, map, All}
 use Rattle.std.specs.List.{flat_map}
 use Rattle.tmw_events.specs.declared.event.Event.{Event}
@@ -38,7 +39,7 @@ pub record AreJudgedLike (criterion : Criterion) (bounds : Bounds) (verdict : Ve
       → IsVerdict (rules_from criterion bounds header) events (at_end (length events) verdict)
 
 -- With `--trace` the texts of traces are written, one behind the other: one trace for each state that is shown, in order, which begins
--- with just that state and has just the events that are shown. These traces are judged as the run is.
+-- with just that state and has just the events that are shown. How they are judged tells of the run.
 pub record AreTracesOf (criterion : Criterion) (bounds : Bounds) (shown : Shown) : Type 0 where
   pub headers : List Header
   pub states : map (λ header. header.initial) headers ≡ members shown.showing.states

@@ -2,8 +2,8 @@ ghost use Rattle.tmw_run_show.specs.TracesLaw.{TracesLaw};
 
 use tmw_show::{law_states, law_window};
 
-/// What `show --trace` writes is traces, which `judge` reads and judges as it judges the run: one for each state from which the window
-/// begins, with just that state at its start and the window's events.
+/// What `show --trace` writes is traces, which `judge` reads: one for each state from which the window begins, with just that state at its
+/// start and the window's events. The run is violated exactly when each of them is, at its end; a single one has the run's verdict.
 pub fn law_traces()
     ensures { TracesLaw }
 {

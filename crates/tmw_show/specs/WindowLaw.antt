@@ -29,7 +29,7 @@ pub record IsJudgedAlike (rules : Rules) (verdict : Verdict) (states : List Stat
       → IsVerdict (from_state rules s) events answer → (k : ℕ) × (answer ≡ Violated k) × (k ≤ length events)
   pub single : (s : State) → states ≡ s ∷ [] → IsVerdict (from_state rules s) events (at_end (length events) verdict)
 
--- What is shown of a history is judged like it.
+-- So it is of whatever is shown of a history.
 abbrev pub WindowLaw : Type 0
 WindowLaw = (rules : Rules) (history : List Event) (verdict : Verdict) (from : ℕ) (states : List State) (events : List Event)
     → 0 < rules.states → IsVerdict rules history verdict → IsShown rules history verdict from states events

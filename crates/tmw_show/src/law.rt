@@ -9,7 +9,7 @@ pub fn law_window()
 {}
 
 /// The states from which that window begins are states of the run: each gives eight registers values of 64 bits, and 0 to those that
-/// the run doesn't have, where the run began so.
+/// the run doesn't have, where the run began so and its events' values have 64 bits.
 pub fn law_states()
     ensures { StatesLaw }
 {}
