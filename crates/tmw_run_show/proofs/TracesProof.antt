@@ -45,6 +45,9 @@ each-member P xs each = recursion_from_All P xs (λ k d within. each (get_or xs 
 each_member : {A : Type 0} (P : A → Type 0) (xs : List A) → AllByRecursion P xs → (x : A) → Contains xs x → P x
 each_member P xs all x is = All-contains P xs x (All-from_recursion P xs all) is
 
+no-item : {A : Type 0} (x : A) → Contains {X = A} [] x → ⊥
+no-item x (k, within, is) = absurd (omega (arith, within))
+
 -- the headers of the states are judged like the run
 module _ (c : Criterion) (bounds : Bounds) (registers : Registers) (start : State) (v : Verdict) (states : List State) (events : List Event)
     (fit : AllByRecursion (FitsRegisters registers.number) states)
@@ -65,6 +68,10 @@ module _ (c : Criterion) (bounds : Bounds) (registers : Registers) (start : Stat
       → (k : ℕ) × (answer ≡ Violated k) × (k ≤ length events) in
       let At : State → Type 0 = λ s. IsViolated (rules_for c registers s bounds) events in
       record {
+        some = λ none.
+            let empty : states ≡ [] = sym (initials-headers_of registers states fit) ∙ ap (map (λ (h : Header). h.initial)) none in
+            let (s, among) = alike.some in
+            absurd (no-item s (subst (λ (items : List State). Contains items s) empty among));
         violated = (
           λ is. All-from_recursion Wrong (headers_of registers states fit) (each-headers_of registers Wrong states fit
               (each-member (λ s. (f : FitsRegisters registers.number s) → Wrong (header_of registers s f)) states

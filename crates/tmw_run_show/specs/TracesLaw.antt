@@ -1,6 +1,6 @@
 -- The law of the traces that `show --trace` writes: `judge` reads each of them as a trace, and what it may say of them tells whether
 -- the run is violated.
-use Rattle.std.specs.Prelude.{◌≡◌, ◌↔◌, ◌≤◌, ℕ, true, List, [], ◌∷◌, length, map, All}
+use Rattle.std.specs.Prelude.{◌≡◌, ◌≢◌, ◌↔◌, ◌≤◌, ℕ, true, List, [], ◌∷◌, length, map, All}
 use Rattle.std.specs.List.{flat_map}
 use Rattle.tmw_events.specs.declared.event.Event.{Event}
 use Rattle.tmw_events.specs.declared.registers.Registers.{Registers}
@@ -28,10 +28,11 @@ pub record IsHeaderFor (registers : Registers) (events : List Event) (header : H
 abbrev pub rules_from : Criterion → Bounds → Header → Rules
 rules_from criterion bounds header = rules_for criterion header.registers header.initial bounds
 
--- Traces with these headers, each of these events, are judged as a run with this verdict. The run is violated exactly when each of
--- them is violated at its end. Then each verdict on one of them is that it is violated, at its end or before. A single trace has the
+-- There is a trace with one of these headers, and each with these events is judged like a run with this verdict: the run is violated
+-- exactly when each of them is violated at its end. Then each verdict on one of them is that it is violated, at its end or before. A single trace has the
 -- run's own verdict, whichever it is, at its end.
 pub record AreJudgedLike (criterion : Criterion) (bounds : Bounds) (verdict : Verdict) (events : List Event) (headers : List Header) : Type 0 where
+  pub some : headers ≢ []
   pub violated : ((at : ℕ) × (verdict ≡ Violated at)) ↔ All (λ header. IsViolated (rules_from criterion bounds header) events) headers
   pub answered : (at : ℕ) → verdict ≡ Violated at → All (λ header. (answer : Verdict)
       → IsVerdict (rules_from criterion bounds header) events answer → (k : ℕ) × (answer ≡ Violated k) × (k ≤ length events)) headers

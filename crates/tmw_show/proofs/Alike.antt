@@ -11,7 +11,7 @@ use Rattle.tmw_defs.specs.declared.verdict.Why.TheVariants.{Transactions, States
 use Rattle.tmw_defs.specs.Criteria.{IsFinalBy}
 use Rattle.tmw_defs.specs.History.{is_well_formed}
 use Rattle.tmw_defs.specs.Opaque.{State}
-use Rattle.tmw_defs.specs.Verdict.{Rules, HasMany, IsFirst, IsViolated, IsVerdict}
+use Rattle.tmw_defs.specs.Verdict.{Rules, HasMany, IsFine, IsFirst, IsViolated, IsVerdict}
 use Rattle.tmw_defs.specs.Windows.{HasWide}
 use Rattle.tmw_defs.proofs.Criteria.{formed-final, outcome-final}
 use Rattle.tmw_show.specs.Shown.{shown_length}
@@ -127,12 +127,34 @@ answered rules h m from states events part some first s is (Undecided k States) 
 first-violated : (rules : Rules) (h : List Event) (v : Verdict) (at : ℕ) → v ≡ Violated at → IsVerdict rules h v → IsFirst IsViolated rules h at
 first-violated rules h v at is judged = subst (IsVerdict rules h) is judged
 
+-- the prefix up to the cut is fine
+fine-cut : (rules : Rules) (h : List Event) (v : Verdict) (from : ℕ) (states : List State) (events : List Event) → 0 < rules.states
+    → IsVerdict rules h v → IsPart rules h (shown_length (length h) v) from states events → IsFine rules (take from h)
+fine-cut rules h v from states events some judged part =
+    let order = part.order in
+    elim (cases_lt 0 (shown_length (length h) v)) [
+      | inl later ↦ before v judged (omega (arith, order, later))
+      | inr none ↦
+          let same : from ≡ 0 = omega (arith, order, none) in
+          subst (λ (n : ℕ). IsFine rules (take n h)) (sym same)
+          (none-fine rules h (shown_length (length h) v) from states events part rules.start some)
+    ]
+  where
+    before : (verdict : Verdict) → IsVerdict rules h verdict → from < shown_length (length h) verdict → IsFine rules (take from h)
+    before OpaqueSoFar is below = is.1 from (omega (arith, below))
+    before StrictSoFar is below = is.1 from (omega (arith, below))
+    before (Violated at) is below = is.before from below
+    before (Undecided at Transactions) is below = is.before from below
+    before (Undecided at States) is below = is.before from below
+    before (Malformed at) is below = is.before from below
+
 pub window_law : WindowLaw
 window_law rules h v from states events some judged shown =
     let part = shown-part rules h v from states events (shown-within rules h v judged) shown in
     let part_at : (at : ℕ) → v ≡ Violated at → IsPart rules h at from states events =
     λ at is. subst (λ n. IsPart rules h n from states events) (ap (shown_length (length h)) is) part in
     record {
+      some = some-state rules h (shown_length (length h) v) from states events part (fine-cut rules h v from states events some judged part);
       violated = (
         λ (at, is). violated-each rules h at from states events (part_at at is) (first-violated rules h v at is judged).here,
         each-violated rules h v from states events some judged part,

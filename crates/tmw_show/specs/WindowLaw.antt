@@ -20,10 +20,11 @@ at_end events (Violated at) = Violated events
 at_end events (Undecided at why) = Undecided events why
 at_end events (Malformed at) = Malformed events
 
--- A history is violated at its event exactly when these events, up to it, are violated at their end from each of these states. Then
--- each verdict on them is that they are violated, at their end or before. From a single state they have the history's own verdict,
+-- There is such a state, and a history is violated at its event exactly when these events, up to it, are violated at their end from each.
+-- Then each verdict on them is that they are violated, at their end or before. From a single state they have the history's own verdict,
 -- whichever it is, at their end.
 pub record IsJudgedAlike (rules : Rules) (verdict : Verdict) (states : List State) (events : List Event) : Type 0 where
+  pub some : (s : State) × Contains states s
   pub violated : ((at : ℕ) × (verdict ≡ Violated at)) ↔ ((s : State) → Contains states s → IsViolated (from_state rules s) events)
   pub answered : (at : ℕ) → verdict ≡ Violated at → (s : State) → Contains states s → (answer : Verdict)
       → IsVerdict (from_state rules s) events answer → (k : ℕ) × (answer ≡ Violated k) × (k ≤ length events)
