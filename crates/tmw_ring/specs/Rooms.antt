@@ -57,8 +57,8 @@ abbrev pub refused_tail : Refused → ℕ
 refused_tail (Full front tail) = tail
 refused_tail (Spent tail) = tail
 
--- A record that is begun after so many were found to have room, by whichever writer, and is refused, has found that so many places
--- more were claimed.
+-- A record whose writer knows a run that goes on from where so many were found to have room, and which is refused, has found that so
+-- many places more were claimed.
 abbrev pub RoomStaysLaw : Type 0
 RoomStaysLaw = (records : ℕ) (old found before after : WriterIs) (has : HasFoundRoom records old found) (since : List Answered)
     (kind : Kind) (refused : Refused) → before.size ≡ old.size → before.run ≡ found.run ++ since → IsRefusal kind before refused after

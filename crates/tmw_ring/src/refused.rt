@@ -5,9 +5,9 @@ use thiserror::Error;
 pub enum Refused {
     /// There was no room for what is asked and an event of each other writer: so many places were given up to tail, and up to front
     /// they were free again.
-    #[error("the ring is full: {tail} places were given, and {front} of them are free again")]
+    #[error("the ring lacks room: {tail} places were given, and {front} of them are free again")]
     Full { front: u64, tail: u64 },
     /// Fewer places than that takes are left up to the ring's limit.
-    #[error("the ring's places are spent: {tail} were given")]
+    #[error("too few of the ring's places are left: {tail} were given")]
     Spent { tail: u64 },
 }

@@ -10,9 +10,10 @@ use atomic_table::Play;
 use std::collections::LinkedList;
 
 impl Ring {
-    /// Whether so many records find room, one after another, if nobody frees a place meanwhile: the refusal is that of the last of
-    /// them. 0 is taken for 1. It claims nothing, and waits for nothing. The places are for whoever claims them first, so that
-    /// a yes holds good for so many records of all the ring's writers together, as `law_room_stays` says.
+    /// Whether so many records find room, one after another, if nobody frees a place meanwhile: the refusal is of the kind that the
+    /// last of them would meet. 0 is taken for 1. It claims nothing, and waits for nothing. The places are for whoever claims them
+    /// first, so that a yes holds good for so many records of all the ring's writers together, as `law_room_stays` says. No clause
+    /// tells that the call looks within itself, and not before: it makes no step of the machine.
     pub fn room(&self, writer: &mut Writer, records: u64) -> Result<(), Refused>
         requires { WriterOf self.now writer.old }
         ensures still_of_ring { WriterOf self.now writer.new }
@@ -49,8 +50,8 @@ impl Play<(), LinkedList<Part>> for FoundFront {
 
 /// How long room for several records holds good.
 ///
-/// A record that is begun after `room` has answered yes, by whichever writer, and is refused, finds at least so many places more
-/// claimed than `room` did.
+/// A record that is begun after `room` has answered yes, by the same writer, or by one whose run goes on from that answer as after a
+/// meeting, and is refused, finds at least so many places more claimed than `room` did.
 pub fn law_room_stays()
     ensures { RoomStaysLaw }
 {}
