@@ -11,7 +11,7 @@ watch tells whether the run is opaque so far (Guerraoui and Kapalka 2008), or wh
 
     tmwatch_open(&watch, recorders, 2, &settings);
     ... thread 0: tmwatch_read(&recorders[0], 0), the read, tmwatch_value(&recorders[0], value) ...
-    ... meanwhile: tmwatch_pump(&watch, 64, &judged) ...
+    ... meanwhile, by the thread that has opened it: tmwatch_pump(&watch, 64, &judged) ...
     tmwatch_close(&watch, recorders, 2, &told);
 
 No call waits for another thread, and none ends the program. Every call but the discards answers with a status; what isn't done leaves all
@@ -31,7 +31,8 @@ What the program owes. Nothing of it is tested:
 6. No call is made in a signal handler, nor in a forked child of a process that has threads.
 7. The stack has room for the call: 64 KiB are ample for tmwatch_pump and tmwatch_close, of which 27 were the most that was seen.
 8. Recorder i is used by the thread whose events are to be those of thread i. It records a call before the memory is asked, and an answer
-   after the memory has answered, all of them: else the verdict is on another run than that of the memory.
+   after the memory has answered, all of them: else the verdict is on another run than that of the memory. An event that was refused is
+   tried again before the thread goes on; or all threads end recording there, and the verdict on what was recorded before stands.
 */
 #ifndef TMWATCH_H
 #define TMWATCH_H
@@ -49,6 +50,13 @@ extern "C" {
 #define TMWATCH_PURE __attribute__((transaction_pure))
 #else
 #define TMWATCH_PURE
+#endif
+
+/* A function whose status is to be looked at: an event that was refused, and not tried again, makes the record one of another run. */
+#if defined(__GNUC__)
+#define TMWATCH_LOOK __attribute__((warn_unused_result))
+#else
+#define TMWATCH_LOOK
 #endif
 
 /* How a call was answered. */
@@ -103,9 +111,10 @@ typedef struct tmwatch_settings {
     uint64_t start[8];  /* what they hold at first; 0 for those that the memory doesn't have */
     uint64_t window;    /* how many transactions there may be from one moment at which all have ended to the next: 1 to 8 */
     uint64_t states;    /* how many states the registers may have at such a moment: 1 to 64 */
-    uint64_t cells;     /* how many events are recorded and not yet pumped, at most: from the number of recorders to 4,096 */
-    uint64_t limit;     /* how many events are recorded in all, at most, and fewer by less than the number of recorders: from that number
-                           to 2^40 */
+    uint64_t cells;     /* from the number of recorders to 4,096: this many events less all recorders but one may be recorded and not yet
+                           pumped (TMWATCH_MOST_ROOM) */
+    uint64_t limit;     /* from the number of recorders to 2^40: this many events less all recorders but one are recorded for sure, and no
+                           more than this many */
 } tmwatch_settings;
 
 /* What was judged, and the verdict on it. */
@@ -119,6 +128,9 @@ typedef struct tmwatch_told {
 /* A handle that holds nothing. */
 #define TMWATCH_EMPTY {0, false}
 #define TMWATCH_EMPTY_RECORDER {0, false, 0}
+
+/* The most events for which a ring of so many cells has room at once, beside so many recorders. */
+#define TMWATCH_MOST_ROOM(cells, recorders) ((cells) - (recorders) + 1)
 
 /* The widest settings for a memory of so many registers, which hold 0 at first. */
 #define TMWATCH_SETTINGS(registers) {(uint64_t)(registers), {0, 0, 0, 0, 0, 0, 0, 0}, 8, 64, 4096, UINT64_C(1) << 40}
@@ -148,36 +160,38 @@ recorded, and once it is judged the watch's verdict is TMWATCH_MALFORMED, where 
 
 They never wait, and take no memory.
 */
-TMWATCH_PURE uint32_t tmwatch_read(tmwatch_recorder *recorder, uint64_t register_number);
-TMWATCH_PURE uint32_t tmwatch_value(tmwatch_recorder *recorder, uint64_t value);
-TMWATCH_PURE uint32_t tmwatch_write(tmwatch_recorder *recorder, uint64_t register_number, uint64_t value);
-TMWATCH_PURE uint32_t tmwatch_stored(tmwatch_recorder *recorder);
-TMWATCH_PURE uint32_t tmwatch_add(tmwatch_recorder *recorder, uint64_t register_number, uint64_t value);
-TMWATCH_PURE uint32_t tmwatch_commit(tmwatch_recorder *recorder);
-TMWATCH_PURE uint32_t tmwatch_committed(tmwatch_recorder *recorder);
-TMWATCH_PURE uint32_t tmwatch_abort(tmwatch_recorder *recorder);
-TMWATCH_PURE uint32_t tmwatch_aborted(tmwatch_recorder *recorder);
+TMWATCH_PURE TMWATCH_LOOK uint32_t tmwatch_read(tmwatch_recorder *recorder, uint64_t register_number);
+TMWATCH_PURE TMWATCH_LOOK uint32_t tmwatch_value(tmwatch_recorder *recorder, uint64_t value);
+TMWATCH_PURE TMWATCH_LOOK uint32_t tmwatch_write(tmwatch_recorder *recorder, uint64_t register_number, uint64_t value);
+TMWATCH_PURE TMWATCH_LOOK uint32_t tmwatch_stored(tmwatch_recorder *recorder);
+TMWATCH_PURE TMWATCH_LOOK uint32_t tmwatch_add(tmwatch_recorder *recorder, uint64_t register_number, uint64_t value);
+TMWATCH_PURE TMWATCH_LOOK uint32_t tmwatch_commit(tmwatch_recorder *recorder);
+TMWATCH_PURE TMWATCH_LOOK uint32_t tmwatch_committed(tmwatch_recorder *recorder);
+TMWATCH_PURE TMWATCH_LOOK uint32_t tmwatch_abort(tmwatch_recorder *recorder);
+TMWATCH_PURE TMWATCH_LOOK uint32_t tmwatch_aborted(tmwatch_recorder *recorder);
 
 /*
 Records the event of this letter, as a trace has it: R, V, W, K, N, T, C, X, A. Its place in the one log of all threads' events, counted
-from 0, is stored in *place. What the kind doesn't have of a register and a value isn't looked at.
+from 0, is stored in *place: the last event of the prefix of length `at` has the place at - 1. What the kind doesn't have of a register and
+a value isn't looked at.
 
 As those above, and TMWATCH_BAD_KIND. Where it isn't TMWATCH_DONE, *place stays.
 */
-TMWATCH_PURE uint32_t tmwatch_record(tmwatch_recorder *recorder, uint32_t letter, uint64_t register_number, uint64_t value,
-                                     uint64_t *place);
+TMWATCH_PURE TMWATCH_LOOK uint32_t tmwatch_record(tmwatch_recorder *recorder, uint32_t letter, uint64_t register_number,
+                                                  uint64_t value, uint64_t *place);
 
 /*
-Tells whether this many events find room, one after another: asked before a transaction begins, so that none of its events is refused while
-the memory may hold a lock. 0 is taken for 1. It records nothing, reserves nothing, never waits and takes no memory.
+Tells whether this many events find room, one after another: asked before a transaction begins, so that none of its events is refused. 0 is
+taken for 1. It records nothing, reserves nothing, never waits and takes no memory.
 
-TMWATCH_DONE holds good until as many events more are recorded, by all recorders of the watch together: no record that begins meanwhile is
-answered TMWATCH_FULL or TMWATCH_SPENT. So a thread whose transaction has at most k events, while the other threads record at most m, asks
-for k + m.
-TMWATCH_NO_HANDLE. TMWATCH_FULL: so many don't find room now; they never do where the watch has fewer cells than they and an event of each
-other recorder take. TMWATCH_SPENT: so many places are not left up to the limit, nor will they be.
+TMWATCH_DONE holds good until as many events more are recorded, by all recorders of the watch together, those included whose call has
+begun: until then no record of this recorder is answered TMWATCH_FULL or TMWATCH_SPENT. So a thread whose attempt has at most k events,
+while the other threads record at most m, asks for k + m.
+TMWATCH_NO_HANDLE. TMWATCH_FULL: the call found no room for so many; as of a record, it may come where there was room. More than
+TMWATCH_MOST_ROOM of the watch's cells and recorders never find room. TMWATCH_SPENT: so many places, and one for an event of each other
+recorder, are not left up to the limit, nor will they be; fewer may be.
 */
-TMWATCH_PURE uint32_t tmwatch_room(tmwatch_recorder *recorder, uint64_t events);
+TMWATCH_PURE TMWATCH_LOOK uint32_t tmwatch_room(tmwatch_recorder *recorder, uint64_t events);
 
 /*
 Judges up to `most` events, in the order of the log, and stores in *judged how many: fewer only where the next place of the log has no event

@@ -1,11 +1,11 @@
 /*
 Want of memory at each call for some, and whether any stays behind. A run of eight threads over seven registers, which has 64 states at a
-time and a reader of one of them, so that judging takes memory too. Half of it is pumped, and the rest is judged by the close.
+time and a reader of one of them, so that judging takes memory too. Half of it is pumped, and the rest is judged by the close, or discarded.
 */
 #include "check.h"
 #include "heap.h"
 
-enum { WRITERS = 7, THREADS = 8, HALF = 20, EVENTS = 46, SOON = 1000, OPENS = 10000 };
+enum { WRITERS = 7, THREADS = 8, HALF = 20, EVENTS = 46, CELLS = 64, SOON = 1000, OPENS = 10000 };
 
 static tmwatch watch;
 static tmwatch_recorder recorders[THREADS];
@@ -19,6 +19,8 @@ static void record_write(unsigned thread, unsigned number)
 /* Seven writers, each of one register with the thread before it and of one with the thread behind it, and then a reader. */
 static void record_all(void)
 {
+    unsigned long before = calls;
+    CHECK(tmwatch_room(&recorders[0], EVENTS) == TMWATCH_DONE && tmwatch_room(&recorders[0], CELLS) == TMWATCH_FULL);
     for (unsigned thread = 0; thread < WRITERS; thread++) {
         if (thread > 0)
             record_write(thread, thread - 1);
@@ -34,6 +36,8 @@ static void record_all(void)
     CHECK(tmwatch_read(&recorders[7], 5) == TMWATCH_DONE && tmwatch_value(&recorders[7], 6) == TMWATCH_DONE);
     CHECK(tmwatch_commit(&recorders[7]) == TMWATCH_DONE && tmwatch_committed(&recorders[7]) == TMWATCH_DONE);
     CHECK(tmwatch_read(&recorders[7], 0) == TMWATCH_DONE && tmwatch_value(&recorders[7], 2) == TMWATCH_DONE);
+    /* Neither recording nor asking for room takes memory. */
+    CHECK(calls == before);
 }
 
 static bool tells_all(tmwatch_told told)
@@ -45,7 +49,7 @@ static bool tells_all(tmwatch_told told)
 static void open_soon(void)
 {
     tmwatch_settings settings = TMWATCH_SETTINGS(7);
-    settings.cells = 64;
+    settings.cells = CELLS;
     for (int tries = 0;; tries++) {
         uint32_t status = tmwatch_open(&watch, recorders, THREADS, &settings);
         if (status == TMWATCH_DONE)
@@ -130,6 +134,19 @@ static bool close_refused(unsigned long number)
     return had;
 }
 
+/* What is discarded gives all back, also what was recorded and not judged. */
+static void discard_all(void)
+{
+    calls = refused = 0;
+    open_soon();
+    record_all();
+    pump_soon();
+    for (unsigned thread = 0; thread < THREADS; thread++)
+        tmwatch_discard_recorder(&recorders[thread]);
+    tmwatch_discard(&watch);
+    CHECK(is_empty(&watch) && are_empty(recorders, THREADS) && blocks == 0 && bytes == 0);
+}
+
 int main(void)
 {
     unsigned long one = 1, from = 1, closing = 1;
@@ -137,6 +154,7 @@ int main(void)
         one++;
     while (run(from, true))
         from++;
+    discard_all();
     while (close_refused(closing))
         closing++;
     CHECK(one > 30 && from > 30 && closing > 5);

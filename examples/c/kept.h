@@ -1,0 +1,54 @@
+/*
+Keeps what is recorded, each event at its place in the log, so that a run which a watch has judged can be written as a trace: for
+`tmwatch show`, which draws where it went wrong. A program records by kept_record in the place of the library's calls, and when its threads
+have ended and the watch is closed it writes the prefix that the verdict names, or the whole run.
+
+    kept_record(&recorders[2], 2, 'R', register_number, 0)      in the place of tmwatch_read(&recorders[2], register_number)
+    kept_write(file, &settings, told.verdict == TMWATCH_VIOLATED ? told.at : told.events)
+*/
+#ifndef KEPT_H
+#define KEPT_H
+
+#include "tmwatch.h"
+#include <stdint.h>
+#include <stdio.h>
+
+/* The first events are kept, this many: 16 bytes each. */
+enum { KEPT_MOST = 1 << 20 };
+
+struct kept_event {
+    uint64_t value;
+    uint8_t thread, reg;
+    char letter;
+};
+
+static struct kept_event kept_events[KEPT_MOST];
+
+TMWATCH_PURE static inline uint32_t kept_record(tmwatch_recorder *recorder, unsigned thread, char letter, unsigned reg, uint64_t value)
+{
+    uint64_t place;
+    uint32_t status = tmwatch_record(recorder, (uint32_t)letter, reg, value, &place);
+    if (status == TMWATCH_DONE && place < KEPT_MOST)
+        kept_events[place] = (struct kept_event){value, (uint8_t)thread, (uint8_t)reg, letter};
+    return status;
+}
+
+/* Writes the trace of the first `count` events, or of as many as are kept. */
+static inline void kept_write(FILE *file, const tmwatch_settings *settings, uint64_t count)
+{
+    fprintf(file, "opacity-trace 2 %u", (unsigned)settings->registers);
+    for (uint64_t reg = 0; reg < settings->registers; reg++)
+        fprintf(file, " %llu", (unsigned long long)settings->start[reg]);
+    fputc('\n', file);
+    for (uint64_t place = 0; place < count && place < KEPT_MOST; place++) {
+        const struct kept_event *event = &kept_events[place];
+        fprintf(file, "%u %c", (unsigned)event->thread, event->letter);
+        if (event->letter == 'R' || event->letter == 'W' || event->letter == 'N')
+            fprintf(file, " %u", (unsigned)event->reg);
+        if (event->letter == 'V' || event->letter == 'W' || event->letter == 'N')
+            fprintf(file, " %llu", (unsigned long long)event->value);
+        fputc('\n', file);
+    }
+}
+
+#endif
