@@ -5,13 +5,13 @@
 #
 # The sanitizers see the programs and what the library gets of the heap, and not into the library, which they did not compile; valgrind sees
 # all. The exit status is 1 where a run failed. What is not there is said to be skipped.
-# Environment: CC (cc).
+# Environment: CC (cc), BUILT (a folder that ./tmwatch-c has filled; it is made where there is none).
 set -eu
 top=$(cd "$(dirname "${BASH_SOURCE[0]}")/.." && pwd)
 folder=$(mktemp -d)
 trap 'rm -rf "$folder"' EXIT
-export BUILT=$folder/built
-"$top/tmwatch-c" "$BUILT"
+[ -n "${BUILT:-}" ] || "$top/tmwatch-c" "$folder/built"
+export BUILT=${BUILT:-$folder/built}
 status=0
 
 compiles() {
