@@ -87,14 +87,12 @@ length() {
 
 reads() {
     local reads=${READS:-10000000} pairs=$'0 R 0\n0 V 0'
-    # An operation takes 24 bytes; a list that was kept beside a new one would take more than this.
-    local most=$((reads / 32 + 20000))
-    row "judge: a transaction of $reads reads" $most "$(opaque $((2 * reads + 2)))" judge \
+    row "judge: a transaction of $reads reads" $little "$(opaque $((2 * reads + 2)))" judge \
         < <(repeated $((2 * reads)) "$pairs" && printf '0 T\n0 C\n')
-    row 'judge: three of them, one after another' $most "$(opaque $((6 * reads + 6)))" judge \
+    row 'judge: three of them, one after another' $little "$(opaque $((6 * reads + 6)))" judge \
         < <(repeated $((2 * reads)) "$pairs" && printf '0 T\n0 C\n' && yes "$pairs" | head -n $((2 * reads)) && printf '0 T\n0 C\n' &&
             yes "$pairs" | head -n $((2 * reads)) && printf '0 T\n0 C\n')
-    row 'judge: the same, and at its end a value that nobody wrote' $most \
+    row 'judge: the same, and at its end a value that nobody wrote' $little \
         "1 {\"at\":$((2 * reads + 2)),\"events\":$((2 * reads + 4)),\"verdict\":\"violated\"}" judge \
         < <(repeated $((2 * reads)) "$pairs" && printf '0 R 0\n0 V 1\n0 T\n0 C\n')
 }
@@ -228,7 +226,7 @@ limited() {
 
 limits() {
     local reads=${READS:-10000000} bytes=${BYTES:-1000000000} little=20000
-    limited "a transaction of $reads reads, in $((reads / 50)) KiB" $((reads / 50)) judge \
+    limited "a window of $reads reads, in $((reads / 50)) KiB" $((reads / 50)) show \
         < <(repeated $((2 * reads)) $'0 R 0\n0 V 0' && printf '0 T\n0 C\n')
     limited "a window from 64 outcomes that has no order, in $little KiB" $little judge < <(live_reads 1 && printf '7 R 7\n7 V 9\n')
     limited "$reads steps, in $((reads / 50)) KiB" $((reads / 50)) steps < <(echo 'ring-steps 1 4 2 100' && yes peek | head -n "$reads")
@@ -272,6 +270,7 @@ left_by_reader() {
 streams() {
     echo '{"registers":1,"scripts":[[["W 0 5","T"]]],"order":[0,0]}' >"$folder/workload"
     streams_of "$top/examples/dirty_read.trace" 'bad header' judge
+    streams_of "$top/examples/dirty_read.trace" 'bad header' show
     streams_of "$top/examples/stopped_writer.steps" 'bad header' steps
     streams_of "$folder/workload" json drive --trace
     streams_of "$folder/workload" json bench --trace

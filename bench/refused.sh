@@ -205,6 +205,10 @@ row 'judge, 64 outcomes and 63 allowed' 2 4 "$folder/outcomes" judge --states 63
 row 'judge, 64 outcomes and a reader of one' 0 4 "$folder/narrowed" judge
 row 'judge, 64 outcomes and a reader of none' 1 4 "$folder/impossible" judge
 row 'judge, 64 outcomes by layers' 0 4 "$folder/layers" judge
+row 'show, one window' 0 1 "$top/examples/own_write.trace" show
+row 'show, violated' 1 4 "$top/examples/dirty_read.trace" show
+row 'show, 64 outcomes and a reader of none' 1 4 "$folder/impossible" show
+row 'show, 64 outcomes and a reader of none, as traces' 1 4 "$folder/impossible" show --trace
 row 'steps, a late claim' 0 4 "$top/examples/late_claim.steps" steps
 row 'steps, many' 0 16 "$folder/steps" steps
 for memory in norec lock torn; do
