@@ -31,8 +31,9 @@ What the program owes. Nothing of it is tested:
 6. No call is made in a signal handler, nor in a forked child of a process that has threads.
 7. The stack has room for the call: 64 KiB are ample for tmwatch_pump and tmwatch_close, of which 27 were the most that was seen.
 8. Recorder i is used by the thread whose events are to be those of thread i. It records a call before the memory is asked, and an answer
-   after the memory has answered, all of them: else the verdict is on another run than that of the memory. An event that was refused is
-   tried again before the thread goes on; or all threads end recording there, and the verdict on what was recorded before stands.
+   after the memory has answered, all of them: else the verdict is on another run than that of the memory. An event for which there
+   was no room is tried again before the thread goes on; or all threads end recording there, and the verdict on what was recorded before
+   stands.
 */
 #ifndef TMWATCH_H
 #define TMWATCH_H
@@ -111,8 +112,8 @@ typedef struct tmwatch_settings {
     uint64_t start[8];  /* what they hold at first; 0 for those that the memory doesn't have */
     uint64_t window;    /* how many transactions there may be from one moment at which all have ended to the next: 1 to 8 */
     uint64_t states;    /* how many states the registers may have at such a moment: 1 to 64 */
-    uint64_t cells;     /* from the number of recorders to 4,096: this many events less all recorders but one may be recorded and not yet
-                           pumped (TMWATCH_MOST_ROOM) */
+    uint64_t cells;     /* from the number of recorders to 4,096: no more than this many events are recorded and not yet pumped, and up to
+                           this many less all recorders but one (TMWATCH_MOST_ROOM) find room for sure */
     uint64_t limit;     /* from the number of recorders to 2^40: this many events less all recorders but one are recorded for sure, and no
                            more than this many */
 } tmwatch_settings;
@@ -129,7 +130,7 @@ typedef struct tmwatch_told {
 #define TMWATCH_EMPTY {0, false}
 #define TMWATCH_EMPTY_RECORDER {0, false, 0}
 
-/* The most events for which a ring of so many cells has room at once, beside so many recorders. */
+/* The most events for which tmwatch_room ever finds room in a ring of so many cells, with so many recorders. */
 #define TMWATCH_MOST_ROOM(cells, recorders) ((cells) - (recorders) + 1)
 
 /* The widest settings for a memory of so many registers, which hold 0 at first. */
@@ -184,9 +185,9 @@ TMWATCH_PURE TMWATCH_LOOK uint32_t tmwatch_record(tmwatch_recorder *recorder, ui
 Tells whether this many events find room, one after another: asked before a transaction begins, so that none of its events is refused. 0 is
 taken for 1. It records nothing, reserves nothing, never waits and takes no memory.
 
-TMWATCH_DONE holds good until as many events more are recorded, by all recorders of the watch together, those included whose call has
-begun: until then no record of this recorder is answered TMWATCH_FULL or TMWATCH_SPENT. So a thread whose attempt has at most k events,
-while the other threads record at most m, asks for k + m.
+TMWATCH_DONE holds good until as many events more are recorded than the call found, by all recorders of the watch together, those included
+whose call has begun: until then no record of this recorder is answered TMWATCH_FULL or TMWATCH_SPENT. So a thread whose attempt has at most
+k events, while the other threads record at most m from the asking on, asks for k + m.
 TMWATCH_NO_HANDLE. TMWATCH_FULL: the call found no room for so many; as of a record, it may come where there was room. More than
 TMWATCH_MOST_ROOM of the watch's cells and recorders never find room. TMWATCH_SPENT: so many places, and one for an event of each other
 recorder, are not left up to the limit, nor will they be; fewer may be.

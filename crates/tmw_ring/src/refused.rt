@@ -1,6 +1,6 @@
 use thiserror::Error;
 
-/// Why an event was not recorded, or why there is no room for several. Whether all places were given is tested first.
+/// Why an event was not recorded, or why there is no room for several. Whether too few places are left is tested first.
 #[derive(Clone, Copy, PartialEq, Eq, Debug, Error)]
 pub enum Refused {
     /// There was no room for what is asked and an event of each other writer: so many places were given up to tail, and up to front
