@@ -12,7 +12,7 @@ pub record RingIs : Type 0 where
   pub size : RingSize
 
 -- The ring that it writes into, its number, the places that it has claimed, each with its event, how many places were claimed
--- at least, and the ring's run up to its own last step, its last meeting or its last look for room.
+-- at least, and the ring's run up to its own last step or its last meeting.
 pub record WriterIs : Type 0 where
   pub table : TableId
   pub size : RingSize
