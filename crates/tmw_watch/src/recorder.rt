@@ -48,8 +48,8 @@ impl Recorder {
         self.ring.record(&mut self.writer, kind)
     }
     /// Whether so many records find room, one after another: asked before a transaction begins, so that its records aren't refused. 0 is
-    /// taken for 1. It claims nothing, never waits and takes no memory. A yes holds good until as many events more than it found are recorded, by
-    /// this recorder and the others together, those included whose call has begun: no record of this recorder that begins meanwhile is refused
+    /// taken for 1. It claims nothing, never waits and takes no memory. A yes holds good until so many more than it found are recorded, by this
+    /// recorder and the others together, those included whose call has begun: no record of this recorder that begins meanwhile is refused
     /// (`law_room_stays` of `tmw_ring`). `Full`: at the front and then the tail that the call found there was no room for so many and an
     /// event of each other recorder; there never is where these are more than the cells. `Spent`: so many places, and one for each other
     /// recorder, are not left up to the limit of events, nor will they be. Fewer may find room yet.
