@@ -12,7 +12,7 @@ use std::collections::LinkedList;
 impl Ring {
     /// Whether so many records find room, one after another, if nobody frees a place meanwhile: the refusal is of the kind that the
     /// last of them would meet. 0 is taken for 1. It claims nothing, and waits for nothing. The places are for whoever claims them
-    /// first, so that a yes holds good for this writer until so many records of all writers, as `law_room_stays` says. No clause
+    /// first, so that a yes holds good for this writer until all writers have made so many, as `law_room_stays` says. No clause
     /// tells that the call looks within itself, and not before: it makes no step of the machine.
     pub fn room(&self, writer: &mut Writer, records: u64) -> Result<(), Refused>
         requires { WriterOf self.now writer.old }
