@@ -1,9 +1,9 @@
 -- What an effect has to tell with an operation more, and what is left of an add where it is an answer and then a write.
-use Rattle.std.proofs.Common.{◌≡◌, ◌==◌, ◌&&◌, ◌+◌, ◌%◌, ◌^◌, ◌<◌, ◌++◌, ℕ, Bool, true, false, List, [], ◌∷◌, length, Option, Some, None, refl, sym, ap, ◌∙◌, inl, inr, w8}
+use Rattle.std.proofs.Common.{◌≡◌, ◌==◌, ◌&&◌, ◌||◌, ◌+◌, ◌%◌, ◌^◌, ◌++◌, ℕ, Bool, true, false, List, [], ◌∷◌, length, Some, None, refl, sym, ap, ◌∙◌, inl, inr, w8}
 use Rattle.std.specs.Prelude.{slice_index, slice_set, if◌then◌else◌}
 use Rattle.std.specs.Int.{bit_at}
 use Rattle.std.specs.List.{list_all}
-use Rattle.std.proofs.lemmas.Bool.{cases_Bool, eqb-true, eqb-false}
+use Rattle.std.proofs.lemmas.Bool.{cases_Bool, eqb-true, eqb-false, eq-eqb}
 use Rattle.std.proofs.lemmas.List.{get_or-set_same, get_or-set_other}
 use Rattle.std.proofs.lemmas.List.Folds.{list_all-append}
 use Rattle.std.proofs.lemmas.Nat.Bits.{bit_at_set_same, bit_at_set_other}
@@ -14,7 +14,8 @@ use Rattle.tmw_defs.specs.declared.op.Op.TheVariants.{Read, Write, Add}
 use Rattle.tmw_cuts.specs.declared.effect.Effect.{Effect}
 use Rattle.tmw_cuts.specs.Effects.{SumsUp, LeavesLast, IsEffectOf, left_at}
 use Rattle.tmw_cuts.specs.Written.{is_write, with_bit, with_new, written_by, needed_by, left_by}
-use Rattle.tmw_cuts.proofs.Effects.{add-split}
+use Rattle.tmw_cuts.proofs.Chosen.{with_bit-has}
+use Rattle.tmw_cuts.proofs.Effects.{add-split, read-left, read-needed, read-first}
 use Rattle.tmw_cuts.proofs.WrittenMore.{written_by-append, needed_by-append, left_by-append}
 
 -- operations with one that is no write are not all writes
@@ -37,6 +38,32 @@ with_read e f ops r v is left leaves needed only sums =
     needs =
         needed ∙ ap (λ m. with_new m e.needed r.number) is.1.1.0 ∙ ap (λ m. with_new (written_by 0 ops) m r.number) is.1.1.1.0
         ∙ sym (needed_by-append 0 0 ops (Read r v ∷ []))
+
+-- What the operations tell of the register, where they tell of it: what they leave in it, or else what they need there.
+abbrev pub known_of : Effect → ℕ → ℕ → ℕ
+known_of e r v = if bit_at e.left r == 1 then slice_index e.leaves r else (if bit_at e.needed r == 1 then slice_index e.needs r else v)
+
+abbrev pub is_known : Effect → ℕ → Bool
+is_known e r = (bit_at e.left r == 1) || (bit_at e.needed r == 1)
+
+module _ (e f : Effect) (ops : List Op) (r : Ix) (v : ℕ) (is : IsEffectOf e ops) (leaves : length e.leaves ≡ 8) (needs : length e.needs ≡ 8)
+    (f_left : f.left ≡ e.left) (f_leaves : f.leaves ≡ e.leaves) (f_only : f.only_writes ≡ false)
+    (f_agrees : f.agrees ≡ (e.agrees && (known_of e r.number v == v))) (f_needed : f.needed ≡ with_new e.left e.needed r.number)
+    (f_needs : f.needs ≡ (if is_known e r.number then e.needs else slice_set e.needs r.number v)) where
+  sums_up : SumsUp f (ops ++ Read r v ∷ [])
+  sums_up s long =
+      elim (cases_Bool (bit_at e.left r.number == 1)) [
+        | inl own ↦ rw (f_left, f_leaves, f_agrees, f_needed, f_needs, own) (read-left e ops r v is.0 s long leaves own)
+        | inr unwritten ↦ elim (cases_Bool (bit_at e.needed r.number == 1)) [
+          | inl asked ↦ rw (f_left, f_leaves, f_agrees, f_needed, f_needs, unwritten, asked, with_bit-has e.needed r.number r.below asked)
+              (read-needed e ops r v is.0 s long leaves needs unwritten asked)
+          | inr new ↦ rw (f_left, f_leaves, f_agrees, f_needed, f_needs, unwritten, new, eq-eqb v v refl, and-true e.agrees)
+              (read-first e ops r v is.0 s long leaves needs unwritten new)
+        ]
+      ]
+
+  pub with_answer : IsEffectOf f (ops ++ Read r v ∷ [])
+  with_answer = with_read e f ops r v is f_left f_leaves f_needed f_only sums_up
 
 module _ (e f : Effect) (ops : List Op) (r : Ix) (v : ℕ) (is : LeavesLast e ops) (left : f.left ≡ with_bit e.left r.number)
     (leaves : f.leaves ≡ slice_set e.leaves r.number v) (long : length e.leaves ≡ 8) where

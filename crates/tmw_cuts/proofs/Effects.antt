@@ -1,9 +1,9 @@
 -- An effect with an answer or a write more, and the registers one at a time.
-use Rattle.std.proofs.Common.{◌≡◌, ◌==◌, ◌&&◌, ◌||◌, ◌+◌, ◌%◌, ◌^◌, ◌++◌, ◌<◌, ℕ, zero, suc, Bool, true, false, not, List, [], ◌∷◌, length, get_or, set, take, drop, refl, sym, ap, ◌∙◌, inl, inr, ◌⊎◌, add-one, arith}
+use Rattle.std.proofs.Common.{◌≡◌, ◌==◌, ◌&&◌, ◌||◌, ◌+◌, ◌%◌, ◌^◌, ◌++◌, ◌<◌, ℕ, zero, suc, Bool, true, false, not, List, [], ◌∷◌, length, get_or, set, take, drop, refl, sym, ap, ◌∙◌, inl, inr, add-one, arith}
 use Rattle.std.specs.Prelude.{slice_index, slice_set, if◌then◌else◌}
 use Rattle.std.specs.Int.{bit_at}
-use Rattle.std.proofs.lemmas.Bool.{cases_Bool, eqb-true, eq-eqb}
-use Rattle.std.proofs.Math.Bool.{and-true, or-true}
+use Rattle.std.proofs.lemmas.Bool.{cases_Bool, eqb-true}
+use Rattle.std.proofs.Math.Bool.{and-true}
 use Rattle.tmw_events.specs.declared.ix.Ix.{Ix}
 use Rattle.tmw_defs.specs.declared.op.Op.{Op}
 use Rattle.tmw_defs.specs.declared.op.Op.TheVariants.{Read, Write, Add}
@@ -210,18 +210,19 @@ add-split e ops r d v sums s long =
     ) refl in
     (sym reads ∙ (sums s long).0, sym leaves ∙ (sums s long).1)
 
--- a register that is not needed, or has the needed value, decides nothing
-pub have-past : (ds : List Bool) (vs : List ℕ) (s : State) (i : ℕ) → length ds ≡ 8 → length vs ≡ 8 → length s ≡ 8 → i < 8
-    → (get_or ds i false ≡ false) ⊎ (slice_index s i ≡ slice_index vs i)
-    → have (drop i ds) (drop i vs) (drop i s) ≡ have (drop (i + 1) ds) (drop (i + 1) vs) (drop (i + 1) s)
-have-past ds vs s i d v l within past =
-    rw add-one (have-drop ds vs s i (rw d within) (rw v within) (rw l within) ∙ passes past)
+-- a turn of the loop that asks of each register whether it has its value
+pub have-turn : (ds : List Bool) (vs : List ℕ) (s : State) (i : ℕ) → length ds ≡ 8 → length vs ≡ 8 → length s ≡ 8 → i < 8 → (met : Bool)
+    → ((met && ((slice_index s i == slice_index vs i) || not (get_or ds i false))) && have (drop (i + 1) ds) (drop (i + 1) vs) (drop (i + 1) s))
+    ≡ (met && have (drop i ds) (drop i vs) (drop i s))
+have-turn ds vs s i d v l within met =
+    rw add-one (turn met _ _ _ ∙ ap (λ b. met && b) (sym (have-drop ds vs s i (rw d within) (rw v within) (rw l within))))
   where
-    passes : (get_or ds i false ≡ false) ⊎ (slice_index s i ≡ slice_index vs i)
-        → ((not (get_or ds i false) || (slice_index s i == slice_index vs i)) && have (drop (suc i) ds) (drop (suc i) vs) (drop (suc i) s))
-        ≡ have (drop (suc i) ds) (drop (suc i) vs) (drop (suc i) s)
-    passes (inl free) = rw free refl
-    passes (inr same) = rw (eq-eqb _ _ same, or-true (not (get_or ds i false))) refl
+    turn : (met same has rest : Bool) → ((met && (same || not has)) && rest) ≡ (met && ((not has || same) && rest))
+    turn false same has rest = refl
+    turn true true true rest = refl
+    turn true true false rest = refl
+    turn true false true rest = refl
+    turn true false false rest = refl
 
 -- a turn of the loop that puts the values in
 pub put-past : (ds : List Bool) (vs : List ℕ) (s : State) (i : ℕ) → length ds ≡ 8 → length vs ≡ 8 → length s ≡ 8 → i < 8

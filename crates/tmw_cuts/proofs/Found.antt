@@ -1,9 +1,9 @@
 -- How the code finds the transaction of an event, against what is to be shown.
 use Rattle.std.proofs.Common.{◌≡◌, ◌<◌, ℕ, zero, suc, Bool, true, false, List, [], ◌∷◌, ◌++◌, length, map, drop, Some, None, get_or, IsTrue, IsFalse, refl, sym, ap, ◌∙◌, inl, inr, arith}
-use Rattle.std.specs.Prelude.{slice_set, position, nat_lt, IfSome}
+use Rattle.std.specs.Prelude.{slice_set, position}
 use Rattle.std.specs.List.{list_any, position_or_len, refill}
 use Rattle.std.proofs.Math.Seq.{take-append_seam}
-use Rattle.std.proofs.lemmas.Bool.{cases_Bool, or_parts, lt-ltb, ltb-true}
+use Rattle.std.proofs.lemmas.Bool.{cases_Bool, or_parts, lt-ltb}
 use Rattle.std.proofs.lemmas.List.Quantifiers.{position-Some}
 use Rattle.tmw_events.specs.declared.event.Event.{Event}
 use Rattle.tmw_cuts.specs.declared.txn.Txn.{Txn}
@@ -47,26 +47,7 @@ push_views-position e before txns i old new found at is =
     let (within, here, past) = position-Some (λ txn. is_open_for e.thread.number (view txn)) txns i old (sym found) in
     push_views-at e before txns i old new within here past (rw (← at) is)
 
-within_some : (p : View → Bool) (txns : List Txn) → IsTrue (list_any p (map view txns))
-    → position_or_len (λ txn. p (view txn)) txns < length txns
-within_some p [] some = absurd (cc)
-within_some p (t ∷ ts) some =
-    elim (cases_Bool (p (view t))) [
-      | inl here ↦ rw here (omega arith)
-      | inr past ↦
-          let rest : IsTrue (list_any p (map view ts)) = rw past at some in
-          let found : position_or_len (λ txn. p (view txn)) ts < length ts = within_some p ts rest in
-          rw past (omega arith)
-    ]
-
 -- one that is there is found
-pub position-some : (p : View → Bool) (txns : List Txn) → IsTrue (list_any p (map view txns))
-    → None ≡ position (λ txn. p (view txn)) txns → ⊥
-position-some p txns some nowhere =
-    let found : None ≡ Some (position_or_len (λ txn. p (view txn)) txns) = nowhere ∙ rw (lt-ltb _ _ (within_some p txns some)) refl in
-    absurd (cc)
-
--- the same of what is shown
 within_some_view : (p : View → Bool) (vs : List View) → IsTrue (list_any p vs) → position_or_len p vs < length vs
 within_some_view p [] some = absurd (cc)
 within_some_view p (v ∷ vs) some =
@@ -86,11 +67,3 @@ position_some p vs some nowhere =
 -- a list of the same length is written over the whole of another
 pub refill-whole : {X : Type 0} (xs ws : List X) → length ws ≡ length xs → refill (length xs) xs ws ≡ ws
 refill-whole xs ws same = rw (← same) (take-append_seam ws (drop (length ws) xs))
-
--- a place that is found is one of the list
-pub position-within : (p : Txn → Bool) (txns : List Txn) → IfSome (position p txns) (λ place. place < length txns)
-position-within p txns =
-    elim (cases_Bool (nat_lt (position_or_len p txns) (length txns))) [
-      | inl within ↦ rw within (ltb-true (position_or_len p txns) (length txns) within)
-      | inr nowhere ↦ rw nowhere tt
-    ]

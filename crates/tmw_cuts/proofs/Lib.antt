@@ -7,6 +7,7 @@ pub mod FirstMembers
 pub mod Found
 mod Marked
 pub mod Masks
+pub mod OpenOnes
 mod TakenBack
 pub mod Pushes
 pub mod Rising

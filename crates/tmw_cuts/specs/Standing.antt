@@ -1,11 +1,11 @@
 -- Which events a window stands for: it shows their transactions, in the order of their first events.
-use Rattle.std.specs.Prelude.{◌≡◌, ◌+◌, ◌*◌, ℕ, List, [], ◌∷◌, length, map}
+use Rattle.std.specs.Prelude.{◌≡◌, ◌+◌, ◌*◌, ◌<◌, ℕ, List, [], ◌∷◌, length, map, position, slice_index, nat_lt, Option, Some, None, if◌then◌else◌}
 use Rattle.tmw_events.specs.declared.event.Event.{Event}
 use Rattle.tmw_defs.specs.History.{Txn, operations, status_of, transactions}
 use Rattle.tmw_defs.specs.Opaque.{precedes}
 use Rattle.tmw_wellformed.specs.Pending.{call_of}
 use Rattle.tmw_cuts.specs.declared.window.Window.{Window}
-use Rattle.tmw_cuts.specs.Views.{View, view, bit}
+use Rattle.tmw_cuts.specs.Views.{View, view, bit, is_open_for, completed_mask}
 
 -- The number whose bit j says that transaction j of these precedes this one in real time.
 abbrev pub before_of : List Txn → Txn → ℕ
@@ -33,5 +33,16 @@ views window = map view window.txns.items
 abbrev pub count_of : Window → ℕ
 count_of window = length (views window)
 
+-- A place below eight is that of a transaction.
+abbrev pub shown : ℕ → Option ℕ
+shown place = if nat_lt place 8 then Some place else None
+
+-- The place of the transaction that the thread has open, by what is noted of each thread.
+abbrev pub open_at : List ℕ → ℕ → Option ℕ
+open_at places thread = shown (slice_index places thread)
+
 pub record StandsFor (window : Window) (events : List Event) : Type 0 where
   pub shows : views window ≡ views_of events
+  -- what it notes of each thread, and of those that have completed, is so
+  pub opens : (thread : ℕ) → thread < 8 → open_at window.places thread ≡ position (is_open_for thread) (views_of events)
+  pub masks : window.completed ≡ completed_mask (views_of events)

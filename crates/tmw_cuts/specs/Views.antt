@@ -1,5 +1,5 @@
 -- What a window shows of a transaction.
-use Rattle.std.specs.Prelude.{◌≡◌, ◌==◌, ◌&&◌, ◌+◌, ◌*◌, ℕ, Bool, true, false, not, List, [], ◌∷◌, ◌++◌, Option, Some, None, if◌then◌else◌}
+use Rattle.std.specs.Prelude.{◌==◌, ◌&&◌, ◌+◌, ◌*◌, ℕ, Bool, true, false, not, List, [], ◌∷◌, ◌++◌, Option, Some, None, if◌then◌else◌}
 use Rattle.tmw_events.specs.declared.event.Event.{Event}
 use Rattle.tmw_events.specs.declared.event.Kind.{Kind}
 use Rattle.tmw_defs.specs.declared.op.Op.{Op}
@@ -62,7 +62,3 @@ push_views e before (v ∷ vs) =
 -- It is the thread's and commit-pending.
 abbrev pub awaits_commit_of : ℕ → View → Bool
 awaits_commit_of thread v = (v.thread == thread) && is_pending v.status
-
--- What is shown is what was shown, with an event more.
-abbrev pub PushesEvent : Event → List View → List View → Type 0
-PushesEvent e old new = new ≡ push_views e (completed_mask old) old

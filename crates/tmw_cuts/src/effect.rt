@@ -55,21 +55,28 @@ impl Effect {
         }
     }
 
-    /// Takes an answer of the register in: the operations before, or else the state, have to give that value.
+    /// Takes an answer of the register in: the operations before, or else the state, have to give that value. Which of them is chosen
+    /// without a jump, since no processor foresees it.
     #[inline(always)]
     fn read(&mut self, register: Ix, value: u64)
         ensures { (ops : List Op) → IsEffectOf self.old ops → IsEffectOf self.new (ops ++ Read register value ∷ []) }
     {
         let place = register.get() as usize;
-        self.only_writes = false;
-        if has_register(self.left, place) {
-            self.agrees &= self.leaves[place] == value;
-        } else if has_register(self.needed, place) {
-            self.agrees &= self.needs[place] == value;
+        let own = has_register(self.left, place);
+        let asked = has_register(self.needed, place);
+        let left = self.leaves[place];
+        let need = self.needs[place];
+        let known = if own {
+            left
+        } else if asked {
+            need
         } else {
-            self.needed |= 1 << place;
-            self.needs[place] = value;
-        }
+            value
+        };
+        self.only_writes = false;
+        self.agrees &= known == value;
+        self.needed |= if own { 0 } else { 1 << place };
+        self.needs[place] = if own | asked { need } else { value };
     }
 
     /// Takes in that the register holds the value from here on.
@@ -97,17 +104,18 @@ impl Effect {
         }
     }
 
-    /// Whether each register that is needed has the needed value in the state.
+    /// Whether each register that is needed has the needed value in the state. It asks each register, since no processor foresees
+    /// which are needed.
     #[inline(always)]
     fn is_met(&self, state: &State) -> bool
         ensures { result ≡ have (chosen self.now.needed) self.now.needs state.now }
     {
+        let mut met = true;
         for register in 0..8 {
-            if has_register(self.needed, register) && state[register] != self.needs[register] {
-                return false;
-            }
+            let same = state[register] == self.needs[register];
+            met &= same | !has_register(self.needed, register);
         }
-        true
+        met
     }
 
     /// The state with what is left in the registers.
@@ -150,10 +158,12 @@ impl Effect {
         ensures { (ops : List Op) → IsEffectOf self.now ops → result ≡ slice_index (after_writes state.now ops) register.number }
     {
         let place = register.get() as usize;
+        let left = self.leaves[place];
+        let held = state[place];
         if has_register(self.left, place) {
-            self.leaves[place]
+            left
         } else {
-            state[place]
+            held
         }
     }
 

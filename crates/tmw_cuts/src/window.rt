@@ -1,8 +1,9 @@
-ghost use Rattle.std.specs.Prelude.{◌≡◌, ◌<◌, ◌≤◌, [], ◌∷◌, ◌++◌, List, Some, IfSome, IsTrue, IsFalse, true, length, map, position, slice_set};
+ghost use Rattle.std.specs.Prelude.{◌≡◌, ◌*◌, ◌%◌, ◌^◌, ◌<◌, ◌≤◌, [], ◌∷◌, ◌++◌, List, Some, IfSome, IsTrue, true, length, map, position, slice_set, bit_or, min, if◌then◌else◌};
 ghost use Rattle.std.specs.List.{list_all, list_any};
 ghost use Rattle.tmw_defs.specs.History.{is_over};
-ghost use Rattle.tmw_cuts.specs.Views.{view, is_open_for, awaits_commit_of, PushesEvent};
+ghost use Rattle.tmw_cuts.specs.Views.{view, is_open_for, awaits_commit_of, completed_mask};
 
+use crate::kinds::ends;
 use crate::mark::Mark;
 use crate::mask::completed_mask;
 use crate::txn::Txn;
@@ -17,14 +18,10 @@ pub struct Window {
     /// The registers of the run.
     pub registers: Registers,
     txns: ArrayVec<Txn, 8>,
-}
-
-/// The transaction to which the thread's next event belongs, if it has one that has not ended.
-#[inline(always)]
-fn open_transaction(txns: &[Txn], thread: Ix) -> Option<usize>
-    ensures { result ≡ position (λ txn. is_open_for thread.number (view txn)) txns.now }
-{
-    txns.iter().position(|txn| txn.is_open_for(thread))
+    /// The place of the transaction that each thread has open, or 8.
+    places: [u8; 8],
+    /// Those that have committed or aborted, as a mask.
+    completed: u8,
 }
 
 /// Whether each of them has committed or aborted.
@@ -39,28 +36,6 @@ fn any_awaits_commit(txns: &[Txn], thread: Ix) -> bool
     ensures { result ≡ list_any (λ txn. awaits_commit_of thread.number (view txn)) txns.now }
 {
     txns.iter().any(|txn| txn.awaits_commit(thread))
-}
-
-/// Takes the first event of a transaction.
-#[inline(always)]
-fn begin(txns: &mut ArrayVec<Txn, 8>, event: Event)
-    requires room { length txns.old.items < 8 }
-    ensures { IsFalse (list_any (is_open_for event.thread.number) (map view txns.old.items))
-        → PushesEvent event (map view txns.old.items) (map view txns.new.items) }
-{
-    let before = completed_mask(txns.as_slice());
-    txns.push(Txn::new(event, before));
-}
-
-/// Takes the next event of the transaction that its thread has open.
-#[inline(always)]
-fn go_on(txns: &mut ArrayVec<Txn, 8>, event: Event)
-    ensures { IsTrue (list_any (is_open_for event.thread.number) (map view txns.old.items))
-        → PushesEvent event (map view txns.old.items) (map view txns.new.items) }
-{
-    if let Some(index) = open_transaction(txns.as_slice(), event.thread) {
-        txns[index].add(event.kind);
-    }
 }
 
 /// Puts a transaction in its place again.
@@ -91,6 +66,8 @@ impl Window {
         Window {
             registers,
             txns: ArrayVec::new(),
+            places: [8; 8],
+            completed: 0,
         }
     }
 
@@ -127,9 +104,9 @@ impl Window {
         ensures registers { self.new.registers ≡ self.old.registers }
     {
         if note.begins {
-            begin(&mut self.txns, event);
-        } else {
-            go_on(&mut self.txns, event);
+            self.push_new(event);
+        } else if let Some(place) = self.open_place(event.thread) {
+            self.push_at(place, event);
         }
     }
 
@@ -141,7 +118,9 @@ impl Window {
             → StandsFor self.new (events ++ event ∷ []) }
         ensures registers { self.new.registers ≡ self.old.registers }
     {
-        begin(&mut self.txns, event);
+        let place = self.txns.len();
+        self.txns.push(Txn::new(event, self.completed));
+        self.note(event.thread, place, ends(event.kind));
     }
 
     /// Takes the next event of a well-formed history, that of the transaction at this place, which is open for its thread.
@@ -153,6 +132,24 @@ impl Window {
         ensures registers { self.new.registers ≡ self.old.registers }
     {
         self.txns[place].add(event.kind);
+        self.note(event.thread, place, ends(event.kind));
+    }
+
+    /// Notes the thread's open transaction, which is at this place, or that it is over.
+    #[inline(always)]
+    fn note(&mut self, thread: Ix, place: usize, over: bool)
+        requires { place < 8 }
+        ensures places { self.new.places ≡ slice_set self.old.places thread.number (if over then 8 else place) }
+        ensures completed { self.new.completed ≡ (if over then bit_or self.old.completed (1 * 2 ^ place % 2 ^ 8) else self.old.completed) }
+        ensures others { (self.new.txns ≡ self.old.txns) × (self.new.registers ≡ self.old.registers) }
+    {
+        let thread = thread.get() as usize;
+        if over {
+            self.completed |= 1 << place;
+            self.places[thread] = 8;
+        } else {
+            self.places[thread] = place as u8;
+        }
     }
 
     /// The place of the transaction to which the thread's next event belongs, if it has one that has not ended.
@@ -161,7 +158,12 @@ impl Window {
         ensures within { IfSome result (λ place. place < count_of self.now) }
         ensures stands { (events : List Event) → StandsFor self.now events → result ≡ position (is_open_for thread.number) (views_of events) }
     {
-        open_transaction(self.txns.as_slice(), thread)
+        let place = self.places[thread.get() as usize] as usize;
+        if place < self.txns.len() {
+            Some(place)
+        } else {
+            None
+        }
     }
 
     /// Notes what the next event of the thread will change, so that it can be taken back.
@@ -169,11 +171,10 @@ impl Window {
         ensures thread { result.thread ≡ thread }
         ensures marks { (events : List Event) → StandsFor self.now events → Marks result (views_of events) }
     {
-        let txns = self.txns.as_slice();
-        match open_transaction(txns, thread) {
+        match self.open_place(thread) {
             Some(place) => Mark {
                 thread,
-                held: Some((place, txns[place].copy())),
+                held: Some((place, self.txns[place].copy())),
             },
             None => Mark { thread, held: None },
         }
@@ -185,13 +186,29 @@ impl Window {
             → StandsFor self.old (events ++ event ∷ []) → StandsFor self.new events }
         ensures registers { self.new.registers ≡ self.old.registers }
     {
-        let Mark { thread: _, held } = mark;
+        let Mark { thread, held } = mark;
         match held {
-            Some(held) => put_back(&mut self.txns, held),
+            Some(held) => {
+                let place = held.0;
+                put_back(&mut self.txns, held);
+                self.note_again(thread, place);
+            }
             None => {
                 let _begun = self.txns.pop();
+                self.note_again(thread, 8);
             }
         }
+    }
+
+    /// Notes the place of the thread's open transaction, or 8, and those that have completed.
+    fn note_again(&mut self, thread: Ix, place: usize)
+        ensures places { self.new.places ≡ slice_set self.old.places thread.number (min place 8) }
+        ensures completed { self.new.completed ≡ completed_mask (views self.old) }
+        ensures few { length (views self.old) ≤ 8 }
+        ensures others { (self.new.txns ≡ self.old.txns) × (self.new.registers ≡ self.old.registers) }
+    {
+        self.places[thread.get() as usize] = place.min(8) as u8;
+        self.completed = completed_mask(self.txns.as_slice());
     }
 
     /// Whether the event can't break the criterion: it answers no commit request, and where the criterion is opacity no read and
@@ -215,6 +232,8 @@ impl Window {
         ensures registers { self.new.registers ≡ self.old.registers }
     {
         self.txns.clear();
+        self.places = [8; 8];
+        self.completed = 0;
     }
 
     /// A window that stands for the same events.
@@ -230,6 +249,8 @@ impl Window {
         Window {
             registers: self.registers,
             txns,
+            places: self.places,
+            completed: self.completed,
         }
     }
 }

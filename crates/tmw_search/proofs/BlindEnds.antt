@@ -1,5 +1,5 @@
 -- The ends of all of a window's transactions, where they are blind: those of the orders that ranks tell.
-use Rattle.std.proofs.Common.{◌≡◌, ◌==◌, ◌⊎◌, ◌+◌, ◌*◌, ◌-◌, ◌%◌, ◌^◌, ◌<◌, ◌≤◌, ℕ, zero, suc, Bool, true, false, List, [], ◌∷◌, length, map, Option, Some, None, IsTrue, nat_lt, bit_or, w8, refl, sym, ap, subst, ◌∙◌, inl, inr, arith}
+use Rattle.std.proofs.Common.{◌≡◌, ◌⊎◌, ◌+◌, ◌*◌, ◌-◌, ◌^◌, ◌<◌, ◌≤◌, ℕ, zero, suc, Bool, true, false, List, [], ◌∷◌, length, map, Option, Some, None, IsTrue, nat_lt, w8, refl, sym, ap, subst, ◌∙◌, inl, inr, arith}
 use Rattle.std.specs.Int.{bit_at}
 use Rattle.std.specs.List.{Contains, list_all}
 use Rattle.std.specs.Prelude.{slice_get, slice_index, slice_index_or, get_or, if◌then◌else◌}
@@ -8,11 +8,10 @@ use Rattle.std.proofs.lemmas.Bool.{and_parts, and_from, ltb-true, lt-ltb, le-ltb
 use Rattle.std.proofs.lemmas.List.Elements.{Contains-get_or}
 use Rattle.std.proofs.lemmas.List.Folds.{list_all-map}
 use Rattle.std.proofs.lemmas.Option.{slice_get_within}
-use Rattle.tmw_cuts.specs.Written.{is_write}
-use Rattle.tmw_search.specs.BlindTransactions.{is_blind, blind_after}
-use Rattle.tmw_search.specs.Choices.{ShowsReach, IsRanking, IsReach, IsLastAt, EndsAt, EndsFrom, AgreeOutside}
+use Rattle.tmw_search.specs.BlindTransactions.{is_blind}
+use Rattle.tmw_search.specs.Choices.{ShowsReach, IsReach, EndsFrom, AgreeOutside}
 use Rattle.tmw_search.specs.ForcedTransactions.{is_committed, writes, is_writer}
-use Rattle.tmw_search.specs.LastWrites.{IsWriter, value_at, LeaveLasts, AreWritten, AllWritten, NoneFrom, nothing}
+use Rattle.tmw_search.specs.LastWrites.{LeaveLasts, AreWritten, AllWritten, NoneFrom, nothing}
 use Rattle.tmw_search.specs.declared.lasts.Last.{Last}
 use Rattle.tmw_defs.specs.declared.criterion.Criterion.{Criterion}
 use Rattle.tmw_defs.specs.declared.criterion.Criterion.TheVariants.{Opacity, Strict}
@@ -23,11 +22,11 @@ use Rattle.tmw_defs.specs.History.{Txn, is_over, is_ended, status_of, operations
 use Rattle.tmw_defs.specs.Opaque.{State, precedes}
 use Rattle.tmw_defs.specs.Outcomes.{Ends}
 use Rattle.tmw_search.proofs.BlindProof.{blind_at, blind-written, blind-kept}
-use Rattle.tmw_search.proofs.Choosing.{or-left, or-right}
+use Rattle.tmw_search.proofs.Choosing.{or-left}
 use Rattle.tmw_search.proofs.LayerSteps.{slice_get_some}
 use Rattle.tmw_search.proofs.LayersProof.{layer-last, same_place, bit_cases}
-use Rattle.tmw_search.proofs.OrderRanks.{AreLast, IsRanked, ranked_of, writes_or}
-use Rattle.tmw_search.proofs.RankedOrders.{RanksAll, ranked-end}
+use Rattle.tmw_search.proofs.OrderRanks.{AreLast, ranked_of}
+use Rattle.tmw_search.proofs.RankedOrders.{ranked-end}
 use Rattle.tmw_cuts.specs.declared.states.States.{States}
 use Rattle.tmw_cuts.specs.declared.window.Window.{Window}
 use Rattle.tmw_cuts.specs.Members.{members}

@@ -13,10 +13,11 @@ use Rattle.tmw_search.specs.BlindTransactions.{is_blind, blind_after, Reaches}
 use Rattle.tmw_search.specs.ForcedTransactions.{is_committed, writes, is_writer}
 use Rattle.tmw_defs.specs.History.{Txn, is_ended, status_of, operations}
 use Rattle.tmw_search.specs.Layers.{LeavesNone, IsStep}
-use Rattle.tmw_defs.specs.Opaque.{State, zeros, Placed, precedes, may_be, reads_hold, after, after_writes}
+use Rattle.tmw_defs.specs.Opaque.{State, zeros, Placed, may_be, reads_hold, after, after_writes}
 use Rattle.tmw_search.proofs.ForcedProof.{after-final, final-kept, final-any, length-writes}
 use Rattle.tmw_search.proofs.LayersProof.{layer-step, list_all_at}
-use Rattle.tmw_search.proofs.Masks.{bit_at-more_other, bit_at-less_same}
+use Rattle.tmw_search.proofs.Masks.{bit_at-less_same}
+use Rattle.tmw_cuts.proofs.Bits.{bit_at-more_other}
 use Rattle.tmw_search.proofs.Completions.{held_is, may-committed}
 
 -- blind transactions read nothing, and the completion of one that has ended is fixed

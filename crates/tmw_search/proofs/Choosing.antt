@@ -1,21 +1,20 @@
 -- Each writer of a register that comes before no other of them may be its last: what that makes of the ends of the registers from it on.
-use Rattle.std.proofs.Common.{◌≡◌, ◌==◌, ◌&&◌, ◌⊎◌, ◌+◌, ◌-◌, ◌^◌, ◌<◌, ◌≤◌, ℕ, Bool, true, false, not, List, length, IsTrue, bit_or, refl, sym, ap, subst, ◌∙◌, inl, inr, arith}
+use Rattle.std.proofs.Common.{◌≡◌, ◌==◌, ◌&&◌, ◌⊎◌, ◌+◌, ◌-◌, ◌^◌, ◌<◌, ◌≤◌, ℕ, Bool, true, false, not, List, length, bit_or, refl, sym, ap, subst, ◌∙◌, inl, inr, arith}
 use Rattle.std.specs.Int.{bit_at}
 use Rattle.std.specs.List.{Contains}
-use Rattle.std.specs.Prelude.{slice_index, slice_set, get_or, if◌then◌else◌}
+use Rattle.std.specs.Prelude.{slice_index, slice_set, if◌then◌else◌}
 use Rattle.std.proofs.lemmas.Bool.{eq-eqb, ne_eqb, cases_lt}
 use Rattle.std.proofs.lemmas.List.{get_or-set_same, get_or-set_other, ext_get_or}
 use Rattle.std.proofs.lemmas.Nat.Bits.{bit_at-lt, bit_at-zero, bit_at_or, same_from_bits_below}
 use Rattle.tmw_defs.specs.Opaque.{State}
 use Rattle.tmw_cuts.specs.Members.{AddsMember}
 use Rattle.tmw_search.specs.BlindEnds.{Adds}
-use Rattle.tmw_search.specs.Choices.{Joins, IsRanking, IsReach, IsLastAt, EndsAt, EndsFrom}
-use Rattle.tmw_search.specs.LastWrites.{IsWriter, NoneFrom, value_at, AreWriters, nothing}
+use Rattle.tmw_search.specs.Choices.{Joins, IsReach, IsLastAt, EndsAt, EndsFrom}
+use Rattle.tmw_search.specs.LastWrites.{IsWriter, NoneFrom, value_at, AreWriters}
 use Rattle.tmw_search.specs.declared.lasts.Last.{Last}
 use Rattle.tmw_search.specs.declared.reach.Writers.{Writers}
-use Rattle.tmw_search.proofs.BlindProof.{IsLess, less_of}
+use Rattle.tmw_search.proofs.BlindProof.{less_of}
 use Rattle.tmw_search.proofs.LayersProof.{same_place, bit_cases}
-use Rattle.tmw_search.proofs.OrderRanks.{writes_or}
 use Rattle.tmw_search.proofs.RankedOrders.{most_rank, rank-most}
 
 -- the bits of either mask

@@ -96,7 +96,7 @@ forced-ends criterion states window xs start cap ends shown same cut forced are 
     let ts = transactions events in
     let is = shown ∙ stands.shows in
     let shows : ShowsTransactions xs ts = subst (λ (v : List View). ShowsTransactions v ts) (sym is) (shows-views_of events) in
-    let only_one = is-forced ts ts (subst (λ (v : List View). AreForced v) is forced) in
+    let only_one = is-forced ts (subst (λ (v : List View). AreForced v) is forced) in
     subst (λ (s : List State). AreMembers cap (EndsBy criterion (Contains s) ts) ends) same (are ts shows only_one (sym (cut events stands)))
 
 one_member : (xs : List State) (s t : State) → length xs ≡ 1 → Contains xs s → Contains xs t → s ≡ t
@@ -114,7 +114,7 @@ pub only-end : (criterion : Criterion) (old new : States) (window : Window) (xs 
     → Replaces criterion old cap events new true
 only-end criterion old new window xs cap end shown one is some cut forced = λ events stands known.
     let ts = transactions events in
-    let only_one = is-forced ts ts (subst (λ (v : List View). AreForced v) (shown ∙ stands.shows) forced) in (
+    let only_one = is-forced ts (subst (λ (v : List View). AreForced v) (shown ∙ stands.shows) forced) in (
       rw is (omega (arith, some)),
       λ s. (
         λ has. elim (contains_cases end s [] (rw is at has)) [

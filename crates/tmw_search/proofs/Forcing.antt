@@ -1,8 +1,10 @@
 -- The masks of a window's writers: a register that two of them write, or that one writes blindly, has its bit.
-use Rattle.std.proofs.Common.{◌≡◌, ◌==◌, ◌&&◌, ◌||◌, ◌⊎◌, ◌+◌, ◌*◌, ◌%◌, ◌^◌, ◌<◌, ◌≤◌, ℕ, Bool, true, false, not, List, [], ◌∷◌, map, IsTrue, bit_and, bit_or, cond, w8, refl, sym, ap, ◌∙◌, inl, inr, arith}
+use Rattle.std.proofs.Common.{◌≡◌, ◌==◌, ◌&&◌, ◌||◌, ◌⊎◌, ◌+◌, ◌*◌, ◌%◌, ◌^◌, ◌<◌, ◌≤◌, ℕ, zero, suc, Bool, true, false, not, List, [], ◌∷◌, map, Option, Some, None, IsTrue, bit_and, bit_or, cond, w8, refl, sym, ap, ◌∙◌, inl, inr, arith}
 use Rattle.std.specs.Int.{bit_at, bit_not}
-use Rattle.std.specs.List.{list_all, count_by}
-use Rattle.std.proofs.lemmas.Bool.{and_parts, and_from, cases_Bool, not-true, cases_lt, eqb-true, eqb-false}
+use Rattle.std.specs.List.{list_all, list_any, count_by}
+use Rattle.std.specs.Prelude.{slice_get, option_map}
+use Rattle.std.proofs.lemmas.Option.{slice_get-map}
+use Rattle.std.proofs.lemmas.Bool.{and_parts, and_from, cases_Bool, not-true, cases_lt, eqb-true, eqb-false, eq-eqb}
 use Rattle.std.proofs.lemmas.List.Folds.{list_all-map}
 use Rattle.std.proofs.lemmas.List.Sums.{sum_by-cons}
 use Rattle.std.proofs.Math.Nat.{mod-lt}
@@ -11,13 +13,15 @@ use Rattle.std.proofs.lemmas.Nat.Bits.{bit_at-zero, bit_at-lt, bit_at_and, bit_a
 use Rattle.tmw_events.specs.declared.ix.Ix.{Ix}
 use Rattle.tmw_defs.specs.declared.op.Op.{Op}
 use Rattle.tmw_defs.specs.declared.op.Op.TheVariants.{Read, Write, Add}
-use Rattle.tmw_search.specs.ForcedTransactions.{is_committed, writes, writes_blindly, is_writer, IsForced}
-use Rattle.tmw_defs.specs.History.{Txn}
+use Rattle.tmw_search.specs.ForcedTransactions.{is_committed, writes, writes_blindly, is_writer, left_in, gives_way, settles, IsSettled, IsForced}
+use Rattle.tmw_defs.specs.History.{Txn, operations}
+use Rattle.tmw_defs.specs.Opaque.{precedes}
 use Rattle.tmw_search.proofs.LayersProof.{bit_cases}
-use Rattle.tmw_cuts.specs.Standing.{view_of}
+use Rattle.tmw_cuts.specs.Standing.{before_of, view_of}
+use Rattle.tmw_cuts.proofs.Bits.{bit_at-before_of}
 use Rattle.tmw_cuts.specs.Views.{View, bit}
 use Rattle.tmw_cuts.specs.Written.{with_bit, with_new, written_by, needed_by, blind_by}
-use Rattle.tmw_search.specs.ForcedEnds.{shared_by, is_without_blind, AreForced}
+use Rattle.tmw_search.specs.ForcedEnds.{shared_by, is_without_blind, shows_writer, shows_way, AreSettled, AreDecided, AreForced}
 
 -- a bit that was set stays, and that of the register is set
 set-here : (mask r : ℕ) (q : Ix) → (q.number == r) ≡ true → bit_at (with_bit mask q.number) r ≡ 1
@@ -160,9 +164,6 @@ blind-has ops r some =
     let none = needed-blind ops 0 0 r (bit_at-zero r) (bit_at-zero r) some in
     omega (arith, bit_at_and (written_by 0 ops) (bit_not w8 (needed_by 0 0 ops)) r, one, none, bit_at_not w8 (needed_by 0 0 ops) r (needed-lt ops 0 0 (omega arith)) (writes-lt ops r written))
 
-abbrev writer : ℕ → View → Bool
-writer r x = is_committed x.status && writes r x.ops
-
 shared-stays : (xs : List View) (once twice r : ℕ) → bit_at twice r ≡ 1 → bit_at (shared_by once twice xs) r ≡ 1
 shared-stays [] once twice r has = has
 shared-stays (x ∷ xs) once twice r has =
@@ -178,14 +179,14 @@ shared-stays (x ∷ xs) once twice r has =
 abbrev flag : Bool → ℕ
 flag b = cond b 1 0
 
-count-one : (r : ℕ) (x : View) (xs : List View) → writer r x ≡ true → count_by (writer r) (x ∷ xs) ≡ 1 + count_by (writer r) xs
-count-one r x xs is = sum_by-cons (λ y. flag (writer r y)) x xs ∙ ap (λ b. flag b + count_by (writer r) xs) is
+count-one : (r : ℕ) (x : View) (xs : List View) → shows_writer r x ≡ true → count_by (shows_writer r) (x ∷ xs) ≡ 1 + count_by (shows_writer r) xs
+count-one r x xs is = sum_by-cons (λ y. flag (shows_writer r y)) x xs ∙ ap (λ b. flag b + count_by (shows_writer r) xs) is
 
-count-none : (r : ℕ) (x : View) (xs : List View) → writer r x ≡ false → count_by (writer r) (x ∷ xs) ≡ 0 + count_by (writer r) xs
-count-none r x xs other = sum_by-cons (λ y. flag (writer r y)) x xs ∙ ap (λ b. flag b + count_by (writer r) xs) other
+count-none : (r : ℕ) (x : View) (xs : List View) → shows_writer r x ≡ false → count_by (shows_writer r) (x ∷ xs) ≡ 0 + count_by (shows_writer r) xs
+count-none r x xs other = sum_by-cons (λ y. flag (shows_writer r y)) x xs ∙ ap (λ b. flag b + count_by (shows_writer r) xs) other
 
 -- a register that two write is shared
-shared-has : (xs : List View) (once twice r : ℕ) → 2 ≤ bit_at once r + count_by (writer r) xs → bit_at (shared_by once twice xs) r ≡ 1
+shared-has : (xs : List View) (once twice r : ℕ) → 2 ≤ bit_at once r + count_by (shows_writer r) xs → bit_at (shared_by once twice xs) r ≡ 1
 shared-has [] once twice r two = absurd (omega (arith, two, bit_at-lt once r))
 shared-has (x ∷ xs) once twice r two =
     let own = written_by 0 x.ops in
@@ -213,9 +214,9 @@ shared-has (x ∷ xs) once twice r two =
           rw other (shared-has xs once twice r (omega (arith, same, two)))
     ]
 
-few-writers : (xs : List View) (r : ℕ) → bit_at (shared_by 0 0 xs) r ≡ 0 → count_by (writer r) xs ≤ 1
+few-writers : (xs : List View) (r : ℕ) → bit_at (shared_by 0 0 xs) r ≡ 0 → count_by (shows_writer r) xs ≤ 1
 few-writers xs r none =
-    elim (cases_lt 1 (count_by (writer r) xs)) [
+    elim (cases_lt 1 (count_by (shows_writer r) xs)) [
       | inl more ↦ absurd (omega (arith, none, shared-has xs 0 0 r (omega (arith, more))))
       | inr few ↦ few
     ]
@@ -236,7 +237,7 @@ not-blind registers r x one without =
       | inr other ↦ rw other refl
     ]
 
-none-blind : (registers r : ℕ) (xs : List View) → bit_at registers r ≡ 1 → IsTrue (list_all (is_without_blind registers) xs)
+pub none-blind : (registers r : ℕ) (xs : List View) → bit_at registers r ≡ 1 → IsTrue (list_all (is_without_blind registers) xs)
     → IsTrue (list_all (λ x. not (is_committed x.status && writes_blindly r x.ops)) xs)
 none-blind registers r [] one all = refl
 none-blind registers r (x ∷ xs) one all =
@@ -247,27 +248,67 @@ none-blind registers r (x ∷ xs) one all =
 pub none-shared : (xs : List View) → shared_by 0 0 xs ≡ 0 → AreForced xs
 none-shared xs none = λ r. inl (few-writers xs r (ap (λ n. bit_at n r) none ∙ bit_at-zero r))
 
-pub none-shared-blindly : (xs : List View) (registers : ℕ) → registers ≡ shared_by 0 0 xs
-    → IsTrue (list_all (is_without_blind registers) xs) → AreForced xs
-none-shared-blindly xs registers is all = λ r.
+pub shared-decided : (xs : List View) (registers : ℕ) → registers ≡ shared_by 0 0 xs → AreDecided registers xs → AreForced xs
+shared-decided xs registers is decided = λ r.
     elim (bit_cases registers r) [
       | inl none ↦ inl (few-writers xs r (ap (λ n. bit_at n r) (sym is) ∙ none))
-      | inr one ↦ inr (none-blind registers r xs one all)
+      | inr one ↦ inr (decided r one)
     ]
 
 -- what a window shows is forced where its transactions are
-count-map : (r : ℕ) (all ts : List Txn) → count_by (writer r) (map (view_of all) ts) ≡ count_by (is_writer r) ts
+count-map : (r : ℕ) (all ts : List Txn) → count_by (shows_writer r) (map (view_of all) ts) ≡ count_by (is_writer r) ts
 count-map r all [] = refl
 count-map r all (t ∷ ts) =
     let one : count_by (is_writer r) (t ∷ ts) ≡ flag (is_writer r t) + count_by (is_writer r) ts =
     sum_by-cons (λ u. flag (is_writer r u)) t ts in
-    let shown : count_by (writer r) (map (view_of all) (t ∷ ts)) ≡ flag (is_writer r t) + count_by (writer r) (map (view_of all) ts) =
-    sum_by-cons (λ y. flag (writer r y)) (view_of all t) (map (view_of all) ts) in
+    let shown : count_by (shows_writer r) (map (view_of all) (t ∷ ts)) ≡ flag (is_writer r t) + count_by (shows_writer r) (map (view_of all) ts) =
+    sum_by-cons (λ y. flag (shows_writer r y)) (view_of all t) (map (view_of all) ts) in
     omega (arith, one, shown, count-map r all ts)
 
-pub is-forced : (all ts : List Txn) → AreForced (map (view_of all) ts) → IsForced ts
-is-forced all ts forced = λ r.
+all-at : (p : Txn → Bool) (ts : List Txn) → ((i : ℕ) (t : Txn) → slice_get ts i ≡ Some t → IsTrue (p t)) → IsTrue (list_all p ts)
+all-at p [] each = refl
+all-at p (t ∷ ts) each = and_from (p t) _ (each 0 t refl) (all-at p ts (λ i u at. each (suc i) u at))
+
+any-at : (p : Txn → Bool) (ts : List Txn) (i : ℕ) (t : Txn) → slice_get ts i ≡ Some t → IsTrue (p t) → IsTrue (list_any p ts)
+any-at p [] i t at is = absurd (cc)
+any-at p (u ∷ ts) zero t at is = let same : u ≡ t = cc in rw (same, is) refl
+any-at p (u ∷ ts) (suc i) t at is = or_right (p u) (any-at p ts i t at is)
+  where
+    or_right : (b : Bool) {c : Bool} → IsTrue c → IsTrue (b || c)
+    or_right true is = refl
+    or_right false is = is
+
+-- a view at a place shows the transaction there
+view-at : (ts : List Txn) (i : ℕ) (x : View) → slice_get (map (view_of ts) ts) i ≡ Some x → (t : Txn) × (slice_get ts i ≡ Some t) × (view_of ts t ≡ x)
+view-at ts i x at = within (slice_get ts i) refl (sym (slice_get-map (view_of ts) ts i) ∙ at)
+  where
+    within : (found : Option Txn) → slice_get ts i ≡ found → option_map (view_of ts) found ≡ Some x
+        → (t : Txn) × (slice_get ts i ≡ Some t) × (view_of ts t ≡ x)
+    within None is same = absurd (cc)
+    within (Some t) is same = (t, is, cc)
+
+is-settled : (r : ℕ) (ts : List Txn) → AreSettled r (map (view_of ts) ts) → IsSettled r ts
+is-settled r ts is =
+    let (t, at, shown) = view-at ts is.place is.last is.at in
+    let writer : IsTrue (is_writer r t) = rw (← shown) at is.writes_it in
+    let value : left_in r (operations t.text) ≡ is.value = rw (← shown) at is.leaves in
+    let ways : IsTrue (list_all (gives_way r is.value t) ts) = all-at (gives_way r is.value t) ts (λ j u there. way t u j there (
+    rw (← shown) at (is.others j (view_of ts u) (slice_get-map (view_of ts) ts j ∙ ap (option_map (view_of ts)) there)))) in
+    (is.value, any-at (settles r is.value ts) ts is.place t at (and_from _ _ writer (and_from _ _ (eq-eqb _ _ value) ways)))
+  where
+    flag_is : (b : Bool) → (bit b == 1) ≡ b
+    flag_is true = refl
+    flag_is false = refl
+
+    way : (t u : Txn) (j : ℕ) → slice_get ts j ≡ Some u → IsTrue (shows_way r is.value (view_of ts t) j (view_of ts u)) → IsTrue (gives_way r is.value t u)
+    way t u j there shown =
+        let bits : (bit_at (before_of ts t) j == 1) ≡ precedes u t = ap (λ n. n == 1) (bit_at-before_of ts t u j there) ∙ flag_is (precedes u t) in
+        rw bits at shown
+
+pub is-forced : (ts : List Txn) → AreForced (map (view_of ts) ts) → IsForced ts
+is-forced ts forced = λ r.
     elim (forced r) [
-      | inl few ↦ inl (omega (arith, few, count-map r all ts))
-      | inr none ↦ inr (sym (list_all-map (λ x. not (is_committed x.status && writes_blindly r x.ops)) (view_of all) ts) ∙ none)
+      | inl few ↦ inl (omega (arith, few, count-map r ts ts))
+      | inr (inl none) ↦ inr (inl (sym (list_all-map (λ x. not (is_committed x.status && writes_blindly r x.ops)) (view_of ts) ts) ∙ none))
+      | inr (inr is) ↦ inr (inr (is-settled r ts is))
     ]

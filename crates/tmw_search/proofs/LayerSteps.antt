@@ -2,7 +2,7 @@
 use Rattle.std.proofs.Common.{◌≡◌, ◌&&◌, ◌+◌, ◌*◌, ◌%◌, ◌^◌, ◌<◌, ◌≤◌, ℕ, zero, suc, Bool, true, false, List, [], ◌∷◌, length, Some, IsTrue, bit_or, refl, sym, ap, subst, ◌∙◌, inl, inr, arith}
 use Rattle.std.specs.Int.{bit_at}
 use Rattle.std.specs.List.{Contains}
-use Rattle.std.specs.Prelude.{slice_get, if◌then◌else◌}
+use Rattle.std.specs.Prelude.{slice_get}
 use Rattle.std.proofs.lemmas.Bool.{and_parts, and_from, cases_Bool}
 use Rattle.std.proofs.lemmas.List.Elements.{Contains-append_left, Contains-append_right, Contains-append_cases}
 use Rattle.std.proofs.Math.Pow.{pow_mono}
@@ -15,9 +15,9 @@ use Rattle.tmw_cuts.specs.Views.{View}
 use Rattle.tmw_search.specs.Nexts.{is_next, end_at, way, ways, next_at, nexts_from}
 use Rattle.tmw_search.specs.ShownTransactions.{ShowsTransaction, ShowsTransactions}
 use Rattle.tmw_search.proofs.LayersProof.{same_place}
-use Rattle.tmw_search.proofs.MaskBits.{mask-set}
 use Rattle.tmw_search.proofs.FreeNext.{next_free, free-next}
-use Rattle.tmw_cuts.proofs.FirstMembers.{contains_here, contains_later, contains_cases, contains_none}
+use Rattle.tmw_cuts.proofs.Bits.{mask-set}
+use Rattle.tmw_cuts.proofs.FirstMembers.{contains_here, contains_cases, contains_none}
 
 -- a way to place a transaction, held or left out, where a completion may do so and what is asked of its reads holds
 pub record IsWay (criterion : Criterion) (x : View) (above : ℕ) (s : State) (p : ℕ × State) : Type 0 where

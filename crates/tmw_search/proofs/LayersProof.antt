@@ -14,7 +14,8 @@ use Rattle.tmw_search.specs.Layers.{chosen, LeavesNone, InLayer, InLayerBy, IsSt
 use Rattle.tmw_defs.specs.Opaque.{State, Placed, precedes, after}
 use Rattle.tmw_defs.specs.Outcomes.{end_state, Leads, Ends}
 use Rattle.tmw_search.proofs.LastOfOrder.{EndsWith, leads-last, leads_last}
-use Rattle.tmw_search.proofs.Masks.{HasBit, chosen-set, chosen_unset, chosen_has, chosen-here, chosen-past, low_bit, bit_at-more_same, bit_at-more_other, bit_at-less_same, more_fits, chosen-zero, chosen_none, chosen_all, chosen-full, pow_some}
+use Rattle.tmw_cuts.proofs.Bits.{bit_at-more_same, bit_at-more_other}
+use Rattle.tmw_search.proofs.Masks.{HasBit, chosen-set, chosen_unset, chosen_has, chosen-here, chosen-past, low_bit, bit_at-less_same, more_fits, chosen-zero, chosen_none, chosen_all, chosen-full, pow_some}
 
 -- what holds of each whose bit is set holds of each that is chosen
 pub list_all-chosen : (p : Txn → Bool) (ts : List Txn) (mask : ℕ)

@@ -13,7 +13,6 @@ mod LayerLists
 pub mod LayerSteps
 mod LayersBy
 pub mod LayersProof
-mod MaskBits
 pub mod Masks
 mod OrderRanks
 mod Pruning

@@ -119,29 +119,7 @@ chosen_has (x ∷ ts) mask (suc j) t at bit =
       | inr even ↦ (rest.0, rw (chosen-past mask x ts even) rest.1)
     ]
 
--- bits of a mask with one more
-pub bit_at-more_same : (mask j : ℕ) → bit_at mask j ≡ 0 → bit_at (mask + 2 ^ j) j ≡ 1
-bit_at-more_same mask zero none =
-    bit_at_lowest (mask + 2 ^ 0) ∙ omega (arith, sym (bit_at_lowest mask) ∙ none)
-bit_at-more_same mask (suc j) none =
-    let half : (mask + 2 ^ suc j) / 2 ≡ mask / 2 + 2 ^ j = omega (arith, pow-suc 2 j) in
-    bit_at-suc (mask + 2 ^ suc j) j ∙ ap (λ m. bit_at m j) half
-    ∙ bit_at-more_same (mask / 2) j (sym (bit_at-suc mask j) ∙ none)
-
-pub bit_at-more_other : (mask j i : ℕ) → bit_at mask j ≡ 0 → (i ≡ j → ⊥) → bit_at (mask + 2 ^ j) i ≡ bit_at mask i
-bit_at-more_other mask zero zero none other = absurd (other refl)
-bit_at-more_other mask zero (suc i) none other =
-    let half : (mask + 2 ^ 0) / 2 ≡ mask / 2 = omega (arith, sym (bit_at_lowest mask) ∙ none) in
-    bit_at-suc (mask + 2 ^ 0) i ∙ ap (λ m. bit_at m i) half ∙ sym (bit_at-suc mask i)
-bit_at-more_other mask (suc j) zero none other =
-    bit_at_lowest (mask + 2 ^ suc j) ∙ omega (arith, pow-suc 2 j) ∙ sym (bit_at_lowest mask)
-bit_at-more_other mask (suc j) (suc i) none other =
-    let half : (mask + 2 ^ suc j) / 2 ≡ mask / 2 + 2 ^ j = omega (arith, pow-suc 2 j) in
-    bit_at-suc (mask + 2 ^ suc j) i ∙ ap (λ m. bit_at m i) half
-    ∙ bit_at-more_other (mask / 2) j i (sym (bit_at-suc mask j) ∙ none) (λ same. other (ap suc same))
-    ∙ sym (bit_at-suc mask i)
-
--- and with one less
+-- bits of a mask with one less
 pub bit_at-less_same : (mask j : ℕ) → bit_at mask j ≡ 1 → 2 ^ j ≤ mask → bit_at (mask - 2 ^ j) j ≡ 0
 bit_at-less_same mask zero one small =
     bit_at_lowest (mask - 2 ^ 0) ∙ omega (arith, sym (bit_at_lowest mask) ∙ one)

@@ -1,11 +1,10 @@
 -- A serial order of blind transactions gives each its rank, and each register ends with what the last ranked of its writers leaves.
-use Rattle.std.proofs.Common.{◌≡◌, ◌==◌, ◌⊎◌, ◌+◌, ◌^◌, ◌<◌, ◌≤◌, ℕ, zero, suc, Bool, true, false, List, length, Some, IsTrue, refl, sym, ap, subst, ◌∙◌, inl, inr, arith}
+use Rattle.std.proofs.Common.{◌≡◌, ◌==◌, ◌⊎◌, ◌+◌, ◌^◌, ◌<◌, ◌≤◌, ℕ, zero, suc, true, false, List, length, Some, IsTrue, refl, sym, ap, subst, ◌∙◌, inl, inr, arith}
 use Rattle.std.specs.Int.{bit_at}
 use Rattle.std.specs.List.{list_all}
 use Rattle.std.specs.Prelude.{slice_get, slice_index, get_or, if◌then◌else◌}
 use Rattle.std.proofs.lemmas.Bool.{eq-eqb, ne_eqb}
 use Rattle.std.proofs.lemmas.Nat.Bits.{bit_at-zero}
-use Rattle.std.proofs.lemmas.Option.{slice_get_within}
 use Rattle.tmw_defs.specs.declared.criterion.Criterion.TheVariants.{Opacity}
 use Rattle.tmw_defs.specs.History.{Txn}
 use Rattle.tmw_defs.specs.Opaque.{State, precedes}
@@ -15,8 +14,8 @@ use Rattle.tmw_search.specs.LastWrites.{IsWriter, value_at, nothing}
 use Rattle.tmw_search.specs.ShownTransactions.{NoneBeforeItself}
 use Rattle.tmw_search.specs.declared.lasts.Last.{Last}
 use Rattle.tmw_search.proofs.BlindProof.{blind_at, after-blind, length-blind}
+use Rattle.tmw_cuts.proofs.Bits.{bit_at-more_same, bit_at-more_other}
 use Rattle.tmw_search.proofs.LayersProof.{IsStepped, layer_step, layer_zero, same_place, bit_cases}
-use Rattle.tmw_search.proofs.Masks.{bit_at-more_same, bit_at-more_other}
 
 -- the transactions leave what the list says
 pub record AreLast (ts : List Txn) (lasts : List Last) : Type 0 where

@@ -28,9 +28,8 @@ use Rattle.tmw_search.proofs.Forcing.{written-has}
 use Rattle.tmw_search.proofs.LayerLists.{contains_flat, contains-flat, first-layer}
 use Rattle.tmw_search.proofs.LayersBy.{fits-by, layer-step_by, layer_step-by, layer-first, layer_first, layer-last_by, layer_last-by}
 use Rattle.tmw_search.proofs.LayersProof.{same_place}
+use Rattle.tmw_cuts.proofs.Bits.{mask-set, bit_at-more_same, bit_at-more_other}
 use Rattle.tmw_search.proofs.LayerSteps.{IsMade, after-way, step-made_at, step_of, step-made, slice_get_some}
-use Rattle.tmw_search.proofs.MaskBits.{mask-set}
-use Rattle.tmw_search.proofs.Masks.{bit_at-more_same, bit_at-more_other}
 
 itself : (n : ℕ) (b : Bool) → ((n == n) || b) ≡ false → ⊥
 itself n b none = let is : (n == n) ≡ true = eq-eqb n n refl in let k = rw is at none in cc

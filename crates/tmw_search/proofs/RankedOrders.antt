@@ -19,7 +19,8 @@ use Rattle.tmw_cuts.specs.Views.{bit}
 use Rattle.tmw_search.proofs.BlindProof.{last-taken, length-blind}
 use Rattle.tmw_search.proofs.LayerSteps.{slice_get_some}
 use Rattle.tmw_search.proofs.LayersProof.{layer-zero, same_place, bit_cases}
-use Rattle.tmw_search.proofs.Masks.{bit_at-more_same, bit_at-more_other, chosen_bits}
+use Rattle.tmw_search.proofs.Masks.{chosen_bits}
+use Rattle.tmw_cuts.proofs.Bits.{bit_at-more_same, bit_at-more_other}
 use Rattle.tmw_search.proofs.OrderRanks.{AreLast, writes_or}
 
 -- the mask of those of the first n places that are ranked below k

@@ -1,22 +1,21 @@
 -- Which transactions are set aside: those found up to a place, in a mask.
-use Rattle.std.proofs.Common.{◌≡◌, ◌*◌, ◌%◌, ◌+◌, ◌^◌, ◌<◌, ◌≤◌, ℕ, zero, suc, Bool, true, false, List, length, map, Some, bit_or, refl, sym, ap, subst, ◌∙◌, inl, inr, arith, pow-suc}
+use Rattle.std.proofs.Common.{◌≡◌, ◌*◌, ◌%◌, ◌+◌, ◌^◌, ◌<◌, ◌≤◌, ℕ, suc, true, false, List, length, Some, bit_or, sym, ap, subst, ◌∙◌, inl, inr, arith, pow-suc}
 use Rattle.std.specs.Int.{bit_at}
 use Rattle.std.specs.Prelude.{slice_get}
-use Rattle.std.proofs.Math.Pow.{pow_mono}
-use Rattle.std.proofs.lemmas.Bool.{cases_Bool, cases_lt}
+use Rattle.std.proofs.lemmas.Bool.{cases_lt}
 use Rattle.std.proofs.lemmas.Nat.Bits.{bit_at-zero, bit_at_above}
 use Rattle.std.proofs.lemmas.Option.{slice_get_within}
 use Rattle.tmw_defs.specs.declared.criterion.Criterion.{Criterion}
-use Rattle.tmw_defs.specs.declared.criterion.Criterion.TheVariants.{Opacity, Strict}
+use Rattle.tmw_defs.specs.declared.criterion.Criterion.TheVariants.{Opacity}
 use Rattle.tmw_defs.specs.History.{Txn, status_of}
 use Rattle.tmw_cuts.specs.Views.{View, bit}
-use Rattle.tmw_search.specs.Layers.{chosen, is_aside, AreAside}
+use Rattle.tmw_search.specs.Layers.{chosen, is_aside}
 use Rattle.tmw_search.specs.Pairs.{IsAside}
 use Rattle.tmw_search.specs.ShownTransactions.{ShowsTransactions}
 use Rattle.tmw_search.proofs.LayersProof.{same_place, chosen-more}
 use Rattle.tmw_search.proofs.LayerSteps.{slice_get_some}
-use Rattle.tmw_search.proofs.MaskBits.{mask-set}
-use Rattle.tmw_search.proofs.Masks.{bit_at-more_same, bit_at-more_other, more_fits, chosen-zero, pow_some}
+use Rattle.tmw_cuts.proofs.Bits.{mask-set, bit_at-more_same, bit_at-more_other}
+use Rattle.tmw_search.proofs.Masks.{chosen-zero, pow_some}
 
 -- The mask has those below the place.
 pub record AreAsideBelow (criterion : Criterion) (ts : List Txn) (place mask count : ℕ) : Type 0 where

@@ -1,17 +1,17 @@
 -- The layers for strict serializability: each is what one step makes of the one before, the first has those that are set aside, and
 -- the last has the end states.
-use Rattle.std.proofs.Common.{◌≡◌, ◌⊎◌, ◌||◌, ◌+◌, ◌-◌, ◌^◌, ◌<◌, ◌≤◌, ℕ, zero, suc, Bool, true, false, not, List, [], ◌∷◌, ◌++◌, length, Some, IsTrue, refl, sym, ap, subst, ◌∙◌, inl, inr, arith}
+use Rattle.std.proofs.Common.{◌≡◌, ◌||◌, ◌+◌, ◌-◌, ◌^◌, ◌<◌, ◌≤◌, ℕ, true, false, not, List, [], ◌∷◌, ◌++◌, length, Some, IsTrue, refl, sym, ap, subst, ◌∙◌, inl, inr, arith}
 use Rattle.std.specs.Int.{bit_at}
-use Rattle.std.specs.Prelude.{remove, slice_get, if◌then◌else◌}
+use Rattle.std.specs.Prelude.{remove, slice_get}
 use Rattle.std.specs.List.{list_all}
-use Rattle.std.proofs.lemmas.Bool.{and_parts, and_from, cases_Bool, cases_lt, not-true, not_from_false}
+use Rattle.std.proofs.lemmas.Bool.{and_parts, and_from, cases_Bool, cases_lt, not-true}
 use Rattle.std.proofs.lemmas.List.Folds.{list_all-append}
 use Rattle.std.proofs.lemmas.Nat.Bits.{bit_at_ones}
 use Rattle.std.proofs.lemmas.Option.{slice_get_within}
 use Rattle.tmw_defs.specs.declared.criterion.Criterion.TheVariants.{Strict}
 use Rattle.tmw_defs.specs.declared.status.Status.{Status}
 use Rattle.tmw_defs.specs.declared.status.Status.TheVariants.{Live, Pending, Committed, Aborted}
-use Rattle.tmw_defs.specs.Criteria.{LeadsBy, EndsBy}
+use Rattle.tmw_defs.specs.Criteria.{EndsBy}
 use Rattle.tmw_defs.specs.History.{Txn, is_over, is_ended, status_of, operations}
 use Rattle.tmw_defs.specs.Opaque.{State, Placed, precedes, may_hold, reads_hold, after, Explains}
 use Rattle.tmw_defs.specs.Outcomes.{end_state, Leads}
@@ -19,10 +19,11 @@ use Rattle.tmw_defs.specs.Strict.{AreHeld, ExplainsStrictly}
 use Rattle.tmw_defs.proofs.Before.{end_state-append}
 use Rattle.tmw_cuts.specs.Views.{bit}
 use Rattle.tmw_search.specs.Layers.{chosen, is_aside, AreAside, InStrictLayer, IsStep}
-use Rattle.tmw_search.proofs.Holding.{most_held, held-most, IsLeft, left_or_most, IsAmong, among, most_at, none_held, all_aside, left-more, held-more, all-held}
-use Rattle.tmw_search.proofs.LastOfOrder.{EndsWith, explains-last, leads_last}
-use Rattle.tmw_search.proofs.LayersProof.{IsStepped, list_all-chosen, same_place, bit_cases, chosen-more, chosen-less}
-use Rattle.tmw_search.proofs.Masks.{HasBit, chosen-set, chosen_unset, chosen_has, bit_at-more_same, bit_at-more_other, bit_at-less_same, more_fits, chosen_all, chosen-full, pow_some, chosen-le, chosen_same}
+use Rattle.tmw_search.proofs.Holding.{most_held, held-most, IsLeft, left_or_most, among, most_at, none_held, all_aside, left-more, held-more, all-held}
+use Rattle.tmw_search.proofs.LastOfOrder.{explains-last, leads_last}
+use Rattle.tmw_search.proofs.LayersProof.{IsStepped, list_all-chosen, same_place, chosen-more, chosen-less}
+use Rattle.tmw_cuts.proofs.Bits.{bit_at-more_same, bit_at-more_other}
+use Rattle.tmw_search.proofs.Masks.{HasBit, chosen-set, chosen_unset, chosen_has, bit_at-less_same, more_fits, chosen_all, chosen-full, pow_some, chosen-le, chosen_same}
 
 -- one that isn't set aside may be held
 pub may_be_held : (status : Status) → is_aside Strict status ≡ false → may_hold status true ≡ true

@@ -1,8 +1,8 @@
 -- The writers of a register, gathered place by place.
-use Rattle.std.proofs.Common.{◌≡◌, ◌⊎◌, ◌+◌, ◌*◌, ◌%◌, ◌^◌, ◌<◌, ◌≤◌, ℕ, List, bit_or, bit_and, w8, refl, sym, ap, ◌∙◌, inl, inr, arith}
+use Rattle.std.proofs.Common.{◌≡◌, ◌+◌, ◌*◌, ◌%◌, ◌^◌, ◌<◌, ◌≤◌, ℕ, List, bit_or, bit_and, w8, sym, ap, ◌∙◌, inl, inr, arith}
 use Rattle.std.specs.Int.{bit_at, bit_not}
 use Rattle.std.specs.Prelude.{slice_index, get_or}
-use Rattle.std.proofs.lemmas.Nat.Bits.{bit_at-zero, bit_at_set_same, bit_at_set_other, bit_at_clear_same, bit_at_clear_other}
+use Rattle.std.proofs.lemmas.Nat.Bits.{bit_at_set_same, bit_at_set_other, bit_at_clear_same, bit_at_clear_other}
 use Rattle.tmw_search.specs.LastWrites.{IsWriter, AreWriters, nothing}
 use Rattle.tmw_search.specs.declared.lasts.Last.{Last}
 use Rattle.tmw_search.specs.declared.reach.Writers.{Writers}

@@ -1,9 +1,7 @@
 -- Blind transactions: they have ended, and each of their operations is a write. All their serial orders are legal, and each
 -- register ends with what the last of its writers leaves there.
-use Rattle.std.specs.Prelude.{◌&&◌, ℕ, Bool, true, false, List, if◌then◌else◌}
+use Rattle.std.specs.Prelude.{◌&&◌, ℕ, Bool, List, if◌then◌else◌}
 use Rattle.std.specs.List.{list_all}
-use Rattle.tmw_defs.specs.declared.op.Op.{Op}
-use Rattle.tmw_defs.specs.declared.op.Op.TheVariants.{Write}
 use Rattle.tmw_search.specs.ForcedTransactions.{is_committed}
 use Rattle.tmw_defs.specs.History.{Txn, is_ended, status_of, operations}
 use Rattle.tmw_cuts.specs.Written.{is_write}

@@ -1,6 +1,6 @@
 -- Which of a register's writers is the last: the serial orders of blind transactions are told by ranks, and what an order leaves by
 -- the last writer of each register.
-use Rattle.std.specs.Prelude.{◌≡◌, ◌⊎◌, ◌+◌, ◌*◌, ◌%◌, ◌^◌, ◌<◌, ◌≤◌, ℕ, Bool, List, length, slice_get, slice_index, Some, bit_or}
+use Rattle.std.specs.Prelude.{◌≡◌, ◌⊎◌, ◌*◌, ◌%◌, ◌^◌, ◌<◌, ◌≤◌, ℕ, Bool, List, length, slice_get, slice_index, Some, bit_or}
 use Rattle.std.specs.Int.{bit_at}
 use Rattle.tmw_defs.specs.Opaque.{State}
 use Rattle.tmw_cuts.specs.Views.{View}

@@ -1,8 +1,9 @@
 -- What the search sees of a forced end state, and the end states that it finds where the end state is forced.
-use Rattle.std.specs.Prelude.{◌==◌, ◌&&◌, ◌||◌, ◌≤◌, ◌⊎◌, ℕ, Bool, not, List, [], ◌∷◌, IsTrue, bit_and, bit_or, if◌then◌else◌}
+use Rattle.std.specs.Prelude.{◌≡◌, ◌==◌, ◌&&◌, ◌||◌, ◌≤◌, ◌⊎◌, ℕ, Bool, not, List, [], ◌∷◌, Some, IsTrue, bit_and, bit_or, slice_get, if◌then◌else◌}
+use Rattle.std.specs.Int.{bit_at}
 use Rattle.std.specs.List.{Contains, list_all, count_by}
 use Rattle.tmw_defs.specs.declared.criterion.Criterion.{Criterion}
-use Rattle.tmw_search.specs.ForcedTransactions.{is_committed, writes, writes_blindly, IsForced}
+use Rattle.tmw_search.specs.ForcedTransactions.{is_committed, writes, writes_blindly, left_in, IsForced}
 use Rattle.tmw_defs.specs.Criteria.{EndsBy}
 use Rattle.tmw_defs.specs.History.{Txn, is_ended}
 use Rattle.tmw_defs.specs.Opaque.{State}
@@ -24,10 +25,39 @@ shared_by once twice (x ∷ xs) =
 abbrev pub is_without_blind : ℕ → View → Bool
 is_without_blind registers x = not (is_committed x.status) || (bit_and registers (blind_by x.ops) == 0)
 
--- Each register is written by at most one committed transaction, or by none without a read of it before.
+abbrev pub shows_writer : ℕ → View → Bool
+shows_writer r x = is_committed x.status && writes r x.ops
+
+-- The one at this place does not write the register, or precedes the other, or leaves this value there.
+abbrev pub shows_way : ℕ → ℕ → View → ℕ → View → Bool
+shows_way r v other place x = not (shows_writer r x) || ((bit_at other.before place == 1) || (left_in r x.ops == v))
+
+-- The one at this place writes the register.
+abbrev pub IsWriterAt : ℕ → List View → ℕ → Type 0
+IsWriterAt r xs place = (x : View) × (slice_get xs place ≡ Some x) × IsTrue (shows_writer r x)
+
+-- One of them leaves a value in the register, and each that writes it and does not precede that one leaves the same.
+pub record AreSettled (r : ℕ) (xs : List View) : Type 0 where
+  pub value : ℕ
+  pub place : ℕ
+  pub last : View
+  pub at : slice_get xs place ≡ Some last
+  pub writes_it : IsTrue (shows_writer r last)
+  pub leaves : left_in r last.ops ≡ value
+  pub others : (i : ℕ) (x : View) → slice_get xs i ≡ Some x → IsTrue (shows_way r value last i x)
+
+abbrev pub IsNotBlind : ℕ → List View → Type 0
+IsNotBlind r xs = IsTrue (list_all (λ x. not (is_committed x.status && writes_blindly r x.ops)) xs)
+
+-- Each of these registers is written blindly by no committed transaction, or is settled.
+abbrev pub AreDecided : ℕ → List View → Type 0
+AreDecided registers xs = (r : ℕ) → bit_at registers r ≡ 1 → IsNotBlind r xs ⊎ AreSettled r xs
+
+-- Each register is written by at most one committed transaction, or by none without a read of it before, or one of those that write it
+-- settles what it holds in the end.
 abbrev pub AreForced : List View → Type 0
-AreForced xs = (r : ℕ) → (count_by (λ x. is_committed x.status && writes r x.ops) xs ≤ 1)
-    ⊎ IsTrue (list_all (λ x. not (is_committed x.status && writes_blindly r x.ops)) xs)
+AreForced xs = (r : ℕ) → (count_by (shows_writer r) xs ≤ 1)
+    ⊎ (IsNotBlind r xs ⊎ AreSettled r xs)
 
 -- Whatever transactions the list shows, where they have ended and the end state is forced, these are their end states.
 abbrev pub AreForcedEnds : Criterion → List View → List State → ℕ → EndStates → Type 0

@@ -1,5 +1,5 @@
 -- What the search sees of a window's transactions, and what they are by the definitions.
-use Rattle.std.specs.Prelude.{◌≡◌, ◌+◌, ◌^◌, ◌<◌, ℕ, false, List, length, slice_get, Some}
+use Rattle.std.specs.Prelude.{◌≡◌, ◌^◌, ◌<◌, ℕ, false, List, length, slice_get, Some}
 use Rattle.std.specs.Int.{bit_at}
 use Rattle.tmw_defs.specs.History.{Txn, status_of, operations}
 use Rattle.tmw_defs.specs.Opaque.{precedes}

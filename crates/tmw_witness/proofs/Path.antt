@@ -15,7 +15,8 @@ use Rattle.tmw_search.specs.Layers.{chosen, InLayer, IsStep}
 use Rattle.tmw_search.specs.ShownTransactions.{ShowsTransaction, ShowsTransactions}
 use Rattle.tmw_search.proofs.LayersProof.{bit_cases, same_place, layer-step, layer-zero}
 use Rattle.tmw_search.proofs.LayerSteps.{slice_get_some}
-use Rattle.tmw_search.proofs.Masks.{bit_at-more_same, bit_at-more_other, chosen_bits}
+use Rattle.tmw_cuts.proofs.Bits.{bit_at-more_same, bit_at-more_other}
+use Rattle.tmw_search.proofs.Masks.{chosen_bits}
 use Rattle.tmw_witness.specs.Witness.{MayStand, IsWitness}
 
 -- transaction j is placed before place i of rank r

@@ -1,4 +1,4 @@
-use Rattle.std.proofs.Common.{◌+◌, sym, ap, ◌∙◌, inl, inr, arith}
+use Rattle.std.proofs.Common.{◌∙◌, inl, inr, arith}
 use Rattle.std.proofs.lemmas.Nat.Bits.{shr_and_one}
 use Rattle.tmw_search.proofs.LayersProof.{same_place}
 use Rattle.tmw_search.proofs.blind.agree_outside.Goals.{else-written-register-eq0-via-then-written-register-eq0+else-one-register, else-written-register-eq0-via-else-written-register-eq0}

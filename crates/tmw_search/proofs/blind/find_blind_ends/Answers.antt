@@ -1,4 +1,4 @@
-use Rattle.std.proofs.Common.{◌+◌, ◌-◌, map, sym, length, ◌∙◌, arith}
+use Rattle.std.proofs.Common.{◌+◌, ◌-◌, map, arith}
 use Rattle.std.proofs.lemmas.List.{length-map}
 use Rattle.tmw_cuts.specs.Views.{view}
 use Rattle.tmw_search.proofs.BlindEnds.{starts-none, starts-next, starts-same, starts-stopped, starts-only, blind-many, blind-few, none_from}

@@ -1,4 +1,4 @@
-use Rattle.std.proofs.Common.{◌+◌, inl, inr, arith}
+use Rattle.std.proofs.Common.{inl, inr, arith}
 use Rattle.std.proofs.lemmas.Nat.Bits.{bit_at-zero}
 use Rattle.tmw_search.proofs.Choosing.{or-left, or-right, or_either}
 use Rattle.tmw_search.proofs.LayersProof.{same_place}

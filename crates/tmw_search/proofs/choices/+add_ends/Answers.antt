@@ -1,10 +1,9 @@
-use Rattle.std.proofs.Common.{◌≡◌, ◌-◌, ◌<◌, ℕ, subst, sym, ap, ◌∙◌, arith}
+use Rattle.std.proofs.Common.{◌<◌, sym, ◌∙◌, arith}
 use Rattle.std.proofs.lemmas.Nat.Bits.{shr_and_one}
-use Rattle.tmw_cuts.specs.Members.{members}
 use Rattle.tmw_search.proofs.BlindProof.{bit_small}
-use Rattle.tmw_search.proofs.MaskBits.{shift_is}
 use Rattle.tmw_search.proofs.WindowLayers.{if_ok}
-use Rattle.tmw_search.proofs.Choosing.{Tried, MayBeLast, adds-settled, adds-skipped, next-reach, tried-none, tried-next, tried-past, tried-stopped, tried-all}
+use Rattle.tmw_search.proofs.Choosing.{MayBeLast, adds-settled, adds-skipped, next-reach, tried-none, tried-next, tried-past, tried-stopped, tried-all}
+use Rattle.tmw_cuts.proofs.Bits.{shift_is}
 use Rattle.tmw_search.proofs.choices.+add_ends.Goals as goal
 
 pub returns-then-register-upto-clause-adds : goal.returns-then-register-upto-clause-adds

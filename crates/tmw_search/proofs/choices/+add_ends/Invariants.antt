@@ -1,4 +1,4 @@
-use Rattle.std.proofs.Common.{◌-◌, ◌<◌}
+use Rattle.std.proofs.Common.{◌-◌}
 use Rattle.tmw_cuts.specs.Members.{members}
 use Rattle.tmw_search.specs.Choices.{IsReach}
 use Rattle.tmw_search.specs.LastWrites.{NoneFrom}

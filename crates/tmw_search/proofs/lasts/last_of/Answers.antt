@@ -1,9 +1,6 @@
-use Rattle.std.proofs.Common.{◌≡◌, ◌&&◌, ℕ, List, true, sym, ap, ◌∙◌, refl}
+use Rattle.std.proofs.Common.{ℕ, ap, ◌∙◌, refl}
 use Rattle.std.specs.Int.{bit_at}
-use Rattle.tmw_defs.specs.declared.op.Op.{Op}
 use Rattle.tmw_defs.specs.Opaque.{zeros}
-use Rattle.tmw_cuts.specs.Views.{bit}
-use Rattle.tmw_search.specs.ForcedTransactions.{is_committed, writes}
 use Rattle.tmw_search.proofs.Forcing.{bit_at-written_by}
 use Rattle.tmw_search.proofs.BlindProof.{reads-writes}
 use Rattle.tmw_search.proofs.lasts.last_of.Goals as goal

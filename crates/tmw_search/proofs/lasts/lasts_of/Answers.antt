@@ -1,9 +1,8 @@
-use Rattle.std.proofs.Common.{◌≡◌, ◌<◌, ◌+◌, ℕ, List, map, length, sym, ap, ◌∙◌, inl, inr, subst, arith}
+use Rattle.std.proofs.Common.{◌≡◌, ◌<◌, map, length, ◌∙◌, inl, inr, subst, arith}
 use Rattle.std.proofs.lemmas.List.{get_or-set_same, get_or-set_other, length-map, length-set}
 use Rattle.std.proofs.lemmas.Option.{slice_get_within}
 use Rattle.tmw_cuts.specs.Views.{View, view}
 use Rattle.tmw_search.specs.LastWrites.{LeavesLast, nothing}
-use Rattle.tmw_search.specs.declared.lasts.Last.{Last}
 use Rattle.tmw_search.proofs.LayersProof.{same_place}
 use Rattle.tmw_search.proofs.WindowViews.{shown_at}
 use Rattle.tmw_search.proofs.lasts.lasts_of.Goals as goal

@@ -1,5 +1,3 @@
-use Rattle.std.proofs.Common.{◌≡◌, ◌<◌, ◌≤◌, ℕ}
-use Rattle.std.specs.Int.{bit_at}
 use Rattle.tmw_search.proofs.WritersFound.{FindsWriters}
 use Rattle.tmw_search.proofs.reach.writers_of.Given as goal
 

@@ -1,9 +1,9 @@
--- What the registers ahead need decides.
-use Rattle.std.proofs.Common.{◌≡◌, drop}
+-- What the registers behind need, and what those ahead need, decide.
+use Rattle.std.proofs.Common.{◌≡◌, ◌&&◌, drop}
 use Rattle.tmw_cuts.specs.Registers.{chosen, have}
 use Rattle.tmw_cuts.proofs.effect.Effect.is_met.Given as goal
 
 abbrev pub invariant-loop-register : goal.invariant-loop-register
 invariant-loop-register l =
-    have (drop l.register (chosen l.self.needed)) (drop l.register l.self.needs) (drop l.register l.state)
+    (l.met && have (drop l.register (chosen l.self.needed)) (drop l.register l.self.needs) (drop l.register l.state))
     ≡ have (chosen l.self.needed) l.self.needs l.state

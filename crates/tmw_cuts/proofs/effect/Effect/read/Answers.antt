@@ -1,44 +1,38 @@
 -- The value is asked of what the operations before leave in the register, or else need of it.
-use Rattle.std.proofs.Common.{rules, ◌≡◌, ◌==◌, length, true, false, refl, sym, ◌∙◌}
+use Rattle.std.proofs.Common.{rules, ◌≡◌, ◌==◌, ◌&&◌, length, refl, sym, ap, ◌∙◌}
+use Rattle.std.specs.Prelude.{slice_set, if◌then◌else◌}
 use Rattle.std.specs.Int.{bit_at}
+use Rattle.std.specs.Int.Bits.{bit_or, or_zero_r}
+use Rattle.std.proofs.lemmas.List.{set-get_or}
 use Rattle.tmw_cuts.specs.Written.{with_new}
-use Rattle.tmw_cuts.proofs.Chosen.{with_bit-has}
-use Rattle.tmw_cuts.proofs.Effects.{read-left, read-needed, read-first}
-use Rattle.tmw_cuts.proofs.EffectSteps.{with_read}
+use Rattle.tmw_cuts.proofs.EffectSteps.{known_of, is_known, with_answer}
+use Rattle.tmw_cuts.proofs.effect.Effect.read.Goals.{then-own, else-own+then-asked, else-own+else-asked, then-own-2, else-own-2, then-own-asked, else-own-asked}
 use Rattle.tmw_cuts.proofs.effect.Effect.read.Goals as goal
 
-pub returns-then-has_register : goal.returns-then-has_register
-returns-then-has_register c =
-    let leaves : length c.args.self.now.leaves ≡ 8 = search rules in
-    let r = c.args.register.number in
-    let is : (bit_at c.args.self.now.left r == 1) ≡ true = rw c.get-place.ensures.value at (sym c.has_register.ensures ∙ c.if-has_register.true) in
-    let needed : c.args.self.now.needed ≡ with_new c.args.self.now.left c.args.self.now.needed r = rw is refl in
-    rw c.get-place.ensures.value (λ ops sums.
-    with_read c.args.self.now _ ops c.args.register c.args.value sums refl refl needed refl (λ s long.
-    read-left c.args.self.now ops c.args.register c.args.value sums.0 s long leaves is))
-
-pub returns-then-has_register-2 : goal.returns-then-has_register-2
-returns-then-has_register-2 c =
+pub returns : goal.returns
+returns c =
     let leaves : length c.args.self.now.leaves ≡ 8 = search rules in
     let needs : length c.args.self.now.needs ≡ 8 = search rules in
+    let e = c.args.self.now in
     let r = c.args.register.number in
-    let unwritten : (bit_at c.args.self.now.left r == 1) ≡ false = rw c.get-place.ensures.value at (sym c.has_register.ensures ∙ c.if-has_register.false) in
-    let is : (bit_at c.args.self.now.needed r == 1) ≡ true =
-    rw c.get-place.ensures.value at (sym c.has_register-else-has_register.ensures ∙ c.if-has_register-2.true) in
-    let needed : c.args.self.now.needed ≡ with_new c.args.self.now.left c.args.self.now.needed r =
-    rw unwritten (sym (with_bit-has c.args.self.now.needed r c.args.register.below is)) in
-    rw c.get-place.ensures.value (λ ops sums.
-    with_read c.args.self.now _ ops c.args.register c.args.value sums refl refl needed refl (λ s long.
-    read-needed c.args.self.now ops c.args.register c.args.value sums.0 s long leaves needs unwritten is))
-
-pub returns-else-has_register-2 : goal.returns-else-has_register-2
-returns-else-has_register-2 c =
-    let leaves : length c.args.self.now.leaves ≡ 8 = search rules in
-    let needs : length c.args.self.now.needs ≡ 8 = search rules in
-    let r = c.args.register.number in
-    let unwritten : (bit_at c.args.self.now.left r == 1) ≡ false = rw c.get-place.ensures.value at (sym c.has_register.ensures ∙ c.if-has_register.false) in
-    let new : (bit_at c.args.self.now.needed r == 1) ≡ false =
-    rw c.get-place.ensures.value at (sym c.has_register-else-has_register.ensures ∙ c.if-has_register-2.false) in
-    rw c.get-place.ensures.value (λ ops sums.
-    with_read c.args.self.now _ ops c.args.register c.args.value sums refl refl (rw unwritten refl) refl (λ s long.
-    read-first c.args.self.now ops c.args.register c.args.value sums.0 s long leaves needs unwritten new))
+    let v = c.args.value in
+    let place : c.get-place.result ≡ r = c.get-place.ensures.value in
+    let own : c.has_register-own.result ≡ (bit_at e.left r == 1) = rw place at c.has_register-own.ensures in
+    let asked : c.has_register-asked.result ≡ (bit_at e.needed r == 1) = rw place at c.has_register-asked.ensures in
+    let known : c.if-own.known ≡ known_of e r v
+    = elim c.if-own.branch [
+      | then-own w ↦ rw (sym own ∙ w.if-own.true) (rw place at w.known-is)
+      | else-own+then-asked w ↦ rw (sym own ∙ w.if-own.false, sym asked ∙ w.if-asked.true) (rw place at w.known-is)
+      | else-own+else-asked w ↦ rw (sym own ∙ w.if-own.false, sym asked ∙ w.if-asked.false) w.known-is
+    ] in
+    let needed : bit_or e.needed c.if-own-2.self ≡ with_new e.left e.needed r
+    = elim c.if-own-2.branch [
+      | then-own-2 w ↦ rw (sym own ∙ w.if-own-2.true) (rw w.self-is (or_zero_r e.needed))
+      | else-own-2 w ↦ rw (sym own ∙ w.if-own-2.false) (rw (w.self-is, place) refl)
+    ] in
+    let set : slice_set e.needs c.get-place.result c.if-own-asked.self ≡ (if is_known e r then e.needs else slice_set e.needs r v)
+    = rw place (elim c.if-own-asked.branch [
+      | then-own-asked w ↦ rw (← own, ← asked, w.if-own-asked.true, w.self-is, place) (set-get_or e.needs r 0)
+      | else-own-asked w ↦ rw (← own, ← asked, w.if-own-asked.false, w.self-is) refl
+    ]) in
+    λ ops sums. with_answer e _ ops c.args.register v sums leaves needs refl refl refl (ap (λ k. e.agrees && (k == v)) known) needed set

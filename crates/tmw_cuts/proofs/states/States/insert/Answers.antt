@@ -5,7 +5,7 @@ use Rattle.std.specs.List.Sorted.{IsStrictlySortedBy}
 use Rattle.std.proofs.lemmas.Bool.{cond_both}
 use Rattle.std.proofs.lemmas.Cmp.{nat_list_cmp_total}
 use Rattle.std.proofs.lemmas.Map.Lookups.{exact_bytes}
-use Rattle.tmw_cuts.proofs.Rising.{Contains-insert, Contains-push, IsStrictlySortedBy-push, place_by_search, found_is_member}
+use Rattle.tmw_cuts.proofs.Rising.{Contains-insert, IsStrictlySortedBy-push, place_by_search, found_is_member}
 use Rattle.tmw_cuts.proofs.states.States.insert.Goals as goal
 
 pub invariant_of-self : goal.invariant_of-self

@@ -1,5 +1,5 @@
 -- Where no register is left with a value, the state stays.
-use Rattle.std.proofs.Common.{◌≡◌, ◌∙◌, sym, ap}
+use Rattle.std.proofs.Common.{◌∙◌, sym, ap}
 use Rattle.std.proofs.lemmas.Bool.{eqb-true}
 use Rattle.tmw_cuts.specs.Registers.{chosen, put}
 use Rattle.tmw_cuts.proofs.Chosen.{put-chosen_none}

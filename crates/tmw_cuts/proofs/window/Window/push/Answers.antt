@@ -1,19 +1,17 @@
--- The note tells whether a transaction is open for the event, and what is shown has one event more.
-use Rattle.std.proofs.Common.{◌∙◌}
-use Rattle.std.proofs.lemmas.Bool.{not_from_true, not_from_false}
-use Rattle.tmw_cuts.proofs.Pushes.{begins_none_open, shows-push}
+-- The note tells whether a transaction is open for the event.
+use Rattle.std.proofs.Common.{refl, sym, ◌∙◌}
+use Rattle.std.proofs.lemmas.Bool.{not_from_false}
+use Rattle.tmw_cuts.specs.Standing.{views_of}
+use Rattle.tmw_cuts.specs.Views.{is_open_for}
+use Rattle.tmw_cuts.proofs.Found.{position_some}
+use Rattle.tmw_cuts.proofs.Pushes.{begins_none_open}
 use Rattle.tmw_cuts.proofs.window.Window.push.Goals as goal
 
 pub returns-then-note-clause-stands : goal.returns-then-note-clause-stands
-returns-then-note-clause-stands c events stands notes =
-    record {
-      shows = shows-push events c.args.event _ _
-          (c.begin.ensures (begins_none_open events c.args.event c.args.note _ stands.shows notes ∙ not_from_true _ c.if-note.true)) stands.shows;
-    }
+returns-then-note-clause-stands c events stands notes = c.push_new.ensures.stands events c.args.note c.if-note.true stands notes
 
-pub returns-else-note-clause-stands : goal.returns-else-note-clause-stands
-returns-else-note-clause-stands c events stands notes =
-    record {
-      shows = shows-push events c.args.event _ _
-          (c.go_on.ensures (begins_none_open events c.args.event c.args.note _ stands.shows notes ∙ not_from_false _ c.if-note.false)) stands.shows;
-    }
+pub returns-in_default-clause-stands : goal.returns-in_default-clause-stands
+returns-in_default-clause-stands c events stands notes =
+    absurd (position_some (is_open_for c.args.event.thread.number) (views_of events)
+    (begins_none_open events c.args.event c.args.note (views_of events) refl notes ∙ not_from_false _ c.if-note.false)
+    (sym c.in_default.is ∙ c.open_place.ensures.stands events stands))

@@ -1,10 +1,13 @@
 -- The transaction at the place takes the event, as the first that is open for it.
-use Rattle.std.proofs.Common.{◌≡◌, Some, map, sym, ap, ◌∙◌}
+use Rattle.std.proofs.Common.{rules, ◌≡◌, ◌<◌, length, Some, map, sym, ap, ◌∙◌}
 use Rattle.std.specs.Prelude.{slice_set, position}
 use Rattle.std.proofs.lemmas.List.{length-set}
 use Rattle.tmw_cuts.specs.Views.{view, next_view, completed_mask, is_open_for, push_views}
 use Rattle.tmw_cuts.proofs.Found.{push_views-position, refill-whole}
 use Rattle.tmw_cuts.proofs.Marked.{position-map}
+use Rattle.tmw_cuts.proofs.OpenOnes.{ends_with, opens-push, masks-push, or_len-Some}
+use Rattle.tmw_cuts.specs.Standing.{views_of}
+use Rattle.std.specs.List.{position_or_len}
 use Rattle.tmw_cuts.proofs.Pushes.{shows-push}
 use Rattle.tmw_cuts.proofs.window.Window.push_at.Goals as goal
 
@@ -21,8 +24,15 @@ returns-clause-stands c events stands found =
     (rw c.deref_mut.ensures.value at c.index-deref_mut-place.is)
     (c.add.ensures ∙ ap (λ t. next_view c.args.event.kind (view t)) (sym c.index-deref_mut-place.is))
     in
+    let event = c.args.event in
+    let long : length c.args.self.now.places ≡ 8 = search rules in
+    let low : c.args.place < 8 = search (c.requires.within, rules) in
+    let over : c.ends.result ≡ ends_with event = c.ends.ensures in
+    let place : c.args.place ≡ position_or_len (is_open_for event.thread.number) (views_of events) = or_len-Some opens (views_of events) c.args.place found in
     record {
-      shows = shows-push events c.args.event (map view txns) _
+      shows = rw c.note.ensures.others.0 (shows-push events c.args.event (map view txns) _
           (rw c.deref_mut.ensures.value (ap (map view) (refill-whole txns (slice_set txns c.args.place new) (length-set txns c.args.place new)) ∙ pushed))
-          stands.shows;
+          stands.shows);
+      opens = λ thread below. rw (c.note.ensures.places, over) (opens-push events event c.args.self.now.places long stands.opens c.args.place place low thread below);
+      masks = rw (c.note.ensures.completed, over) (masks-push events event c.args.self.now.completed stands.masks c.args.place place low);
     }

@@ -1,9 +1,10 @@
 -- What was taken at once left the history fine.
-use Rattle.std.proofs.Common.{rules, ◌≡◌, ◌∷◌, [], ◌++◌, refl, sym, ◌∙◌}
+use Rattle.std.proofs.Common.{rules, ◌≡◌, ◌∷◌, [], ◌++◌, refl, sym, ap, ◌∙◌}
 use Rattle.tmw_defs.specs.declared.criterion.Criterion.TheVariants.{Opacity}
 use Rattle.tmw_defs.specs.Criteria.{so_far}
 use Rattle.tmw_monitor.proofs.Feeding.{fits-next}
 use Rattle.tmw_monitor.proofs.OnlyOpen.{keeps_only_open}
+use Rattle.tmw_monitor.proofs.monitor.Monitor.feed.Goals.{else-eq-via-then-eq+then-is_so_far+else-take_at_once, else-eq-via-then-eq+else-is_so_far, else-eq-via-else-eq}
 use Rattle.tmw_monitor.proofs.monitor.Monitor.feed.Goals as goal
 
 pub returns-then-take_at_once-clause-ok : goal.returns-then-take_at_once-clause-ok
@@ -16,3 +17,14 @@ returns-then-take_at_once-clause-ok c judged_by history fits =
 pub returns-then-take_at_once-clause-keeps : goal.returns-then-take_at_once-clause-keeps
 returns-then-take_at_once-clause-keeps c judged_by history fits =
     keeps_only_open judged_by (history ++ c.args.event ∷ []) _ (returns-then-take_at_once-clause-ok c judged_by history fits)
+
+pub returns-clause-ok : goal.returns-clause-ok
+returns-clause-ok c judged_by history fits =
+    let same : c.else-eq.self ≡ c.args.self.now
+    = elim c.else-eq.branch [
+      | else-eq-via-then-eq+then-is_so_far+else-take_at_once w ↦
+          w.self-is ∙ ap (λ kept. record c.args.self.now { kept = kept }) (w.take_at_once.ensures.left w.if-take_at_once.false)
+      | else-eq-via-then-eq+else-is_so_far w ↦ w.self-is
+      | else-eq-via-else-eq w ↦ w.self-is
+    ] in
+    c.in_ok-take.ensures.ok judged_by history (rw same fits)
