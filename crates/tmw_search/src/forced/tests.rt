@@ -1,6 +1,9 @@
 use super::*;
 use crate::ends::outcomes;
-use crate::testing::{FIRST, SECOND, add, few, holding, read, window_of_two, write};
+use crate::testing::{
+    COMMITS, Call, FIRST, SECOND, THIRD, TWO, add, few, holding, read, window_of_calls,
+    window_of_two, write,
+};
 use std::test::Fail;
 use tmw_cuts::Window;
 use tmw_events::Kind;
@@ -67,6 +70,50 @@ fn a_blind_writer_beside_another_does_not_force_the_end(rt: HostRuntime) -> Resu
     assert!(rt; !is_forced(one.transactions()));
     let ends = ends_of(alloc, &one)?;
     assert_eq!(rt; few(&ends), Some([holding(0, 0), holding(1, 0)].as_slice()));
+    Ok(())
+}
+
+#[test]
+fn writers_that_leave_the_same_force_the_end(rt: HostRuntime) -> Result<(), Fail> {
+    let window = window_of_two(
+        rt.alloc(),
+        &[write(FIRST, 1)],
+        &[write(FIRST, 2), write(FIRST, 1)],
+        Kind::C,
+    )?;
+    assert!(rt; is_forced(window.transactions()));
+    let ends = found(rt.alloc(), &window)?;
+    assert_eq!(rt; few(&ends), Some([holding(1, 0)].as_slice()));
+    Ok(())
+}
+
+/// The window of two writers of a register, of which one precedes the other, and of a third transaction that overlaps both.
+fn one_behind_another(alloc: Global, third: Call) -> Result<Window, Fail> {
+    window_of_calls(
+        alloc,
+        TWO,
+        &[
+            (THIRD, third),
+            (FIRST, write(FIRST, 1)),
+            (FIRST, COMMITS),
+            (SECOND, write(FIRST, 2)),
+            (SECOND, COMMITS),
+            (THIRD, COMMITS),
+        ],
+    )
+}
+
+#[test]
+fn a_writer_that_all_others_precede_forces_the_end(rt: HostRuntime) -> Result<(), Fail> {
+    let alloc = rt.alloc();
+    let window = one_behind_another(alloc, read(SECOND, 0))?;
+    assert!(rt; is_forced(window.transactions()));
+    let ends = found(alloc, &window)?;
+    assert_eq!(rt; few(&ends), Some([holding(2, 0)].as_slice()));
+    let overlapped = one_behind_another(alloc, write(FIRST, 3))?;
+    assert!(rt; !is_forced(overlapped.transactions()));
+    let ends = ends_of(alloc, &overlapped)?;
+    assert_eq!(rt; few(&ends), Some([holding(2, 0), holding(3, 0)].as_slice()));
     Ok(())
 }
 
