@@ -2,7 +2,7 @@ ghost use Rattle.std.specs.Prelude.{◌≡◌, ◌==◌, ◌<◌, ◌++◌, [], 
 ghost use Rattle.std.specs.Int.{bit_at};
 ghost use Rattle.std.specs.List.{list_all};
 ghost use Rattle.tmw_defs.specs.declared.op.Op.{Op};
-ghost use Rattle.tmw_defs.specs.declared.op.Op.TheVariants.{Read, Write};
+ghost use Rattle.tmw_defs.specs.declared.op.Op.TheVariants.{Read, Write, Add};
 ghost use Rattle.tmw_defs.specs.Opaque.{reads_hold, after_writes};
 ghost use Rattle.tmw_cuts.specs.Registers.{chosen, have, put};
 ghost use Rattle.tmw_cuts.specs.Replaying.{Replays};
@@ -89,6 +89,15 @@ impl Effect {
         self.leaves[place] = value;
     }
 
+    /// Takes an add in: an answer, and then a write. It is called, so that what takes a read or a write stays small.
+    #[inline(never)]
+    fn add_to(&mut self, register: Ix, added: u64, value: u64)
+        ensures { (ops : List Op) → IsEffectOf self.old ops → IsEffectOf self.new (ops ++ Add register added value ∷ []) }
+    {
+        self.read(register, value);
+        self.write(register, value.wrapping_add(added));
+    }
+
     /// Takes an operation more.
     #[inline(always)]
     pub fn add(&mut self, op: Op)
@@ -97,10 +106,7 @@ impl Effect {
         match op {
             Op::Read(register, value) => self.read(register, value),
             Op::Write(register, value) => self.write(register, value),
-            Op::Add(register, added, value) => {
-                self.read(register, value);
-                self.write(register, value.wrapping_add(added));
-            }
+            Op::Add(register, added, value) => self.add_to(register, added, value),
         }
     }
 

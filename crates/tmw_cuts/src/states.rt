@@ -7,23 +7,10 @@ ghost use Rattle.std.proofs.lemmas.Map.Keys.{IsStrictlySortedBy-prop};
 ghost use Rattle.tmw_defs.specs.Opaque.{zeros};
 
 use std::alloc::{AllocError, Global};
+use std::cmp::Ordering;
 
 /// What each register holds. Registers that the run does not have hold 0.
 pub type State = [u64; 8];
-
-/// Whether the one state comes before the other. Each register is asked, since no processor foresees which of them decides.
-#[inline(always)]
-fn comes_before(one: &State, other: &State) -> bool
-    ensures { IsTrue result → slice_cmp nat_cmp one.now other.now ≡ Less }
-{
-    let mut before = false;
-    for behind in 0..8usize {
-        let register = 7 - behind;
-        let same = one[register] == other[register];
-        before = (one[register] < other[register]) | (same & before);
-    }
-    before
-}
 
 /// A set of states.
 #[derive(Debug, Drop)]
@@ -106,7 +93,7 @@ impl States {
         if items.is_empty() {
             return true;
         }
-        comes_before(&items[items.len() - 1], state)
+        matches!(items[items.len() - 1].cmp(state), Ordering::Less)
     }
 
     /// Adds the state, where the set does not have it. Where memory is refused the set stays as it was.

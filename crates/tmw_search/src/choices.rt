@@ -8,8 +8,7 @@ use crate::reach::{join, writers_of};
 use std::alloc::AllocError;
 use tmw_cuts::{State, States};
 
-/// The place of one of the mask's that leaves the least value in the register. Each is asked, since no processor foresees which are
-/// the mask's.
+/// The place of one of the mask's that leaves the least value in the register.
 fn least(lasts: &[Last; 8], register: usize, mask: u8) -> usize
     requires within { register < 8 }
     requires some { 0 < mask }
@@ -17,12 +16,10 @@ fn least(lasts: &[Last; 8], register: usize, mask: u8) -> usize
     ensures among { bit_at mask result ≡ 1 }
 {
     let mut least = mask.trailing_zeros() as usize;
-    let mut value = lasts[least].values[register];
     for place in 0..8usize {
-        let other = lasts[place].values[register];
-        let is_less = (mask >> place & 1 == 1) & (other < value);
-        least = if is_less { place } else { least };
-        value = if is_less { other } else { value };
+        if mask >> place & 1 == 1 && lasts[place].values[register] < lasts[least].values[register] {
+            least = place;
+        }
     }
     least
 }

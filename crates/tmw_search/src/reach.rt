@@ -48,13 +48,9 @@ pub fn join(reach: &[u8; 8], place: usize, before: u8) -> [u8; 8]
 {
     let mut next = *reach;
     for other in 0..8usize {
-        let own = reach[other];
-        let joined = if own >> place & 1 == 1 {
-            own | before
-        } else {
-            own
-        };
-        next[other] = joined;
+        if reach[other] >> place & 1 == 1 {
+            next[other] = reach[other] | before;
+        }
     }
     next
 }

@@ -95,8 +95,9 @@ impl Witness {
         }
     }
 
-    /// Puts the transaction, which was left out, at the end and holds it, where its reads hold there.
-    #[inline(always)]
+    /// Puts the transaction, which was left out, at the end and holds it, where its reads hold there. It is called, so that what has to be part of the
+    /// reading of each line stays small enough to be.
+    #[inline(never)]
     fn hold(&mut self, item: &Txn, place: usize) -> bool
         ensures held { IsTrue result → (starts : List State) (xs ys : List View) (x : View) → TurnsAt xs ys place x (view item.now)
             → IsTrue (may_hold item.now.status true) → Witnesses starts xs self.old → Witnesses starts ys self.new }
