@@ -1,9 +1,20 @@
 #!/usr/bin/env bash
-# Runs the built program as its users do, on the command lines of docs/FORMATS.md, and compares its output and exit status.
+# Runs the built program as its users do: first the rows of tests/rows, then the command lines below, whose output is long or made.
 #
-#   bench/command.sh
+#   tests/command.sh [FILE.rows..]
 #
 # Each command line that fails is told. The last line is 'N passed, M failed', and the exit status is 1 where one failed.
+# A row is a command line, what it reads, and what it has to do; a line of it is one of these:
+#
+#   tmwatch judge --window 3     the command line, whose words spaces part; behind a last '<' stands a file of standard input
+#   < opacity-trace 1 1 | 0 T    lines of standard input, parted by ' | ', each with its line feed
+#   <- 0 T                       the same, and the last of them has no line feed
+#   > {"fault":"usage"}          lines of standard output; where there are none it has to be empty
+#   ~ Usage: tmwatch             what standard output has in it somewhere; then the rest of it may be anything
+#   ! error: unexpected          what standard error begins with; where there is none it has to be empty
+#   = 4                          the exit status, by which the row ends
+#
+# In what is read and written, \\, \r, \t and \xHH stand for bytes, as for printf. Empty lines and lines of '#' are comments.
 set -eu
 top=$(cd "$(dirname "${BASH_SOURCE[0]}")/.." && pwd)
 folder=$(mktemp -d)
@@ -24,8 +35,68 @@ count() {
 # Runs the program with these words on standard input, and keeps what it writes and its exit status.
 run() {
     status=0
-    "$top/tmwatch" "$@" >"$folder/output" 2>"$folder/errors" || status=$?
+    "$top/crates/tmwatch/out/tmwatch" "$@" >"$folder/output" 2>"$folder/errors" || status=$?
 }
+
+# A new row, which reads and writes nothing.
+begin_row() {
+    row=$1 input=$folder/input has='' error=''
+    : >"$folder/input"
+    : >"$folder/wanted"
+    if [[ $row == *' < '* ]]; then
+        input=$top/${row##* < }
+    fi
+    read -ra words <<<"${row% < *}"
+}
+
+# The lines of a text, parted by ' | ', each with its line feed.
+lines_of() {
+    printf '%b\n' "${1// | /\\n}"
+}
+
+# Runs the row, and counts it by its status, its output and what standard error begins with.
+end_row() {
+    run "${words[@]:1}" <"$input"
+    local output='as wanted' errors
+    if [ -n "$has" ]; then
+        grep -qF -- "$has" "$folder/output" || output=$(cat "$folder/output")
+    else
+        cmp -s "$folder/wanted" "$folder/output" || output=$(cat "$folder/output")
+    fi
+    errors=$(head -c "${#error}" "$folder/errors" | tr -d '\0')
+    [ -n "$error" ] || errors=$(cat "$folder/errors")
+    count "$file: $row ($(head -c 100 "$input" | tr '\n\0' '| '))" "$1 'as wanted' '$error'" "$status '$output' '$errors'"
+}
+
+# Runs each row of a file.
+run_rows() {
+    local line
+    file=$(basename "$1")
+    while IFS= read -r line || [ -n "$line" ]; do
+        case $line in
+        '' | '#'*) ;;
+        'tmwatch'*) begin_row "$line" ;;
+        '<- '*) lines_of "${line#<- }" | head -c -1 >>"$folder/input" ;;
+        '< '*) lines_of "${line#< }" >>"$folder/input" ;;
+        '> '*) lines_of "${line#> }" >>"$folder/wanted" ;;
+        '~ '*) has=${line#\~ } ;;
+        '! '*) error=${line#! } ;;
+        '= '*) end_row "${line#= }" ;;
+        *) count "$file" 'a line of a row' "$line" ;;
+        esac
+    done <"$1"
+}
+
+if [ $# -gt 0 ]; then
+    for rows in "$@"; do
+        run_rows "$rows"
+    done
+    echo "$passed passed, $failed failed"
+    exit $((failed > 0))
+fi
+for rows in "$top"/tests/rows/*.rows; do
+    run_rows "$rows"
+done
 
 # A command line on a file, the status and the output that it has to have, and nothing on standard error.
 expect() {
