@@ -8,8 +8,6 @@ mod fault;
 mod round;
 mod rounds;
 mod settings;
-#[cfg(test)]
-mod tests;
 mod threads;
 
 pub use bench::run_bench;

@@ -259,6 +259,3 @@ fn bounds_of(matches: &ArgMatches<'_>) -> Option<Bounds>
         Err(_) => None,
     }
 }
-
-#[cfg(test)]
-mod tests;

@@ -145,6 +145,3 @@ fn send<E: Sink>(errors: &mut E, text: &str)
 {
     let _sent = put_all(errors, text.as_bytes());
 }
-
-#[cfg(test)]
-mod tests;

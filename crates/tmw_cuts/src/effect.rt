@@ -224,6 +224,3 @@ impl Effect {
         }
     }
 }
-
-#[cfg(test)]
-mod tests;

@@ -129,6 +129,3 @@ impl States {
         })
     }
 }
-
-#[cfg(test)]
-mod tests;

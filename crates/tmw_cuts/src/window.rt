@@ -254,6 +254,3 @@ impl Window {
         }
     }
 }
-
-#[cfg(test)]
-mod tests;

@@ -8,8 +8,6 @@ mod fault;
 mod outcome;
 mod player;
 mod playing;
-#[cfg(test)]
-mod tests;
 
 pub use asking::ends;
 pub use driving::drive;

@@ -5,12 +5,8 @@ mod event;
 mod event_text;
 mod ix;
 mod kind_line;
-#[cfg(test)]
-mod kind_tests;
 mod number;
 mod packing;
-#[cfg(test)]
-mod packing_tests;
 mod registers;
 
 pub use event::{Event, Kind};

@@ -9,8 +9,6 @@ mod lines;
 mod monitors;
 mod report;
 mod run;
-#[cfg(test)]
-mod tests;
 
 pub use by_criterion::ByCriterion;
 pub use report::Report;

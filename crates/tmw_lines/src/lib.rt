@@ -9,8 +9,6 @@ mod holding;
 mod items;
 mod line_format;
 mod lines;
-#[cfg(test)]
-mod lines_tests;
 mod long_line;
 mod next_line;
 mod piece;

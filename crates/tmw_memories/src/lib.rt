@@ -6,8 +6,6 @@
 
 mod global_lock;
 mod norec;
-#[cfg(test)]
-mod tests;
 mod torn;
 mod transaction;
 mod words;

@@ -3,22 +3,12 @@
 
 mod at_once;
 mod bounds;
-#[cfg(test)]
-mod compared;
-#[cfg(test)]
-mod compared_strictly;
-#[cfg(test)]
-mod compared_within_bounds;
 mod judging;
 mod monitor;
 mod next;
 mod open;
 mod so_far;
-#[cfg(test)]
-mod strict_tests;
 mod taken;
-#[cfg(test)]
-mod tests;
 mod weigh;
 mod weighed;
 

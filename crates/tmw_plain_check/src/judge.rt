@@ -81,6 +81,3 @@ fn has_legal_order(
         Criterion::Strict => Ok(has_completion(alloc, &list, start)?),
     }
 }
-
-#[cfg(test)]
-mod tests;

@@ -3,21 +3,11 @@
 
 mod forgetting_pump;
 mod forgetting_rest;
-#[cfg(test)]
-mod forgetting_tests;
 mod front;
 mod judged;
 mod pump;
 mod pumped;
 mod rest;
-#[cfg(test)]
-mod seen;
-#[cfg(test)]
-mod stopping_tests;
-#[cfg(test)]
-mod tests;
-#[cfg(test)]
-mod thread_tests;
 
 pub use forgetting_pump::ForgettingPump;
 pub use forgetting_rest::ForgettingRest;

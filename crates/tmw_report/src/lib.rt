@@ -7,8 +7,6 @@ mod fault_line;
 mod report_line;
 mod status;
 mod strict_line;
-#[cfg(test)]
-mod tests;
 
 pub use answer::{answer_fault, fault_of};
 pub use fault::Fault;

@@ -7,27 +7,15 @@ mod cuts;
 mod ends;
 mod make;
 mod meet;
-#[cfg(test)]
-mod meet_tests;
 mod part;
 mod record;
-#[cfg(test)]
-mod record_tests;
 mod refused;
 mod room;
-#[cfg(test)]
-mod room_tests;
 mod rule;
 mod run_laws;
 mod settle;
-#[cfg(test)]
-mod settle_tests;
 mod settled;
 mod take;
-#[cfg(test)]
-mod take_tests;
-#[cfg(test)]
-mod tests;
 
 pub use cuts::{AllParts, BothParts, SecondPart};
 pub use ends::{Reader, Ring, Writer};

@@ -2,15 +2,9 @@
 #![tactic(auto)]
 
 mod reading;
-#[cfg(test)]
-mod refused;
 mod ring_state;
-#[cfg(test)]
-mod seeded;
 mod sim;
 mod stepping;
-#[cfg(test)]
-mod tests;
 mod writing;
 
 pub use sim::Sim;

@@ -1,10 +1,17 @@
-//! Threads that record into a ring, for the tests that run some: no part of the product. The ring's own such tests stand here.
+//! Threads that record into a ring, for the tests that run some, and the tests of the ring, of the pump and of watches: no part of
+//! the product.
 #![tactic(auto)]
 
+#[cfg(test)]
+mod pump;
 mod returning;
+#[cfg(test)]
+mod ring;
 mod soon;
 #[cfg(test)]
-mod thread_tests;
+mod steps;
+#[cfg(test)]
+mod watch;
 
 pub use returning::{Returning, start_all};
 pub use soon::{record_soon, take_soon};

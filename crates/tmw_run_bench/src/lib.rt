@@ -7,10 +7,6 @@ mod bench_run;
 mod benching;
 mod ends;
 mod run;
-#[cfg(test)]
-mod tests;
-#[cfg(test)]
-mod worked_tests;
 
 pub use bench_run::BenchRun;
 pub use ends::ends_text;

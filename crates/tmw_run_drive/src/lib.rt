@@ -5,10 +5,6 @@ mod answer;
 mod driven;
 mod driving;
 mod run;
-#[cfg(test)]
-mod tests;
-#[cfg(test)]
-mod worked_tests;
 
 pub use answer::put_driven;
 pub use driven::{Driven, header_of};

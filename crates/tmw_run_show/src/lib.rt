@@ -10,8 +10,6 @@ mod reading;
 mod run;
 mod shown;
 mod states;
-#[cfg(test)]
-mod tests;
 mod told;
 mod traces;
 mod window;

@@ -97,6 +97,3 @@ pub fn find_blind_ends(
     }
     Ok(EndStates::Few(ends))
 }
-
-#[cfg(test)]
-mod tests;

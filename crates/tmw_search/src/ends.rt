@@ -135,12 +135,3 @@ pub fn replace_by_outcomes(
         }
     }
 }
-
-#[cfg(test)]
-mod compared;
-#[cfg(test)]
-mod compared_strictly;
-#[cfg(test)]
-mod strictly;
-#[cfg(test)]
-mod tests;

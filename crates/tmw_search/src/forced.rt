@@ -149,6 +149,3 @@ pub fn find_ends(
     }
     Ok(Some(EndStates::Few(ends)))
 }
-
-#[cfg(test)]
-mod tests;

@@ -13,8 +13,6 @@ mod lasts;
 mod layers;
 mod nexts;
 mod reach;
-#[cfg(test)]
-mod testing;
 mod walk;
 
 pub use end_states::EndStates;

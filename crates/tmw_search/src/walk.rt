@@ -303,6 +303,3 @@ pub fn finds_end(criterion: Criterion, items: &[Txn], states: &[State]) -> bool
     }
     false
 }
-
-#[cfg(test)]
-mod tests;

@@ -5,8 +5,6 @@ mod feeding;
 mod last_window;
 mod law;
 mod showing;
-#[cfg(test)]
-mod tests;
 
 pub use last_window::LastWindow;
 pub use law::{law_states, law_window};

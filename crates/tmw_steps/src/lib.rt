@@ -3,14 +3,8 @@
 
 mod naming;
 mod reader;
-#[cfg(test)]
-mod reader_tests;
 mod reply_line;
-#[cfg(test)]
-mod reply_tests;
 mod run;
-#[cfg(test)]
-mod run_tests;
 mod size_line;
 mod step_line;
 mod step_lines;

@@ -7,14 +7,10 @@ mod memory_sink;
 mod memory_source;
 mod read_fault;
 mod reading;
-#[cfg(test)]
-mod reading_tests;
 mod sink;
 mod source;
 mod std_sink;
 mod std_source;
-#[cfg(test)]
-mod stream_tests;
 mod writing;
 
 pub use bounded_sink::BoundedSink;

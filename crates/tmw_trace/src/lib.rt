@@ -3,22 +3,16 @@
 
 mod event_line;
 mod first_event;
-#[cfg(test)]
-mod first_event_tests;
 mod first_number;
 mod header;
 mod header_line;
 mod header_text;
 mod naming;
 mod reader;
-#[cfg(test)]
-mod reader_tests;
 mod trace;
 mod trace_lines;
 mod version;
 mod writer;
-#[cfg(test)]
-mod writer_tests;
 
 pub use event_line::event_of;
 pub use header::Header;

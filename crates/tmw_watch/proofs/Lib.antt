@@ -1,4 +1,3 @@
 pub mod Closings
-pub mod Pairs
 pub mod Placing
 pub mod Recorders

@@ -10,10 +10,6 @@ mod order;
 mod recorder;
 mod report;
 mod settings;
-#[cfg(test)]
-mod tests;
-#[cfg(test)]
-mod thread_tests;
 mod watch;
 
 pub use close_error::CloseError;

@@ -153,6 +153,3 @@ fn lacks_register(registers: Registers, kind: Kind) -> bool
         Kind::V(_) | Kind::K | Kind::T | Kind::C | Kind::X | Kind::A => false,
     }
 }
-
-#[cfg(test)]
-mod tests;

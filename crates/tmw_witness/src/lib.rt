@@ -4,8 +4,6 @@
 mod explaining;
 mod following;
 mod replay;
-#[cfg(test)]
-mod tests;
 mod witness;
 
 pub use witness::Witness;

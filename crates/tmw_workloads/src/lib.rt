@@ -10,8 +10,6 @@ mod order;
 mod read;
 mod registers;
 mod scripts;
-#[cfg(test)]
-mod tests;
 mod transaction;
 mod workload;
 

@@ -1,0 +1,9 @@
+//! Tests of the memories, of the driver and of the bench, with memories made for them: no part of the product.
+#![tactic(auto)]
+
+#[cfg(test)]
+mod bench;
+#[cfg(test)]
+mod drive;
+#[cfg(test)]
+mod memories;

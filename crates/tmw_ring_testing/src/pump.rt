@@ -1,0 +1,8 @@
+//! Tests of the pump: its calls by one thread, writers that stop, and threads that record while another judges.
+use tmw_pump::{ForgettingPump, ForgettingRest, Pump, Pumped, Rest};
+
+mod calls;
+mod forgetting;
+mod seen;
+mod stopping;
+mod threads;
