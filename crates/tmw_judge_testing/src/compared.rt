@@ -1,9 +1,9 @@
 //! The monitor beside the plain check of the whole history, on seeded histories of four threads over two registers.
-use tmw_monitor::{BadBounds, Bounds, Criterion, Monitor, Verdict, Why, judge, judge_for, judge_from};
 use crate::monitor::{WIDEST, verdicts};
 use std::alloc::{AllocError, Global};
 use std::test::Fail;
 use tmw_events::{Event, Kind, Registers};
+use tmw_monitor::{Criterion, Verdict};
 use tmw_plain_check::{Whole, WholeFault, judge_whole};
 use tmw_testing::{FIRST, SECOND, Seed};
 use tmw_wellformed::Tracker;

@@ -1,8 +1,8 @@
 //! The monitor for strict serializability beside the plain check, on seeded histories, among them many that the two criteria tell apart.
-use tmw_monitor::{BadBounds, Bounds, Criterion, Monitor, Verdict, Why, judge, judge_for, judge_from};
 use crate::compared::{Met, TWO, draw_events, plain};
 use crate::monitor::{WIDEST, verdicts};
 use std::test::Fail;
+use tmw_monitor::{Criterion, Verdict};
 use tmw_plain_check::{judge_whole, judge_whole_for};
 use tmw_testing::Seed;
 

@@ -1,8 +1,8 @@
 //! The monitor beside the plain check, on 2,000 seeded histories from seeded start values, within each bound on windows.
-use tmw_monitor::{BadBounds, Bounds, Criterion, Monitor, Verdict, Why, judge, judge_for, judge_from};
 use crate::compared::{Met, TWO, draw_events, plain};
 use std::test::Fail;
 use tmw_events::Event;
+use tmw_monitor::{Bounds, Verdict, Why, judge_from};
 use tmw_plain_check::judge_whole_from;
 use tmw_testing::Seed;
 use tmw_wellformed::Tracker;

@@ -1,8 +1,8 @@
 //! What the contracts leave open: that there is memory for the calls, and that their answers are those which users expect.
-use tmw_monitor::{BadBounds, Bounds, Criterion, Monitor, Verdict, Why, judge, judge_for, judge_from};
 use std::alloc::{AllocError, Global};
 use std::test::Fail;
 use tmw_events::{Event, Kind, Registers};
+use tmw_monitor::{BadBounds, Bounds, Criterion, Monitor, Verdict, Why, judge, judge_from};
 use tmw_testing::{FIRST, dirty_read, one, other};
 
 pub(crate) const ONE: Registers = Registers { number: 1 };

@@ -1,7 +1,7 @@
-use std::alloc::Global;
-use tmw_plain_check::{Whole, WholeFault, judge_whole, judge_whole_for, judge_whole_from};
-use std::alloc::AllocError;
+use std::alloc::{AllocError, Global};
+use tmw_defs::Criterion;
 use tmw_events::{Event, Ix, Kind, Registers};
+use tmw_plain_check::{Whole, WholeFault, judge_whole, judge_whole_for, judge_whole_from};
 
 // Threads and registers.
 const FIRST: Ix = Ix { number: 0 };

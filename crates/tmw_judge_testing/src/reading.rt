@@ -1,7 +1,7 @@
 //! What the contract of `read_all` doesn't say: that it succeeds, in pieces of any size, and at which calls it fails.
-use tmw_streams::{MemorySource, ReadFault, read_all};
 use std::alloc::{AllocError, Global};
 use std::test::Fail;
+use tmw_streams::{MemorySource, ReadFault, read_all};
 
 /// So many bytes, of which neighbours differ.
 fn bytes_of(alloc: Global, count: u32) -> Result<Vec<u8>, AllocError> {

@@ -1,10 +1,10 @@
 //! Which window is shown of a run, for each verdict.
-use tmw_show::LastWindow;
 use std::alloc::{AllocError, Global};
 use std::test::Fail;
 use tmw_defs::{Criterion, Verdict, Why};
 use tmw_events::{Event, Kind, Registers};
 use tmw_monitor::Bounds;
+use tmw_show::LastWindow;
 use tmw_testing::{FIRST, dirty_read, one, other};
 
 const ONE: Registers = Registers { number: 1 };

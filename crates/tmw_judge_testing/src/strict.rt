@@ -1,9 +1,9 @@
 //! Histories that tell strict serializability from opacity, and those on which both end alike.
-use tmw_monitor::{BadBounds, Bounds, Criterion, Monitor, Verdict, Why, judge, judge_for, judge_from};
 use crate::monitor::{ONE, WIDEST, verdicts, writers};
 use std::test::Fail;
 use tmw_cuts::State;
 use tmw_events::{Event, Kind, Registers};
+use tmw_monitor::{Bounds, Criterion, Monitor, Verdict, Why, judge_for};
 use tmw_testing::{FIRST, SECOND, dirty_read, one, other};
 
 const TWO: Registers = Registers { number: 2 };

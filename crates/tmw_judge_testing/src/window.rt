@@ -1,9 +1,9 @@
-use tmw_cuts::Window;
-use tmw_events::{Event, Ix, Kind, Registers};
-use tmw_wellformed::Note;
 use std::alloc::{AllocError, Global};
 use std::test::Fail;
+use tmw_cuts::Window;
 use tmw_defs::{Criterion, Status};
+use tmw_events::{Event, Ix, Kind, Registers};
+use tmw_wellformed::Note;
 
 const FIRST: Ix = Ix { number: 0 };
 

@@ -1,11 +1,11 @@
 //! What the contracts leave open: that an order stays known where one can be had, and is forgotten where none is found.
-use tmw_witness::Witness;
 use std::alloc::{AllocError, Global};
 use std::test::Fail;
 use tmw_cuts::{State, States, Window};
 use tmw_events::{Event, Kind, Registers};
 use tmw_testing::{FIRST, SECOND, dirty_read, one, other};
 use tmw_wellformed::Note;
+use tmw_witness::Witness;
 
 const TWO: Registers = Registers { number: 2 };
 

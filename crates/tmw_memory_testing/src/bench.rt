@@ -2,9 +2,9 @@
 //! judged meanwhile, and that a thread stops only where its ring lacks room.
 ghost use Rattle.std.specs.Prelude.{◌≡◌, ◌≤◌};
 
-use tmw_bench::{BenchFault, Benched, Settings, run_bench};
 use std::alloc::Global;
 use std::test::Fail;
+use tmw_bench::{BenchFault, Settings, run_bench};
 use tmw_defs::Verdict;
 use tmw_drive::Ending;
 use tmw_events::{Event, Kind};

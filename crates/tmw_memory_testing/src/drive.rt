@@ -1,8 +1,8 @@
 //! What the contract leaves open: that there is memory, which calls the memory gets, and that workloads are driven as their
 //! readers expect.
-use tmw_drive::{DriveFault, Ending, Outcome, drive, ends};
 use std::test::Fail;
 use tmw_defs::Verdict;
+use tmw_drive::{DriveFault, Ending, drive, ends};
 use tmw_events::{Kind, Registers};
 use tmw_monitor::Bounds;
 use tmw_testing::{FIRST, SECOND, one, other};

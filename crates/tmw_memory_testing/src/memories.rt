@@ -1,7 +1,7 @@
 //! What the contracts leave open: what is read of the registers, when a lock is free again, and that calls are answered.
-use tmw_memories::{GlobalLock, NoRec, Torn};
 use std::process::Abort;
 use tmw_events::{Ix, Registers};
+use tmw_memories::{GlobalLock, NoRec, Torn};
 use tmw_testing::{FIRST, SECOND};
 use tmw_tm::{Did, Got, Tm, Tx};
 

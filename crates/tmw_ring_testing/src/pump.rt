@@ -1,5 +1,5 @@
 //! Tests of the pump: its calls by one thread, writers that stop, and threads that record while another judges.
-use tmw_pump::{ForgettingPump, ForgettingRest, Pump, Pumped, Rest};
+use tmw_pump::{ForgettingPump, Pump, Pumped, Rest};
 
 mod calls;
 mod forgetting;

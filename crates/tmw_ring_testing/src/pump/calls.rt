@@ -4,8 +4,8 @@ ghost use Rattle.std.specs.Prelude.{◌≡◌, ◌<◌, [], length, All, IfOk};
 ghost use Rattle.tmw_ring.specs.Ends.{ReaderOf, WriterOf};
 ghost use Rattle.tmw_ring.specs.Settling.{AreInOrder};
 
-use super::*;
 use super::seen::Seen;
+use super::*;
 use std::alloc::{AllocError, Global};
 use std::test::Fail;
 use tmw_defs::{Verdict, Why};

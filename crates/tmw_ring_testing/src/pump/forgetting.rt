@@ -3,8 +3,8 @@ ghost use Rattle.std.specs.Prelude.{◌≡◌, [], length, All, IfOk};
 ghost use Rattle.tmw_ring.specs.Ends.{ReaderOf, WriterOf};
 ghost use Rattle.tmw_ring.specs.Settling.{AreInOrder};
 
-use super::*;
 use super::calls::{ONE, WIDEST, done, record_by, record_dirty_read};
+use super::*;
 use std::alloc::{AllocError, Global};
 use std::test::Fail;
 use tmw_defs::Verdict;

@@ -4,8 +4,9 @@ ghost use Rattle.std.specs.Prelude.{◌≡◌, length, IfSome, All};
 ghost use Rattle.tmw_ring.specs.Ends.{ReaderOf, WriterOf};
 ghost use Rattle.tmw_ring.specs.Settling.{AreInOrder};
 
-use super::*;
 use super::seen::Seen;
+use super::*;
+use crate::start_all;
 use std::alloc::Global;
 use std::process::Abort;
 use std::sync::Wait;
@@ -16,7 +17,6 @@ use tmw_defs::Verdict;
 use tmw_events::{Event, Kind};
 use tmw_monitor::{Monitor, judge};
 use tmw_ring::{Refused, Ring, Writer, ring};
-use crate::start_all;
 use tmw_testing::Seed;
 
 mod sums;

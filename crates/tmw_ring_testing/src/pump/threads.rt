@@ -4,6 +4,7 @@ ghost use Rattle.tmw_ring.specs.Ends.{ReaderOf, WriterOf};
 ghost use Rattle.tmw_ring.specs.Settling.{AreInOrder};
 
 use super::*;
+use crate::{record_soon, start_all};
 use std::alloc::Global;
 use std::sync::atomic::{AtomicBool, Ordering};
 use std::sync::{Mutex, Wait};
@@ -14,7 +15,6 @@ use tmw_defs::Verdict;
 use tmw_events::{Event, Ix, Kind, Registers};
 use tmw_monitor::{Bounds, Monitor, judge};
 use tmw_ring::{Ring, Writer, ring};
-use crate::{record_soon, start_all};
 
 /// So often a pump is tried before its thread gives up.
 const TRIES: u64 = 1_000_000_000;

@@ -4,13 +4,13 @@ ghost use Rattle.tmw_ring.specs.Ends.{ReaderOf, WriterOf};
 ghost use Rattle.tmw_ring.specs.Settling.{AreInOrder};
 
 use super::*;
+use crate::{record_soon, start_all, take_soon};
 use std::alloc::Global;
 use std::sync::atomic::{AtomicBool, Ordering};
 use std::test::Fail;
 use std::thread;
 use std::thread::{Scope, Threads};
 use tmw_events::{Event, Ix, Kind};
-use tmw_ring::{Reader, Ring, Writer, ring};
 
 /// The event of a writer that has recorded so many before it.
 fn nth(count: u64) -> Kind {
