@@ -1,7 +1,7 @@
 //! What the contracts of sources and sinks don't say: that calls succeed, at which call one fails, and when std streams
 //! are asked.
 use std::io;
-use tmw_streams::{IoFault, MemorySink, MemorySource, StdSink, StdSource, put_all};
+use tmw_streams::{IoFault, MemorySink, MemorySource, Sink, Source, StdSink, StdSource, put_all};
 
 #[test]
 fn a_memory_source_tells_a_byte_a_call_and_fails_at_one(rt: HostRuntime) {
