@@ -191,6 +191,7 @@ printf '%s\n' 'opacity-trace 1 1' '0 V 1' '0 T' >"$folder/malformed"
 printf '%s\n' 'opacity-trace 1 1' '0 R 01' '0 V 0' >"$folder/bad_line"
 many_steps 20 >"$folder/steps"
 echo '{"registers":1,"scripts":[[["W 0 5","R 0","T"],["N 0 1","X"]]],"order":[]}' >"$folder/worker"
+echo '{"registers":1,"scripts":[[],[]],"order":[0,1]}' >"$folder/empty"
 echo '{"registers":3,"scripts":[[["R 0","W 0 1","T"]],[["R 1","W 1 1","T"]],[["R 2","W 2 1","T"]]],"order":[]}' >"$folder/workers"
 
 kinds='growth growths read interrupted_read write interrupted_write'
@@ -222,6 +223,8 @@ row 'bench' 0 4 "$folder/worker" bench
 row 'bench, with the trace' 0 4 "$folder/worker" bench --trace
 row 'bench, three rounds over one cell' 0 4 "$folder/worker" bench --memory lock --ring 1 --patience 1000000000 --rounds 3
 row 'bench, three workers' 0 4 "$folder/workers" bench --memory torn
+kinds='growth growths read interrupted_read write interrupted_write'
+row 'bench, fewer cells than scripts' 4 4 "$folder/empty" bench --ring 1
 kinds='growth growths write interrupted_write'
 row 'help' 0 16 /dev/null help judge
 row 'a wrong word' 4 4 /dev/null judge --window 9

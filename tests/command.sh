@@ -282,6 +282,106 @@ expect_hostile '{"registers":1,"scripts":[[]],"order":[' 0 ']}' '{"fault":"json"
 expect_hostile '{"registers":1,"scripts":[[]],"order":["' a '"]}' '{"fault":"shape"}'
 expect_hostile '{"registers":1,"scripts":[[]],"order":[1' 1 ']}' '{"fault":"json"}'
 
+# each beginning of a text: where it ends within a line it is cut there, and else it is answered by how many lines it has
+each_beginning() {
+    local command=$1 text=$2 answer_of=$3 size lines wanted
+    for ((size = 0; size <= $(stat -c %s "$text"); size++)); do
+        head -c "$size" "$text" >"$folder/beginning"
+        lines=$(wc -l <"$folder/beginning")
+        if [ "$size" -eq 0 ]; then
+            wanted='4 {"fault":"bad header"}'
+        elif [ -n "$(tail -c 1 "$folder/beginning")" ]; then
+            wanted='4 {"fault":"cut","line":'$((lines + 1))'}'
+        else
+            wanted=$("$answer_of" "$lines")
+        fi
+        run "$command" <"$folder/beginning"
+        count "$command of the first $size bytes" "$wanted" "$status $(cat "$folder/output")"
+    done
+}
+dirty_read_of() {
+    local events=$(($1 - 1))
+    if [ "$events" -lt 4 ]; then
+        echo "0 {\"events\":$events,\"verdict\":\"opaque so far\"}"
+    else
+        echo "1 {\"at\":4,\"events\":$events,\"verdict\":\"violated\"}"
+    fi
+}
+# two writers whose claims are published in the other order, in a ring that is full between them
+printf '%s\n' 'ring-steps 1 2 2 100' 'front 0 W 0 5' 'front 1 T' 'tail 0' 'tail 1' 'claim 0' 'claim 1' 'fill 1' 'publish 1' peek \
+    'front 1 X' 'tail 1' 'fill 0' 'publish 0' peek read free peek read free >"$folder/two_writers"
+printf '%s\n' 'saw 0' 'saw 0' cleared cleared 'place 0' 'place 1' filled 'published 1' 'not ready' 'saw 0' 'full 0 2' filled \
+    'published 0' ready 'word 5' 'event 0 W 0 5' ready 'word 0' 'event 1 T' >"$folder/replies"
+replies_of() {
+    head -n $(($1 - 1)) "$folder/replies" >"$folder/first_replies"
+    echo "0 $(cat "$folder/first_replies" - <<<"log $(grep -c place "$folder/first_replies") taken $(grep -c event "$folder/first_replies")")"
+}
+each_beginning judge "$top/examples/dirty_read.trace" dirty_read_of
+each_beginning steps "$folder/two_writers" replies_of
+
+# texts of more bytes than are held at once
+expect_made() {
+    local name=$1 wanted=$2 output=$3
+    shift 3
+    run "$@" <"$folder/made"
+    count "$* of $name" "$wanted $output" "$status $(cat "$folder/output")"
+}
+{ echo 'opacity-trace 1 1' && yes $'0 T\n0 C' | head -n 400000; } >"$folder/made"
+expect_made '400,000 events' 0 '{"events":400000,"verdict":"opaque so far"}' judge
+{ echo 'opacity-trace 2 8 0 0 0 0 0 0 0 0' && yes $'7 W 7 18446744073709551615\n7 K' | head -n 2000; } >"$folder/made"
+expect_made 'the longest lines' 0 "$(cat "$folder/made")" show --trace
+zeros=$(head -c 5000 /dev/zero | tr '\0' 0)
+for row in 'judge opacity-trace_1_1 0_T' 'steps ring-steps_1_4_2_100 peek'; do
+    read -r command header line <<<"${row}"
+    header=${header//_/ } line=${line//_/ }
+    printf %s "$zeros" >"$folder/made"
+    expect_made 'a long first line, cut' 4 '{"fault":"cut","line":1}' "$command"
+    printf '%s\n' "$zeros" "$line" >"$folder/made"
+    expect_made 'a long first line' 4 '{"fault":"bad header"}' "$command"
+    printf '%s\n' "$header" "$line" "$zeros" "$line" >"$folder/made"
+    expect_made 'a long line' 4 '{"fault":"bad line","line":3}' "$command"
+done
+{ echo 'ring-steps 1 1 1 1000' && for value in {0..499}; do printf '%s\n' "front 0 W 0 $value" 'tail 0' 'claim 0' 'fill 0' 'publish 0' peek read free; done; } >"$folder/made"
+expect_made '4,000 steps' 0 "$(for value in {0..499}; do printf '%s\n' "saw $value" cleared "place $value" filled "published $value" ready "word $value" \
+    "event 0 W 0 $value"; done && echo 'log 500 taken 500')" steps
+
+# each beginning of a workload but the whole is no JSON
+reads='{"registers":1,"scripts":[[["R 0","R 0","T"]]],"order":[0,0,0]}'
+for command in drive bench; do
+    for ((size = 0; size < ${#reads}; size++)); do
+        run "$command" --trace <<<"${reads:0:size}"
+        count "$command --trace of the first $size bytes" '4 {"fault":"json"}' "$status $(cat "$folder/output")"
+    done
+done
+
+# the most transactions of a script and the longest order, and one more
+list_of() {
+    local all
+    printf -v all "%$1s" ''
+    all=${all// /$2,}
+    printf '[%s]' "${all%,}"
+}
+expect_large() {
+    printf '{"registers":1,"scripts":%s,"order":%s}' "$2" "$3" >"$folder/made"
+    expect_made "$1" "$4" "$5" drive
+}
+script=$(list_of 1000 '["T"]')
+expect_large '8 scripts of 1,000 transactions' "$(list_of 8 "$script")" '[]' 0 '{"events":0,"verdict":"opaque so far"}'
+expect_large 'all of 8,000 transactions' "$(list_of 8 "$script")" "$(list_of 1000 0,1,2,3,4,5,6,7)" 0 '{"events":16000,"verdict":"opaque so far"}'
+expect_large '1,001 transactions' "[$(list_of 1001 '["T"]')]" '[]' 4 '{"fault":"shape"}'
+expect_large 'an order of 100,000' '[[]]' "$(list_of 100000 0)" 0 '{"events":0,"verdict":"opaque so far"}'
+expect_large 'an order of 100,001' '[[]]' "$(list_of 100001 0)" 4 '{"fault":"shape"}'
+
+# a bad line is answered though nothing behind it has been told
+mkfifo "$folder/open"
+for text in 'opacity-trace 1 1\n0 R 01\n:{"fault":"bad line","line":2}' '~\n:{"fault":"bad header"}'; do
+    { printf "${text%%:*}" && sleep 5; } >"$folder/open" &
+    status=0
+    timeout 4 "$top/crates/tmwatch/out/tmwatch" judge <"$folder/open" >"$folder/output" || status=$?
+    count "judge of an open '${text%%:*}'" "4 ${text#*:}" "$status $(cat "$folder/output")"
+    kill $! 2>/dev/null || true
+done
+
 # standard output that takes nothing, and standard error that takes nothing
 for words in 'judge' 'show' 'drive' 'bench' 'steps' '--help' 'replay'; do
     status=0

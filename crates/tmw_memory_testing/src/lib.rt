@@ -4,6 +4,8 @@
 #[cfg(test)]
 mod bench;
 #[cfg(test)]
+mod commands;
+#[cfg(test)]
 mod drive;
 #[cfg(test)]
 mod memories;
