@@ -11,6 +11,8 @@ mod compared_within_bounds;
 #[cfg(test)]
 mod ends;
 #[cfg(test)]
+mod failing;
+#[cfg(test)]
 mod kinds;
 #[cfg(test)]
 mod monitor;
