@@ -227,6 +227,7 @@ kinds='growth growths read interrupted_read write interrupted_write'
 row 'bench, fewer cells than scripts' 4 4 "$folder/empty" bench --ring 1
 kinds='growth growths write interrupted_write'
 row 'help' 0 16 /dev/null help judge
+row 'the version' 0 16 /dev/null --version
 row 'a wrong word' 4 4 /dev/null judge --window 9
 # To find a word like this one, a list asks for room at once, and where that is refused, for less: the run is then the plain one.
 kinds='growths write interrupted_write'
