@@ -1,4 +1,6 @@
 //! The commands `drive` and `bench` on a memory of a user's own, and what no option of theirs can ask for.
+ghost use Rattle.std.specs.Prelude.{◌≡◌, ◌≤◌};
+
 use std::process::Abort;
 use std::sync::Wait;
 use std::sync::atomic::{AtomicU64, Ordering};
@@ -94,7 +96,11 @@ const SPENT_TRACE: &[u8] =
     b"opacity-trace 1 1\n0 W 0 5\n0 K\n{\"events\":2,\"verdict\":\"opaque so far\"}\n{\"ends\":[\"spent\"]}\n";
 
 /// Settings of so many places and rounds.
-const fn settings(limit: u64, rounds: u64) -> Settings {
+const fn settings(limit: u64, rounds: u64) -> Settings
+    requires some { 1 ≤ rounds }
+    requires few { rounds ≤ 1000000 }
+    ensures { result.rounds ≡ rounds }
+{
     Settings {
         cells: 256,
         limit,
