@@ -38,8 +38,14 @@ run() {
     "$top/crates/tmwatch/out/tmwatch" "$@" >"$folder/output" 2>"$folder/errors" || status=$?
 }
 
+# Tells a row that has begun and has no exit status: it was never run.
+expect_none_open() {
+    [ -z "$row" ] || count "$file: $row" 'an exit status' 'none'
+}
+
 # A new row, which reads and writes nothing.
 begin_row() {
+    expect_none_open
     row=$1 input=$folder/input has='' error=''
     : >"$folder/input"
     : >"$folder/wanted"
@@ -66,12 +72,13 @@ end_row() {
     errors=$(head -c "${#error}" "$folder/errors" | tr -d '\0')
     [ -n "$error" ] || errors=$(cat "$folder/errors")
     count "$file: $row ($(head -c 100 "$input" | tr '\n\0' '| '))" "$1 'as wanted' '$error'" "$status '$output' '$errors'"
+    row=''
 }
 
 # Runs each row of a file.
 run_rows() {
     local line
-    file=$(basename "$1")
+    file=$(basename "$1") row=''
     while IFS= read -r line || [ -n "$line" ]; do
         case $line in
         '' | '#'*) ;;
@@ -85,6 +92,7 @@ run_rows() {
         *) count "$file" 'a line of a row' "$line" ;;
         esac
     done <"$1"
+    expect_none_open
 }
 
 if [ $# -gt 0 ]; then

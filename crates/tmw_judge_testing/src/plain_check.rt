@@ -1,3 +1,4 @@
+//! Histories that were worked out by hand, judged by the plain check of the whole.
 use std::alloc::{AllocError, Global};
 use tmw_defs::Criterion;
 use tmw_events::{Event, Ix, Kind, Registers};

@@ -1,3 +1,4 @@
+//! Sets of states: each once, in rising order.
 use std::alloc::AllocError;
 use tmw_cuts::{State, States};
 

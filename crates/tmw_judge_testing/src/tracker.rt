@@ -1,3 +1,4 @@
+//! Which event is ill-formed, and by which fault.
 use tmw_events::{Event, Ix, Kind, Registers};
 use tmw_wellformed::{End, Malformed, Note, Tracker};
 

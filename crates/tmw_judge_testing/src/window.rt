@@ -1,3 +1,4 @@
+//! Windows: which transactions are in them, what each has before it, and what is taken back.
 use std::alloc::{AllocError, Global};
 use std::test::Fail;
 use tmw_cuts::Window;

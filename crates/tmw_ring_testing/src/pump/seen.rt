@@ -12,6 +12,7 @@ pub struct Seen<'a> {
 }
 
 impl<'a> Seen<'a> {
+    /// What is seen of a pump that judges a running ring.
     pub fn of_pump(pump: &'a Pump) -> Seen<'a> {
         Seen {
             judged: pump.judged(),
@@ -20,6 +21,7 @@ impl<'a> Seen<'a> {
         }
     }
 
+    /// What is seen of the rest of a ring that was settled.
     pub fn of_rest(rest: &'a Rest) -> Seen<'a> {
         Seen {
             judged: rest.judged(),

@@ -13,6 +13,7 @@ pub struct Told {
 }
 
 impl Told {
+    /// Nothing was told to any writer.
     pub fn new() -> Told {
         Told {
             recorded: [
