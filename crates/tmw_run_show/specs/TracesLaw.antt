@@ -29,8 +29,8 @@ abbrev pub rules_from : Criterion → Bounds → Header → Rules
 rules_from criterion bounds header = rules_for criterion header.registers header.initial bounds
 
 -- There is a trace with one of these headers, and each with these events is judged like a run with this verdict: the run is violated
--- exactly when each of them is violated at its end. Then each verdict on one of them is that it is violated, at its end or before. A single trace has the
--- run's own verdict, whichever it is, at its end.
+-- exactly when each of them is violated at its end. Then each verdict on one of them is that it is violated, at its end or before. A
+-- single trace has the run's own verdict, whichever it is, at its end.
 pub record AreJudgedLike (criterion : Criterion) (bounds : Bounds) (verdict : Verdict) (events : List Event) (headers : List Header) : Type 0 where
   pub some : headers ≢ []
   pub violated : ((at : ℕ) × (verdict ≡ Violated at)) ↔ All (λ header. IsViolated (rules_from criterion bounds header) events) headers

@@ -38,6 +38,7 @@ impl Sums {
         }
     }
 
+    /// Counts what came of a trial. One that has no end could not be made.
     pub fn add(&mut self, trial: &Trial, told: &Told, ended: Option<Ended>) {
         let Some(ended) = ended else {
             self.unmade = self.unmade.saturating_add(1);

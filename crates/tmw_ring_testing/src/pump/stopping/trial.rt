@@ -27,6 +27,7 @@ pub struct Trial {
 impl Trial {
     pub const REGISTERS: Registers = Registers { number: 2 };
 
+    /// A trial drawn from the seed.
     pub fn draw(seed: &mut Seed) -> Trial {
         let writers = 1 + seed.draw() % 4;
         Trial {
