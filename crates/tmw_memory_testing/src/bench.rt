@@ -7,17 +7,21 @@ use std::test::Fail;
 use tmw_bench::{BenchFault, Settings, run_bench};
 use tmw_defs::Verdict;
 use tmw_drive::Ending;
-use tmw_events::{Event, Kind};
+use tmw_events::{Event, Kind, Registers};
 use tmw_monitor::Bounds;
 use tmw_ring::{Refused, RingFault};
 use tmw_testing::{FIRST, one, other};
+use tmw_tm::Did;
 use tmw_workloads::{Workload, read_workload};
 
 mod at_once;
 mod memories;
 mod rounds;
 
-use memories::{Counting, Holding, Overtaken, Waiting};
+use crate::counting::Counting;
+use memories::{Holding, Overtaken, Waiting};
+
+const ONE: Registers = Registers { number: 1 };
 
 /// So often a record is tried where no thread is to stop.
 const PATIENT: u64 = 1_000_000_000;
@@ -84,14 +88,14 @@ fn a_thread_stops_where_the_places_are_spent(rt: HostRuntime) -> Result<(), Fail
         (3, Ending::Stopped(Refused::Spent { tail: 3 }), 1, 0),
         (4, Ending::Done, 1, 0),
     ] {
-        let memory = Counting::new(7);
+        let memory = Counting::new(ONE, Did::Done, 7);
         let settings = settings(4, limit, 1_000_000, 1);
         let benched = run_bench(&rt, rt.alloc(), &memory, &workload, settings)?;
         assert_eq!(rt; benched.outcome.log.as_slice(), &log[..limit as usize]);
         assert_eq!(rt; benched.outcome.verdict, Verdict::OpaqueSoFar);
         assert_eq!(rt; benched.outcome.ends.as_slice(), [ending].as_slice());
         assert_eq!(rt; benched.rounds, 1);
-        assert_eq!(rt; memory.counts(), [1, 0, 1, commits, aborts]);
+        assert_eq!(rt; memory.counts(), [1, 0, 1, 0, commits, aborts]);
     }
     Ok(())
 }
@@ -99,33 +103,33 @@ fn a_thread_stops_where_the_places_are_spent(rt: HostRuntime) -> Result<(), Fail
 #[test]
 fn each_thread_has_a_cell(rt: HostRuntime) -> Result<(), Fail> {
     let workload = told(rt.alloc(), TWO_WRITE)?;
-    let memory = Counting::new(7);
+    let memory = Counting::new(ONE, Did::Done, 7);
     let settings = settings(1, 1_000, PATIENT, 1);
     let fault = run_bench(&rt, rt.alloc(), &memory, &workload, settings).err();
     assert_eq!(rt; fault, Some(BenchFault::Ring(RingFault::BadSize)));
-    assert_eq!(rt; memory.counts(), [0, 0, 0, 0, 0]);
+    assert_eq!(rt; memory.counts(), [0, 0, 0, 0, 0, 0]);
     Ok(())
 }
 
 #[test]
 fn no_ring_has_no_place(rt: HostRuntime) -> Result<(), Fail> {
     let workload = told(rt.alloc(), WRITES)?;
-    let memory = Counting::new(7);
+    let memory = Counting::new(ONE, Did::Done, 7);
     let settings = settings(8, 0, PATIENT, 1);
     let fault = run_bench(&rt, rt.alloc(), &memory, &workload, settings).err();
     assert_eq!(rt; fault, Some(BenchFault::Ring(RingFault::BadLimit)));
-    assert_eq!(rt; memory.counts(), [0, 0, 0, 0, 0]);
+    assert_eq!(rt; memory.counts(), [0, 0, 0, 0, 0, 0]);
     Ok(())
 }
 
 #[test]
 fn a_memory_has_the_registers_of_the_workload(rt: HostRuntime) -> Result<(), Fail> {
     let workload = told(rt.alloc(), TWO_READ)?;
-    let memory = Counting::new(7);
+    let memory = Counting::new(ONE, Did::Done, 7);
     let settings = settings(8, 0, PATIENT, 1);
     let fault = run_bench(&rt, rt.alloc(), &memory, &workload, settings).err();
     assert_eq!(rt; fault, Some(BenchFault::Registers));
-    assert_eq!(rt; memory.counts(), [0, 0, 0, 0, 0]);
+    assert_eq!(rt; memory.counts(), [0, 0, 0, 0, 0, 0]);
     Ok(())
 }
 
@@ -137,13 +141,13 @@ fn a_small_ring_carries_a_long_log(rt: HostRuntime) -> Result<(), Fail> {
         (r#"["W 0 1", "W 0 1", "T"]"#, 1_000, 2_000, 6_000),
     ] {
         let workload = often(rt.alloc(), transaction, times)?;
-        let memory = Counting::new(7);
+        let memory = Counting::new(ONE, Did::Done, 7);
         let settings = settings(8, 10_000, PATIENT, 1);
         let benched = run_bench(&rt, rt.alloc(), &memory, &workload, settings)?;
         assert_eq!(rt; benched.outcome.log.len(), events);
         assert_eq!(rt; benched.outcome.verdict, Verdict::OpaqueSoFar);
         assert_eq!(rt; benched.outcome.ends.as_slice(), [Ending::Done].as_slice());
-        assert_eq!(rt; memory.counts(), [times, 0, writes, times, 0]);
+        assert_eq!(rt; memory.counts(), [times, 0, writes, 0, times, 0]);
     }
     Ok(())
 }
@@ -151,7 +155,7 @@ fn a_small_ring_carries_a_long_log(rt: HostRuntime) -> Result<(), Fail> {
 #[test]
 fn an_abort_request_reaches_the_memory(rt: HostRuntime) -> Result<(), Fail> {
     let workload = often(rt.alloc(), r#"["R 0", "X"]"#, 2)?;
-    let memory = Counting::new(0);
+    let memory = Counting::new(ONE, Did::Done, 0);
     let settings = settings(8, 1_000, PATIENT, 1);
     let benched = run_bench(&rt, rt.alloc(), &memory, &workload, settings)?;
     let once = [
@@ -163,7 +167,7 @@ fn an_abort_request_reaches_the_memory(rt: HostRuntime) -> Result<(), Fail> {
     assert_eq!(rt; benched.outcome.log.len(), 8);
     assert_eq!(rt; &benched.outcome.log.as_slice()[..4], once.as_slice());
     assert_eq!(rt; &benched.outcome.log.as_slice()[4..], once.as_slice());
-    assert_eq!(rt; memory.counts(), [2, 2, 0, 0, 2]);
+    assert_eq!(rt; memory.counts(), [2, 2, 0, 0, 0, 2]);
     Ok(())
 }
 
@@ -172,7 +176,7 @@ fn a_thread_of_a_small_ring_is_done_or_stopped(rt: HostRuntime) -> Result<(), Fa
     let workload = told(rt.alloc(), WRITES)?;
     let settings = settings(1, 1_000, 1, 1);
     for _ in 0..1_000 {
-        let memory = Counting::new(7);
+        let memory = Counting::new(ONE, Did::Done, 7);
         let benched = run_bench(&rt, rt.alloc(), &memory, &workload, settings)?;
         let events = benched.outcome.log.len();
         assert_eq!(rt; benched.outcome.ends.len(), 1);

@@ -1,20 +1,20 @@
 //! The commands `drive` and `bench` on a memory of a user's own, and what no option of theirs can ask for.
 ghost use Rattle.std.specs.Prelude.{◌≡◌, ◌≤◌};
 
+use crate::counting::Counting;
 use std::process::Abort;
 use std::sync::Wait;
-use std::sync::atomic::{AtomicU64, Ordering};
 use std::test::Fail;
 use std::thread::Threads;
 use tmw_bench::Settings;
 use tmw_drive::Ending;
-use tmw_events::{Ix, Registers};
+use tmw_events::Registers;
 use tmw_monitor::Bounds;
 use tmw_ring::Refused;
 use tmw_run_bench::{ends_text, run_bench_cmd};
 use tmw_run_drive::run_drive;
 use tmw_streams::{MemorySink, MemorySource};
-use tmw_tm::{Did, Got, Tm, Tx};
+use tmw_tm::Did;
 
 const OPAQUE: u8 = 0;
 
@@ -27,55 +27,9 @@ const WIDEST: Bounds = Bounds {
     states: 64,
 };
 
-/// A memory of one register that answers 7 whatever was written, aborts nothing, and counts what it is asked.
-#[derive(Drop)]
-struct Seven {
-    begins: AtomicU64,
-    reads: AtomicU64,
-    commits: AtomicU64,
-}
-
-impl Seven {
-    fn new() -> Seven {
-        Seven {
-            begins: AtomicU64::new(0),
-            reads: AtomicU64::new(0),
-            commits: AtomicU64::new(0),
-        }
-    }
-}
-
-impl Tm for Seven {
-    ghost gives = { λ memory call answer. Unit {0} };
-
-    fn registers(&self) -> Registers {
-        Registers { number: 1 }
-    }
-
-    fn begin(&self, _tx: &mut Tx) -> Did {
-        self.begins.fetch_add(1, Ordering::SeqCst);
-        Did::Done
-    }
-
-    fn read(&self, _tx: &mut Tx, _register: Ix) -> Got {
-        self.reads.fetch_add(1, Ordering::SeqCst);
-        Got::Value(7)
-    }
-
-    fn write(&self, _tx: &mut Tx, _register: Ix, _value: u64) -> Did {
-        Did::Done
-    }
-
-    fn add(&self, _tx: &mut Tx, _register: Ix, _addend: u64) -> Got {
-        Got::Value(7)
-    }
-
-    fn commit(&self, _tx: &mut Tx) -> Did {
-        self.commits.fetch_add(1, Ordering::SeqCst);
-        Did::Done
-    }
-
-    fn abort(&self, _tx: &mut Tx) {}
+/// A memory of one register that answers 7 whatever was written.
+fn seven() -> Counting {
+    Counting::new(Registers { number: 1 }, Did::Done, 7)
 }
 
 const WRITE: &[u8] = b"{\"registers\":1,\"scripts\":[[[\"W 0 5\",\"T\"]]],\"order\":[]}";
@@ -123,7 +77,7 @@ fn what_a_memory_answers_is_driven_and_judged(rt: HostRuntime) {
     ] {
         let mut source = MemorySource::limited(text, 1, None);
         let mut sink = MemorySink::limited(rt.alloc(), 1, None);
-        let memory = Seven::new();
+        let memory = seven();
         let answered = run_drive(rt.alloc(), &mut source, &mut sink, &memory, true, WIDEST);
         assert_eq!(rt; sink.bytes(), written, "of {text:?}");
         assert_eq!(rt; answered, status, "of {text:?}");
@@ -133,7 +87,7 @@ fn what_a_memory_answers_is_driven_and_judged(rt: HostRuntime) {
 /// Carries a workload out, which a source tells a byte a call, and compares what went out, which a sink takes a byte a call.
 fn expect<R: Abort + AllocGlobal + Threads + Wait>(
     rt: &R,
-    memory: &Seven,
+    memory: &Counting,
     text: &[u8],
     trace: bool,
     settings: Settings,
@@ -157,7 +111,7 @@ fn expect<R: Abort + AllocGlobal + Threads + Wait>(
 
 #[test]
 fn a_workload_is_carried_out_once_and_no_round_follows_a_violation(rt: HostRuntime) {
-    let memory = Seven::new();
+    let memory = seven();
     let line =
         b"{\"at\":2,\"events\":6,\"verdict\":\"violated\"}\n{\"ends\":[\"done\"]}\n".as_slice();
     expect(
@@ -169,14 +123,12 @@ fn a_workload_is_carried_out_once_and_no_round_follows_a_violation(rt: HostRunti
         line,
         VIOLATED,
     );
-    assert_eq!(rt; memory.begins.load(Ordering::SeqCst), 1);
-    assert_eq!(rt; memory.reads.load(Ordering::SeqCst), 2);
-    assert_eq!(rt; memory.commits.load(Ordering::SeqCst), 1);
+    assert_eq!(rt; memory.counts(), [1, 2, 0, 0, 1, 0]);
 }
 
 #[test]
 fn places_and_registers_that_there_are_not(rt: HostRuntime) {
-    let memory = Seven::new();
+    let memory = seven();
     expect(
         &rt,
         &memory,

@@ -11,7 +11,8 @@ use tmw_workloads::Workload;
 
 mod memories;
 
-use memories::{Counting, Marking, Telling};
+use crate::counting::Counting;
+use memories::{Marking, Telling};
 
 const ONE: Registers = Registers { number: 1 };
 
@@ -31,7 +32,7 @@ fn each_call_is_made_once(rt: HostRuntime) -> Result<(), Fail> {
         scripts: vec![in alloc; vec![in alloc; calls]?]?,
         order: vec![in alloc; 0, 0, 0]?,
     };
-    let memory = Counting::new(ONE, Did::Done);
+    let memory = Counting::new(ONE, Did::Done, 7);
     let outcome = drive(alloc, &memory, &workload, WIDEST)?;
     let log = [
         one(Kind::R(FIRST)),
@@ -57,7 +58,7 @@ fn an_order_that_runs_out_leaves_a_transaction_open(rt: HostRuntime) -> Result<(
         scripts: vec![in alloc; vec![in alloc; calls]?]?,
         order: vec![in alloc; 0]?,
     };
-    let memory = Counting::new(ONE, Did::Done);
+    let memory = Counting::new(ONE, Did::Done, 7);
     let outcome = drive(alloc, &memory, &workload, WIDEST)?;
     let log = [one(Kind::R(FIRST)), one(Kind::V(7))];
     assert_eq!(rt; outcome.log.as_slice(), log.as_slice());
@@ -76,7 +77,7 @@ fn threads_take_turns_as_the_order_has_it(rt: HostRuntime) -> Result<(), Fail> {
         scripts: vec![in alloc; vec![in alloc; writing]?, vec![in alloc; adding]?]?,
         order: vec![in alloc; 1, 0, 0, 0, 1, 1]?,
     };
-    let memory = Counting::new(TWO, Did::Done);
+    let memory = Counting::new(TWO, Did::Done, 7);
     let outcome = drive(alloc, &memory, &workload, WIDEST)?;
     let log = [
         other(Kind::N(SECOND, 1)),
@@ -108,7 +109,7 @@ fn no_call_is_made_in_a_transaction_that_did_not_begin(rt: HostRuntime) -> Resul
         scripts: vec![in alloc; vec![in alloc; reading, aborting]?]?,
         order: vec![in alloc; 0, 0, 0]?,
     };
-    let memory = Counting::new(ONE, Did::Abort);
+    let memory = Counting::new(ONE, Did::Abort, 7);
     let outcome = drive(alloc, &memory, &workload, WIDEST)?;
     let log = [
         one(Kind::R(FIRST)),
@@ -175,7 +176,7 @@ fn a_memory_may_lack_registers(rt: HostRuntime) -> Result<(), Fail> {
         scripts: vec![in alloc; vec![in alloc; calls]?]?,
         order: vec![in alloc; 0]?,
     };
-    let memory = Counting::new(ONE, Did::Done);
+    let memory = Counting::new(ONE, Did::Done, 7);
     let fault = drive(alloc, &memory, &workload, WIDEST).err();
     assert_eq!(rt; fault, Some(DriveFault::Registers));
     assert_eq!(rt; memory.counts(), [0, 0, 0, 0, 0, 0]);

@@ -6,6 +6,8 @@ mod bench;
 #[cfg(test)]
 mod commands;
 #[cfg(test)]
+mod counting;
+#[cfg(test)]
 mod drive;
 #[cfg(test)]
 mod memories;

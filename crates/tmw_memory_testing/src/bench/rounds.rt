@@ -4,7 +4,7 @@ use super::*;
 #[test]
 fn no_round_follows_a_violation(rt: HostRuntime) -> Result<(), Fail> {
     let workload = told(rt.alloc(), READS)?;
-    let memory = Counting::new(7);
+    let memory = Counting::new(ONE, Did::Done, 7);
     let settings = settings(8, 1_000, PATIENT, 3);
     let benched = run_bench(&rt, rt.alloc(), &memory, &workload, settings)?;
     let log = [
@@ -18,20 +18,20 @@ fn no_round_follows_a_violation(rt: HostRuntime) -> Result<(), Fail> {
     assert_eq!(rt; benched.outcome.log.as_slice(), log.as_slice());
     assert_eq!(rt; benched.outcome.verdict, Verdict::Violated(2));
     assert_eq!(rt; benched.rounds, 1);
-    assert_eq!(rt; memory.counts(), [1, 2, 0, 1, 0]);
+    assert_eq!(rt; memory.counts(), [1, 2, 0, 0, 1, 0]);
     Ok(())
 }
 
 #[test]
 fn each_call_of_each_round_is_made_once(rt: HostRuntime) -> Result<(), Fail> {
     let workload = told(rt.alloc(), READS)?;
-    let memory = Counting::new(0);
+    let memory = Counting::new(ONE, Did::Done, 0);
     let settings = settings(8, 1_000, PATIENT, 3);
     let benched = run_bench(&rt, rt.alloc(), &memory, &workload, settings)?;
     assert_eq!(rt; benched.rounds, 3);
     assert_eq!(rt; benched.outcome.log.len(), 18);
     assert_eq!(rt; benched.outcome.verdict, Verdict::OpaqueSoFar);
-    assert_eq!(rt; memory.counts(), [3, 6, 0, 3, 0]);
+    assert_eq!(rt; memory.counts(), [3, 6, 0, 0, 3, 0]);
     Ok(())
 }
 
@@ -49,7 +49,7 @@ fn kinds_by(alloc: Global, log: &[Event], number: u8) -> Result<Vec<Kind>, Fail>
 #[test]
 fn rounds_follow_one_another(rt: HostRuntime) -> Result<(), Fail> {
     let workload = told(rt.alloc(), TWO_WRITE)?;
-    let memory = Counting::new(7);
+    let memory = Counting::new(ONE, Did::Done, 7);
     let settings = settings(8, 1_000, PATIENT, 3);
     let benched = run_bench(&rt, rt.alloc(), &memory, &workload, settings)?;
     assert_eq!(rt; benched.rounds, 3);
@@ -63,14 +63,14 @@ fn rounds_follow_one_another(rt: HostRuntime) -> Result<(), Fail> {
             assert_eq!(rt; kinds.as_slice(), once.as_slice());
         }
     }
-    assert_eq!(rt; memory.counts(), [6, 0, 6, 6, 0]);
+    assert_eq!(rt; memory.counts(), [6, 0, 6, 0, 6, 0]);
     Ok(())
 }
 
 #[test]
 fn no_round_follows_one_that_was_stopped(rt: HostRuntime) -> Result<(), Fail> {
     let workload = told(rt.alloc(), WRITES)?;
-    let memory = Counting::new(7);
+    let memory = Counting::new(ONE, Did::Done, 7);
     let settings = settings(8, 6, PATIENT, 5);
     let benched = run_bench(&rt, rt.alloc(), &memory, &workload, settings)?;
     assert_eq!(rt; benched.rounds, 2);
@@ -96,7 +96,7 @@ fn no_round_begins_while_a_call_of_the_one_before_is_held(rt: HostRuntime) -> Re
 #[test]
 fn a_small_ring_carries_many_rounds(rt: HostRuntime) -> Result<(), Fail> {
     let workload = told(rt.alloc(), TWO_WRITE)?;
-    let memory = Counting::new(7);
+    let memory = Counting::new(ONE, Did::Done, 7);
     let settings = settings(8, 10_000, PATIENT, 1_000);
     let benched = run_bench(&rt, rt.alloc(), &memory, &workload, settings)?;
     assert_eq!(rt; benched.rounds, 1_000);
@@ -104,6 +104,6 @@ fn a_small_ring_carries_many_rounds(rt: HostRuntime) -> Result<(), Fail> {
     assert_eq!(rt; benched.outcome.verdict, Verdict::OpaqueSoFar);
     let done = [Ending::Done, Ending::Done];
     assert_eq!(rt; benched.outcome.ends.as_slice(), done.as_slice());
-    assert_eq!(rt; memory.counts(), [2_000, 0, 2_000, 2_000, 0]);
+    assert_eq!(rt; memory.counts(), [2_000, 0, 2_000, 0, 2_000, 0]);
     Ok(())
 }
