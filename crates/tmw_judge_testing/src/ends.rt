@@ -1,5 +1,5 @@
 //! The ends of windows that were worked out by hand: by both calls, and by layers.
-use crate::windows::{
+use crate::calls::{
     ASKS, COMMITS, EIGHT, FIRST, LAST, ONE, SECOND, THREADS, few, holding, push_from_each,
     push_writes, read, window_of, window_of_calls, write,
 };

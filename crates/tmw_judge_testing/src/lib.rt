@@ -3,6 +3,8 @@
 #![tactic(auto)]
 
 #[cfg(test)]
+mod calls;
+#[cfg(test)]
 mod compared;
 #[cfg(test)]
 mod compared_strictly;
@@ -36,7 +38,5 @@ mod strict;
 mod tracker;
 #[cfg(test)]
 mod window;
-#[cfg(test)]
-mod windows;
 #[cfg(test)]
 mod witness;

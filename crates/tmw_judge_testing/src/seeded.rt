@@ -1,13 +1,14 @@
 //! Seeded histories of four threads over two registers, written as text and judged through reads of each size, beside the plain
 //! check of the whole history.
+use crate::compared::{TWO, plain};
 use std::alloc::{AllocError, Global};
 use std::process::Abort;
 use std::test::Fail;
 use tmw_defs::{Asked, Criterion, Verdict};
-use tmw_events::{Event, Kind, Registers};
+use tmw_events::{Event, Kind};
 use tmw_judge::run_judge;
 use tmw_monitor::Bounds;
-use tmw_plain_check::{Whole, WholeFault, judge_whole_for};
+use tmw_plain_check::judge_whole_for;
 use tmw_report::{report_strict, report_text, status_of};
 use tmw_streams::{MemorySink, MemorySource};
 use tmw_testing::{FIRST, SECOND, Seed};
@@ -17,8 +18,6 @@ use tmw_wellformed::Tracker;
 const VIOLATED: u8 = 1;
 
 const UNDECIDED: u8 = 2;
-
-const TWO: Registers = Registers { number: 2 };
 
 /// What a register may hold at the start: numbers of one to twenty digits.
 const STARTS: [u64; 8] = [
@@ -91,17 +90,6 @@ fn draw_events(
         }
     }
     Ok(events)
-}
-
-/// What the plain check answers, as a verdict, where it decides.
-fn plain(whole: Result<Whole, WholeFault>) -> Option<Verdict> {
-    match whole {
-        Ok(Whole::Opaque) => Some(Verdict::OpaqueSoFar),
-        Ok(Whole::Strict) => Some(Verdict::StrictSoFar),
-        Ok(Whole::Violated(at)) => Some(Verdict::Violated(at)),
-        Err(WholeFault::IllFormed(at)) => Some(Verdict::Malformed(at)),
-        Err(WholeFault::Ninth(_) | WholeFault::Memory) => None,
-    }
 }
 
 /// Judges a text through reads of each size, which answer alike, and tells the line and the status.

@@ -4,7 +4,7 @@ use Rattle.std.specs.Int.{bit_at, bit_not}
 use Rattle.std.specs.List.{list_all, list_any, count_by}
 use Rattle.std.specs.Prelude.{slice_get, option_map}
 use Rattle.std.proofs.lemmas.Option.{slice_get-map}
-use Rattle.std.proofs.lemmas.Bool.{and_parts, and_from, cases_Bool, not-true, cases_lt, eqb-true, eqb-false, eq-eqb}
+use Rattle.std.proofs.lemmas.Bool.{and_parts, and_from, or_right, cases_Bool, not-true, cases_lt, eqb-true, eqb-false, eq-eqb}
 use Rattle.std.proofs.lemmas.List.Folds.{list_all-map}
 use Rattle.std.proofs.lemmas.List.Sums.{sum_by-cons}
 use Rattle.std.proofs.Math.Nat.{mod-lt}
@@ -272,11 +272,7 @@ all-at p (t ∷ ts) each = and_from (p t) _ (each 0 t refl) (all-at p ts (λ i u
 any-at : (p : Txn → Bool) (ts : List Txn) (i : ℕ) (t : Txn) → slice_get ts i ≡ Some t → IsTrue (p t) → IsTrue (list_any p ts)
 any-at p [] i t at is = absurd (cc)
 any-at p (u ∷ ts) zero t at is = let same : u ≡ t = cc in rw (same, is) refl
-any-at p (u ∷ ts) (suc i) t at is = or_right (p u) (any-at p ts i t at is)
-  where
-    or_right : (b : Bool) {c : Bool} → IsTrue c → IsTrue (b || c)
-    or_right true is = refl
-    or_right false is = is
+any-at p (u ∷ ts) (suc i) t at is = or_right (p u) _ (any-at p ts i t at is)
 
 -- a view at a place shows the transaction there
 view-at : (ts : List Txn) (i : ℕ) (x : View) → slice_get (map (view_of ts) ts) i ≡ Some x → (t : Txn) × (slice_get ts i ≡ Some t) × (view_of ts t ≡ x)

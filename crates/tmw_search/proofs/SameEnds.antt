@@ -1,7 +1,7 @@
 -- Where all transactions have ended, their ends by strict serializability are those of the committed ones by opacity.
 use Rattle.std.proofs.Common.{◌≡◌, ◌==◌, ◌||◌, ◌+◌, ◌≤◌, ℕ, Bool, true, false, not, List, [], ◌∷◌, IsTrue, cond, refl, sym, subst, ◌∙◌, inl, inr, arith}
 use Rattle.std.specs.List.{list_all, list_any, count_by}
-use Rattle.std.proofs.lemmas.Bool.{and_parts, and_from, cases_Bool}
+use Rattle.std.proofs.lemmas.Bool.{and_parts, and_from, or_right, cases_Bool}
 use Rattle.std.proofs.lemmas.List.Sums.{sum_by-cons}
 use Rattle.tmw_defs.specs.declared.criterion.Criterion.{Criterion}
 use Rattle.tmw_defs.specs.declared.criterion.Criterion.TheVariants.{Opacity, Strict}
@@ -100,12 +100,8 @@ any_more p q each [] some = absurd (cc)
 any_more p q each (t ∷ ts) some =
     elim (cases_Bool (p t)) [
       | inl is ↦ rw (each t is) refl
-      | inr other ↦ or_right (q t) (any_more p q each ts (rw other at some))
+      | inr other ↦ or_right (q t) _ (any_more p q each ts (rw other at some))
     ]
-  where
-    or_right : (b : Bool) {c : Bool} → IsTrue c → IsTrue (b || c)
-    or_right true is = refl
-    or_right false is = is
 
 settles-held : (r v : ℕ) (us members : List Txn) → AreHeld us members → (t : Txn) → IsTrue (settles r v us t) → IsTrue (settles r v members t)
 settles-held r v us members are t is =
