@@ -20,6 +20,7 @@ use Rattle.tmw_ring.specs.Ends.{RingIs, WriterIs, ReaderIs, WriterOf, ReaderOf}
 use Rattle.tmw_ring.specs.NewRing.{AreNewWriters}
 use Rattle.tmw_ring.specs.Settling.{AreInOrder}
 use Rattle.tmw_ring.specs.declared.refused.Refused.{Refused}
+use Rattle.tmw_rounds.proofs.Meetings.{order_met}
 use Rattle.tmw_rounds.specs.Meeting.{HasMet, HaveAllMet}
 use Rattle.tmw_tm.specs.Answers.{Call, Answer}
 use Rattle.tmw_work.specs.Working.{EndsWork}
@@ -82,14 +83,10 @@ played_last-met gives script bounds tail old stop new not_stopped last met = rec
       (subst (λ (s : Option Refused). EndsWork script (kinds_made last.fresh) s old) not_stopped last.ended);
 }
 
--- Writers that have met are in their order, and of their ring.
+-- Writers that have met are of their ring.
 module _ (ring : RingIs) (tail : ℕ) (old new : List WriterIs) (met : HaveAllMet tail old new) where
   below : (place : ℕ) → place < length new → place < length old
   below place low = subst (λ (n : ℕ). place < n) met.counted low
-
-  pub order-met : AreInOrder old → AreInOrder new
-  order-met order place fallback low =
-      ap (λ (ix : Ix). ix.number) (met.each place fallback (below place low)).number ∙ order place fallback (below place low)
 
   pub of_ring-met : All (WriterOf ring) old → All (WriterOf ring) new
   of_ring-met of_ring place fallback low =
@@ -107,7 +104,7 @@ is_after-met rules gives ring scripts bounds reader later old before front write
     record {
       reader_of = of_ring;
       of_ring = of_ring-met ring met.tail before writers met.all after.of_ring;
-      order = order-met ring met.tail before writers met.all after.order;
+      order = order_met met.tail before writers met.all after.order;
       stop_count = after.stop_count;
       played = record {
         counted = met.all.counted ∙ after.played.counted;
@@ -133,7 +130,7 @@ is_before-met rules gives ring scripts bounds reader old before front writers st
     let fits = goes_on.fits rules after.fits in
     let judged = subst (AllOpaque rules bounds) (sym goes_on.judged) (all_opaque-append rules bounds old.judged.items goes_on.more after.opaque) in
     record {
-      order = order-met ring met.tail before writers met.all after.order;
+      order = order_met met.tail before writers met.all after.order;
       ready = all_ready-met gives scripts bounds met.tail before stops writers
           (λ thread low. not_stopped thread None (subst (λ (n : ℕ). thread < n) (sym after.stop_count) low)) after.played met.all;
       fits = fits;

@@ -7,11 +7,12 @@ use tmw_events::{Ix, Registers};
 use tmw_tm::{Did, Got, Tm, Tx};
 
 /// A memory that answers one value to each read and each add, carries out all else, and counts its calls. It begins transactions, or
-/// aborts them, as it was made to do.
+/// aborts them, and commits them, or aborts them at their commits, as it was made to do.
 #[derive(Drop)]
 pub struct Counting {
     registers: Registers,
     at_begin: Did,
+    at_commit: Did,
     value: u64,
     begins: AtomicU64,
     reads: AtomicU64,
@@ -22,10 +23,21 @@ pub struct Counting {
 }
 
 impl Counting {
+    /// It commits each transaction that it begins.
     pub fn new(registers: Registers, at_begin: Did, value: u64) -> Counting {
+        Counting::ending(registers, at_begin, Did::Done, value)
+    }
+
+    /// It aborts each transaction at its commit.
+    pub fn aborting(registers: Registers) -> Counting {
+        Counting::ending(registers, Did::Done, Did::Abort, 7)
+    }
+
+    fn ending(registers: Registers, at_begin: Did, at_commit: Did, value: u64) -> Counting {
         Counting {
             registers,
             at_begin,
+            at_commit,
             value,
             begins: AtomicU64::new(0),
             reads: AtomicU64::new(0),
@@ -78,7 +90,7 @@ impl Tm for Counting {
 
     fn commit(&self, _tx: &mut Tx) -> Did {
         self.commits.fetch_add(1, Ordering::SeqCst);
-        Did::Done
+        self.at_commit
     }
 
     fn abort(&self, _tx: &mut Tx) {

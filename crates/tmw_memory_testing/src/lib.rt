@@ -1,4 +1,4 @@
-//! Tests of the memories, of the driver and of the bench, with memories made for them: no part of the product.
+//! Tests of the memories, of the driver, of the bench and of its workers, with memories made for them: no part of the product.
 #![tactic(auto)]
 
 #[cfg(test)]
@@ -11,3 +11,5 @@ mod counting;
 mod drive;
 #[cfg(test)]
 mod memories;
+#[cfg(test)]
+mod work;

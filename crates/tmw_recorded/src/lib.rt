@@ -9,8 +9,6 @@ mod record;
 mod recorded;
 mod run;
 mod signals;
-#[cfg(test)]
-mod tests;
 mod threads;
 
 pub use back::sort_back;

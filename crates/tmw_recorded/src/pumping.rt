@@ -62,6 +62,3 @@ pub fn judge_rest(mut rest: Rest) -> Result<(Vec<Event>, Verdict), AllocError>
     rest.pump(u64::MAX)?;
     Ok(rest.finish())
 }
-
-#[cfg(test)]
-mod tests;

@@ -48,6 +48,3 @@ impl Signals {
         self.given_up.load(Ordering::SeqCst)
     }
 }
-
-#[cfg(test)]
-mod tests;

@@ -1,12 +1,16 @@
-//! Threads that record into a ring, for the tests that run some, and the tests of the ring, of the pump and of watches: no part of
-//! the product.
+//! Threads that record into a ring, for the tests that run some, and the tests of the ring, of the pump, of whole runs and of watches:
+//! no part of the product.
 #![tactic(auto)]
 
 #[cfg(test)]
 mod pump;
+#[cfg(test)]
+mod recorded;
 mod returning;
 #[cfg(test)]
 mod ring;
+#[cfg(test)]
+mod rounds;
 mod soon;
 #[cfg(test)]
 mod steps;

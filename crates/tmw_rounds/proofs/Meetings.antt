@@ -3,8 +3,10 @@ use Rattle.std.proofs.Common.{◌≢◌, ◌+◌, ◌<◌, ℕ, zero, suc, List,
 use native.Mathlib.Decide.{ℕ_discrete}
 use Rattle.std.proofs.lemmas.List.{length-set, get_or_default}
 use Rattle.std.proofs.lemmas.List.Elements.{All-get_or, All-from_get_or, All-nil}
+use Rattle.tmw_events.specs.declared.ix.Ix.{Ix}
 use Rattle.tmw_ring.specs.Ends.{RingIs, WriterIs, WriterOf}
 use Rattle.tmw_ring.specs.Meeting.{WritersHaveMet, FindsTail}
+use Rattle.tmw_ring.specs.Settling.{AreInOrder}
 use Rattle.tmw_rounds.specs.Meeting.{HasMet, HaveAllMet, HasOnlySeen, HasMetOne, HasMetUpTo}
 
 -- Before the first meeting.
@@ -175,3 +177,9 @@ all_of_ring ring tail old (first ∷ rest) of_ring met =
     let one = met.each place first in_old in
     let was = All-get_or (WriterOf ring) old place first in_old of_ring in
     (one.table ∙ was.0, one.sized ∙ was.1))
+
+-- Writers that have met are in their order.
+pub order_met : (tail : ℕ) (old new : List WriterIs) → HaveAllMet tail old new → AreInOrder old → AreInOrder new
+order_met tail old new met order place fallback low =
+    let below = subst (λ (n : ℕ). place < n) met.counted low in
+    ap (λ (ix : Ix). ix.number) (met.each place fallback below).number ∙ order place fallback below

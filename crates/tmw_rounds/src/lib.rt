@@ -3,8 +3,6 @@
 
 mod judging;
 mod meeting;
-#[cfg(test)]
-mod tests;
 
 pub use judging::judge_up_to;
 pub use meeting::meet_all;

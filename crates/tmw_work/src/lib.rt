@@ -1,8 +1,6 @@
 //! One thread carries its script out on a memory, and records each call and each answer in a ring.
 #![tactic(auto)]
 
-#[cfg(test)]
-mod tests;
 mod working;
 
 pub use working::work;

@@ -22,7 +22,7 @@ pub const WIDEST: Bounds = Bounds {
 };
 
 /// A pump over a run of one register.
-fn new_pump(alloc: Global, reader: Reader) -> Result<Pump, AllocError>
+pub fn new_pump(alloc: Global, reader: Reader) -> Result<Pump, AllocError>
     requires { reader.taken ≡ [] }
     ensures { IfOk result (λ pump. pump.forgetting.reader ≡ reader) }
 {
@@ -71,7 +71,7 @@ fn meet(ring: &Ring, pump: &mut Pump, writer: &mut Writer)
 }
 
 /// Records so many transactions that read and write nothing.
-fn record_empty(ring: &Ring, writer: &mut Writer, count: u64)
+pub fn record_empty(ring: &Ring, writer: &mut Writer, count: u64)
     requires { WriterOf ring.now writer.old }
     ensures { WriterOf ring.now writer.new }
 {

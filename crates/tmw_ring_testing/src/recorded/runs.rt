@@ -1,19 +1,13 @@
 //! Whole runs: threads record what they are given, and all of it is judged.
-use super::*;
+use crate::pump::calls::{ONE, WIDEST};
 use std::alloc::{AllocError, Global};
 use std::test::Fail;
 use tmw_defs::Verdict;
-use tmw_events::{Event, Kind, Registers};
-use tmw_monitor::{Bounds, judge};
+use tmw_events::{Event, Kind};
+use tmw_monitor::judge;
+use tmw_recorded::{Plan, RecordFault, record_and_judge};
 use tmw_ring::{Refused, RingFault};
 use tmw_testing::{FIRST, one};
-
-const ONE: Registers = Registers { number: 1 };
-
-const WIDEST: Bounds = Bounds {
-    window: 8,
-    states: 64,
-};
 
 /// So many transactions each thread makes.
 const EACH: usize = 100;

@@ -1,15 +1,15 @@
 //! How long the pump runs, of which no clause tells, and what stands where a growth of memory is refused.
-ghost use Rattle.std.specs.Prelude.{◌≡◌, [], IfOk};
 ghost use Rattle.tmw_ring.specs.Ends.{ReaderOf, WriterOf};
 
-use super::*;
-use crate::record::record_list;
-use std::alloc::{AllocError, Global};
+use crate::pump::calls::new_pump;
+use std::sync::Wait;
 use std::test::Fail;
+use std::thread;
 use std::thread::Threads;
-use tmw_events::{Kind, Registers};
-use tmw_monitor::{Bounds, Monitor};
-use tmw_ring::{Reader, Writer, ring};
+use tmw_events::Kind;
+use tmw_pump::Pump;
+use tmw_recorded::{Signals, pump_running, record_soon};
+use tmw_ring::{Ring, Writer, ring};
 use tmw_testing::FIRST;
 
 /// So many transactions the thread makes, of four events each.
@@ -18,41 +18,37 @@ const EACH: usize = 1_000;
 /// A transaction that writes what each writes.
 const WRITING: [Kind; 4] = [Kind::W(FIRST, 1), Kind::K, Kind::T, Kind::C];
 
-/// A pump that has judged nothing, of a run of one register.
-fn new_pump(alloc: Global, reader: Reader) -> Result<Pump, AllocError>
-    requires { reader.taken ≡ [] }
-    ensures { IfOk result (λ pump. pump.forgetting.reader ≡ reader) }
+/// Records events of these kinds, however often the ring lacks room, and has then ended.
+fn record_all(ring: &Ring, writer: &mut Writer, kinds: &[Kind], signals: &Signals)
+    requires { WriterOf ring.now writer.old }
+    ensures { WriterOf ring.now writer.new }
 {
-    let registers = Registers { number: 1 };
-    let bounds = Bounds {
-        window: 8,
-        states: 64,
-    };
-    Ok(Pump::new(alloc, reader, Monitor::new(alloc, registers, bounds)?))
+    for kind in kinds {
+        let _ = record_soon(ring, writer, *kind, 1_000_000_000, signals);
+    }
+    signals.end();
 }
 
-/// Lets a thread record the first list while its events are judged, and tells how many threads had ended when the pump stopped, if it
+/// Lets a thread record events of these kinds while they are judged, and tells how many threads had ended when the pump stopped, if it
 /// was not refused memory.
 fn ended_beside<R: Threads + Wait + Sync>(
     rt: &R,
     ring: &Ring,
-    writer: Writer,
+    writer: &mut Writer,
     pump: &mut Pump,
-    lists: &[Vec<Kind>],
+    kinds: &[Kind],
 ) -> Option<u64>
-    requires writer { WriterOf ring.now writer }
-    requires new { writer.made ≡ [] }
+    requires writer { WriterOf ring.now writer.old }
     requires reader { ReaderOf ring.now pump.old.forgetting.reader }
 {
     let told = Signals::new();
     let signals = &told;
     let (_, ended) = thread::join(
         rt,
-        move || -> ()
-            requires of_ring { WriterOf ring.now writer }
-            requires new { writer.made ≡ [] }
+        || -> ()
+            requires { WriterOf ring.now writer.now }
         {
-            let _ = record_list(ring, writer, lists, 1_000_000_000, signals);
+            record_all(ring, writer, kinds, signals);
         },
         || -> Option<u64>
             requires { ReaderOf ring.now pump.now.forgetting.reader }
@@ -73,13 +69,12 @@ fn the_pump_stops_only_where_the_thread_has_ended(rt: HostRuntime) -> Result<(),
     for _ in 0..EACH {
         kinds.extend_from_slice(&WRITING)?;
     }
-    let lists = vec![in alloc; kinds]?;
     let (ring, mut writers, reader) = ring(alloc, 8, 1, 1 << 40)?;
-    let Some(writer) = writers.pop() else {
+    let Some(mut writer) = writers.pop() else {
         panic!(rt; "no writer");
     };
     let mut pump = new_pump(alloc, reader)?;
-    let ended = ended_beside(&rt, &ring, writer, &mut pump, &lists);
+    let ended = ended_beside(&rt, &ring, &mut writer, &mut pump, &kinds);
     assert_eq!(rt; ended, Some(1));
     assert_eq!(rt; pump.judged().len(), 4 * EACH);
     Ok(())
@@ -102,14 +97,13 @@ fn judges_as_it_says<R: Wait>(rt: &R, ring: &Ring, pump: &mut Pump, signals: &Si
 #[test]
 fn a_refused_growth_stops_the_pump_and_loses_no_event(rt: HostRuntime) -> Result<(), Fail> {
     let alloc = rt.alloc();
-    let lists = vec![in alloc; Vec::from_slice(alloc, &WRITING)?]?;
     let (ring, mut writers, reader) = ring(alloc, 8, 1, 100)?;
-    let Some(writer) = writers.pop() else {
+    let Some(mut writer) = writers.pop() else {
         panic!(rt; "no writer");
     };
     let mut pump = new_pump(alloc, reader)?;
     let signals = Signals::new();
-    assert_eq!(rt; record_list(&ring, writer, &lists, 0, &signals).1, None);
+    record_all(&ring, &mut writer, &WRITING, &signals);
     assert!(rt; judges_as_it_says(&rt, &ring, &mut pump, &signals));
     assert!(rt; judges_as_it_says(&rt, &ring, &mut pump, &signals));
     assert_eq!(rt; pump.judged().len(), 4);

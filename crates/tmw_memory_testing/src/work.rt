@@ -1,16 +1,15 @@
 //! What the contract leaves open: which calls the memory gets, and that a thread stops where its ring lets it.
-use super::*;
+use crate::counting::Counting;
 use std::alloc::Global;
 use std::test::Fail;
-use tmw_events::{Event, Kind};
+use tmw_events::{Event, Kind, Registers};
 use tmw_recorded::Signals;
 use tmw_ring::{Refused, ring};
 use tmw_testing::{FIRST, one};
 use tmw_tm::Did;
+use tmw_work::work;
 
-mod memories;
-
-use memories::Counting;
+const ONE: Registers = Registers { number: 1 };
 
 /// What a thread has left: the refusal at which it stopped, the first events in the ring, and how many begins, reads, writes, adds,
 /// commits and aborts there were.
@@ -31,7 +30,7 @@ fn write_five(
 ) -> Result<Left, Fail> {
     let (ring, mut writers, mut reader) = ring(alloc, cells, 1, limit)?;
     let script = vec![in alloc; vec![in alloc; Kind::W(FIRST, 5), Kind::T]?]?;
-    let memory = Counting::new(Did::Done);
+    let memory = Counting::new(ONE, Did::Done, 7);
     let stop = work(&memory, &ring, &mut writers[0], &script, patience, signals);
     let events = [
         ring.take(&mut reader),
@@ -114,7 +113,7 @@ fn each_call_is_made_once(rt: HostRuntime) -> Result<(), Fail> {
     let alloc = rt.alloc();
     let (ring, mut writers, mut reader) = ring(alloc, 8, 1, 100)?;
     let script = vec![in alloc; vec![in alloc; Kind::R(FIRST), Kind::R(FIRST), Kind::T]?]?;
-    let memory = Counting::new(Did::Done);
+    let memory = Counting::new(ONE, Did::Done, 7);
     let stop = work(&memory, &ring, &mut writers[0], &script, 1, &Signals::new());
     assert_eq!(rt; stop, None);
     assert_eq!(rt; memory.counts(), [1, 2, 0, 0, 1, 0]);
@@ -133,7 +132,7 @@ fn a_transaction_that_the_memory_has_ended_is_not_aborted(rt: HostRuntime) -> Re
     let alloc = rt.alloc();
     let (ring, mut writers, _reader) = ring(alloc, 4, 1, 3)?;
     let script = vec![in alloc; vec![in alloc; Kind::W(FIRST, 5), Kind::T]?]?;
-    let memory = Counting::new(Did::Abort);
+    let memory = Counting::aborting(ONE);
     let stop = work(&memory, &ring, &mut writers[0], &script, 1, &Signals::new());
     assert_eq!(rt; stop, Some(Refused::Spent { tail: 3 }));
     assert_eq!(rt; memory.counts(), [1, 0, 1, 0, 1, 0]);
@@ -147,7 +146,7 @@ fn a_transaction_that_has_not_begun_is_not_aborted(rt: HostRuntime) -> Result<()
     let writing = vec![in alloc; Kind::W(FIRST, 5), Kind::T]?;
     let reading = vec![in alloc; Kind::R(FIRST), Kind::T]?;
     let script = vec![in alloc; writing, reading]?;
-    let memory = Counting::new(Did::Done);
+    let memory = Counting::new(ONE, Did::Done, 7);
     let stop = work(&memory, &ring, &mut writers[0], &script, 1, &Signals::new());
     assert_eq!(rt; stop, Some(Refused::Spent { tail: 4 }));
     assert_eq!(rt; memory.counts(), [1, 0, 1, 0, 1, 0]);
@@ -159,7 +158,7 @@ fn a_transaction_is_aborted_once(rt: HostRuntime) -> Result<(), Fail> {
     let alloc = rt.alloc();
     let (ring, mut writers, _reader) = ring(alloc, 4, 1, 3)?;
     let script = vec![in alloc; vec![in alloc; Kind::W(FIRST, 5), Kind::X]?]?;
-    let memory = Counting::new(Did::Done);
+    let memory = Counting::new(ONE, Did::Done, 7);
     let stop = work(&memory, &ring, &mut writers[0], &script, 1, &Signals::new());
     assert_eq!(rt; stop, Some(Refused::Spent { tail: 3 }));
     assert_eq!(rt; memory.counts(), [1, 0, 1, 0, 0, 1]);

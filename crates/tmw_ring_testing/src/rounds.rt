@@ -1,69 +1,25 @@
 //! Writers that meet between what they record, and rings that are judged up to a length of their logs.
 ghost use Rattle.std.specs.Prelude.{◌≡◌, ◌<◌, length, All};
 ghost use Rattle.tmw_ring.specs.Ends.{WriterOf};
+ghost use Rattle.tmw_ring.specs.Settling.{AreInOrder};
 
-use super::*;
+use crate::pump::calls::{new_pump, record_by, record_dirty_read, record_empty};
 use std::test::Fail;
 use tmw_defs::Verdict;
-use tmw_events::{Kind, Registers};
-use tmw_monitor::{Bounds, Monitor};
-use tmw_pump::Pump;
-use tmw_ring::{Refused, Ring, Writer, ring};
-use tmw_testing::{FIRST, dirty_read};
+use tmw_events::Kind;
+use tmw_ring::{Ring, Writer, ring};
+use tmw_rounds::{judge_up_to, meet_all};
+use tmw_testing::dirty_read;
 
-const ONE: Registers = Registers { number: 1 };
-
-const BOUNDS: Bounds = Bounds {
-    window: 8,
-    states: 64,
-};
-
-/// Records by the writer of this number.
-fn record_by(
-    ring: &Ring,
-    writers: &mut Vec<Writer>,
-    number: usize,
-    kind: Kind,
-) -> Result<u64, Refused>
-    requires some { number < length writers.old.items }
-    requires of_ring { All (WriterOf ring.now) writers.old.items }
-    ensures count { length writers.new.items ≡ length writers.old.items }
-    ensures of_ring { All (WriterOf ring.now) writers.new.items }
-{
-    ring.record(&mut writers[number], kind)
-}
-
-/// Records the dirty read, as far as it is one.
-fn record_dirty_read(ring: &Ring, writers: &mut Vec<Writer>)
-    requires two { length writers.old.items ≡ 2 }
-    requires of_ring { All (WriterOf ring.now) writers.old.items }
-    ensures two { length writers.new.items ≡ 2 }
-    ensures of_ring { All (WriterOf ring.now) writers.new.items }
-{
-    let _ = record_by(ring, writers, 0, Kind::W(FIRST, 1));
-    let _ = record_by(ring, writers, 0, Kind::K);
-    let _ = record_by(ring, writers, 1, Kind::R(FIRST));
-    let _ = record_by(ring, writers, 1, Kind::V(1));
-}
-
-/// Records so many transactions that read and write nothing.
-fn record_empty(ring: &Ring, writer: &mut Writer, count: u64)
-    requires { WriterOf ring.now writer.old }
-    ensures { WriterOf ring.now writer.new }
-{
-    for _ in 0..count {
-        let _ = ring.record(writer, Kind::T);
-        let _ = ring.record(writer, Kind::C);
-    }
-}
-
-/// All writers meet, and are of the ring still.
-#[tactic(auto, using(crate::proofs::Meetings::all_of_ring))]
+/// All writers meet, and are of the ring still, in their order.
+#[tactic(auto, using(tmw_rounds::proofs::Meetings::all_of_ring, tmw_rounds::proofs::Meetings::order_met))]
 fn meet(ring: &Ring, writers: &mut Vec<Writer>) -> u64
     requires some { 0 < length writers.old.items }
     requires of_ring { All (WriterOf ring.now) writers.old.items }
+    requires order { AreInOrder writers.old.items }
     ensures count { length writers.new.items ≡ length writers.old.items }
     ensures of_ring { All (WriterOf ring.now) writers.new.items }
+    ensures order { AreInOrder writers.new.items }
 {
     meet_all(ring, writers)
 }
@@ -93,7 +49,7 @@ fn one_writer_meets_no_other(rt: HostRuntime) -> Result<(), Fail> {
 #[test]
 fn a_ring_is_judged_up_to_a_meeting(rt: HostRuntime) -> Result<(), Fail> {
     let (ring, mut writers, reader) = ring(rt.alloc(), 8, 2, 100)?;
-    let mut pump = Pump::new(rt.alloc(), reader, Monitor::new(rt.alloc(), ONE, BOUNDS)?);
+    let mut pump = new_pump(rt.alloc(), reader)?;
     record_dirty_read(&ring, &mut writers);
     let count = meet(&ring, &mut writers);
     judge_up_to(&rt, &ring, &mut pump, 3)?;
@@ -109,7 +65,7 @@ fn a_ring_is_judged_up_to_a_meeting(rt: HostRuntime) -> Result<(), Fail> {
 fn no_more_events_are_judged_than_asked(rt: HostRuntime) -> Result<(), Fail> {
     let (ring, mut writers, reader) = ring(rt.alloc(), 256, 1, 1000)?;
     let mut writer = writers.pop().expect(&rt, "a writer");
-    let mut pump = Pump::new(rt.alloc(), reader, Monitor::new(rt.alloc(), ONE, BOUNDS)?);
+    let mut pump = new_pump(rt.alloc(), reader)?;
     record_empty(&ring, &mut writer, 75);
     judge_up_to(&rt, &ring, &mut pump, 100)?;
     assert_eq!(rt; pump.judged().len(), 100);

@@ -1,7 +1,7 @@
 //! What no clause says, since nothing is known of what a word holds that threads share.
-use super::*;
 use std::test::Fail;
 use std::thread;
+use tmw_recorded::Signals;
 
 /// So many threads begin and end, one after another, beside as many others.
 const MANY: u64 = 20_000;
