@@ -1,3 +1,4 @@
+mod Commands
 mod HelpWords
 mod Numbers
 mod Orders

@@ -1,6 +1,7 @@
-ghost use Rattle.std.specs.Prelude.{◌≡◌, ◌≤◌, ℕ, Bool, IfErr, IfNone, IfOk, IfSome, Some, codes, map};
+ghost use Rattle.std.specs.Prelude.{◌≡◌, ◌≤◌, ℕ, List, Bool, IfErr, IfNone, IfOk, IfSome, Some, codes, map};
 ghost use Rattle.clap.specs.Walk.{texts};
-ghost use Rattle.clap.specs.Words.{found_of, kind_of, rows_of, subcommand_rows_of};
+ghost use Rattle.clap.specs.Words.{Text, app_of, found_of, kind_of, rows_of, subcommand_rows_of};
+ghost use Rattle.tmw_command.specs.Program.{IsProgram};
 ghost use Rattle.tmw_command.specs.Reading.{FailsAs};
 ghost use Rattle.tmw_command.specs.Words.{Asks, Gives, HasBounds, HasOptions, HasTrace, IsOrder, NamesCriteria, NamesCriterion, NamesMemory, help_as_flag, names_help};
 ghost use Rattle.tmw_command.specs.declared.bench_options.BenchOptions.{BenchOptions};
@@ -16,7 +17,7 @@ use crate::order::Order;
 use crate::program::new_program;
 use crate::which::Which;
 use clap::error::ErrorKind;
-use clap::{ArgMatches, Error};
+use clap::{ArgMatches, Command, Error};
 use std::alloc::{AllocError, Global};
 use std::convert::AsStr;
 use tmw_defs::{Asked, Criterion};
@@ -29,11 +30,20 @@ pub fn parse<S: AsStr>(alloc: Global, words: &[S]) -> Result<Order, Error>
     ensures refused { IfErr result (λ error. FailsAs (map S.text words.now) (kind_of error)) }
 {
     let spelled = help_as_flag(alloc, words)?;
-    let mut command = new_program(alloc)?;
-    let matches = command.try_get_matches_from_mut(&spelled)?;
+    let mut program = new_program(alloc)?;
+    parse_by(&mut program, &spelled)
+}
+
+/// Parses words in which `help` is spelled as a flag already, by the program.
+fn parse_by<'a>(program: &mut Command<'a>, spelled: &'a [&'a str]) -> Result<Order, Error>
+    requires { IsProgram (app_of program.old) }
+    ensures order { IfOk result (λ order. (words : List Text) → texts spelled.now ≡ help_as_flag words → Asks words order) }
+    ensures refused { IfErr result (λ error. (words : List Text) → texts spelled.now ≡ help_as_flag words → FailsAs words (kind_of error)) }
+{
+    let matches = program.try_get_matches_from_mut(spelled)?;
     match order_of(&matches) {
         Some(order) => Ok(order),
-        None => Err(command.error(ErrorKind::InvalidSubcommand, "the words give no command")?),
+        None => Err(program.error(ErrorKind::InvalidSubcommand, "the words give no command")?),
     }
 }
 

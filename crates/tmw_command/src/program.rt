@@ -1,5 +1,5 @@
-ghost use Rattle.std.specs.Prelude.{◌≡◌, IfOk, codes, false};
-ghost use Rattle.clap.specs.Words.{app_of, new_app, rule_of};
+ghost use Rattle.std.specs.Prelude.{◌≡◌, IfOk, IsOkAnd, codes, false};
+ghost use Rattle.clap.specs.Words.{AddsSubcommand, app_of, new_app, rule_of};
 ghost use Rattle.clap.specs.declared.builder.value_parser.ValueParser.TheVariants.{Names};
 ghost use Rattle.tmw_command.specs.Program.{IsProgram, bench_among, count_to, drive_among, judge_among, one_to, show_among, steps, trace_rule, value_rule, wanting, with_bounds, with_counts, with_criterion, with_memory, with_trace};
 
@@ -63,26 +63,31 @@ const STEPS_HELP: &str =
 pub fn new_program<'a>(alloc: Global) -> Result<Command<'a>, AllocError>
     ensures { IfOk result (λ command. IsProgram (app_of command)) }
 {
-    let criteria = CRITERIA.as_slice();
-    let shown = SHOWN.as_slice();
+    let judging = with_command(bare_program(alloc), new_judge(alloc, CRITERIA.as_slice()))?;
+    let showing = with_command(judging, new_show(alloc, SHOWN.as_slice()))?;
     let memories = MEMORIES.as_slice();
-    bare_program(alloc)
-        .subcommand(new_judge(alloc, criteria)?)?
-        .subcommand(new_show(alloc, shown)?)?
-        .subcommand(new_drive(alloc, memories)?)?
-        .subcommand(new_bench(alloc, memories)?)?
-        .subcommand(new_steps(alloc))
+    let driving = with_command(showing, new_drive(alloc, memories))?;
+    let benching = with_command(driving, new_bench(alloc, memories))?;
+    benching.subcommand(new_steps(alloc))
+}
+
+/// The program with one more command, where there was memory for that.
+fn with_command<'a>(
+    program: Command<'a>,
+    command: Result<Command<'a>, AllocError>,
+) -> Result<Command<'a>, AllocError>
+    ensures { IfOk result (λ given. IsOkAnd command.entry (λ added. AddsSubcommand program.entry added given)) }
+{
+    program.subcommand(command?)
 }
 
 /// The program without its commands.
 fn bare_program<'a>(alloc: Global) -> Command<'a>
     ensures { app_of result ≡ wanting (new_app (codes "tmwatch")) }
 {
-    Command::new(alloc, "tmwatch")
-        .about(
-            "A monitor of opacity, and of strict serializability, for transactional memories, and the ring that events reach it by",
-        )
-        .after_help(PROGRAM_HELP)
+    let about =
+        "A monitor of opacity, and of strict serializability, for transactional memories, and the ring that events reach it by";
+    described(alloc, "tmwatch", about, PROGRAM_HELP)
         .version("0.1.0")
         .subcommand_required(true)
         .disable_help_subcommand(true)
@@ -92,11 +97,9 @@ fn bare_program<'a>(alloc: Global) -> Command<'a>
 fn new_judge<'a>(alloc: Global, criteria: &'a [&'a str]) -> Result<Command<'a>, AllocError>
     ensures { IfOk result (λ command. app_of command ≡ judge_among (Names criteria.entry)) }
 {
-    let judge = Command::new(alloc, "judge")
-        .about(
-            "Judge the trace on standard input: opaque so far, or strict so far, or which of its prefixes is the first that is not",
-        )
-        .after_help(JUDGE_HELP);
+    let about =
+        "Judge the trace on standard input: opaque so far, or strict so far, or which of its prefixes is the first that is not";
+    let judge = described(alloc, "judge", about, JUDGE_HELP);
     with_bounds(alloc, with_criterion(alloc, judge, criteria)?)
 }
 
@@ -104,11 +107,9 @@ fn new_judge<'a>(alloc: Global, criteria: &'a [&'a str]) -> Result<Command<'a>, 
 fn new_show<'a>(alloc: Global, criteria: &'a [&'a str]) -> Result<Command<'a>, AllocError>
     ensures { IfOk result (λ command. app_of command ≡ show_among (Names criteria.entry)) }
 {
-    let show = Command::new(alloc, "show")
-        .about(
-            "Judge the trace on standard input, and show where it went wrong: its last window, drawn in a column for each thread",
-        )
-        .after_help(SHOW_HELP);
+    let about =
+        "Judge the trace on standard input, and show where it went wrong: its last window, drawn in a column for each thread";
+    let show = described(alloc, "show", about, SHOW_HELP);
     let traced = with_trace(alloc, with_criterion(alloc, show, criteria)?)?;
     with_bounds(alloc, traced)
 }
@@ -117,9 +118,8 @@ fn new_show<'a>(alloc: Global, criteria: &'a [&'a str]) -> Result<Command<'a>, A
 fn new_drive<'a>(alloc: Global, memories: &'a [&'a str]) -> Result<Command<'a>, AllocError>
     ensures { IfOk result (λ command. app_of command ≡ drive_among (Names memories.entry)) }
 {
-    let drive = Command::new(alloc, "drive")
-        .about("Run the workload on standard input over a transactional memory, and judge the run")
-        .after_help(DRIVE_HELP);
+    let about = "Run the workload on standard input over a transactional memory, and judge the run";
+    let drive = described(alloc, "drive", about, DRIVE_HELP);
     with_bounds(alloc, with_memory(alloc, drive, memories)?)
 }
 
@@ -127,11 +127,9 @@ fn new_drive<'a>(alloc: Global, memories: &'a [&'a str]) -> Result<Command<'a>, 
 fn new_bench<'a>(alloc: Global, memories: &'a [&'a str]) -> Result<Command<'a>, AllocError>
     ensures { IfOk result (λ command. app_of command ≡ bench_among (Names memories.entry)) }
 {
-    let bench = Command::new(alloc, "bench")
-        .about(
-            "Run the workload on standard input over a transactional memory, with a thread for each of its scripts, and judge what they record",
-        )
-        .after_help(BENCH_HELP);
+    let about =
+        "Run the workload on standard input over a transactional memory, with a thread for each of its scripts, and judge what they record";
+    let bench = described(alloc, "bench", about, BENCH_HELP);
     let counted = with_counts(alloc, with_memory(alloc, bench, memories)?)?;
     with_bounds(alloc, counted)
 }
@@ -140,11 +138,18 @@ fn new_bench<'a>(alloc: Global, memories: &'a [&'a str]) -> Result<Command<'a>, 
 fn new_steps<'a>(alloc: Global) -> Command<'a>
     ensures { app_of result ≡ steps }
 {
-    Command::new(alloc, "steps")
-        .about(
-            "Take the ring's steps that standard input lists, one by one, and write what each of them answers",
-        )
-        .after_help(STEPS_HELP)
+    let about =
+        "Take the ring's steps that standard input lists, one by one, and write what each of them answers";
+    described(alloc, "steps", about, STEPS_HELP)
+}
+
+/// A command of this name without options, with what its help begins and ends with.
+fn described<'a>(alloc: Global, name: &'a str, about: &'a str, after_help: &'a str) -> Command<'a>
+    ensures { app_of result ≡ new_app name.entry.now }
+{
+    Command::new(alloc, name)
+        .about(about)
+        .after_help(after_help)
 }
 
 /// The command with what to judge by, one of these names, as an option.
@@ -189,27 +194,26 @@ fn with_memory<'a>(
         "norec",
         MEMORY_HELP,
     );
-    let trace = trace_option(alloc, TRACE_HELP);
-    command.arg(memory)?.arg(trace)
+    command.arg(memory)?.arg(trace_option(alloc, TRACE_HELP))
 }
 
 /// The command with the three counts of a bench as options.
 fn with_counts<'a>(alloc: Global, command: Command<'a>) -> Result<Command<'a>, AllocError>
     ensures { IfOk result (λ counted. app_of counted ≡ with_counts (app_of command.entry)) }
 {
-    let ring = count_option(alloc, "ring", 4096, "256", RING_HELP);
-    let patience = count_option(alloc, "patience", 1_000_000_000, "1000000", PATIENCE_HELP);
-    let rounds = count_option(alloc, "rounds", 1_000_000, "1", ROUNDS_HELP);
-    command.arg(ring)?.arg(patience)?.arg(rounds)
+    command
+        .arg(count_option(alloc, "ring", 4096, "256", RING_HELP))?
+        .arg(count_option(alloc, "patience", 1_000_000_000, "1000000", PATIENCE_HELP))?
+        .arg(count_option(alloc, "rounds", 1_000_000, "1", ROUNDS_HELP))
 }
 
 /// The command with the two bounds of judging as options.
 fn with_bounds<'a>(alloc: Global, command: Command<'a>) -> Result<Command<'a>, AllocError>
     ensures { IfOk result (λ bounded. app_of bounded ≡ with_bounds (app_of command.entry)) }
 {
-    let window = number_option(alloc, "window", 8, "8", WINDOW_HELP);
-    let states = number_option(alloc, "states", 64, "64", STATES_HELP);
-    command.arg(window)?.arg(states)
+    command
+        .arg(number_option(alloc, "window", 8, "8", WINDOW_HELP))?
+        .arg(number_option(alloc, "states", 64, "64", STATES_HELP))
 }
 
 /// The flag `--trace`.

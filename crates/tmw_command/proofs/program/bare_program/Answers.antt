@@ -17,5 +17,4 @@ pub returns : goal.returns
 returns c =
     ap app_of_fields c.disable_help_subcommand.ensures
     ∙ ap without_help (ap app_of_fields c.subcommand_required.ensures
-    ∙ ap needing (ap app_of_fields c.version.ensures
-    ∙ ap telling (ap app_of_fields c.after_help.ensures ∙ ap app_of_fields c.about.ensures ∙ c.new.ensures.app)))
+    ∙ ap needing (ap app_of_fields c.version.ensures ∙ ap telling c.described.ensures))

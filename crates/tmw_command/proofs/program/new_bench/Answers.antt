@@ -1,16 +1,13 @@
--- A command's texts for help are no part of what a parse reads.
-use Rattle.std.proofs.Common.{◌≡◌, ◌∙◌, ap, codes}
+-- Each step adds its options to those that are there.
+use Rattle.std.proofs.Common.{◌∙◌, ap}
 use Rattle.std.proofs.lemmas.Result.{IfOk-weaker}
-use Rattle.clap.specs.Simple.{app_of_fields}
-use Rattle.clap.specs.Words.{App, app_of, new_app}
+use Rattle.clap.specs.Words.{App}
 use Rattle.clap.specs.declared.builder.value_parser.ValueParser.TheVariants.{Names}
 use Rattle.tmw_command.specs.Program.{with_bounds, with_counts, with_memory}
 use Rattle.tmw_command.proofs.program.new_bench.Goals as goal
 
 pub returns : goal.returns
 returns c =
-    let about : app_of c.after_help-bench.result ≡ new_app (codes "bench") =
-    ap app_of_fields c.after_help-bench.ensures ∙ ap app_of_fields c.about.ensures ∙ c.new.ensures.app in
-    let given = c.in_ok-with_memory.ensures ∙ ap (λ (app : App). with_memory (Names c.args.memories) app) about in
+    let given = c.in_ok-with_memory.ensures ∙ ap (λ (app : App). with_memory (Names c.args.memories) app) c.described-bench.ensures in
     let counted = c.in_ok-counted.ensures ∙ ap with_counts given in
     IfOk-weaker c.with_bounds.result _ _ (λ command bounded. bounded ∙ ap with_bounds counted) c.with_bounds.ensures

@@ -8,4 +8,4 @@ pub returns : goal.returns
 returns c =
     let first = c.in_ok-arg.ensures.shape c.value_option-memory.ensures.local ∙ ap₂ with_rule refl c.value_option-memory.ensures.rule in
     IfOk-weaker c.arg-2.result _ _
-    (λ command added. added.shape c.trace_option-trace.ensures.local ∙ ap₂ with_rule first c.trace_option-trace.ensures.rule) c.arg-2.ensures
+    (λ command added. added.shape c.trace_option.ensures.local ∙ ap₂ with_rule first c.trace_option.ensures.rule) c.arg-2.ensures
