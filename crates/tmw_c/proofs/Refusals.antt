@@ -1,10 +1,14 @@
 -- What a handle holds after a refusal, by the status.
 use Rattle.std.proofs.Common.{◌≡◌, ℕ, refl}
-use Rattle.std.specs.Prelude.{Option, Some}
+use Rattle.std.specs.Prelude.{List, Option, Some}
+use Rattle.tmw_c.specs.Closing.{IsClosing, IsUnended}
 use Rattle.tmw_c.specs.Recording.{HasRefused, IsRecording}
 use Rattle.tmw_c.specs.declared.status.Status.{Status}
 use Rattle.tmw_c.specs.declared.status.Status.TheVariants.{Done, NoHandle, FullHandle, BadRegisters, BadStart, BadBounds, BadSize, BadLimit, Memory, Full, Spent, BadKind, BadRegister, Missing, Closing}
+use Rattle.tmw_c.specs.declared.told.Told.{Told}
 use Rattle.tmw_handles.specs.declared.held_recorder.HeldRecorder.{HeldRecorder}
+use Rattle.tmw_handles.specs.declared.held_watch.HeldWatch.{HeldWatch}
+use Rattle.tmw_handles.specs.declared.recorder_handle.RecorderHandle.{RecorderHandle}
 
 pub recording-refused : (letter register value place : ℕ) (before after : HeldRecorder) (old new : Option HeldRecorder) → old ≡ Some before → new ≡ Some after
     → (status : Status) → HasRefused letter register value before after status → IsRecording letter register value old new place place status
@@ -27,3 +31,24 @@ recording-refused l r v place before after old new held holds BadRegister refuse
     (record { before = before; after = after; held = held; holds = holds; refused = refused }, refl)
 recording-refused l r v place before after old new held holds Missing refused = absurd refused
 recording-refused l r v place before after old new held holds Closing refused = absurd refused
+
+pub closing-unended : (before after : HeldWatch) (old new : Option HeldWatch) (olds news : List RecorderHandle) (told : Told) → old ≡ Some before
+    → new ≡ Some after → (status : Status) → IsUnended before after olds news status → IsClosing old new olds news told told status
+closing-unended before after old new olds news told held holds Done unended = absurd unended
+closing-unended before after old new olds news told held holds NoHandle unended = absurd unended
+closing-unended before after old new olds news told held holds FullHandle unended = absurd unended
+closing-unended before after old new olds news told held holds BadRegisters unended = absurd unended
+closing-unended before after old new olds news told held holds BadStart unended = absurd unended
+closing-unended before after old new olds news told held holds BadBounds unended = absurd unended
+closing-unended before after old new olds news told held holds BadSize unended = absurd unended
+closing-unended before after old new olds news told held holds BadLimit unended = absurd unended
+closing-unended before after old new olds news told held holds Memory unended =
+    (record { before = before; after = after; held = held; holds = holds; unended = unended }, refl)
+closing-unended before after old new olds news told held holds Full unended = absurd unended
+closing-unended before after old new olds news told held holds Spent unended = absurd unended
+closing-unended before after old new olds news told held holds BadKind unended = absurd unended
+closing-unended before after old new olds news told held holds BadRegister unended = absurd unended
+closing-unended before after old new olds news told held holds Missing unended =
+    (record { before = before; after = after; held = held; holds = holds; unended = unended }, refl)
+closing-unended before after old new olds news told held holds Closing unended =
+    (record { before = before; after = after; held = held; holds = holds; unended = unended }, refl)
