@@ -27,13 +27,17 @@ fn meet(ring: &Ring, writers: &mut Vec<Writer>) -> u64
 #[test]
 fn what_follows_a_meeting_stands_behind_it(rt: HostRuntime) -> Result<(), Fail> {
     let (ring, mut writers, _reader) = ring(rt.alloc(), 16, 3, 100)?;
-    assert_eq!(rt; meet(&ring, &mut writers), 0);
-    assert_eq!(rt; record_by(&ring, &mut writers, 1, Kind::T), Ok(0));
-    assert_eq!(rt; record_by(&ring, &mut writers, 2, Kind::T), Ok(1));
-    assert_eq!(rt; meet(&ring, &mut writers), 2);
-    assert_eq!(rt; record_by(&ring, &mut writers, 0, Kind::T), Ok(2));
-    assert_eq!(rt; meet(&ring, &mut writers), 3);
-    assert_eq!(rt; record_by(&ring, &mut writers, 2, Kind::C), Ok(3));
+    let none = meet(&ring, &mut writers);
+    let recorded = [
+        record_by(&ring, &mut writers, 1, Kind::T),
+        record_by(&ring, &mut writers, 2, Kind::T),
+    ];
+    let two = meet(&ring, &mut writers);
+    let behind = record_by(&ring, &mut writers, 0, Kind::T);
+    let three = meet(&ring, &mut writers);
+    let last = record_by(&ring, &mut writers, 2, Kind::C);
+    assert_eq!(rt; [none, two, three], [0, 2, 3]);
+    assert_eq!(rt; (recorded, behind, last), ([Ok(0), Ok(1)], Ok(2), Ok(3)));
     Ok(())
 }
 

@@ -91,17 +91,21 @@ fn a_dirty_read_is_judged_as_it_comes(rt: HostRuntime) -> Result<(), Fail> {
     let (ring, mut writers, reader) = ring(rt.alloc(), 8, 2, 100)?;
     let mut pump = new_pump(rt.alloc(), reader)?;
     record_dirty_read(&ring, &mut writers);
-    assert_eq!(rt; pump.verdict(), Verdict::OpaqueSoFar);
-    assert_eq!(rt; pump.pump(&ring, 3), done(3, Verdict::OpaqueSoFar));
-    assert_eq!(rt; pump.pump(&ring, 0), done(0, Verdict::OpaqueSoFar));
+    let before = pump.verdict();
+    let first = [pump.pump(&ring, 3), pump.pump(&ring, 0)];
     assert_eq!(rt; pump.judged(), &dirty_read()[..3]);
-    assert_eq!(rt; pump.pump(&ring, 8), done(1, Verdict::Violated(4)));
-    assert_eq!(rt; pump.pump(&ring, 8), done(0, Verdict::Violated(4)));
-    assert!(rt; !pump.held());
-    assert_eq!(rt; pump.verdict(), Verdict::Violated(4));
+    let last = [pump.pump(&ring, 8), pump.pump(&ring, 8)];
+    let after = (pump.held(), pump.verdict());
     let (events, verdict) = pump.settle(ring, writers).finish();
+    let so_far = Verdict::OpaqueSoFar;
+    let violated = Verdict::Violated(4);
+    assert_eq!(rt;
+        (before, first),
+        (so_far, [done(3, so_far), done(0, so_far)])
+    );
+    assert_eq!(rt; last, [done(1, violated), done(0, violated)]);
+    assert_eq!(rt; (after, verdict), ((false, violated), violated));
     assert_eq!(rt; events.as_slice(), &dirty_read()[..4]);
-    assert_eq!(rt; verdict, Verdict::Violated(4));
     Ok(())
 }
 
@@ -125,16 +129,24 @@ fn what_a_settled_ring_has_left_is_judged(rt: HostRuntime) -> Result<(), Fail> {
     let (ring, mut writers, reader) = ring(rt.alloc(), 8, 2, 100)?;
     let mut pump = new_pump(rt.alloc(), reader)?;
     record_dirty_read(&ring, &mut writers);
-    assert_eq!(rt; pump.pump(&ring, 1), done(1, Verdict::OpaqueSoFar));
+    let first = pump.pump(&ring, 1);
     let mut rest = pump.settle(ring, writers);
     assert_eq!(rt; rest.judged(), &dirty_read()[..1]);
-    assert_eq!(rt; rest.pump(0), done(0, Verdict::OpaqueSoFar));
-    assert_eq!(rt; rest.pump(2), done(2, Verdict::OpaqueSoFar));
-    assert_eq!(rt; rest.pump(2), done(1, Verdict::Violated(4)));
-    assert_eq!(rt; rest.pump(2), done(0, Verdict::Violated(4)));
-    assert!(rt; !rest.held());
-    assert_eq!(rt; rest.verdict(), Verdict::Violated(4));
-    assert_eq!(rt; rest.finish().0.as_slice(), &dirty_read()[..4]);
+    let more = [rest.pump(0), rest.pump(2), rest.pump(2), rest.pump(2)];
+    let after = (rest.held(), rest.verdict());
+    let (events, _verdict) = rest.finish();
+    let so_far = Verdict::OpaqueSoFar;
+    let violated = Verdict::Violated(4);
+    assert_eq!(rt; first, done(1, so_far));
+    let wanted = [
+        done(0, so_far),
+        done(2, so_far),
+        done(1, violated),
+        done(0, violated),
+    ];
+    assert_eq!(rt; more, wanted);
+    assert_eq!(rt; after, (false, violated));
+    assert_eq!(rt; events.as_slice(), &dirty_read()[..4]);
     Ok(())
 }
 

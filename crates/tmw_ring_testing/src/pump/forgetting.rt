@@ -29,19 +29,18 @@ fn a_dirty_read_is_judged_and_forgotten(rt: HostRuntime) -> Result<(), Fail> {
     let (ring, mut writers, reader) = ring(rt.alloc(), 8, 2, 100)?;
     let mut pump = new_forgetting(rt.alloc(), reader)?;
     record_dirty_read(&ring, &mut writers);
-    assert_eq!(rt; pump.verdict(), Verdict::OpaqueSoFar);
-    assert_eq!(rt; pump.pump(&ring, 3), done(3, Verdict::OpaqueSoFar));
-    assert_eq!(rt; pump.pump(&ring, 0), done(0, Verdict::OpaqueSoFar));
-    assert_eq!(rt; pump.fed(), 3);
-    assert_eq!(rt; pump.pump(&ring, 8), done(1, Verdict::Violated(4)));
-    assert_eq!(rt; pump.pump(&ring, 8), done(0, Verdict::Violated(4)));
-    assert_eq!(rt; pump.fed(), 4);
-    assert!(rt; !pump.held());
-    assert_eq!(rt; pump.verdict(), Verdict::Violated(4));
-    assert_eq!(rt;
-        pump.settle(ring, writers).finish(),
-        (4, Verdict::Violated(4))
-    );
+    let before = pump.verdict();
+    let first = [pump.pump(&ring, 3), pump.pump(&ring, 0)];
+    let fed = pump.fed();
+    let last = [pump.pump(&ring, 8), pump.pump(&ring, 8)];
+    let after = (pump.fed(), pump.held(), pump.verdict());
+    let whole = pump.settle(ring, writers).finish();
+    let so_far = Verdict::OpaqueSoFar;
+    let violated = Verdict::Violated(4);
+    assert_eq!(rt; (before, fed), (so_far, 3));
+    assert_eq!(rt; first, [done(3, so_far), done(0, so_far)]);
+    assert_eq!(rt; last, [done(1, violated), done(0, violated)]);
+    assert_eq!(rt; (after, whole), ((4, false, violated), (4, violated)));
     Ok(())
 }
 
@@ -50,16 +49,23 @@ fn what_a_settled_ring_has_left_is_judged_and_forgotten(rt: HostRuntime) -> Resu
     let (ring, mut writers, reader) = ring(rt.alloc(), 8, 2, 100)?;
     let mut pump = new_forgetting(rt.alloc(), reader)?;
     record_dirty_read(&ring, &mut writers);
-    assert_eq!(rt; pump.pump(&ring, 1), done(1, Verdict::OpaqueSoFar));
+    let first = pump.pump(&ring, 1);
     let mut rest = pump.settle(ring, writers);
-    assert_eq!(rt; rest.fed(), 1);
-    assert_eq!(rt; rest.pump(0), done(0, Verdict::OpaqueSoFar));
-    assert_eq!(rt; rest.pump(2), done(2, Verdict::OpaqueSoFar));
-    assert_eq!(rt; rest.pump(2), done(1, Verdict::Violated(4)));
-    assert_eq!(rt; rest.pump(2), done(0, Verdict::Violated(4)));
-    assert!(rt; !rest.held());
-    assert_eq!(rt; rest.verdict(), Verdict::Violated(4));
-    assert_eq!(rt; rest.finish(), (4, Verdict::Violated(4)));
+    let fed = rest.fed();
+    let more = [rest.pump(0), rest.pump(2), rest.pump(2), rest.pump(2)];
+    let after = (rest.held(), rest.verdict());
+    let whole = rest.finish();
+    let so_far = Verdict::OpaqueSoFar;
+    let violated = Verdict::Violated(4);
+    assert_eq!(rt; (first, fed), (done(1, so_far), 1));
+    let wanted = [
+        done(0, so_far),
+        done(2, so_far),
+        done(1, violated),
+        done(0, violated),
+    ];
+    assert_eq!(rt; more, wanted);
+    assert_eq!(rt; (after, whole), ((false, violated), (4, violated)));
     Ok(())
 }
 

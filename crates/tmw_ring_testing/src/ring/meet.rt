@@ -24,12 +24,15 @@ fn writers_find_how_many_places_are_claimed(rt: HostRuntime) -> Result<(), Fail>
     let (Some(mut last), Some(mut first)) = (writers.pop(), writers.pop()) else {
         panic!(rt; "fewer than two writers");
     };
-    assert_eq!(rt; ring.find_tail(&mut first), 0);
-    assert_eq!(rt; ring.record(&mut first, Kind::T), Ok(0));
-    assert_eq!(rt; ring.record(&mut last, Kind::T), Ok(1));
-    assert_eq!(rt; ring.record(&mut last, Kind::C), Ok(2));
-    assert_eq!(rt; ring.find_tail(&mut first), 3);
-    assert_eq!(rt; ring.find_tail(&mut last), 3);
-    assert_eq!(rt; ring.record(&mut first, Kind::C), Ok(3));
+    let none = ring.find_tail(&mut first);
+    let recorded = [
+        ring.record(&mut first, Kind::T),
+        ring.record(&mut last, Kind::T),
+        ring.record(&mut last, Kind::C),
+    ];
+    let tails = [ring.find_tail(&mut first), ring.find_tail(&mut last)];
+    let behind = ring.record(&mut first, Kind::C);
+    assert_eq!(rt; (none, tails), (0, [3, 3]));
+    assert_eq!(rt; (recorded, behind), ([Ok(0), Ok(1), Ok(2)], Ok(3)));
     Ok(())
 }

@@ -30,26 +30,29 @@ fn record_first(ring: &Ring, writers: &mut Vec<Writer>, kind: Kind) -> Result<u6
 #[test]
 fn a_full_ring_goes_on_and_is_settled(rt: HostRuntime) -> Result<(), Fail> {
     let (ring, mut writers, mut reader) = ring(rt.alloc(), 4, 2, 1000)?;
-    let number = Ix { number: 3 };
-    assert_eq!(rt;
-        record_first(&ring, &mut writers, Kind::W(number, u64::MAX)),
-        Ok(0)
-    );
-    assert_eq!(rt; record_first(&ring, &mut writers, Kind::K), Ok(1));
-    assert_eq!(rt; record_first(&ring, &mut writers, Kind::V(5)), Ok(2));
+    let write = Kind::W(Ix { number: 3 }, u64::MAX);
+    let recorded = [
+        record_first(&ring, &mut writers, write),
+        record_first(&ring, &mut writers, Kind::K),
+        record_first(&ring, &mut writers, Kind::V(5)),
+        record_first(&ring, &mut writers, Kind::T),
+    ];
+    let taken = ring.take(&mut reader);
+    let again = record_first(&ring, &mut writers, Kind::T);
+    let mut settled = ring.settle(reader, writers);
+    let left = [
+        settled.take(),
+        settled.take(),
+        settled.take(),
+        settled.take(),
+        settled.take(),
+    ];
     let full = Refused::Full { front: 0, tail: 3 };
-    assert_eq!(rt; record_first(&ring, &mut writers, Kind::T), Err(full));
-    assert_eq!(rt;
-        ring.take(&mut reader),
-        Some(first(Kind::W(number, u64::MAX)))
-    );
-    assert_eq!(rt; record_first(&ring, &mut writers, Kind::T), Ok(3));
-    let mut left = ring.settle(reader, writers);
-    assert_eq!(rt; left.take(), Some(first(Kind::K)));
-    assert_eq!(rt; left.take(), Some(first(Kind::V(5))));
-    assert_eq!(rt; left.take(), Some(first(Kind::T)));
-    assert_eq!(rt; left.take(), None);
-    assert_eq!(rt; left.take(), None);
+    assert_eq!(rt; recorded, [Ok(0), Ok(1), Ok(2), Err(full)]);
+    assert_eq!(rt; (taken, again), (Some(first(write)), Ok(3)));
+    let kept = |kind| Some(first(kind));
+    let wanted = [kept(Kind::K), kept(Kind::V(5)), kept(Kind::T), None, None];
+    assert_eq!(rt; left, wanted);
     Ok(())
 }
 
@@ -59,16 +62,17 @@ fn writers_that_have_met(rt: HostRuntime) -> Result<(), Fail> {
     let (Some(mut second), Some(mut first)) = (writers.pop(), writers.pop()) else {
         panic!(rt; "fewer than two writers");
     };
-    assert_eq!(rt; ring.record(&mut first, Kind::T), Ok(0));
-    assert_eq!(rt; ring.record(&mut second, Kind::X), Ok(1));
+    let recorded = [
+        ring.record(&mut first, Kind::T),
+        ring.record(&mut second, Kind::X),
+    ];
     ring.meet_writers(&mut first, &mut second);
-    assert_eq!(rt; ring.record(&mut first, Kind::T), Ok(2));
-    assert_eq!(rt;
-        ring.take(&mut reader).map(|event| event.kind),
-        Some(Kind::T)
-    );
+    let behind = ring.record(&mut first, Kind::T);
+    let taken = ring.take(&mut reader).map(|event| event.kind);
     ring.meet(&mut second, &mut reader);
-    assert_eq!(rt; ring.record(&mut second, Kind::A), Ok(3));
+    let last = ring.record(&mut second, Kind::A);
+    assert_eq!(rt; (recorded, behind), ([Ok(0), Ok(1)], Ok(2)));
+    assert_eq!(rt; (taken, last), (Some(Kind::T), Ok(3)));
     Ok(())
 }
 

@@ -100,31 +100,26 @@ fn record_dirty_read(writes: &mut Recorder, reads: &mut Recorder) -> [Option<u64
 #[test]
 fn a_dirty_read_is_judged_as_it_comes(rt: HostRuntime) -> Result<(), Fail> {
     let (mut watch, mut first, mut second) = open_two(rt.alloc(), 8, 100)?;
-    assert_eq!(rt; (first.number().get(), second.number().get()), (0, 1));
-    assert_eq!(rt;
-        watch.report(),
-        Report {
-            events: 0,
-            verdict: Verdict::OpaqueSoFar
-        }
-    );
+    let numbers = (first.number().get(), second.number().get());
+    let at_first = watch.report();
     let places = record_dirty_read(&mut first, &mut second);
-    assert_eq!(rt; places, [Some(0), Some(1), Some(2), Some(3)]);
-    assert_eq!(rt; watch.pump(3), done(3, Verdict::OpaqueSoFar));
+    let three = watch.pump(3);
+    let so_far = watch.report();
+    let rest = watch.pump(8);
+    let after = (watch.held(), watch.report());
+    let closed = close_two(rt.alloc(), watch, first, second).ok();
     assert_eq!(rt;
-        watch.report(),
-        Report {
-            events: 3,
-            verdict: Verdict::OpaqueSoFar
-        }
+        (numbers, places),
+        ((0, 1), [Some(0), Some(1), Some(2), Some(3)])
     );
-    assert_eq!(rt; watch.pump(8), done(1, Verdict::Violated(4)));
-    assert_eq!(rt; watch.report(), VIOLATED);
-    assert!(rt; !watch.held());
-    assert_eq!(rt;
-        close_two(rt.alloc(), watch, first, second).ok(),
-        Some(VIOLATED)
-    );
+    let opaque = |events| Report {
+        events,
+        verdict: Verdict::OpaqueSoFar,
+    };
+    assert_eq!(rt; [at_first, so_far], [opaque(0), opaque(3)]);
+    let pumped = [done(3, Verdict::OpaqueSoFar), done(1, Verdict::Violated(4))];
+    assert_eq!(rt; [three, rest], pumped);
+    assert_eq!(rt; (after, closed), ((false, VIOLATED), Some(VIOLATED)));
     Ok(())
 }
 
@@ -194,23 +189,23 @@ fn no_watch_has_such_a_size(rt: HostRuntime) -> Result<(), Fail> {
 #[test]
 fn a_full_ring_refuses_and_a_pump_makes_room(rt: HostRuntime) -> Result<(), Fail> {
     let (mut watch, mut first, mut second) = open_two(rt.alloc(), 2, 4)?;
-    assert_eq!(rt; first.record(Kind::R(FIRST)), Ok(0));
+    let recorded = [first.record(Kind::R(FIRST)), second.record(Kind::R(FIRST))];
+    let one = watch.pump(1);
+    let recorded_then = second.record(Kind::R(FIRST));
+    let another = watch.pump(8);
+    let last = [first.record(Kind::V(0)), second.record(Kind::V(0))];
+    let closed = close_two(rt.alloc(), watch, first, second).ok();
     let full = Refused::Full { front: 0, tail: 1 };
-    assert_eq!(rt; second.record(Kind::R(FIRST)), Err(full));
-    assert_eq!(rt; watch.pump(1), done(1, Verdict::OpaqueSoFar));
-    assert_eq!(rt; second.record(Kind::R(FIRST)), Ok(1));
-    assert_eq!(rt; watch.pump(8), done(1, Verdict::OpaqueSoFar));
-    assert_eq!(rt; first.record(Kind::V(0)), Ok(2));
     let spent = Refused::Spent { tail: 3 };
-    assert_eq!(rt; second.record(Kind::V(0)), Err(spent));
+    assert_eq!(rt; (recorded, recorded_then), ([Ok(0), Err(full)], Ok(1)));
+    assert_eq!(rt; last, [Ok(2), Err(spent)]);
+    let judged = done(1, Verdict::OpaqueSoFar);
+    assert_eq!(rt; [one, another], [judged, judged]);
     let report = Report {
         events: 3,
         verdict: Verdict::OpaqueSoFar,
     };
-    assert_eq!(rt;
-        close_two(rt.alloc(), watch, first, second).ok(),
-        Some(report)
-    );
+    assert_eq!(rt; closed, Some(report));
     Ok(())
 }
 
