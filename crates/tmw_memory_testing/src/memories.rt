@@ -38,18 +38,24 @@ fn load(memory: &(dyn Tm + Sync), register: Ix) -> Got {
 /// A transaction reads what it has written last, and what is committed is read by the next.
 fn answers_in_turn(rt: &impl Abort, memory: &(dyn Tm + Sync)) {
     let mut tx = Tx::new();
-    assert_eq!(rt; memory.begin(&mut tx), Did::Done);
-    assert_eq!(rt; memory.read(&mut tx, FIRST), Got::Value(0));
-    assert_eq!(rt; memory.write(&mut tx, FIRST, 5), Did::Done);
-    assert_eq!(rt; memory.write(&mut tx, SECOND, 7), Did::Done);
-    assert_eq!(rt; memory.write(&mut tx, FIRST, 6), Did::Done);
-    assert_eq!(rt; memory.read(&mut tx, FIRST), Got::Value(6));
-    assert_eq!(rt; memory.read(&mut tx, SECOND), Got::Value(7));
-    assert_eq!(rt; memory.commit(&mut tx), Did::Done);
-    assert_eq!(rt; memory.begin(&mut tx), Did::Done);
-    assert_eq!(rt; memory.read(&mut tx, FIRST), Got::Value(6));
-    assert_eq!(rt; memory.read(&mut tx, SECOND), Got::Value(7));
-    assert_eq!(rt; memory.commit(&mut tx), Did::Done);
+    let begun = memory.begin(&mut tx);
+    let before = memory.read(&mut tx, FIRST);
+    let written = [
+        memory.write(&mut tx, FIRST, 5),
+        memory.write(&mut tx, SECOND, 7),
+        memory.write(&mut tx, FIRST, 6),
+    ];
+    let own = [memory.read(&mut tx, FIRST), memory.read(&mut tx, SECOND)];
+    let ends = [memory.commit(&mut tx), memory.begin(&mut tx)];
+    let next = [memory.read(&mut tx, FIRST), memory.read(&mut tx, SECOND)];
+    let last = memory.commit(&mut tx);
+    let values = [Got::Value(6), Got::Value(7)];
+    assert_eq!(rt; (begun, before), (Did::Done, Got::Value(0)));
+    assert_eq!(rt;
+        (written, ends, last),
+        ([Did::Done; 3], [Did::Done; 2], Did::Done)
+    );
+    assert_eq!(rt; (own, next), (values, values));
 }
 
 /// What a transaction has written goes with it when it aborts.

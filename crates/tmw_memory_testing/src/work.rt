@@ -115,15 +115,23 @@ fn each_call_is_made_once(rt: HostRuntime) -> Result<(), Fail> {
     let script = vec![in alloc; vec![in alloc; Kind::R(FIRST), Kind::R(FIRST), Kind::T]?]?;
     let memory = Counting::new(ONE, Did::Done, 7);
     let stop = work(&memory, &ring, &mut writers[0], &script, 1, &Signals::new());
-    assert_eq!(rt; stop, None);
-    assert_eq!(rt; memory.counts(), [1, 2, 0, 0, 1, 0]);
-    assert_eq!(rt; ring.take(&mut reader), Some(one(Kind::R(FIRST))));
-    assert_eq!(rt; ring.take(&mut reader), Some(one(Kind::V(7))));
-    assert_eq!(rt; ring.take(&mut reader), Some(one(Kind::R(FIRST))));
-    assert_eq!(rt; ring.take(&mut reader), Some(one(Kind::V(7))));
-    assert_eq!(rt; ring.take(&mut reader), Some(one(Kind::T)));
-    assert_eq!(rt; ring.take(&mut reader), Some(one(Kind::C)));
-    assert_eq!(rt; ring.take(&mut reader), None);
+    let read = Some(one(Kind::R(FIRST)));
+    let value = Some(one(Kind::V(7)));
+    let taken = [
+        ring.take(&mut reader),
+        ring.take(&mut reader),
+        ring.take(&mut reader),
+        ring.take(&mut reader),
+    ];
+    let taken_last = [
+        ring.take(&mut reader),
+        ring.take(&mut reader),
+        ring.take(&mut reader),
+    ];
+    assert_eq!(rt; (stop, memory.counts()), (None, [1, 2, 0, 0, 1, 0]));
+    assert_eq!(rt; taken, [read, value, read, value]);
+    let ended = [Some(one(Kind::T)), Some(one(Kind::C)), None];
+    assert_eq!(rt; taken_last, ended);
     Ok(())
 }
 
