@@ -1,4 +1,4 @@
-ghost use Rattle.std.specs.Prelude.{length, IfOk, IfErr};
+ghost use Rattle.std.specs.Prelude.{◌<◌, length, IfOk, IfErr, IsTrue};
 ghost use Rattle.tmw_bench.specs.Benched.{IsBenched, IsNoBench};
 ghost use Rattle.tmw_runs.specs.Scripts.{scripts_of};
 
@@ -13,6 +13,7 @@ use std::marker::Brand;
 use std::sync::Wait;
 use std::thread::Threads;
 use tmw_drive::Outcome;
+use tmw_events::Registers;
 use tmw_monitor::Monitor;
 use tmw_pump::Pump;
 use tmw_recorded::judge_rest;
@@ -41,7 +42,7 @@ pub fn run_bench<R: Threads + Wait>(
     ensures ok { IfOk result (IsBenched (gives memory.now) workload.now.registers (scripts_of workload.now.scripts.items) settings) }
     ensures err { IfErr result (IsNoBench workload.now.registers.number (length workload.now.scripts.items) settings) }
 {
-    if memory.registers().number < workload.registers.number {
+    if has_too_few(memory.registers(), workload.registers) {
         return Err(BenchFault::Registers);
     }
     let threads = workload.scripts.len() as u64;
@@ -73,4 +74,11 @@ pub fn run_bench<R: Threads + Wait>(
         outcome: Outcome { log, verdict, ends },
         rounds,
     })
+}
+
+/// Whether the memory has fewer registers than the workload, which has more than one then.
+fn has_too_few(memory: Registers, workload: Registers) -> bool
+    ensures { IsTrue result → 1 < workload.number }
+{
+    memory.number < workload.number
 }

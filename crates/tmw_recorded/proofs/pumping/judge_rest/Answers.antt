@@ -1,6 +1,12 @@
-use Rattle.std.proofs.Common.{sym, subst}
+use Rattle.std.proofs.Common.{sym, ◌∙◌, subst, arith}
 use Rattle.tmw_pump.specs.Headline.{IsLogOf}
+use Rattle.tmw_recorded.proofs.Rests.{judged-rested}
 use Rattle.tmw_recorded.proofs.pumping.judge_rest.Goals as goal
+
+pub returns-clause-all : goal.returns-clause-all
+returns-clause-all c =
+    c.finish.ensures.judged
+    ∙ judged-rested _ c.in_ok-pump.field-0 c.args.rest.forgetting c.pump.new.self.forgetting c.in_ok-pump.ensures.ok (omega arith)
 
 pub returns-clause-verdict : goal.returns-clause-verdict
 returns-clause-verdict c by fits =

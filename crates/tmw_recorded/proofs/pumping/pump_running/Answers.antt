@@ -26,14 +26,14 @@ loop-preserved-then-pumped-gt0 g c =
       done.of_ring,
       goes_on-judged pumped.judged c.args.pump.now.forgetting.front c.loop.pump.forgetting.front
           c.pump.new.self.forgetting.front c.loop.invariant.1 done.ok.counted.judged,
-      looks-pumped 64 pumped c.args.pump.now.forgetting.reader c.loop.pump.forgetting
+      looks-pumped _ pumped c.args.pump.now.forgetting.reader c.loop.pump.forgetting
           c.pump.new.self.forgetting c.loop.invariant.2 done.ok,
     )
 
 pub returns-then-ended-clause-ok : goal.returns-then-ended-clause-ok
 returns-then-ended-clause-ok g c =
     let none = c.if-pumped-gt0.false in
-    judged_found 64 c.in_ok-pumped.pumped c.args.pump.now.forgetting c.loop.pump.forgetting
+    judged_found _ c.in_ok-pumped.pumped c.args.pump.now.forgetting c.loop.pump.forgetting
     c.pump.new.self.forgetting (omega arith) (omega (arith, none)) c.loop.invariant.2
     c.in_ok-pumped.ensures.ok
 
@@ -53,6 +53,6 @@ loop-preserved g c =
       done.of_ring,
       goes_on-judged pumped.judged c.args.pump.now.forgetting.front c.loop.pump.forgetting.front
           c.pump.new.self.forgetting.front c.loop.invariant.1 done.ok.counted.judged,
-      looks-pumped 64 pumped c.args.pump.now.forgetting.reader c.loop.pump.forgetting
+      looks-pumped _ pumped c.args.pump.now.forgetting.reader c.loop.pump.forgetting
           c.pump.new.self.forgetting c.loop.invariant.2 done.ok,
     )

@@ -36,3 +36,6 @@ returns-clause-ok g c =
     (run-settled c.in-Ok.made.0 left.pump.forgetting.reader rest.settled log writers recorded.reader settled.settled all) settled.settled.writers_gone
     (own-settled left.pump.forgetting.reader rest.settled log writers settled.settled all) settled.one_log judged.all
     (judged.headline rules log writers fits settled.one_log)
+
+pub returns-in-Err-clause-err : goal.returns-in-Err-clause-err
+returns-in-Err-clause-err g c = c.in-Err.ensures.err
