@@ -1,5 +1,6 @@
 -- The first line of a text: held whole, or longer than can be held.
-use Rattle.std.proofs.Common.{◌≡◌, ℕ, ◌+◌, ◌≤◌, Option, Some, None, IfSome, IfNone, Err, List, ◌∷◌, ◌++◌, length, take, drop, refl, ap, inr, length-append, arith}
+use Rattle.std.proofs.Common.{◌≡◌, ℕ, ◌+◌, ◌<◌, ◌≤◌, Option, Some, None, IfSome, IfNone, Err, Ok, List, ◌∷◌, ◌++◌, length, take, drop, refl, sym, ap, ◌∙◌, inl, inr, length-append, arith}
+use Rattle.std.proofs.lemmas.List.{nil_from_length}
 use Rattle.tmw_lines.specs.Grammar.{Grammar, IsNoHeader}
 use Rattle.tmw_lines.specs.LineRead.{ReadsHeader}
 use Rattle.tmw_lines.specs.LongLine.{Skips}
@@ -33,6 +34,34 @@ take_header-none grammar bytes count None free feed bad = record {
   bad = bad;
 }
 take_header-none grammar bytes count (Some header) free feed bad = tt
+
+-- a line that is held whole, or that ends before its line feed
+module _ {F H E S : Type 0} (grammar : Grammar F H E) (Told : S → List ℕ → Type 0) (remaining : S → Option (List ℕ))
+    (Ended : Type 0) (a b : S) (before held left : List ℕ) (r : Reads Told remaining a b before held) where
+  pub first-header : (header : H) → held ≡ line (grammar.header_text header) ++ left → grammar.FitsHeader header
+      → ReadsHeader grammar Told remaining Ended a b before left (Ok header)
+  first-header header split fits = record { bytes = r.bytes; told = r.told; is = (sym r.is ∙ split, fits) }
+
+  pub first-bad : HasBadHeader grammar held → ReadsHeader grammar Told remaining Ended a b before left (Err BadHeader)
+  first-bad bad = record { bytes = r.bytes; told = r.told; is = inr (rw r.is at bad) }
+
+  pub first-end : Ended → length held ≡ 0 → ReadsHeader grammar Told remaining Ended a b before left (Err BadHeader)
+  first-end ended none = record {
+    bytes = r.bytes;
+    told = r.told;
+    is = inl (ended, sym r.is ∙ nil_from_length held none);
+  }
+
+  pub first-cut : Ended → 0 < length held → IsFree 10 held
+      → ReadsHeader grammar Told remaining Ended a b before left (Err (Cut 1))
+  first-cut ended some free = record {
+    bytes = r.bytes;
+    told = r.told;
+    is = (ended, refl, λ empty. absurd (omega (arith, some, ap length (r.is ∙ empty))), rw r.is at free);
+  }
+
+  pub first-failed : (Ended → ⊥) → IsFree 10 held → ReadsHeader grammar Told remaining Ended a b before left (Err Io)
+  first-failed no_end free = record { bytes = r.bytes; told = r.told; is = (no_end, rw r.is at free) }
 
 -- a line longer than can be held
 module _ {F H E S : Type 0} (grammar : Grammar F H E) (Told : S → List ℕ → Type 0) (remaining : S → Option (List ℕ))

@@ -7,7 +7,7 @@ use Rattle.tmw_lines.specs.Grammar.{Grammar, items_text, lines_text, AreLines}
 use Rattle.tmw_lines.specs.Held.{bytes_of}
 use Rattle.tmw_lines.specs.ItemsRead.{FailsBehind}
 use Rattle.tmw_lines.specs.LineRead.{IsItemLine, HasLineFault}
-use Rattle.tmw_lines.specs.Lines.{HasRead}
+use Rattle.tmw_lines.specs.Lines.{HasRead, IsNew, IsReading, IsOver, HasFailed}
 use Rattle.tmw_lines.specs.Text.{line}
 use Rattle.tmw_lines.specs.TextFault.{HasTextFault, HasBegun}
 use Rattle.tmw_lines.specs.declared.held.Held.{Held}
@@ -18,6 +18,17 @@ use Rattle.tmw_lines.specs.declared.text_fault.TextFault.TheVariants.{BadHeader,
 
 pub few-held : (held : Held) → length (bytes_of held) ≤ 4096
 few-held held = simp length-take (omega (arith, held.within))
+
+-- a reader that has begun to read has neither ended nor failed
+module _ {F : Type 0} (lines : Lines F) (reading : IsReading lines) where
+  pub IsReading-new : IsNew lines → ⊥
+  IsReading-new new = let other = sym reading ∙ new.state in absurd (cc)
+
+  pub IsReading-over : IsOver lines → ⊥
+  IsReading-over over = let other = sym reading ∙ over in absurd (cc)
+
+  pub IsReading-failed : (fault : TextFault) → HasFailed lines fault → ⊥
+  IsReading-failed fault failed = let other = sym reading ∙ failed in absurd (cc)
 
 module _ {F H E : Type 0} (grammar : Grammar F H E) where
   AreLines-push : (header : H) (items : List E) (item : E) → AreLines grammar header items

@@ -91,3 +91,9 @@ returns-in-Err-clause-failed g c =
     let reading = reads_on g.F.LineFormat.grammar g.S.Source.told g.S.Source.remaining g.T.Taker.takes c.args.source.now
     c.args.lines.now c.args.taker.now c.lines.source c.give_held.new.self c.give_held.new.taker held c.requires.begun in
     c.in-Err.ensures.failed reading ∙ ap (failures_after c.in-Err.fault) c.lines.invariant.1
+
+pub returns-in_default-take-clause-failed : goal.returns-in_default-take-clause-failed
+returns-in_default-take-clause-failed g c = c.in-Ok-Some.ensures.well ∙ c.lines.invariant.1
+
+pub returns-in-Err-clause-stays : goal.returns-in-Err-clause-stays
+returns-in-Err-clause-stays g c = λ other. c.in-Err.ensures.stays

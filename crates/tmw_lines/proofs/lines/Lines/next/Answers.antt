@@ -1,5 +1,5 @@
 use Rattle.std.proofs.Common.{refl}
-use Rattle.tmw_lines.proofs.LinesRead.{HasRead-push, text_fault-line}
+use Rattle.tmw_lines.proofs.LinesRead.{HasRead-push, text_fault-line, IsReading-over, IsReading-failed}
 use Rattle.tmw_lines.proofs.lines.Lines.next.Goals as goal
 
 pub returns-in-Ok-Some-clause-item : goal.returns-in-Ok-Some-clause-item
@@ -21,3 +21,28 @@ returns-in-Err-clause-fault g c =
 
 pub returns-in-Err-clause-at_line : goal.returns-in-Err-clause-at_line
 returns-in-Err-clause-at_line g c = let line = c.in-Err.ensures.reads in (line.bytes, line.told, λ reading. line.is)
+
+pub returns-in-Ok-Some-clause-over_again : goal.returns-in-Ok-Some-clause-over_again
+returns-in-Ok-Some-clause-over_again g c = λ over. absurd (IsReading-over c.args.self.now (search) over)
+
+pub returns-in-Ok-Some-clause-fault_again : goal.returns-in-Ok-Some-clause-fault_again
+returns-in-Ok-Some-clause-fault_again g c = λ fault failed. absurd (IsReading-failed c.args.self.now (search) fault failed)
+
+pub returns-in-Ok-None-clause-over_again : goal.returns-in-Ok-None-clause-over_again
+returns-in-Ok-None-clause-over_again g c = λ over. absurd (IsReading-over c.args.self.now (search) over)
+
+pub returns-in-Ok-None-clause-fault_again : goal.returns-in-Ok-None-clause-fault_again
+returns-in-Ok-None-clause-fault_again g c = λ fault failed. absurd (IsReading-failed c.args.self.now (search) fault failed)
+
+pub returns-in-Err-clause-over_again : goal.returns-in-Err-clause-over_again
+returns-in-Err-clause-over_again g c = λ over. absurd (IsReading-over c.args.self.now (search) over)
+
+pub returns-in-Err-clause-fault_again : goal.returns-in-Err-clause-fault_again
+returns-in-Err-clause-fault_again g c = λ fault failed. absurd (IsReading-failed c.args.self.now (search) fault failed)
+
+-- where the text ends, there is no fault
+pub returns-in-Ok-None-clause-fault : goal.returns-in-Ok-None-clause-fault
+returns-in-Ok-None-clause-fault g c = tt
+
+pub returns-in-Ok-None-clause-at_line : goal.returns-in-Ok-None-clause-at_line
+returns-in-Ok-None-clause-at_line g c = tt
