@@ -1,4 +1,4 @@
-//! What the contract leaves open: which calls the memory gets, and that a thread stops where its ring lets it.
+//! What the contract of a worker leaves open: which calls the memory gets, and that a thread stops where its ring lets it.
 use crate::counting::Counting;
 use std::alloc::Global;
 use std::test::Fail;
