@@ -1,5 +1,5 @@
 //! Judging what was recorded, by a watch's handle.
-ghost use Rattle.std.specs.Prelude.{◌≡◌, IfOk, IfErr, IfSome, IfNone};
+ghost use Rattle.std.specs.Prelude.{IfOk, IfErr, IfSome, IfNone};
 ghost use Rattle.tmw_c.specs.Judging.{IsNotOpen, IsPumping, IsReporting, WasNotPumped, WasPumped, WasReported};
 
 use crate::status::Status;

@@ -1,5 +1,4 @@
 //! A function for each kind of event. It records as the function that takes a letter does, and tells no place.
-ghost use Rattle.std.specs.Prelude.{◌≡◌};
 ghost use Rattle.tmw_c.specs.Recording.{IsRecordingUntold};
 ghost use Rattle.tmw_c.specs.Statuses.{Tells};
 

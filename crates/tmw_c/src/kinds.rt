@@ -1,6 +1,6 @@
 //! The kind of event that a C program asks for.
 ghost use Rattle.std.specs.Prelude.{◌≡◌, ◌<◌, ◌≤◌, IfOk, IfErr, IfSome, IfNone};
-ghost use Rattle.tmw_c.specs.Kinds.{AsksFor, IsNoLetter, IsNoRegister};
+ghost use Rattle.tmw_c.specs.Kinds.{AsksFor};
 ghost use Rattle.tmw_c.specs.Recording.{IsUnasked};
 
 use crate::status::Status;

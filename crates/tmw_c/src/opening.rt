@@ -1,5 +1,5 @@
 //! Opening a watch into handles.
-ghost use Rattle.std.specs.Prelude.{◌≡◌, IfSome, IsTrue, IsFalse};
+ghost use Rattle.std.specs.Prelude.{IfSome, IsTrue, IsFalse};
 ghost use Rattle.tmw_c.specs.Opening.{AreEmpty, AreHandlesOf, IsOpening};
 
 use crate::status::Status;

@@ -1,5 +1,5 @@
 //! Recording by a handle.
-ghost use Rattle.std.specs.Prelude.{◌≡◌, IfOk, IfErr};
+ghost use Rattle.std.specs.Prelude.{IfOk, IfErr};
 ghost use Rattle.tmw_c.specs.Recording.{HasRecordedAsked, HasRefused, IsRecording, IsRecordingUntold};
 
 use crate::kinds::asked;

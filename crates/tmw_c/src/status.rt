@@ -30,7 +30,7 @@ pub enum Status {
     BadKind,
     /// The memory has no such register.
     BadRegister,
-    /// The recorders are not all of the watch's, each once.
+    /// The recorders are not all of the watch's, each at its number.
     Missing,
     /// The watch was being closed, and is not open any more.
     Closing,

@@ -1,6 +1,5 @@
 //! A verdict as a C program is told it.
-ghost use Rattle.std.specs.Prelude.{◌≡◌};
-ghost use Rattle.tmw_c.specs.Judging.{IsTold, verdict_at, verdict_number, verdict_why};
+ghost use Rattle.tmw_c.specs.Judging.{IsTold};
 
 use tmw_defs::{Verdict, Why};
 use tmw_watch::Report;

@@ -30,7 +30,7 @@ pub struct Txn {
 }
 
 impl Txn {
-    ghost use Rattle.tmw_cuts.specs.Views.{view, effect_of, new_view, next_view, is_open_for, awaits_commit_of, answered_ops};
+    ghost use Rattle.tmw_cuts.specs.Views.{view, effect_of, new_view, next_view, awaits_commit_of, answered_ops};
 
     /// A transaction that begins with this event, where those in the mask have completed.
     #[inline(always)]
@@ -52,13 +52,6 @@ impl Txn {
         ensures { result ≡ is_over self.now.status }
     {
         matches!(self.status, Status::Committed | Status::Aborted)
-    }
-
-    /// Whether the thread's next event belongs to it.
-    pub(crate) fn is_open_for(&self, thread: Ix) -> bool
-        ensures { result ≡ is_open_for thread.number (view self.now) }
-    {
-        self.thread == thread && !self.is_over()
     }
 
     /// Takes its next event.

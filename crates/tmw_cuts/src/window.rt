@@ -211,8 +211,8 @@ impl Window {
         self.completed = completed_mask(self.txns.as_slice());
     }
 
-    /// Whether the event can't break the criterion: it answers no commit request, and where the criterion is opacity no read and
-    /// no add either.
+    /// Whether the event can't break the criterion: it answers no commit request, and where the criterion is opacity it is no value
+    /// that answers a read or an add either.
     #[inline(always)]
     pub fn is_quiet(&self, criterion: Criterion, event: Event) -> bool
         ensures { (events : List Event) → StandsFor self.now events

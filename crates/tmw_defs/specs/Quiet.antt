@@ -15,7 +15,7 @@ is_pending _ = false
 abbrev pub awaits_commit : List Txn → ℕ → Bool
 awaits_commit ts thread = list_any (λ t. (t.thread == thread) && is_pending (status_of t.text)) ts
 
--- The event tells nothing of the memory: it answers no read and no add, and no commit request.
+-- The event tells nothing of the memory: it is no value, which answers a read or an add, and it answers no commit request.
 abbrev pub is_quiet : List Txn → ℕ → Kind → Bool
 is_quiet ts thread (V v) = false
 is_quiet ts thread C = false

@@ -1,5 +1,4 @@
 ghost use Rattle.std.specs.Prelude.{◌≡◌, ◌<◌};
-ghost use Rattle.std.specs.Option.{SomeIff};
 ghost use Rattle.std.specs.Prelude.{IfSome, IsSome, ◌↔◌};
 
 /// The number of a thread or of a register: 0 to 7.

@@ -1,4 +1,4 @@
-ghost use Rattle.std.specs.Prelude.{◌≡◌, ℕ, ◌+◌, ◌<◌, ◌≤◌, List, ◌∷◌, length, drop};
+ghost use Rattle.std.specs.Prelude.{◌≡◌, ◌+◌, ◌<◌, ◌≤◌, ◌∷◌, length, drop};
 ghost use Rattle.tmw_lines.specs.Held.{bytes_of};
 ghost use Rattle.tmw_lines.specs.Piece.{Reads, IsSeen, IsPiece, UnlessFailed, piece_failures};
 

@@ -32,7 +32,8 @@ rules_for criterion registers start bounds = record {
 abbrev pub rules_of : Registers → State → Bounds → Rules
 rules_of registers start bounds = rules_for Opacity registers start bounds
 
--- What is kept of a history in which nothing is wrong: its outcomes at its last cut, the transactions since, and each thread's phase.
+-- What is kept of a history in which nothing is wrong: its outcomes at its last cut, the transactions since, each thread's phase, and
+-- a serial order of those transactions where one is known.
 pub record Keeps (rules : Rules) (history : List Event) (kept : Open) : Type 0 where
   pub cut : ℕ
   pub sums_up : SumsUp rules (Contains (members kept.states)) cut history

@@ -1,4 +1,4 @@
-ghost use Rattle.std.specs.Prelude.{◌≡◌, ◌<◌, ◌++◌, ◌∷◌, [], List, IfOk, OnErr, IsTrue, IsFalse, Bool, ℕ, true, false, length};
+ghost use Rattle.std.specs.Prelude.{◌≡◌, ◌<◌, ◌++◌, ◌∷◌, [], List, IfOk, OnErr, IsTrue, IsFalse, Bool, ℕ, true};
 ghost use Rattle.tmw_events.specs.declared.event.Event.{Event};
 ghost use Rattle.tmw_defs.specs.declared.criterion.Criterion.{Criterion};
 ghost use Rattle.tmw_defs.specs.Criteria.{is_quiet_by};

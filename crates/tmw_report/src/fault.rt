@@ -3,17 +3,17 @@ use thiserror::Error;
 /// Why there is no report, or no replies to a list of steps. A line's number counts from 1, and the header is line 1.
 #[derive(Debug, Drop, Clone, Copy, PartialEq, Eq, Error)]
 pub enum Fault {
-    /// The first line is not the header of a trace.
-    #[error("the first line is no header of a trace")]
+    /// The first line is not the header of a trace, or of a list of steps.
+    #[error("the first line is not the header that is wanted")]
     BadHeader,
-    /// This line is not an event.
-    #[error("line {0} is no event")]
+    /// This line is not an event, or no step.
+    #[error("line {0} is no event, or no step")]
     BadLine(u64),
     /// The input ends within this line.
     #[error("the input ends within line {0}")]
     Cut(u64),
-    /// There are more events than are counted.
-    #[error("there are more events than are counted")]
+    /// There are more events, or steps, than are counted.
+    #[error("there are more events, or steps, than are counted")]
     TooLong,
     /// Memory was refused.
     #[error("memory was refused")]

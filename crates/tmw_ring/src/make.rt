@@ -1,5 +1,5 @@
 //! A new ring, with all its ends.
-ghost use Rattle.std.specs.Prelude.{◌≡◌, [], ◌∷◌, length, IfOk, IfErr, OnOk};
+ghost use Rattle.std.specs.Prelude.{◌≡◌, [], length, IfOk, IfErr, OnOk};
 ghost use Rattle.tmw_ring.specs.NewRing.{AreNewWriters, IsNewRing};
 ghost use Rattle.tmw_ring.specs.Parts.{new_parts, new_reader};
 ghost use Rattle.tmw_ring.specs.Seats.{IsReader};

@@ -1,4 +1,4 @@
-ghost use Rattle.std.specs.Prelude.{◌≡◌, ◌<◌, ◌%◌, length, slice_get, slice_set, IfOk};
+ghost use Rattle.std.specs.Prelude.{◌≡◌, ◌<◌, ◌%◌, length, slice_get, IfOk};
 ghost use Rattle.tmw_ring_defs.specs.RingCells.{set_cell};
 ghost use Rattle.tmw_ring_defs.specs.RingMachine.{new_machine, writer_of, has_stopped};
 ghost use Rattle.tmw_ring_defs.specs.RingSound.{Sound};

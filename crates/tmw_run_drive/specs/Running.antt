@@ -36,8 +36,8 @@ pub record IsDrivenFrom (gives : Call → Answer → Type 0) (bounds : Bounds) (
   pub formed : (at : ℕ) → driven.outcome.verdict ≡ Malformed at → ⊥
 
 -- The fault is right of these bytes, which are all that the source has where `Ended` holds: they are no JSON text, or the
--- text of a value that is no workload's; or a workload over more than one register asks for more than the memory has. `Io`
--- answers a failed read, and `Memory` want of memory, of which only tests show that a growth was refused.
+-- text of a value that is no workload's; or that of a workload over more than one register. Only tests show that the memory had too
+-- few registers then, and that a growth was refused where the fault is `Memory`. `Io` answers a failed read.
 abbrev pub IsRightFault : Type 0 → List ℕ → Fault → Type 0
 IsRightFault Ended bytes Json = Ended × IsNoText bytes
 IsRightFault Ended bytes Shape = Ended × IsOtherText bytes

@@ -1,4 +1,4 @@
-ghost use Rattle.std.specs.Prelude.{◌≡◌, ◌↔◌, ◌≤◌, ℕ, OnOk, IfOk, Contains, length, flat_map, map};
+ghost use Rattle.std.specs.Prelude.{◌↔◌, ◌≤◌, ℕ, OnOk, IfOk, Contains, length, flat_map, map};
 ghost use Rattle.tmw_cuts.specs.Views.{view};
 ghost use Rattle.tmw_defs.specs.Opaque.{State};
 ghost use Rattle.tmw_search.specs.Ended.{HaveLast};

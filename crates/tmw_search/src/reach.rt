@@ -1,4 +1,4 @@
-ghost use Rattle.std.specs.Prelude.{◌≡◌, ◌<◌, ◌≤◌, length, map};
+ghost use Rattle.std.specs.Prelude.{◌<◌, ◌≤◌, length, map};
 ghost use Rattle.tmw_cuts.specs.Views.{view};
 ghost use Rattle.tmw_search.specs.LastWrites.{AreWriters};
 ghost use Rattle.tmw_search.specs.Choices.{ShowsReach, Joins};

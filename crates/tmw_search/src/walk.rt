@@ -1,4 +1,4 @@
-ghost use Rattle.std.specs.Prelude.{◌≡◌, ◌<◌, ◌≤◌, IfSome, IsTrue, length, map};
+ghost use Rattle.std.specs.Prelude.{◌<◌, ◌≤◌, IfSome, IsTrue, length, map};
 ghost use Rattle.tmw_cuts.specs.Views.{view};
 ghost use Rattle.tmw_defs.specs.declared.criterion.Criterion.TheVariants.{Opacity};
 ghost use Rattle.tmw_defs.specs.Opaque.{State};

@@ -1,4 +1,4 @@
-ghost use Rattle.std.specs.Prelude.{◌≡◌, ◌<◌, ◌^◌, ℕ, List, [], ◌∷◌, ◌++◌, IfOk, IsOk, OnOk, OnErr, IsTrue, IsFalse, length};
+ghost use Rattle.std.specs.Prelude.{◌≡◌, ◌<◌, ◌^◌, List, [], ◌∷◌, ◌++◌, IfOk, IsOk, OnOk, OnErr, IsTrue, IsFalse, length};
 ghost use Rattle.tmw_events.specs.declared.event.Event.{Event};
 ghost use Rattle.tmw_defs.specs.Criteria.{so_far};
 ghost use Rattle.tmw_defs.specs.Cuts.{is_cut};
@@ -25,7 +25,6 @@ pub struct LastWindow {
 
 impl LastWindow {
     ghost use Rattle.tmw_show.specs.Showing.{IsShowing};
-    ghost use Rattle.tmw_show.specs.Shown.{IsShown};
     ghost use Rattle.tmw_show.specs.Watching.{Watches};
 
     /// Before the first event of a run whose registers begin with these values. Those that the run does not have are to be 0.

@@ -1,5 +1,4 @@
-ghost use Rattle.std.specs.Prelude.{◌≡◌, ℕ, ◌+◌, ◌<◌, ◌≤◌, ◌^◌, true, List, ◌∷◌, ◌++◌, length, take, drop, All, IfSome, IfNone};
-ghost use Rattle.std.specs.Fmt.{decimal};
+ghost use Rattle.std.specs.Prelude.{◌≡◌, ℕ, ◌+◌, ◌<◌, ◌^◌, true, List, length, take, drop, All, IfSome, IfNone};
 ghost use Rattle.tmw_trace.specs.Start.{are_zeros};
 ghost use Rattle.tmw_lines.specs.Grammar.{IsNoHeader};
 ghost use Rattle.tmw_trace.specs.Text.{header_text, numbers_text, values_text, trace_grammar, FitsHeader};

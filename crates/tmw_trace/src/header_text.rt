@@ -1,4 +1,4 @@
-ghost use Rattle.std.specs.Prelude.{◌≡◌, take, OnOk, OnErr};
+ghost use Rattle.std.specs.Prelude.{◌≡◌, OnOk, OnErr};
 ghost use Rattle.tmw_lines.specs.Text.{line};
 ghost use Rattle.tmw_streams.specs.Told.{Takes, TakesBeginning, one_more};
 ghost use Rattle.tmw_trace.specs.Text.{header_text, initial_text, numbers_text, values_text, version_digit};

@@ -18,7 +18,7 @@ fn leaves(item: &Txn, state: &State) -> bool
 }
 
 impl Witness {
-    ghost use Rattle.tmw_witness.specs.Witnessing.{Witnesses, rank_of, held_of, state_of};
+    ghost use Rattle.tmw_witness.specs.Witnessing.{Witnesses, rank_of, state_of};
     ghost use Rattle.tmw_witness.specs.Turns.{TurnsAt};
     ghost use Rattle.tmw_events.specs.declared.event.Event.{Event};
     ghost use Rattle.tmw_cuts.specs.Standing.{StandsFor, count_of, views_of};

@@ -1,5 +1,6 @@
-//! `tmwatch judge`: reads a recorded run of a transactional memory from standard input, and writes one line on standard
-//! output: whether it is opaque, or which of its prefixes is the first that is not. `tmwatch drive`: runs a workload over a
+//! `tmwatch judge`: reads a recorded run of a transactional memory from standard input, and writes on standard output, in a line
+//! for each criterion that is asked for, whether the run meets it so far, or at which event it is violated, undecided or malformed.
+//! `tmwatch show`: writes that line, and the events and states that it comes from. `tmwatch drive`: runs a workload over a
 //! transactional memory, and judges the run. `tmwatch bench`: runs a workload by threads, and judges what they record.
 //! `tmwatch steps`: reads a list of a ring's steps, and writes what each of them answers.
 #![tactic(auto)]
