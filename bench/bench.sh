@@ -14,7 +14,7 @@ set -eu
 top=$(cd "$(dirname "${BASH_SOURCE[0]}")/.." && pwd)
 folder=$(mktemp -d)
 trap 'rm -rf "$folder"' EXIT
-"$top/tmwatch" judge <"$top/examples/dirty_read.trace" >/dev/null || [ $? -eq 1 ]
+"$top/build"
 program=$top/crates/tmwatch/out/tmwatch
 cells=${CELLS:-256}
 if [ -n "${PEER:-}" ]; then

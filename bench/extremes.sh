@@ -14,7 +14,7 @@ top=$(cd "$(dirname "${BASH_SOURCE[0]}")/.." && pwd)
 folder=$(mktemp -d)
 trap 'rm -rf "$folder"' EXIT
 passed=0 failed=0
-"$top/tmwatch" judge <"$top/examples/dirty_read.trace" >/dev/null || [ $? -eq 1 ]
+"$top/build"
 program=$top/crates/tmwatch/out/tmwatch
 # More than the program takes where nothing grows; one that does nothing takes some 1,000 KiB.
 little=4000

@@ -14,7 +14,7 @@ peer=${PEER:-}
 events=${1:-1000000}
 folder=$(mktemp -d)
 trap 'rm -rf "$folder"' EXIT
-"$top/tmwatch" judge <"$top/examples/dirty_read.trace" >/dev/null || [ $? -eq 1 ]
+"$top/build"
 program=$top/crates/tmwatch/out/tmwatch
 traces=${TRACES:-$folder/traces}
 [ -n "${TRACES:-}" ] || "${CC:-cc}" -O2 "$top/bench/traces.c" -o "$traces"

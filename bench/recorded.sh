@@ -5,7 +5,7 @@
 folder=$(mktemp -d)
 trap 'rm -rf "$folder"' EXIT
 passed=0 failed=0
-"$top/tmwatch" judge <"$top/examples/dirty_read.trace" >/dev/null || [ $? -eq 1 ]
+"$top/build"
 judge=$top/crates/tmwatch/out/tmwatch
 
 write_head() {

@@ -15,12 +15,14 @@
 #   = 4                          the exit status, by which the row ends
 #
 # In what is read and written, \\, \r, \t and \xHH stand for bytes, as for printf. Empty lines and lines of '#' are comments.
+# Environment: CASES, a folder, for tests/quick.sh: rows are not run, but written there as cases of `rt try --cases`; when the answers
+# to these are there, rows are compared with them.
 set -eu
 top=$(cd "$(dirname "${BASH_SOURCE[0]}")/.." && pwd)
 folder=$(mktemp -d)
 trap 'rm -rf "$folder"' EXIT
 passed=0 failed=0
-"$top/tmwatch" judge <"$top/examples/dirty_read.trace" >/dev/null || [ $? -eq 1 ]
+[ -n "${CASES:-}" ] || [ -x "$top/crates/tmwatch/out/tmwatch" ] || "$top/build"
 
 # Counts a command line by whether what it did is what was wanted.
 count() {
@@ -35,7 +37,26 @@ count() {
 # Runs the program with these words on standard input, and keeps what it writes and its exit status.
 run() {
     status=0
+    if [ -n "${CASES:-}" ]; then
+        run_case "$@"
+        return
+    fi
     "$top/crates/tmwatch/out/tmwatch" "$@" >"$folder/output" 2>"$folder/errors" || status=$?
+}
+
+# Writes a case of these words and of standard input, or takes its answer.
+run_case() {
+    case=$((${case:-0} + 1))
+    if [ -d "$CASES/answers" ]; then
+        status=$(cat "$CASES/answers/$case.status" || echo none)
+        cp "$CASES/answers/$case.output" "$folder/output"
+        cp "$CASES/answers/$case.errors" "$folder/errors"
+    else
+        cat >"$CASES/$case"
+        printf '%s\n' "$@" >"$CASES/$case.args"
+        : >"$folder/output"
+        : >"$folder/errors"
+    fi
 }
 
 # Tells a row that has begun and has no exit status: it was never run.

@@ -52,11 +52,17 @@ fn run<R: AllocGlobal + Threads + Wait, S: Source, K: Sink, E: Sink>(
     Ok(run_command(rt, rt.alloc(), words, source, sink, errors, memories))
 }
 
-/// The words of the command line, of which the first is the program's name.
+/// The words of the command line. The first is the program's name: `tmwatch`, however it was started.
 fn words_of(rt: &HostRuntime) -> Result<Vec<String>, Fault> {
     let arguments = env::args(rt).map_err(unread)?;
     let mut words = Vec::new(rt.alloc());
-    for word in arguments {
+    let Ok(name) = String::from_str(rt.alloc(), "tmwatch") else {
+        return Err(Fault::Memory);
+    };
+    if words.push(name).is_err() {
+        return Err(Fault::Memory);
+    }
+    for word in arguments.skip(1) {
         if words.push(word).is_err() {
             return Err(Fault::Memory);
         }

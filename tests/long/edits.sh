@@ -1,0 +1,33 @@
+#!/usr/bin/env bash
+# Tries the wrong bodies of edits/: the prover must refuse each. By hand, before a release and when a contract changes; the gate tries
+# those of crates/*/must-fail.
+#
+#   tests/long/edits.sh [CRATE..]
+#
+# Without words all crates that have some. The crates are proved in a copy, in which these edits take the place of the gate's. What the
+# gate has proved on this machine is taken from it, and what an edit came to is kept, so that a run that was stopped goes on.
+# A line for each edit that is not refused, or refused only because a name is gone or a limit of the prover's is met; what the prover
+# said of each stands in edits/log. The last line is 'N refused, M by a name or limit alone, K not refused'; the exit status is 1
+# when K is above 0.
+set -eu
+top=$(cd "$(dirname "${BASH_SOURCE[0]}")/../.." && pwd)
+folder=$(mktemp -d)
+trap 'rm -rf "$folder"' EXIT
+[ $# -gt 0 ] || set -- $(ls "$top/edits" | grep -v '^log$')
+mkdir "$folder/.git" "$folder/crates"
+cp "$top/crates.txt" "$top/HANDLES" "$folder/"
+tar -C "$top/crates" --exclude=must-fail --exclude=out -cf - . | tar -C "$folder/crates" -xf -
+wanted=0
+for crate in "$@"; do
+    mkdir "$folder/crates/$crate/must-fail"
+    cp "$top/edits/$crate"/*.edit "$folder/crates/$crate/must-fail/"
+    wanted=$((wanted + $(ls "$top/edits/$crate" | wc -l)))
+done
+(cd "$folder" && rt ci "$@") >"$folder/log" 2>&1 || true
+grep -a '^rt: must-fail ' "$folder/log" >"$top/edits/log" || true
+refused=$(grep -c ': refused, as it must be' "$top/edits/log" || true)
+weak=$(grep -cE ': refused, as it must be \(only (because|by a limit)' "$top/edits/log" || true)
+grep -E ': refused, as it must be \(only (because|by a limit)|NOT REFUSED|NOT TRIED|BAD EDIT' "$top/edits/log" || true
+[ "$refused" -eq "$wanted" ] || grep -aE 'NOT PROVED|^FAILED|^rt: .*FAILED' "$folder/log" || tail -n 20 "$folder/log"
+echo "$refused refused, $weak by a name or limit alone, $((wanted - refused)) not refused"
+[ "$refused" -eq "$wanted" ]
