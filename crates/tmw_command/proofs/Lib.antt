@@ -1,11 +1,1 @@
-mod Commands
-mod HelpWords
-mod Numbers
-mod Orders
-mod OptionValues
-mod OtherFaults
-mod OtherParsers
 mod Picked
-mod Refusals
-mod Standing
-mod WrittenOut

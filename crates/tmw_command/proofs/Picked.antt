@@ -2,8 +2,8 @@
 use Rattle.tmw_command.specs.Memories.{memory_named}
 use Rattle.tmw_command.specs.Running.{by_name}
 use Rattle.tmw_command.specs.declared.memories.Memories.{Memories}
-use Rattle.tmw_command.specs.declared.which.Which.{Which}
-use Rattle.tmw_command.specs.declared.which.Which.TheVariants.{NoRec, Lock, Torn}
+use Rattle.tmw_words.specs.declared.which.Which.{Which}
+use Rattle.tmw_words.specs.declared.which.Which.TheVariants.{NoRec, Lock, Torn}
 use Rattle.tmw_tm.specs.Answers.{Call, Answer}
 
 pub by_name-memory_named : {M : Type 0} (gives : M → Call → Answer → Type 0) (memories : Memories M)

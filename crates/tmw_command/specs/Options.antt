@@ -1,7 +1,7 @@
 -- The settings of a bench that a command line asks for.
 use Rattle.std.specs.Prelude.{◌^◌}
 use Rattle.tmw_bench.specs.declared.settings.Settings.{Settings}
-use Rattle.tmw_command.specs.declared.bench_options.BenchOptions.{BenchOptions}
+use Rattle.tmw_words.specs.declared.bench_options.BenchOptions.{BenchOptions}
 
 -- Its options, and the most events that any record has.
 abbrev pub settings_of : BenchOptions → Settings

@@ -14,14 +14,14 @@ use Rattle.tmw_run_show.specs.Running.{ShowsBytes}
 use Rattle.tmw_steps.specs.Running.{RunsSteps}
 use Rattle.tmw_tm.specs.Answers.{Call, Answer}
 use Rattle.tmw_command.specs.Options.{settings_of}
-use Rattle.tmw_command.specs.Reading.{IsReading}
+use Rattle.tmw_words.specs.Reading.{IsReading}
 use Rattle.tmw_command.specs.Version.{version_line}
-use Rattle.tmw_command.specs.declared.order.Order.{Order}
-use Rattle.tmw_command.specs.declared.order.Order.TheVariants.{Judge, Show, Drive, Bench, Steps}
-use Rattle.tmw_command.specs.declared.refusal.Refusal.{Refusal}
-use Rattle.tmw_command.specs.declared.refusal.Refusal.TheVariants.{Help, Version, Usage, Memory}
-use Rattle.tmw_command.specs.declared.which.Which.{Which}
-use Rattle.tmw_command.specs.declared.which.Which.TheVariants.{NoRec, Lock, Torn}
+use Rattle.tmw_words.specs.declared.order.Order.{Order}
+use Rattle.tmw_words.specs.declared.order.Order.TheVariants.{Judge, Show, Drive, Bench, Steps}
+use Rattle.tmw_words.specs.declared.refusal.Refusal.{Refusal}
+use Rattle.tmw_words.specs.declared.refusal.Refusal.TheVariants.{Help, Version, Usage, Memory}
+use Rattle.tmw_words.specs.declared.which.Which.{Which}
+use Rattle.tmw_words.specs.declared.which.Which.TheVariants.{NoRec, Lock, Torn}
 
 -- What each memory may answer to a call.
 abbrev pub MemoryAnswers : Type 1

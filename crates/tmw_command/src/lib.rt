@@ -1,21 +1,10 @@
-//! The command line: which order its words ask for, and its run from a source to a sink.
+//! The command line: its run from a source to a sink, by the order that its words ask for.
 #![tactic(auto)]
 
-mod asked;
-mod bench_options;
 mod memories;
-mod order;
-mod parse;
-mod program;
-mod refusal;
 mod run;
-mod which;
-mod words;
+mod settings;
 
-pub use bench_options::BenchOptions;
 pub use memories::Memories;
-pub use order::Order;
-pub use refusal::Refusal;
 pub use run::run_command;
-pub use which::Which;
-pub use words::read_words;
+pub use tmw_words::{BenchOptions, Order, Refusal, Which, read_words};

@@ -1,4 +1,4 @@
-use crate::which::Which;
+use tmw_words::Which;
 
 /// One of each of the program's memories.
 #[derive(Clone, Copy)]

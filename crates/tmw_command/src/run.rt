@@ -5,9 +5,7 @@ ghost use Rattle.tmw_report.specs.Streams.{from_source, to_sink};
 ghost use Rattle.tmw_command.specs.Running.{AnswersRefusal, RunsCommand, RunsOrder, RunsWords, by_name};
 
 use crate::memories::Memories;
-use crate::order::Order;
-use crate::refusal::Refusal;
-use crate::words::read_words;
+use crate::settings::bench_settings;
 use std::alloc::Global;
 use std::convert::AsStr;
 use std::sync::Wait;
@@ -20,6 +18,7 @@ use tmw_run_show::run_show;
 use tmw_steps::run_steps;
 use tmw_streams::{Sink, Source, put_all};
 use tmw_tm::Tm;
+use tmw_words::{Order, Refusal, read_words};
 
 /// Which program this is: its name and version, and what it judges by.
 const VERSION_LINE: &str =
@@ -107,7 +106,15 @@ fn run_order<S: Source, K: Sink, R: Threads + Wait>(
             options,
         } => {
             let picked = memories.named(memory);
-            run_bench_cmd(rt, alloc, source, sink, picked, trace, options.settings())
+            run_bench_cmd(
+                rt,
+                alloc,
+                source,
+                sink,
+                picked,
+                trace,
+                bench_settings(options),
+            )
         }
         Order::Steps => run_steps(alloc, source, sink),
     }

@@ -14,15 +14,9 @@ pub fn step_of(bytes: &[u8]) -> Option<Step>
     ensures none { IfNone result (IsNoStep bytes.now) }
 {
     match bytes {
-        [b'p', b'e', b'e', b'k'] => Some(Step::Peek),
+        [b'p', rest @ ..] => step_of_p(rest),
+        [b'f', rest @ ..] => step_of_f(rest),
         [b'r', b'e', b'a', b'd'] => Some(Step::Read),
-        [b'f', b'r', b'e', b'e'] => Some(Step::Free),
-        [b'f', b'r', b'o', b'n', b't', b' ', rest @ ..] => {
-            let Some((writer, kind)) = front_of(rest) else {
-                return None;
-            };
-            Some(Step::Front(writer, kind))
-        }
         [b't', b'a', b'i', b'l', b' ', rest @ ..] => {
             let Some(writer) = writer_of(rest) else {
                 return None;
@@ -35,23 +29,53 @@ pub fn step_of(bytes: &[u8]) -> Option<Step>
             };
             Some(Step::Claim(writer))
         }
-        [b'f', b'i', b'l', b'l', b' ', rest @ ..] => {
-            let Some(writer) = writer_of(rest) else {
-                return None;
-            };
-            Some(Step::Fill(writer))
-        }
-        [b'p', b'u', b'b', b'l', b'i', b's', b'h', b' ', rest @ ..] => {
-            let Some(writer) = writer_of(rest) else {
-                return None;
-            };
-            Some(Step::Publish(writer))
-        }
         [b's', b't', b'o', b'p', b' ', rest @ ..] => {
             let Some(writer) = writer_of(rest) else {
                 return None;
             };
             Some(Step::Stop(writer))
+        }
+        _ => None,
+    }
+}
+
+/// The step whose text is `p` followed by these bytes.
+fn step_of_p(bytes: &[u8]) -> Option<Step>
+    ensures some { IfSome result (λ step. 112 ∷ bytes.now ≡ step_text step) }
+    ensures fits { IfSome result FitsStep }
+    ensures none { IfNone result (IsNoStep (112 ∷ bytes.now)) }
+{
+    match bytes {
+        [b'e', b'e', b'k'] => Some(Step::Peek),
+        [b'u', b'b', b'l', b'i', b's', b'h', b' ', rest @ ..] => {
+            let Some(writer) = writer_of(rest) else {
+                return None;
+            };
+            Some(Step::Publish(writer))
+        }
+        _ => None,
+    }
+}
+
+/// The step whose text is `f` followed by these bytes.
+fn step_of_f(bytes: &[u8]) -> Option<Step>
+    ensures some { IfSome result (λ step. 102 ∷ bytes.now ≡ step_text step) }
+    ensures fits { IfSome result FitsStep }
+    ensures none { IfNone result (IsNoStep (102 ∷ bytes.now)) }
+{
+    match bytes {
+        [b'r', b'e', b'e'] => Some(Step::Free),
+        [b'r', b'o', b'n', b't', b' ', rest @ ..] => {
+            let Some((writer, kind)) = front_of(rest) else {
+                return None;
+            };
+            Some(Step::Front(writer, kind))
+        }
+        [b'i', b'l', b'l', b' ', rest @ ..] => {
+            let Some(writer) = writer_of(rest) else {
+                return None;
+            };
+            Some(Step::Fill(writer))
         }
         _ => None,
     }

@@ -56,14 +56,14 @@ fn run<R: AllocGlobal + Threads + Wait, S: Source, K: Sink, E: Sink>(
 fn words_of(rt: &HostRuntime) -> Result<Vec<String>, Fault> {
     let arguments = env::args(rt).map_err(unread)?;
     let mut words = Vec::new(rt.alloc());
-    let Ok(name) = String::from_str(rt.alloc(), "tmwatch") else {
-        return Err(Fault::Memory);
-    };
-    if words.push(name).is_err() {
-        return Err(Fault::Memory);
-    }
-    for word in arguments.skip(1) {
+    for word in arguments {
         if words.push(word).is_err() {
+            return Err(Fault::Memory);
+        }
+    }
+    if let Some(name) = words.first_mut() {
+        name.clear();
+        if name.push_str("tmwatch").is_err() {
             return Err(Fault::Memory);
         }
     }

@@ -22,7 +22,7 @@ returns-in-Drive g c =
 
 pub returns-in-Bench : goal.returns-in-Bench
 returns-in-Bench g c =
-    let benches = rw (c.named-picked-in-Bench.ensures, c.settings.ensures) at c.run_bench_cmd.ensures in
+    let benches = rw (c.named-picked-in-Bench.ensures, c.bench_settings.ensures) at c.run_bench_cmd.ensures in
     rw c.in-Bench.is (by_name-memory_named (λ memory call answer. (goal.Tm-dyn g memory.now).gives memory.now.1 call answer) c.args.memories
     (λ given. BenchesBytes (from_source g.S.Source.told g.S.Source.remaining g.S.Source.ended g.S.Source.failures)
     (to_sink g.K.Sink.took g.K.Sink.holds g.K.Sink.failures) given c.in-Bench.trace (settings_of c.in-Bench.options) c.args.source.now

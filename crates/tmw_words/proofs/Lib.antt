@@ -1,0 +1,10 @@
+mod Commands
+mod HelpWords
+mod Numbers
+mod Orders
+mod OptionValues
+mod OtherFaults
+mod OtherParsers
+mod Refusals
+mod Standing
+mod WrittenOut

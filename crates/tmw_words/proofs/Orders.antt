@@ -1,0 +1,107 @@
+-- Which orders the matches of a command stand for.
+use Rattle.std.proofs.Common.{ℕ, ◌≡◌, ◌∙◌, Bool, Option, Some, List, codes, ap, sym, subst, get_or, arith}
+use Rattle.std.specs.Prelude.{unwrap_or}
+use Rattle.clap.specs.Words.{Row, Text}
+use Rattle.tmw_defs.specs.declared.criterion.Asked.{Asked}
+use Rattle.tmw_defs.specs.declared.criterion.Criterion.{Criterion}
+use Rattle.tmw_monitor.specs.declared.bounds.Bounds.{Bounds}
+use Rattle.tmw_words.specs.Words.{HasBounds, HasOptions, HasTrace, IsOrder, NamesCriteria, NamesCriterion, NamesMemory}
+use Rattle.tmw_words.specs.declared.bench_options.BenchOptions.{BenchOptions}
+use Rattle.tmw_words.specs.declared.order.Order.{Order}
+use Rattle.tmw_words.specs.declared.order.Order.TheVariants.{Judge, Show, Drive, Bench, Steps}
+use Rattle.tmw_words.specs.declared.which.Which.{Which}
+
+-- what was found is of one command, and has its rows
+same_letter : (i : ℕ) (found : Option (Text × List Row)) (name other : Text) (rows given : List Row) → found ≡ Some (name, rows)
+    → found ≡ Some (other, given) → get_or name i 0 ≡ get_or other i 0
+same_letter i found name other rows given is same =
+    ap (λ (o : Option (Text × List Row)). get_or (unwrap_or o (name, rows)).0 i 0) (sym is ∙ same)
+
+one_name : (found : Option (Text × List Row)) (name other : Text) (rows given : List Row) → found ≡ Some (name, rows) → found ≡ Some (other, given)
+    → get_or name 0 0 ≡ get_or other 0 0
+one_name = same_letter 0
+
+own_rows : (found : Option (Text × List Row)) (name : Text) (rows given : List Row) → found ≡ Some (name, rows) → found ≡ Some (name, given) → given ≡ rows
+own_rows found name rows given is same = ap (λ (o : Option (Text × List Row)). (unwrap_or o (name, rows)).1) (sym same ∙ is)
+
+-- without criteria or bounds `judge` is no order
+pub judge-lacking : (found : Option (Text × List Row)) (rows : List Row) → found ≡ Some (codes "judge", rows)
+    → ((asked : Asked) (bounds : Bounds) → NamesCriteria rows asked → HasBounds rows bounds → ⊥) → (order : Order) → IsOrder found order → ⊥
+judge-lacking found rows is none (Judge bounds asked) (given, same, named, has) =
+    let own = own_rows found (codes "judge") rows given is same in
+    none asked bounds (subst (λ (r : List Row). NamesCriteria r asked) own named) (subst (λ (r : List Row). HasBounds r bounds) own has)
+judge-lacking found rows is none (Drive memory trace bounds) (given, same, named, traced, has) =
+    let first = one_name found (codes "judge") (codes "drive") rows given is same in
+    absurd (omega (arith, first))
+judge-lacking found rows is none (Bench memory trace options) (given, same, named, traced, has) =
+    let first = one_name found (codes "judge") (codes "bench") rows given is same in
+    absurd (omega (arith, first))
+judge-lacking found rows is none (Show criterion trace bounds) (given, same, named, traced, has) =
+    let first = one_name found (codes "judge") (codes "show") rows given is same in
+    absurd (omega (arith, first))
+judge-lacking found rows is none Steps (given, same) =
+    let first = one_name found (codes "judge") (codes "steps") rows given is same in
+    absurd (omega (arith, first))
+
+-- without a criterion, a flag or bounds `show` is no order
+pub show-lacking : (found : Option (Text × List Row)) (rows : List Row) → found ≡ Some (codes "show", rows)
+    → ((criterion : Criterion) (trace : Bool) (bounds : Bounds) → NamesCriterion rows criterion → HasTrace rows trace → HasBounds rows bounds → ⊥)
+    → (order : Order) → IsOrder found order → ⊥
+show-lacking found rows is none (Show criterion trace bounds) (given, same, named, traced, has) =
+    let own = own_rows found (codes "show") rows given is same in
+    none criterion trace bounds (subst (λ (r : List Row). NamesCriterion r criterion) own named) (subst (λ (r : List Row). HasTrace r trace) own traced)
+    (subst (λ (r : List Row). HasBounds r bounds) own has)
+show-lacking found rows is none (Judge bounds asked) (given, same, named, has) =
+    let letter = same_letter 0 found (codes "show") (codes "judge") rows given is same in
+    absurd (omega (arith, letter))
+show-lacking found rows is none (Drive memory trace bounds) (given, same, named, traced, has) =
+    let letter = same_letter 0 found (codes "show") (codes "drive") rows given is same in
+    absurd (omega (arith, letter))
+show-lacking found rows is none (Bench memory trace options) (given, same, named, traced, has) =
+    let letter = same_letter 0 found (codes "show") (codes "bench") rows given is same in
+    absurd (omega (arith, letter))
+show-lacking found rows is none Steps (given, same) =
+    let letter = same_letter 1 found (codes "show") (codes "steps") rows given is same in
+    absurd (omega (arith, letter))
+
+-- without a memory, a flag or bounds `drive` is no order
+pub drive-lacking : (found : Option (Text × List Row)) (rows : List Row) → found ≡ Some (codes "drive", rows)
+    → ((memory : Which) (trace : Bool) (bounds : Bounds) → NamesMemory rows memory → HasTrace rows trace → HasBounds rows bounds → ⊥)
+    → (order : Order) → IsOrder found order → ⊥
+drive-lacking found rows is none (Drive memory trace bounds) (given, same, named, traced, has) =
+    let own = own_rows found (codes "drive") rows given is same in
+    none memory trace bounds (subst (λ (r : List Row). NamesMemory r memory) own named) (subst (λ (r : List Row). HasTrace r trace) own traced)
+    (subst (λ (r : List Row). HasBounds r bounds) own has)
+drive-lacking found rows is none (Judge bounds asked) (given, same, named, has) =
+    let first = one_name found (codes "drive") (codes "judge") rows given is same in
+    absurd (omega (arith, first))
+drive-lacking found rows is none (Bench memory trace options) (given, same, named, traced, has) =
+    let first = one_name found (codes "drive") (codes "bench") rows given is same in
+    absurd (omega (arith, first))
+drive-lacking found rows is none (Show criterion trace bounds) (given, same, named, traced, has) =
+    let first = one_name found (codes "drive") (codes "show") rows given is same in
+    absurd (omega (arith, first))
+drive-lacking found rows is none Steps (given, same) =
+    let first = one_name found (codes "drive") (codes "steps") rows given is same in
+    absurd (omega (arith, first))
+
+-- without a memory, a flag or options `bench` is no order
+pub bench-lacking : (found : Option (Text × List Row)) (rows : List Row) → found ≡ Some (codes "bench", rows)
+    → ((memory : Which) (trace : Bool) (options : BenchOptions) → NamesMemory rows memory → HasTrace rows trace → HasOptions rows options → ⊥)
+    → (order : Order) → IsOrder found order → ⊥
+bench-lacking found rows is none (Bench memory trace options) (given, same, named, traced, has) =
+    let own = own_rows found (codes "bench") rows given is same in
+    none memory trace options (subst (λ (r : List Row). NamesMemory r memory) own named) (subst (λ (r : List Row). HasTrace r trace) own traced)
+    (subst (λ (r : List Row). HasOptions r options) own has)
+bench-lacking found rows is none (Judge bounds asked) (given, same, named, has) =
+    let first = one_name found (codes "bench") (codes "judge") rows given is same in
+    absurd (omega (arith, first))
+bench-lacking found rows is none (Drive memory trace bounds) (given, same, named, traced, has) =
+    let first = one_name found (codes "bench") (codes "drive") rows given is same in
+    absurd (omega (arith, first))
+bench-lacking found rows is none (Show criterion trace bounds) (given, same, named, traced, has) =
+    let first = one_name found (codes "bench") (codes "show") rows given is same in
+    absurd (omega (arith, first))
+bench-lacking found rows is none Steps (given, same) =
+    let first = one_name found (codes "bench") (codes "steps") rows given is same in
+    absurd (omega (arith, first))

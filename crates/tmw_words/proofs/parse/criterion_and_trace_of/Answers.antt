@@ -1,0 +1,28 @@
+-- The criterion and the flag that were read are those of the words, and where one was not read the words lack it.
+use Rattle.std.proofs.Common.{codes}
+use Rattle.clap.specs.Words.{found_of}
+use Rattle.tmw_words.specs.Program.{criterion_name}
+use Rattle.tmw_words.proofs.OptionValues.{other-first, read-HasTrace, read-first, unread-HasTrace, unread-first}
+use Rattle.tmw_words.proofs.parse.criterion_and_trace_of.Goals as goal
+
+pub returns-in_default-clause-none : goal.returns-in_default-clause-none
+returns-in_default-clause-none c =
+    λ criterion trace named traced.
+    unread-first (found_of c.args.matches.now) (codes "criterion") c.get_str.result (criterion_name criterion) c.get_str.ensures c.in_default.is named
+
+pub returns-in_default-criterion_named-clause-none : goal.returns-in_default-criterion_named-clause-none
+returns-in_default-criterion_named-clause-none c =
+    λ criterion trace named traced.
+    other-first (found_of c.args.matches.now) (codes "criterion") c.get_str.result c.in-Some.name (criterion_name criterion) c.get_str.ensures c.in-Some.is
+    (c.in_default-criterion_named.ensures.none criterion) named
+
+pub returns-in_default-get_one-clause-none : goal.returns-in_default-get_one-clause-none
+returns-in_default-get_one-clause-none c =
+    λ criterion trace named traced. unread-HasTrace (found_of c.args.matches.now) trace (λ t e. (c.in_default-get_one.ensures.value t e).1) traced
+
+pub returns-clause-some : goal.returns-clause-some
+returns-clause-some c = (
+  read-first (found_of c.args.matches.now) (codes "criterion") c.get_str.result c.in-Some.name (criterion_name c.in-Some-criterion_named.criterion) c.get_str.ensures
+      c.in-Some.is c.in-Some-criterion_named.ensures.some,
+  read-HasTrace (found_of c.args.matches.now) c.in-Some-get_one.trace c.in-Some-get_one.ensures.none (λ t e. c.in-Some-get_one.ensures.value t e),
+)

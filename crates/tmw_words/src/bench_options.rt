@@ -1,0 +1,21 @@
+ghost use Rattle.std.specs.Prelude.{◌≤◌};
+
+use tmw_monitor::Bounds;
+
+/// What the options of `bench` say: how threads record, how often they carry the workload out, and how the record is judged.
+#[derive(Clone, Copy, PartialEq, Eq, Debug)]
+pub struct BenchOptions {
+    /// The ring's cells: 1 to 4,096.
+    pub cells: u64,
+    /// So often in all a record is tried for which the ring lacks room: 1 to 1,000,000,000.
+    pub patience: u64,
+    /// The workload is carried out so many times: 1 to 1,000,000.
+    pub rounds: u64,
+    pub bounds: Bounds,
+    pub ghost some_cell: { 1 ≤ cells },
+    pub ghost few_cells: { cells ≤ 4096 },
+    pub ghost some_try: { 1 ≤ patience },
+    pub ghost few_tries: { patience ≤ 1000000000 },
+    pub ghost some_round: { 1 ≤ rounds },
+    pub ghost few_rounds: { rounds ≤ 1000000 },
+}

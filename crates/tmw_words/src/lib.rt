@@ -1,0 +1,17 @@
+//! The words of the command line: which order they ask for.
+#![tactic(auto)]
+
+mod asked;
+mod bench_options;
+mod order;
+mod parse;
+mod program;
+mod refusal;
+mod which;
+mod words;
+
+pub use bench_options::BenchOptions;
+pub use order::Order;
+pub use refusal::Refusal;
+pub use which::Which;
+pub use words::read_words;

@@ -1,0 +1,271 @@
+ghost use Rattle.std.specs.Prelude.{◌≡◌, ◌≤◌, ℕ, List, Bool, IfErr, IfNone, IfOk, IfSome, Some, codes, map};
+ghost use Rattle.clap.specs.Walk.{texts};
+ghost use Rattle.clap.specs.Words.{Text, app_of, found_of, kind_of, rows_of, subcommand_rows_of};
+ghost use Rattle.tmw_words.specs.Program.{IsProgram};
+ghost use Rattle.tmw_words.specs.Reading.{FailsAs};
+ghost use Rattle.tmw_words.specs.Words.{Asks, Gives, HasBounds, HasOptions, HasTrace, IsOrder, NamesCriteria, NamesCriterion, NamesMemory, help_as_flag, names_help};
+ghost use Rattle.tmw_words.specs.declared.bench_options.BenchOptions.{BenchOptions};
+ghost use Rattle.tmw_words.specs.declared.order.Order.{Order};
+ghost use Rattle.tmw_words.specs.declared.which.Which.{Which};
+ghost use Rattle.tmw_defs.specs.declared.criterion.Asked.{Asked};
+ghost use Rattle.tmw_defs.specs.declared.criterion.Criterion.{Criterion};
+ghost use Rattle.tmw_monitor.specs.declared.bounds.Bounds.{Bounds};
+
+use crate::asked::{asked_named, criterion_named};
+use crate::bench_options::BenchOptions;
+use crate::order::Order;
+use crate::program::new_program;
+use crate::which::Which;
+use clap::error::ErrorKind;
+use clap::{ArgMatches, Command, Error};
+use std::alloc::{AllocError, Global};
+use std::convert::AsStr;
+use tmw_defs::{Asked, Criterion};
+use tmw_monitor::Bounds;
+
+/// Parses the words of the command line, of which the first is the program's name and is passed over. The error is clap's, and
+/// tells by its kind a request for help, what is wrong with the words, or a want of memory.
+pub fn parse<S: AsStr>(alloc: Global, words: &[S]) -> Result<Order, Error>
+    ensures order { IfOk result (Asks (map S.text words.now)) }
+    ensures refused { IfErr result (λ error. FailsAs (map S.text words.now) (kind_of error)) }
+{
+    let spelled = help_as_flag(alloc, words)?;
+    let mut program = new_program(alloc)?;
+    parse_by(&mut program, &spelled)
+}
+
+/// Parses words in which `help` is spelled as a flag already, by the program.
+fn parse_by<'a>(program: &mut Command<'a>, spelled: &'a [&'a str]) -> Result<Order, Error>
+    requires { IsProgram (app_of program.old) }
+    ensures order { IfOk result (λ order. (words : List Text) → texts spelled.now ≡ help_as_flag words → Asks words order) }
+    ensures refused { IfErr result (λ error. (words : List Text) → texts spelled.now ≡ help_as_flag words → FailsAs words (kind_of error)) }
+{
+    let matches = program.try_get_matches_from_mut(spelled)?;
+    match order_of(&matches) {
+        Some(order) => Ok(order),
+        None => Err(program.error(ErrorKind::InvalidSubcommand, "the words give no command")?),
+    }
+}
+
+/// The words, where `help` in place of a command is `--help` behind all others.
+fn help_as_flag<S: AsStr>(alloc: Global, words: &[S]) -> Result<Vec<&str>, AllocError>
+    ensures { IfOk result (λ spelled. texts spelled.items ≡ help_as_flag (map S.text words.now)) }
+{
+    let mut spelled = texts_of(alloc, words)?;
+    if names_help(&spelled) {
+        spelled.remove(1);
+        spelled.push("--help")?;
+    }
+    Ok(spelled)
+}
+
+/// The words as texts.
+fn texts_of<S: AsStr>(alloc: Global, words: &[S]) -> Result<Vec<&str>, AllocError>
+    ensures { IfOk result (λ spelled. texts spelled.items ≡ map S.text words.now) }
+{
+    let mut spelled = Vec::new(alloc);
+    for word in words {
+        spelled.push(word.as_str())?;
+    }
+    Ok(spelled)
+}
+
+/// Whether `help` stands in place of a command.
+fn names_help(words: &[&str]) -> bool
+    ensures { result ≡ names_help (texts words.now) }
+{
+    match words {
+        [_, word, ..] => *word == "help",
+        _ => false,
+    }
+}
+
+/// The order that the matches hold. There is none where they lack a command or one of its values.
+fn order_of(matches: &ArgMatches<'_>) -> Option<Order>
+    ensures some { IfSome result (IsOrder (subcommand_rows_of matches.now)) }
+    ensures none { IfNone result ((order : Order) → IsOrder (subcommand_rows_of matches.now) order → ⊥) }
+{
+    match matches.subcommand() {
+        Some(("judge", judge)) => judge_of(judge),
+        Some(("show", show)) => show_of(show),
+        Some(("drive", drive)) => drive_of(drive),
+        Some(("bench", bench)) => bench_of(bench),
+        Some(("steps", _)) => Some(Order::Steps),
+        _ => None,
+    }
+}
+
+/// The order that the matches of `judge` hold. There is none where they lack one of its values.
+fn judge_of(judge: &ArgMatches<'_>) -> Option<Order>
+    ensures some { IfSome result (IsOrder (Some (codes "judge", rows_of (found_of judge.now)))) }
+    ensures none { IfNone result ((order : Order) → IsOrder (Some (codes "judge", rows_of (found_of judge.now))) order → ⊥) }
+{
+    let Some(asked) = asked_of(judge) else {
+        return None;
+    };
+    let Some(bounds) = bounds_of(judge) else {
+        return None;
+    };
+    Some(Order::Judge { bounds, asked })
+}
+
+/// The criteria that the matches of `judge` name.
+fn asked_of(judge: &ArgMatches<'_>) -> Option<Asked>
+    ensures some { IfSome result (NamesCriteria (rows_of (found_of judge.now))) }
+    ensures none { IfNone result ((asked : Asked) → NamesCriteria (rows_of (found_of judge.now)) asked → ⊥) }
+{
+    let Some(name) = judge.get_str("criterion") else {
+        return None;
+    };
+    let Some(asked) = asked_named(name) else {
+        return None;
+    };
+    Some(asked)
+}
+
+/// The order that the matches of `show` hold. There is none where they lack one of its values.
+fn show_of(show: &ArgMatches<'_>) -> Option<Order>
+    ensures some { IfSome result (IsOrder (Some (codes "show", rows_of (found_of show.now)))) }
+    ensures none { IfNone result ((order : Order) → IsOrder (Some (codes "show", rows_of (found_of show.now))) order → ⊥) }
+{
+    let Some((criterion, trace)) = criterion_and_trace_of(show) else {
+        return None;
+    };
+    let Some(bounds) = bounds_of(show) else {
+        return None;
+    };
+    Some(Order::Show {
+        criterion,
+        trace,
+        bounds,
+    })
+}
+
+/// The criterion that the matches of `show` name, and whether they have the flag `--trace`.
+fn criterion_and_trace_of(matches: &ArgMatches<'_>) -> Option<(Criterion, bool)>
+    ensures some { IfSome result (λ found. NamesCriterion (rows_of (found_of matches.now)) found.0 × HasTrace (rows_of (found_of matches.now)) found.1) }
+    ensures none { IfNone result ((criterion : Criterion) (trace : Bool) → NamesCriterion (rows_of (found_of matches.now)) criterion
+        → HasTrace (rows_of (found_of matches.now)) trace → ⊥) }
+{
+    let Some(name) = matches.get_str("criterion") else {
+        return None;
+    };
+    let Some(criterion) = criterion_named(name) else {
+        return None;
+    };
+    let Some(trace) = matches.get_one::<bool>("trace") else {
+        return None;
+    };
+    Some((criterion, trace))
+}
+
+/// The order that the matches of `drive` hold. There is none where they lack one of its values.
+fn drive_of(drive: &ArgMatches<'_>) -> Option<Order>
+    ensures some { IfSome result (IsOrder (Some (codes "drive", rows_of (found_of drive.now)))) }
+    ensures none { IfNone result ((order : Order) → IsOrder (Some (codes "drive", rows_of (found_of drive.now))) order → ⊥) }
+{
+    let Some((memory, trace)) = memory_and_trace_of(drive) else {
+        return None;
+    };
+    let Some(bounds) = bounds_of(drive) else {
+        return None;
+    };
+    Some(Order::Drive {
+        memory,
+        trace,
+        bounds,
+    })
+}
+
+/// The order that the matches of `bench` hold. There is none where they lack one of its values.
+fn bench_of(bench: &ArgMatches<'_>) -> Option<Order>
+    ensures some { IfSome result (IsOrder (Some (codes "bench", rows_of (found_of bench.now)))) }
+    ensures none { IfNone result ((order : Order) → IsOrder (Some (codes "bench", rows_of (found_of bench.now))) order → ⊥) }
+{
+    let Some((memory, trace)) = memory_and_trace_of(bench) else {
+        return None;
+    };
+    let Some(options) = options_of(bench) else {
+        return None;
+    };
+    Some(Order::Bench {
+        memory,
+        trace,
+        options,
+    })
+}
+
+/// The memory that the matches of a command name, and whether they have the flag `--trace`.
+fn memory_and_trace_of(matches: &ArgMatches<'_>) -> Option<(Which, bool)>
+    ensures some { IfSome result (λ found. NamesMemory (rows_of (found_of matches.now)) found.0 × HasTrace (rows_of (found_of matches.now)) found.1) }
+    ensures none { IfNone result ((memory : Which) (trace : Bool) → NamesMemory (rows_of (found_of matches.now)) memory
+        → HasTrace (rows_of (found_of matches.now)) trace → ⊥) }
+{
+    let Some(name) = matches.get_str("memory") else {
+        return None;
+    };
+    let Some(memory) = Which::named(name) else {
+        return None;
+    };
+    let Some(trace) = matches.get_one::<bool>("trace") else {
+        return None;
+    };
+    Some((memory, trace))
+}
+
+/// The numbers and bounds that the matches of `bench` hold.
+fn options_of(matches: &ArgMatches<'_>) -> Option<BenchOptions>
+    ensures some { IfSome result (HasOptions (rows_of (found_of matches.now))) }
+    ensures none { IfNone result ((options : BenchOptions) → HasOptions (rows_of (found_of matches.now)) options → ⊥) }
+{
+    let Some(cells) = count_of(matches, "ring", 4096) else {
+        return None;
+    };
+    let Some(patience) = count_of(matches, "patience", 1_000_000_000) else {
+        return None;
+    };
+    let Some(rounds) = count_of(matches, "rounds", 1_000_000) else {
+        return None;
+    };
+    let Some(bounds) = bounds_of(matches) else {
+        return None;
+    };
+    Some(BenchOptions {
+        cells,
+        patience,
+        rounds,
+        bounds,
+    })
+}
+
+/// The number from 1 to `most` that the matches of a command hold for this option.
+fn count_of(matches: &ArgMatches<'_>, name: &str, most: u64) -> Option<u64>
+    ensures some { IfSome result (λ number. Gives name.now (rows_of (found_of matches.now)) number) }
+    ensures range { IfSome result (λ number. (1 ≤ number) × (number ≤ most)) }
+    ensures none { IfNone result ((number : ℕ) → 1 ≤ number → number ≤ most → Gives name.now (rows_of (found_of matches.now)) number → ⊥) }
+{
+    let Some(number) = matches.get_one::<u64>(name) else {
+        return None;
+    };
+    if number < 1 || number > most {
+        return None;
+    }
+    Some(number)
+}
+
+/// The bounds that the matches of a command hold.
+fn bounds_of(matches: &ArgMatches<'_>) -> Option<Bounds>
+    ensures some { IfSome result (HasBounds (rows_of (found_of matches.now))) }
+    ensures none { IfNone result ((bounds : Bounds) → HasBounds (rows_of (found_of matches.now)) bounds → ⊥) }
+{
+    let Some(window) = matches.get_one::<u8>("window") else {
+        return None;
+    };
+    let Some(states) = matches.get_one::<u8>("states") else {
+        return None;
+    };
+    match Bounds::new(window, states) {
+        Ok(bounds) => Some(bounds),
+        Err(_) => None,
+    }
+}
