@@ -1,5 +1,5 @@
 -- The window takes the event, a serial order that is known goes on with it, and what is then weighed tells.
-use Rattle.std.proofs.Common.{◌≡◌, ◌++◌, ◌∷◌, [], Result, Ok, Err, IfOk}
+use Rattle.std.proofs.Common.{◌≡◌, ◌++◌, ◌∷◌, [], Result, Ok, Err, IfOk, rules}
 use Rattle.tmw_cuts.specs.Members.{members}
 use Rattle.tmw_monitor.proofs.taken.take_weighed.Goals.{then-not-explained, else-not-explained}
 use Rattle.tmw_monitor.proofs.taken.take_weighed.Goals as goal
@@ -19,3 +19,6 @@ returns-else-is_err-clause-ok c =
       | else-not-explained w ↦ (rw w.kept-is at told) quiet (events ++ c.args.event ∷ []) pushed cut
           (c.explains-explained.ensures.stands w.if-not-explained.false starts events stands was)
     ])
+
+pub returns-then-is_err-clause-window : goal.returns-then-is_err-clause-window
+returns-then-is_err-clause-window c = search rules
