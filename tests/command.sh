@@ -48,9 +48,10 @@ run() {
 run_case() {
     case=$((${case:-0} + 1))
     if [ -d "$CASES/answers" ]; then
-        status=$(cat "$CASES/answers/$case.status" || echo none)
-        cp "$CASES/answers/$case.output" "$folder/output"
-        cp "$CASES/answers/$case.errors" "$folder/errors"
+        local answer=$CASES/answers/$case
+        status=$(cat "$answer.status" 2>/dev/null || echo 'no answer')
+        cat "$answer.output" 2>/dev/null >"$folder/output" || true
+        cat "$answer.errors" 2>/dev/null >"$folder/errors" || true
     else
         cat >"$CASES/$case"
         printf '%s\n' "$@" >"$CASES/$case.args"

@@ -5,7 +5,7 @@
 #
 # Each test and each row that fails is told. The last lines are 'N passed, M failed' and that nothing was proved; the exit status is 1
 # when one failed.
-# Environment: SECONDS_EACH (300), the seconds that a test may take.
+# Environment: SECONDS_EACH (300), the seconds that a test or a row may take.
 set -eu
 top=$(cd "$(dirname "${BASH_SOURCE[0]}")/.." && pwd)
 folder=$(mktemp -d)
@@ -49,7 +49,7 @@ for crate in $crates; do
 done
 mkdir "$folder/cases"
 CASES=$folder/cases "$top/tests/command.sh" "$top"/tests/rows/*.rows >/dev/null || true
-(cd "$top/crates/tmwatch" && rt try --cases "$folder/cases") >"$folder/rows.output" 2>"$folder/rows.errors" </dev/null || true
+(cd "$top/crates/tmwatch" && rt try --seconds "${SECONDS_EACH:-300}" --cases "$folder/cases") >"$folder/rows.output" 2>"$folder/rows.errors" </dev/null || true
 wait
 part_answers
 for crate in $crates; do

@@ -1,0 +1,5 @@
+use Rattle.std.proofs.Common.{rules}
+use Rattle.tmw_judge.proofs.monitors.monitors_for.Goals as goal
+
+pub returns-in_ok-strict-in-Strict : goal.returns-in_ok-strict-in-Strict
+returns-in_ok-strict-in-Strict c = search rules

@@ -1,0 +1,89 @@
+#!/usr/bin/env python3
+"""Runs the gate and tells what its parts take: processor minutes by kind, and seconds by crate.
+
+    measure/gate.py [FOLDER]
+
+It runs `rt ci --anew` in FOLDER, a clone of the repository (without words: here), and samples its processes twice a second. Output: a
+line for each crate with the seconds of its proof, its tests, the checks that its wrong bodies begin with, and these, by their
+number; the wrong bodies that took over 20 seconds; then the minutes of each kind. The gate's own output goes to FOLDER/gate.log.
+The exit status is the gate's. Processor time is what the system counts: other work on the machine makes it longer.
+"""
+import os
+import subprocess
+import sys
+import time
+
+KINDS = ["proof", "tests", "begin", "edits", "rest"]
+TICK = os.sysconf("SC_CLK_TCK")
+
+
+def part_of(words, folder):
+    """Returns the crate and the kind of a check by its words and the folder that it runs in."""
+    crate = words[words.index("--crate-name") + 1]
+    if "--incremental" in words:
+        kept = words[words.index("--incremental") + 1]
+        return crate, "begin" if os.path.basename(kept) == "seed" else "edits"
+    if "/rt-edit-" in folder:
+        return crate, "edits"
+    return crate, "tests" if "--test" in words else "proof"
+
+
+def sample(found, below):
+    """Notes what each process of the gate has taken so far."""
+    for number in os.listdir("/proc"):
+        if not number.isdigit():
+            continue
+        try:
+            with open(f"/proc/{number}/stat", encoding="utf-8", errors="replace") as it:
+                head, _, rest = it.read().rpartition(")")
+            fields = rest.split()
+            if int(number) not in below and int(fields[1]) not in below:
+                continue
+            with open(f"/proc/{number}/cmdline", "rb") as it:
+                words = it.read().decode(errors="replace").split("\0")
+            folder = os.readlink(f"/proc/{number}/cwd")
+        except (OSError, ValueError):
+            continue
+        below.add(int(number))
+        key, seconds = (number, fields[19]), (int(fields[11]) + int(fields[12])) / TICK
+        if words[0]:
+            is_check = head.endswith("(rattle") and "--crate-name" in words
+            found[key] = part_of(words, folder) if is_check else ("", "rest"), seconds
+        elif key in found:
+            # (it has ended, and has no words any more)
+            found[key] = found[key][0], seconds
+
+
+def tell(found):
+    """Writes the table."""
+    sums, slow = {}, []
+    for part, seconds in found.values():
+        total, count = sums.get(part, (0.0, 0))
+        sums[part] = total + seconds, count + 1
+        if part[1] == "edits" and seconds > 20:
+            slow.append((seconds, part[0]))
+    for crate in sorted({it for it, _ in sums if it}):
+        parts = [(kind, *sums[crate, kind]) for kind in KINDS if (crate, kind) in sums]
+        print(f"{crate:20}", ", ".join(f"{kind} {seconds:.0f} ({count})" for kind, seconds, count in parts))
+    print("over 20 seconds:", ", ".join(f"{crate} {seconds:.0f}" for seconds, crate in sorted(slow, reverse=True)) or "none")
+    minutes = {kind: sum(seconds for (_, it), (seconds, _) in sums.items() if it == kind) / 60 for kind in KINDS}
+    print("minutes of processor time:", ", ".join(f"{kind} {it:.0f}" for kind, it in minutes.items()), f"in all {sum(minutes.values()):.0f}")
+
+
+def main():
+    os.chdir(sys.argv[1] if len(sys.argv) > 1 else os.path.dirname(os.path.dirname(os.path.abspath(__file__))))
+    began, found = time.monotonic(), {}
+    with open("gate.log", "w", encoding="utf-8") as log:
+        gate = subprocess.Popen(["rt", "ci", "--anew"], stdout=log, stderr=subprocess.STDOUT, stdin=subprocess.DEVNULL)
+        below = {gate.pid}
+        while gate.poll() is None:
+            sample(found, below)
+            time.sleep(0.5)
+    spent = os.times()
+    tell(found)
+    print(f"by the clock {(time.monotonic() - began) / 60:.0f} minutes; processor time as the system sums it {(spent.children_user + spent.children_system) / 60:.0f}")
+    return gate.returncode
+
+
+if __name__ == "__main__":
+    sys.exit(main())
