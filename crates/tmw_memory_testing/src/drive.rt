@@ -2,7 +2,7 @@
 //! readers expect.
 use std::test::Fail;
 use tmw_defs::Verdict;
-use tmw_drive::{DriveFault, Ending, drive, ends};
+use tmw_drive::{DriveFault, Ending, drive};
 use tmw_events::{Kind, Registers};
 use tmw_monitor::Bounds;
 use tmw_testing::{FIRST, one};
