@@ -7,7 +7,7 @@ use std::test::Fail;
 use tmw_bench::{BenchFault, Settings, run_bench};
 use tmw_defs::Verdict;
 use tmw_drive::Ending;
-use tmw_events::{Event, Kind, Registers};
+use tmw_events::{Kind, Registers};
 use tmw_monitor::Bounds;
 use tmw_ring::{Refused, RingFault};
 use tmw_testing::{FIRST, one, other};
@@ -29,9 +29,6 @@ const PATIENT: u64 = 1_000_000_000;
 const WRITES: &str = r#"{"order": [], "registers": 1, "scripts": [[["W 0 5", "T"]]]}"#;
 
 const READS: &str = r#"{"order": [], "registers": 1, "scripts": [[["R 0", "R 0", "T"]]]}"#;
-
-const TWO_WRITE: &str =
-    r#"{"order": [], "registers": 1, "scripts": [[["W 0 1", "T"]], [["W 0 2", "T"]]]}"#;
 
 const TWO_READ: &str =
     r#"{"order": [], "registers": 2, "scripts": [[["R 0", "T"]], [["R 1", "T"]]]}"#;
@@ -101,17 +98,6 @@ fn a_thread_stops_where_the_places_are_spent(rt: HostRuntime) -> Result<(), Fail
 }
 
 #[test]
-fn each_thread_has_a_cell(rt: HostRuntime) -> Result<(), Fail> {
-    let workload = told(rt.alloc(), TWO_WRITE)?;
-    let memory = Counting::new(ONE, Did::Done, 7);
-    let settings = settings(1, 1_000, PATIENT, 1);
-    let fault = run_bench(&rt, rt.alloc(), &memory, &workload, settings).err();
-    assert_eq!(rt; fault, Some(BenchFault::Ring(RingFault::BadSize)));
-    assert_eq!(rt; memory.counts(), [0, 0, 0, 0, 0, 0]);
-    Ok(())
-}
-
-#[test]
 fn no_ring_has_no_place(rt: HostRuntime) -> Result<(), Fail> {
     let workload = told(rt.alloc(), WRITES)?;
     let memory = Counting::new(ONE, Did::Done, 7);
@@ -149,25 +135,6 @@ fn a_small_ring_carries_a_long_log(rt: HostRuntime) -> Result<(), Fail> {
         assert_eq!(rt; benched.outcome.ends.as_slice(), [Ending::Done].as_slice());
         assert_eq!(rt; memory.counts(), [times, 0, writes, 0, times, 0]);
     }
-    Ok(())
-}
-
-#[test]
-fn an_abort_request_reaches_the_memory(rt: HostRuntime) -> Result<(), Fail> {
-    let workload = often(rt.alloc(), r#"["R 0", "X"]"#, 2)?;
-    let memory = Counting::new(ONE, Did::Done, 0);
-    let settings = settings(8, 1_000, PATIENT, 1);
-    let benched = run_bench(&rt, rt.alloc(), &memory, &workload, settings)?;
-    let once = [
-        one(Kind::R(FIRST)),
-        one(Kind::V(0)),
-        one(Kind::X),
-        one(Kind::A),
-    ];
-    assert_eq!(rt; benched.outcome.log.len(), 8);
-    assert_eq!(rt; &benched.outcome.log.as_slice()[..4], once.as_slice());
-    assert_eq!(rt; &benched.outcome.log.as_slice()[4..], once.as_slice());
-    assert_eq!(rt; memory.counts(), [2, 2, 0, 0, 0, 2]);
     Ok(())
 }
 

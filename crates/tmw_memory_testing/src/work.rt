@@ -109,33 +109,6 @@ fn a_thread_stops_at_once_where_nobody_will_pump(rt: HostRuntime) -> Result<(), 
 }
 
 #[test]
-fn each_call_is_made_once(rt: HostRuntime) -> Result<(), Fail> {
-    let alloc = rt.alloc();
-    let (ring, mut writers, mut reader) = ring(alloc, 8, 1, 100)?;
-    let script = vec![in alloc; vec![in alloc; Kind::R(FIRST), Kind::R(FIRST), Kind::T]?]?;
-    let memory = Counting::new(ONE, Did::Done, 7);
-    let stop = work(&memory, &ring, &mut writers[0], &script, 1, &Signals::new());
-    let read = Some(one(Kind::R(FIRST)));
-    let value = Some(one(Kind::V(7)));
-    let taken = [
-        ring.take(&mut reader),
-        ring.take(&mut reader),
-        ring.take(&mut reader),
-        ring.take(&mut reader),
-    ];
-    let taken_last = [
-        ring.take(&mut reader),
-        ring.take(&mut reader),
-        ring.take(&mut reader),
-    ];
-    assert_eq!(rt; (stop, memory.counts()), (None, [1, 2, 0, 0, 1, 0]));
-    assert_eq!(rt; taken, [read, value, read, value]);
-    let ended = [Some(one(Kind::T)), Some(one(Kind::C)), None];
-    assert_eq!(rt; taken_last, ended);
-    Ok(())
-}
-
-#[test]
 fn a_transaction_that_the_memory_has_ended_is_not_aborted(rt: HostRuntime) -> Result<(), Fail> {
     let alloc = rt.alloc();
     let (ring, mut writers, _reader) = ring(alloc, 4, 1, 3)?;

@@ -1,5 +1,4 @@
-//! Memories whose answers tell how they were called.
-use std::sync::atomic::{AtomicU64, Ordering};
+//! A memory whose answers tell how it was called.
 use tmw_events::{Ix, Registers};
 use tmw_tm::{Did, Entry, Got, Tm, Tx};
 
@@ -52,60 +51,5 @@ impl Tm for Marking {
 
     fn abort(&self, tx: &mut Tx) {
         mark(tx);
-    }
-}
-
-/// A memory that counts all its calls, and answers a read by what its transaction's begin counted, a hundredfold, and what the
-/// read counts: so each answer tells when it was given, and with which `Tx`.
-#[derive(Drop)]
-pub struct Telling {
-    calls: AtomicU64,
-}
-
-impl Telling {
-    pub fn new() -> Telling {
-        Telling {
-            calls: AtomicU64::new(0),
-        }
-    }
-
-    /// How many calls there were, with this one.
-    fn count(&self) -> u64 {
-        self.calls.fetch_add(1, Ordering::SeqCst).wrapping_add(1)
-    }
-}
-
-impl Tm for Telling {
-    ghost gives = { λ memory call answer. Unit {0} };
-
-    fn registers(&self) -> Registers {
-        Registers { number: 1 }
-    }
-
-    fn begin(&self, tx: &mut Tx) -> Did {
-        tx.snapshot = self.count();
-        Did::Done
-    }
-
-    fn read(&self, tx: &mut Tx, _register: Ix) -> Got {
-        Got::Value(tx.snapshot.wrapping_mul(100).wrapping_add(self.count()))
-    }
-
-    fn write(&self, _tx: &mut Tx, _register: Ix, _value: u64) -> Did {
-        self.count();
-        Did::Done
-    }
-
-    fn add(&self, tx: &mut Tx, register: Ix, _addend: u64) -> Got {
-        self.read(tx, register)
-    }
-
-    fn commit(&self, _tx: &mut Tx) -> Did {
-        self.count();
-        Did::Done
-    }
-
-    fn abort(&self, _tx: &mut Tx) {
-        self.count();
     }
 }

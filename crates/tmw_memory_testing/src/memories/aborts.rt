@@ -29,22 +29,6 @@ fn no_such_register(rt: &impl Abort, memory: &(dyn Tm + Sync)) {
     begins_again(rt, memory, &mut tx);
 }
 
-/// There is room for sixteen writes of a transaction. An add is one of them.
-fn seventeenth_write(rt: &impl Abort, memory: &(dyn Tm + Sync)) {
-    let mut tx = start(memory);
-    for value in 0..16 {
-        assert_eq!(rt; memory.write(&mut tx, FIRST, value), Did::Done);
-    }
-    assert_eq!(rt; memory.write(&mut tx, FIRST, 16), Did::Abort);
-    begins_again(rt, memory, &mut tx);
-    for value in 1..16 {
-        assert_eq!(rt; memory.write(&mut tx, FIRST, value), Did::Done);
-    }
-    assert_eq!(rt; memory.add(&mut tx, FIRST, 1), Got::Value(15));
-    assert_eq!(rt; memory.add(&mut tx, FIRST, 1), Got::Abort);
-    begins_again(rt, memory, &mut tx);
-}
-
 /// A transaction that has begun is begun once more.
 fn begun_twice(rt: &impl Abort, memory: &(dyn Tm + Sync)) {
     let mut tx = start(memory);
@@ -73,13 +57,6 @@ fn a_register_that_the_memory_does_not_have(rt: HostRuntime) {
     no_such_register(&rt, &NoRec::new(ONE));
     no_such_register(&rt, &GlobalLock::new(ONE));
     no_such_register(&rt, &Torn::new(ONE));
-}
-
-#[test]
-fn a_seventeenth_write(rt: HostRuntime) {
-    seventeenth_write(&rt, &NoRec::new(ONE));
-    seventeenth_write(&rt, &GlobalLock::new(ONE));
-    seventeenth_write(&rt, &Torn::new(ONE));
 }
 
 #[test]
