@@ -1,78 +1,143 @@
 #!/usr/bin/env bash
-# Times `tmwatch bench` on NOrec, beside the same workers that record into a plain ring while nobody judges.
+# Times `tmwatch bench` on NOrec beside bench/rounds.c, whose threads make the same rounds by barriers while nobody judges: first on the
+# machine as it is, then beside busy loops.
 #
-#   PEER=FOLDER bench/bench.sh
+#   bench/bench.sh
 #
-# PEER is the folder of a plain Rust program, a crate `peer` with the module `ring`, built by `cargo build --release`; its ring is what
-# bench/plain_bench.rs records in. Without it our own figures come alone. For 1, 2 and 3 workers there are two lines: a round of
-# many transactions (many such rounds of one worker; of more workers the first is undecided, so that no other begins), and many
-# rounds of few. Each line: workers, rounds, events, seconds (the best of RUNS runs, less those of starting and of reading the workload,
-# which a run of `drive` tells, whose order is empty), events a second of ours and of the plain program, the ratio of ours to it,
-# and our report.
-# Environment: PEER, RUNS (3), CELLS (256), ROUNDS (20000), MILLION (unset: set, a million rounds are run at last).
+# Three workers carry examples/hunt.json out. One, two and four carry scripts of its kind out, of two transactions over two registers,
+# and eight the eight transactions of the four, one each, so that a round has eight transactions at most. For each number of workers
+# there is a line of each program, `barriers` and `tmwatch`. It tells
+# - the rounds and the seconds of one run, the fastest of RUNS. Rounds are doubled, from 100 on, until a run takes LEAST seconds;
+# - its rounds, events, unasked aborts and changes of thread a second. An unasked abort is an `A` that answers another call than `X`,
+#   and a change of thread an event whose thread is another than that of the event before;
+# - unasked aborts a round, and changes of thread an event. Those of `tmwatch` are counted in the traces of RUNS other runs, and what
+#   it makes of either a second is the product of these and of what the fastest run, which writes no trace, makes a second;
+# - of `tmwatch`, its rounds a second over those of `barriers`.
+#
+# The exit status is 0 where each run of `tmwatch` was opaque so far with all workers done, and `judge` says so of TRACED rounds of
+# bench/rounds.c on each workload, each time; else 1.
+# Environment: RUNS (3), LEAST (1), ROUNDS (1000000), the most rounds of a run, TRACED (20000), the most of one with a trace,
+# BUSY (4), how many busy loops run at once, WORKERS (1 2 3 4 8), CC (cc).
 set -eu
 top=$(cd "$(dirname "${BASH_SOURCE[0]}")/.." && pwd)
 folder=$(mktemp -d)
-trap 'rm -rf "$folder"' EXIT
+loops=() failed=0
+trap 'end_loops; rm -rf "$folder"' EXIT
+runs=${RUNS:-3} most=${ROUNDS:-1000000} most_traced=${TRACED:-20000}
+
+# Begins so many loops that are always ready to run.
+begin_loops() {
+    for _ in $(seq "$1"); do
+        while :; do :; done &
+        loops+=($!)
+        disown
+    done
+}
+
+end_loops() {
+    [ "${#loops[@]}" -eq 0 ] || kill "${loops[@]}"
+    loops=()
+}
+
+# The workload of so many workers.
+workload() {
+    if [ "$1" -eq 3 ]; then
+        cat "$top/examples/hunt.json"
+        return
+    fi
+    printf '%s\n' '"W 0 1","W 1 1"' '"W 0 2","W 1 2"' '"R 0","R 1"' '"R 1","R 0"' '"N 0 1","N 1 1"' '"R 0","R 1"' '"W 0 3","W 1 3"' \
+        '"N 0 1","N 1 1"' | awk -v workers="$1" '
+        BEGIN { each = workers < 8 ? 2 : 1; printf "{\"registers\":2,\"scripts\":" }
+        NR <= workers * each { printf "%s[%s,\"T\"]", NR == 1 ? "[[" : (NR - 1) % each ? "," : "],[", $0 }
+        END { print "]],\"order\":[]}" }'
+}
+
+# Tells what a run came to that should have been opaque so far.
+fail() {
+    failed=1
+    echo "bench.sh: $workers workers, $1: $(tail -n 2 "$folder/output")" >&2
+}
+
+# Runs `tmwatch bench` for so many rounds, with further words. Its output is kept.
+bench() {
+    "$program" bench --patience 1000000000 --rounds "$@" <"$folder/workload" >"$folder/output" || true
+    tail -n 2 "$folder/output" | tr -d '\n' | grep -q '"opaque so far"}{"ends":\["done"\(,"done"\)*\]}$' || fail tmwatch
+}
+
+# A run of a program for so many rounds: its rounds, events and seconds, and of barriers its unasked aborts and changes of thread.
+run() {
+    local began
+    began=$(date +%s.%N)
+    case $1 in
+    barriers) "$folder/rounds" "$2" <"$folder/workload" ;;
+    tmwatch)
+        bench "$2"
+        echo "$began $(date +%s.%N) $(head -n 1 "$folder/output")" | awk -v rounds="$2" '
+            { seconds = $2 - $1; sub(/.*"events":/, ""); printf "%d %d %.6f\n", rounds, $0, seconds }'
+        ;;
+    esac >"$folder/run"
+}
+
+# Runs tmwatch with a trace, for so many rounds at most, and counts what its traces have.
+trace_runs() {
+    local rounds=$(($1 < most_traced ? $1 : most_traced))
+    for _ in $(seq "$runs"); do
+        bench "$rounds" --trace
+        cat "$folder/output"
+    done >"$folder/traces"
+    awk -v rounds=$((rounds * runs)) '
+        /^opacity-trace/ { last = "" }
+        !/^[0-7] / { next }
+        { events++; changes += last != "" && $1 != last; last = $1 }
+        $2 ~ /^[RWNTX]$/ { asked[$1] = $2 }
+        $2 == "A" { aborts += asked[$1] != "X" }
+        END { print rounds, events, aborts + 0, changes + 0 }' "$folder/traces"
+}
+
+# The rounds, events, unasked aborts and changes of thread that tell of a program, whose runs have so many rounds.
+count() {
+    case $1 in
+    barriers) awk '{ print $1, $2, $4, $5 }' "$folder/fastest" ;;
+    tmwatch) trace_runs "$2" ;;
+    esac >"$folder/counts"
+}
+
+# The line of a program, beside another's rounds a second. Its own are then in `rate`.
+measure() {
+    local name=$1 beside=$2 rounds=100
+    run "$name" $rounds
+    while [ $((2 * rounds)) -le "$most" ] && awk -v least="${LEAST:-1}" '{ exit !($3 < least) }' "$folder/run"; do
+        rounds=$((2 * rounds))
+        run "$name" $rounds
+    done
+    for _ in $(seq "$runs"); do
+        run "$name" $rounds
+        cat "$folder/run"
+    done >"$folder/runs"
+    sort -n -k 3 "$folder/runs" | head -n 1 >"$folder/fastest"
+    count "$name" $rounds
+    rate=$(awk '{ print $1 / $3 }' "$folder/fastest")
+    awk -v load="$load" -v workers="$workers" -v name="$name" -v rate="$rate" -v beside="$beside" '
+        NR == 1 { rounds = $1; seconds = $3; events = $2 / $3; next }
+        {
+            printf "%-5s %7d %-8s %8d %7.3f %9d %9d %9d %9d %12.4f %13.4f %6s\n", load, workers, name, rounds, seconds, rate, events,
+                $3 / $2 * events, $4 / $2 * events, $3 / $1, $4 / $2, beside ? sprintf("%.3f", rate / beside) : "-"
+        }' "$folder/fastest" "$folder/counts"
+}
+
 "$top/build"
 program=$top/crates/tmwatch/out/tmwatch
-cells=${CELLS:-256}
-if [ -n "${PEER:-}" ]; then
-    rustc -O --edition 2021 -C panic=abort -C lto=fat -C codegen-units=1 --extern peer="$PEER/target/release/libpeer.rlib" \
-        "$top/bench/plain_bench.rs" -o "$folder/plain"
-fi
-
-# A workload of so many workers, transactions each, and operations a transaction: the same as bench/plain_bench.rs makes.
-workload() {
-    awk -v workers="$1" -v transactions="$2" -v operations="$3" 'BEGIN {
-        printf "{\"registers\":8,\"scripts\":["
-        for (worker = 0; worker < workers; worker++) {
-            printf "%s[", worker ? "," : ""
-            for (number = 0; number < transactions; number++) {
-                printf "%s[", number ? "," : ""
-                for (operation = 0; operation < operations; operation++) {
-                    register = (worker * 2 + number + operation) % 8
-                    if (operation % 3 == 2) printf "\"W %d %d\",", register, number * 16 + operation
-                    else printf "\"R %d\",", register
-                }
-                printf "\"T\"]"
-            }
-            printf "]"
-        }
-        print "],\"order\":[]}"
-    }'
-}
-
-measure() {
-    local workers=$1 transactions=$2 operations=$3 rounds=$4 least=999999 theirs=0 other=0
-    workload "$workers" "$transactions" "$operations" >"$folder/workload"
-    local reading=999999
-    for _ in $(seq 5); do
-        began=$(date +%s.%N)
-        "$program" drive <"$folder/workload" >/dev/null
-        reading=$(echo "$reading $began $(date +%s.%N)" | awk '{ s = $3 - $2; printf "%.4f", (s < $1 ? s : $1) }')
+"${CC:-cc}" -std=c11 -O2 -Wall -Wextra -Wpedantic -pthread -o "$folder/rounds" "$top/bench/rounds.c"
+printf '%-5s %7s %-8s %8s %7s %9s %9s %9s %9s %12s %13s %6s\n' load workers program rounds seconds rounds/s events/s aborts/s changes/s \
+    aborts/round changes/event ratio
+for load in quiet busy; do
+    [ $load = quiet ] || begin_loops "${BUSY:-4}"
+    for workers in ${WORKERS:-1 2 3 4 8}; do
+        workload "$workers" >"$folder/workload"
+        "$folder/rounds" "$most_traced" trace <"$folder/workload" | sed '$d' | "$program" judge >"$folder/output" || fail bench/rounds.c
+        measure barriers ''
+        measure tmwatch "$rate"
     done
-    for _ in $(seq "${RUNS:-3}"); do
-        began=$(date +%s.%N)
-        "$program" bench --ring "$cells" --patience 1000000000 --rounds "$rounds" <"$folder/workload" >"$folder/output" || true
-        least=$(echo "$least $began $(date +%s.%N)" | awk '{ s = $3 - $2; printf "%.4f", (s < $1 ? s : $1) }')
-        if [ -n "${PEER:-}" ]; then
-            read -r taken seconds <<<"$("$folder/plain" "$workers" "$transactions" "$operations" "$rounds" "$cells")"
-            theirs=$(echo "$theirs $taken $seconds" | awk '{ r = $2 / $3; printf "%d", (r > $1 ? r : $1) }')
-        fi
-    done
-    report=$(head -n 1 "$folder/output")
-    events=$(echo "$report" | sed 's/.*"events":\([0-9]*\).*/\1/')
-    awk -v workers="$workers" -v rounds="$rounds" -v events="$events" -v seconds="$least" -v reading="$reading" -v theirs="$theirs" -v report="$report" 'BEGIN {
-        seconds = seconds > reading ? seconds - reading : 0.0001
-        rate = events / seconds
-        printf "%7d %8d %9d %9.4f %10d %10d %6.2f  %s\n", workers, rounds, events, seconds, rate, theirs, theirs ? rate / theirs : 0, report
-    }'
-}
-
-printf '%7s %8s %9s %9s %10s %10s %6s  %s\n' workers rounds events seconds ours plain ratio report
-for workers in 1 2 3; do
-    measure "$workers" 1000 15 $((workers == 1 ? 50 : 1))
-    measure "$workers" 2 1 "${ROUNDS:-20000}"
 done
-if [ -n "${MILLION:-}" ]; then RUNS=1 measure 3 2 1 1000000; fi
+end_loops
+exit $failed

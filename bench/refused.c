@@ -6,6 +6,8 @@ and realloc of the C library, and reads and writes by read and write.
     REFUSE   what is refused: growth, growths, read, write, interrupted_read, interrupted_write or thread. All growths from the
              one of number AT on are refused by growths, and one call by the others
     AT       the number of the call, from 1 on
+    AFTER    so many bytes have to be read before a call is counted, where it is given
+    LEAST    the least bytes of a growth that is counted, where it is given
     BYTES    the most bytes that a read or a write moves, where it is given
     TOLD     a file. It gets a line "refused" for the first call that is refused, a line "read" for each read after it, unless that
              call was only interrupted, and "start N" where a thread is to be started after N growths, the last of which was for
@@ -50,26 +52,36 @@ void *__libc_malloc(size_t size);
 void *__libc_realloc(void *block, size_t size);
 
 static const struct order *order = &orders[0];
-static unsigned long at;
-static size_t most = SIZE_MAX;
+static unsigned long at, after;
+static size_t least, most = SIZE_MAX;
 static const char *told;
 static starts *start_thread;
-static atomic_ulong counts[KINDS];
+static atomic_ulong counts[KINDS], bytes_read;
 /* Whether a call was refused. */
 static atomic_int was_refused;
 
+/* The number that the environment has under this name, or else another. */
+static unsigned long number_of(const char *name, unsigned long otherwise)
+{
+    const char *number = getenv(name);
+    return number ? strtoul(number, NULL, 10) : otherwise;
+}
+
 __attribute__((constructor)) static void read_environment(void)
 {
-    const char *word = getenv("REFUSE"), *number = getenv("AT"), *bytes = getenv("BYTES");
+    const char *word = getenv("REFUSE");
     for (size_t i = 0; word && i < sizeof orders / sizeof orders[0]; i++)
         if (strcmp(word, orders[i].word) == 0)
             order = &orders[i];
-    at = number ? strtoul(number, NULL, 10) : 0;
-    most = bytes ? strtoul(bytes, NULL, 10) : SIZE_MAX;
+    at = number_of("AT", 0);
+    after = number_of("AFTER", 0);
+    least = number_of("LEAST", 0);
+    most = number_of("BYTES", SIZE_MAX);
     told = getenv("TOLD");
     start_thread = (starts *)dlsym(RTLD_NEXT, "pthread_create");
     for (size_t i = 0; i < KINDS; i++)
         atomic_store(&counts[i], 0);
+    atomic_store(&bytes_read, 0);
 }
 
 static void tell(const char *word, unsigned long number)
@@ -86,6 +98,8 @@ static void tell(const char *word, unsigned long number)
 /* Counts a call of this kind, and tells whether it is refused. */
 static int is_refused(enum kind kind)
 {
+    if (atomic_load(&bytes_read) < after)
+        return 0;
     unsigned long count = atomic_fetch_add(&counts[kind], 1) + 1;
     if (kind != order->kind || (order->lasts ? count < at : count != at))
         return 0;
@@ -97,19 +111,24 @@ static int is_refused(enum kind kind)
 
 void *malloc(size_t size)
 {
-    return is_refused(GROWTH) ? NULL : __libc_malloc(size);
+    return size >= least && is_refused(GROWTH) ? NULL : __libc_malloc(size);
 }
 
 void *realloc(void *block, size_t size)
 {
-    return is_refused(GROWTH) ? NULL : __libc_realloc(block, size);
+    return size >= least && is_refused(GROWTH) ? NULL : __libc_realloc(block, size);
 }
 
 ssize_t read(int file, void *bytes, size_t size)
 {
     if (atomic_load(&was_refused) && order->fault != EINTR)
         tell("read", 0);
-    return file == STDIN_FILENO && is_refused(READ) ? -1 : syscall(SYS_read, file, bytes, size < most ? size : most);
+    if (file == STDIN_FILENO && is_refused(READ))
+        return -1;
+    ssize_t count = syscall(SYS_read, file, bytes, size < most ? size : most);
+    if (file == STDIN_FILENO && count > 0)
+        atomic_fetch_add(&bytes_read, (unsigned long)count);
+    return count;
 }
 
 ssize_t write(int file, const void *bytes, size_t size)

@@ -13,6 +13,8 @@
 # - a run with a failed write has to leave a beginning of what the plain run writes, and not all of it, with status 4;
 # - a run with an interrupted read or write, or with no call refused, has to write what the plain run writes, with its status;
 # - nothing may be read after a call that was refused or failed.
+# Of long texts, long windows and long logs not each call is refused: of a text of a million bytes and more those behind the first
+# million, of growths there and of a log of 2,400 events those of many bytes. What their plain runs write is known, and compared.
 # Of the tests of all crates those whose name has `refused_growth` have to pass, or to answer that there is no memory for what they
 # begin with, and to pass at some growth at least; a test that allows no refusal has to fail at each.
 #
@@ -27,6 +29,8 @@ trap 'rm -rf "$folder"' EXIT
 "${CC:-cc}" -O2 -shared -fPIC -o "$folder/refused.so" "$top/bench/refused.c" -ldl
 for fault in memory io spawn; do echo "{\"fault\":\"$fault\"}" >"$folder/$fault"; done
 passed=0 failed=0
+# Calls are counted behind so many bytes that were read, and growths of so many bytes.
+after=0 least=0
 
 # Counts a run, and tells what it did where that isn't what it has to do.
 count() {
@@ -42,8 +46,8 @@ count() {
 run() {
     : >"$folder/told"
     status=0
-    timeout "${LIMIT:-20}" env LD_PRELOAD="$folder/refused.so" TOLD="$folder/told" REFUSE="$1" AT="$2" BYTES="$bytes" "${@:3}" \
-        <"$input" >"$folder/output" 2>"$folder/errors" || status=$?
+    timeout "${LIMIT:-20}" env LD_PRELOAD="$folder/refused.so" TOLD="$folder/told" REFUSE="$1" AT="$2" BYTES="$bytes" \
+        AFTER="$after" LEAST="$least" "${@:3}" <"$input" >"$folder/output" 2>"$folder/errors" || status=$?
     mapfile -t told <"$folder/told"
 }
 
@@ -101,7 +105,8 @@ row() {
     name=$1 plain_status=$2 bytes=$3 input=$4 words=("$program" "${@:5}")
     local kind line='' wrong=0
     run '' 0 "${words[@]}"
-    starts=$(sed -n 's/^start //p' "$folder/told" | tr '\n' ' ')
+    # (where few growths are counted, none of them is for the start of a thread)
+    starts=$([ "$least" -gt 0 ] || sed -n 's/^start //p' "$folder/told" | tr '\n' ' ')
     "${words[@]}" <"$input" >"$folder/plain" 2>/dev/null || true
     has_left "$folder/plain" "$plain_status" || wrong=1
     count $wrong 'nothing refused'
@@ -110,6 +115,14 @@ row() {
         line="$line, $refused $kind"
     done
     echo "$name: ${line#, }"
+}
+
+# The same of one whose plain run is known to write what `wanted` has.
+known_row() {
+    local wrong=0
+    row "$@"
+    cmp -s "$folder/wanted" "$folder/plain" || wrong=1
+    count $wrong 'the plain run, which wrote something else'
 }
 
 # Windows of two writers that overlap, so that there are two outcomes, each followed by a reader that tells which it is.
@@ -138,10 +151,50 @@ reader() {
 
 # Steps of a ring of one cell, whose writer records so many events, each of which is taken before the next.
 many_steps() {
-    echo 'ring-steps 1 1 1 1000'
-    for value in $(seq "$1"); do
-        printf '%s\n' "front 0 W 0 $value" 'tail 0' 'claim 0' 'fill 0' 'publish 0' peek read free
-    done
+    echo 'ring-steps 1 1 1 100000'
+    seq "$1" | awk '{ printf "front 0 W 0 %d\ntail 0\nclaim 0\nfill 0\npublish 0\npeek\nread\nfree\n", $1 }'
+}
+
+# What they are answered.
+many_replies() {
+    seq "$1" | awk '
+        { printf "saw %d\ncleared\nplace %d\nfilled\npublished %d\nready\nword %d\nevent 0 W 0 %d\n", $1 - 1, $1 - 1, $1 - 1, $1, $1 }
+        END { printf "log %d taken %d\n", NR, NR }'
+}
+
+# A transaction that makes so many writes, and then reads a value that it has not written last.
+long_window() {
+    echo 'opacity-trace 1 1'
+    seq "$1" | awk '{ printf "0 W 0 %d\n0 K\n", $1 } END { print "0 R 0\n0 V 0" }'
+}
+
+# What is shown of it, drawn and as a trace of its own.
+drawn_window() {
+    echo "{\"at\":$((2 * $1 + 2)),\"events\":$((2 * $1 + 2)),\"verdict\":\"violated\"}"
+    printf '%s\n' '    state  0' '    event  thread 0'
+    seq "$1" | awk '
+        { printf "%9d  W 0 %d\n%9d  K\n", 2 * $1 - 1, $1, 2 * $1 }
+        END { printf "%9d  R 0\n%9d  V 0       violated, by opacity\n", 2 * NR + 1, 2 * NR + 2 }'
+}
+
+traced_window() {
+    long_window "$1" | sed '1s/.*/opacity-trace 2 1 0/'
+}
+
+# The log of so many transactions that write, and its report.
+long_log() {
+    echo 'opacity-trace 1 1'
+    yes $'0 W 0 5\n0 K\n0 T\n0 C' | head -n $((4 * $1))
+    opaque $((4 * $1))
+}
+
+opaque() {
+    echo "{\"events\":$1,\"verdict\":\"opaque so far\"}"
+}
+
+# So many times a text.
+times() {
+    yes "$2" | head -n "$1" | tr -d '\n'
 }
 
 # The tests of this crate, as the gate or `rt test` built them: anew where a source is newer.
@@ -233,7 +286,45 @@ row 'a wrong word' 4 4 /dev/null judge --window 9
 kinds='growths write interrupted_write'
 row 'a word that is like a command' 4 4 /dev/null jugde
 
-for crate in $(grep -rl 'fn .*refused_growth' "$top"/crates/*/src | sed "s|^$top/crates/||; s|/.*||" | sort -u); do
+# A write that moves a part of more than 4,096 bytes, and is interrupted before the rest.
+kinds='write interrupted_write'
+long_window 1000 >"$folder/window"
+drawn_window 1000 >"$folder/wanted"
+known_row 'show, a window of 2,002 events' 1 5000 "$folder/window" show
+traced_window 1000 >"$folder/wanted"
+known_row 'show, a window of 2,002 events, as a trace' 1 5000 "$folder/window" show --trace
+
+# Behind a million bytes.
+kinds='growth growths read interrupted_read' after=1000000
+{ echo 'opacity-trace 2 2 7 0' && yes $'3 T\n3 C' | head -n 250000 && many_windows 3 | sed 1d; } >"$folder/long"
+opaque 250042 >"$folder/wanted"
+known_row 'judge, 1,000,000 bytes and three windows' 0 1000 "$folder/long" judge
+least=1000000
+long_window 66000 >"$folder/long"
+drawn_window 66000 >"$folder/wanted"
+known_row 'show, a window of 132,002 events' 1 5000 "$folder/long" show
+many_steps 16000 >"$folder/long"
+many_replies 16000 >"$folder/wanted"
+known_row 'steps, 128,000 of them' 0 5000 "$folder/long" steps
+{ times 1050000 ' ' && echo '{"registers":1,"scripts":[[["W 0 5","R 0","T"],["N 0 1","X"]]],"order":[0,0,0,0,0]}'; } >"$folder/long"
+opaque 10 >"$folder/wanted"
+known_row 'drive, a workload behind 1,050,000 blanks' 0 5000 "$folder/long" drive
+echo '{"ends":["done"]}' >>"$folder/wanted"
+known_row 'bench, the same' 0 5000 "$folder/long" bench
+
+# Behind 2,000 events of a log.
+kinds='growth growths write interrupted_write' after=0 least=60000
+echo "{\"registers\":1,\"scripts\":[[$(times 599 '["W 0 5","T"],')[\"W 0 5\",\"T\"]]],\"order\":[$(times 1199 0,)0]}" >"$folder/transactions"
+long_log 600 >"$folder/wanted"
+known_row 'drive, a log of 2,400 events, with the trace' 0 5000 "$folder/transactions" drive --trace
+echo '{"ends":["done"]}' >>"$folder/wanted"
+known_row 'bench, a log of 2,400 events, with the trace' 0 5000 "$folder/transactions" bench --trace --patience 1000000000
+kinds='write interrupted_write' least=0
+{ opaque 2400 && echo '{"ends":["done"]}'; } >"$folder/wanted"
+known_row 'bench, a log of 2,400 events' 0 16 "$folder/transactions" bench --patience 1000000000
+
+mapfile -t crates < <(grep -rl 'fn .*refused_growth' "$top"/crates/*/src | sed "s|^$top/crates/||; s|/.*||" | sort -u)
+for crate in "${crates[@]}"; do
     tests_of "$crate"
     for test in $("$tests" --list | sed -n 's/^\(.*refused_growth.*\): test$/\1/p'); do test_row "$crate" "$test" allows; done
 done

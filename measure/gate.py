@@ -3,7 +3,7 @@
 
     measure/gate.py [FOLDER]
 
-It runs `rt ci --anew` in FOLDER, a clone of the repository (without words: here), and samples its processes twice a second. Output: a
+It runs `rt ci`, from nothing, in FOLDER, a clone of the repository (without words: here), and samples its processes twice a second. Output: a
 line for each crate with the seconds of its proof, its tests, the checks that its wrong bodies begin with, and these, by their
 number; the wrong bodies that took over 20 seconds; then the minutes of each kind. The gate's own output goes to FOLDER/gate.log.
 The exit status is the gate's. Processor time is what the system counts: other work on the machine makes it longer.
@@ -72,9 +72,12 @@ def tell(found):
 
 def main():
     os.chdir(sys.argv[1] if len(sys.argv) > 1 else os.path.dirname(os.path.dirname(os.path.abspath(__file__))))
+    # (a gate that keeps what it has passed has this word, by which it proves all anew)
+    help = subprocess.run(["rt", "ci", "--help"], capture_output=True, text=True, errors="replace")
+    anew = ["--anew"] if "--anew" in help.stdout + help.stderr else []
     began, found = time.monotonic(), {}
     with open("gate.log", "w", encoding="utf-8") as log:
-        gate = subprocess.Popen(["rt", "ci", "--anew"], stdout=log, stderr=subprocess.STDOUT, stdin=subprocess.DEVNULL)
+        gate = subprocess.Popen(["rt", "ci", *anew], stdout=log, stderr=subprocess.STDOUT, stdin=subprocess.DEVNULL)
         below = {gate.pid}
         while gate.poll() is None:
             sample(found, below)

@@ -375,6 +375,62 @@ done
 expect_made '4,000 steps' 0 "$(for value in {0..499}; do printf '%s\n' "saw $value" cleared "place $value" filled "published $value" ready "word $value" \
     "event 0 W 0 $value"; done && echo 'log 500 taken 500')" steps
 
+# long runs, whose output is known by how they are made
+expect_long() {
+    local name=$1 wanted=$2
+    shift 2
+    run "$@" <"$folder/made"
+    count "$* of $name" "$wanted as wanted" "$status $(cmp "$folder/wanted" "$folder/output" 2>&1 && echo 'as wanted')"
+}
+# so many events of serial transactions, of which each second one reads what the one before has written
+serial_events() {
+    yes $'0 W 0 1\n0 K\n0 T\n0 C\n1 R 0\n1 V 1\n1 T\n1 C' | head -n "$1"
+}
+# a transaction that has committed, and one that has aborted, read behind them what nobody has written
+{ echo 'opacity-trace 1 1' && serial_events 1000000 && printf '%s\n' '2 R 0' '2 V 2' '2 T' '2 C'; } >"$folder/made"
+echo '{"at":1000004,"criterion":"strict","events":1000004,"verdict":"violated"}' >"$folder/wanted"
+expect_long '1,000,004 events' 1 judge --criterion strict
+{ echo 'opacity-trace 1 1' && serial_events 1000000 && printf '%s\n' '2 R 0' '2 V 2' '2 T' '2 A'; } >"$folder/made"
+printf '%s\n' '{"at":1000002,"events":1000004,"verdict":"violated"}' \
+    '{"criterion":"strict","events":1000004,"verdict":"strict so far"}' >"$folder/wanted"
+expect_long '1,000,004 events' 1 judge --criterion both
+# one transaction, which reads at last another value than it has written
+seq 9999 | awk 'BEGIN { print "opacity-trace 1 1" } { printf "0 W 0 %d\n0 K\n", $1 } END { print "0 R 0\n0 V 9998" }' >"$folder/made"
+seq 9999 | awk '
+    BEGIN { print "{\"at\":20000,\"events\":20000,\"verdict\":\"violated\"}\n    state  0\n    event  thread 0" }
+    { printf "%9d  W 0 %d\n%9d  K\n", 2 * $1 - 1, $1, 2 * $1 }
+    END { print "    19999  R 0\n    20000  V 9998    violated, by opacity" }' >"$folder/wanted"
+expect_long 'a window of 20,000 events' 1 show
+# a writer whose events are taken one after another, each by eight steps
+seq 0 6249 | awk '
+    BEGIN { print "ring-steps 1 1 1 10000" }
+    { printf "front 0 W 0 %d\ntail 0\nclaim 0\nfill 0\npublish 0\npeek\nread\nfree\n", $1 }' >"$folder/made"
+seq 0 6249 | awk '
+    { printf "saw %d\ncleared\nplace %d\nfilled\npublished %d\nready\nword %d\nevent 0 W 0 %d\n", $1, $1, $1, $1, $1 }
+    END { print "log 6250 taken 6250" }' >"$folder/wanted"
+expect_long '50,000 steps' 0 steps
+
+# the least microseconds of five runs of these words
+least_time() {
+    local least=999999999 began took
+    for _ in 1 2 3 4 5; do
+        began=${EPOCHREALTIME/[.,]/}
+        "$@" <"$folder/made" >"$folder/output"
+        took=$((${EPOCHREALTIME/[.,]/} - began))
+        least=$((took < least ? took : least))
+    done
+    echo "$least"
+}
+# 3,000,000 events are judged within forty times what it takes to count their lines
+if [ -z "${CASES:-}" ]; then
+    { echo 'opacity-trace 1 1' && serial_events 3000000; } >"$folder/made"
+    counting=$(least_time wc -l)
+    judging=$(least_time "$top/crates/tmwatch/out/tmwatch" judge)
+    echo "judge of 3,000,000 events: $((judging / counting)) times wc -l, $judging and $counting microseconds"
+    count 'judge of 3,000,000 events, within 40 times wc -l' '1 {"events":3000000,"verdict":"opaque so far"}' \
+        "$((judging <= 40 * counting)) $(cat "$folder/output")"
+fi
+
 # each beginning of a workload but the whole is no JSON
 reads='{"registers":1,"scripts":[[["R 0","R 0","T"]]],"order":[0,0,0]}'
 for command in drive bench; do
@@ -405,7 +461,7 @@ expect_large 'an order of 100,001' '[[]]' "$(list_of 100001 0)" 4 '{"fault":"sha
 # a bad line is answered though nothing behind it has been told
 mkfifo "$folder/open"
 for text in 'opacity-trace 1 1\n0 R 01\n:{"fault":"bad line","line":2}' '~\n:{"fault":"bad header"}'; do
-    { printf "${text%%:*}" && sleep 5; } >"$folder/open" &
+    { printf %b "${text%%:*}" && sleep 5; } >"$folder/open" &
     status=0
     timeout 4 "$top/crates/tmwatch/out/tmwatch" judge <"$folder/open" >"$folder/output" || status=$?
     count "judge of an open '${text%%:*}'" "4 ${text#*:}" "$status $(cat "$folder/output")"

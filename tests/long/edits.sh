@@ -4,26 +4,48 @@
 #
 #   tests/long/edits.sh [CRATE..]
 #
-# Without words all crates that have some. The crates are proved in a copy, in which these edits take the place of the gate's. What the
-# gate has proved on this machine is taken from it, and what an edit came to is kept, so that a run that was stopped goes on.
-# A line for each edit that is not refused, or refused only because a name is gone or a limit of the prover's is met; what the prover
-# said of each stands in edits/log. The last line is 'N refused, M by a name or limit alone, K not refused'; the exit status is 1
-# when K is above 0.
+# Without words all crates that have some: some four hours of processor time. The gate, `rt ci`, proves the crates in a copy, with those
+# that they stand on, and these edits take the place of its own there. A line for each edit that is not refused, or refused only because
+# a name is gone or a limit of the prover's is met; what the prover said of each stands in edits/log. The last line is 'N refused, M by
+# a name or limit alone, K not refused'; the exit status is 1 when K is above 0.
 set -eu
 top=$(cd "$(dirname "${BASH_SOURCE[0]}")/../.." && pwd)
 folder=$(mktemp -d)
 trap 'rm -rf "$folder"' EXIT
 [ $# -gt 0 ] || set -- $(ls "$top/edits" | grep -v '^log$')
 mkdir "$folder/.git" "$folder/crates"
-cp "$top/crates.txt" "$top/HANDLES" "$folder/"
-tar -C "$top/crates" --exclude=must-fail --exclude=out -cf - . | tar -C "$folder/crates" -xf -
+cp "$top/HANDLES" "$folder/"
+
+# The lines of crates.txt for these crates and those that they stand on.
+awk -v wanted="$*" '
+    function mark(name, each, count, at) {
+        if (!(name in line) || name in marked) return
+        marked[name] = 1
+        count = split(below[name], each, " ")
+        for (at = 1; at <= count; at++) mark(each[at])
+    }
+    /^[a-z]/ {
+        name = $1
+        sub(/:.*/, "", name)
+        line[name] = $0
+        sub(/^[^:]*:/, "")
+        below[name] = $0
+    }
+    END {
+        count = split(wanted, all, " ")
+        for (at = 1; at <= count; at++) mark(all[at])
+        for (name in marked) print line[name]
+    }' "$top/crates.txt" >"$folder/crates.txt"
+for crate in $(grep -o '^[a-z_]*' "$folder/crates.txt"); do
+    tar -C "$top/crates" --exclude=must-fail --exclude=out -cf - "$crate" | tar -C "$folder/crates" -xf -
+done
 wanted=0
 for crate in "$@"; do
     mkdir "$folder/crates/$crate/must-fail"
     cp "$top/edits/$crate"/*.edit "$folder/crates/$crate/must-fail/"
     wanted=$((wanted + $(ls "$top/edits/$crate" | wc -l)))
 done
-(cd "$folder" && rt ci "$@") >"$folder/log" 2>&1 || true
+(cd "$folder" && rt ci) >"$folder/log" 2>&1 || true
 grep -a '^rt: must-fail ' "$folder/log" >"$top/edits/log" || true
 refused=$(grep -c ': refused, as it must be' "$top/edits/log" || true)
 weak=$(grep -cE ': refused, as it must be \(only (because|by a limit)' "$top/edits/log" || true)

@@ -1,12 +1,16 @@
+pub mod Between
+pub mod Closing
 pub mod Cutting
+pub mod Gathered
 pub mod InRounds
+pub mod Leads
 pub mod MadeFrom
 pub mod NeverMalformed
 pub mod OpaqueRounds
 pub mod PlayedRounds
 pub mod RepeatedRuns
 pub mod Returns
-pub mod RoundsBegun
 pub mod RoundsOver
+pub mod Starts
 pub mod Whole
 pub mod WholeRounds

@@ -1,15 +1,14 @@
 -- What a writer has claimed in whole rounds, one round after another, and where writers meet in between.
-use Rattle.std.proofs.Common.{◌≡◌, ◌<◌, ◌≤◌, ℕ, List, [], ◌∷◌, Option, Some, None, length, get_or, sym, ◌∙◌, subst, arith}
+use Rattle.std.proofs.Common.{◌≡◌, ◌<◌, ◌≤◌, ℕ, List, [], ◌∷◌, Option, Some, None, sym, ◌∙◌, subst, arith}
 use Rattle.std.specs.Prelude.{All}
 use Rattle.std.proofs.lemmas.List.Elements.{All-append, All-nil}
-use Rattle.tmw_bench.specs.Rounds.{last_bound, AreAllReady, HasPlayed, HasPlayedLast, HaveAllPlayedLast, IsReady}
-use Rattle.tmw_drive.specs.Driving.{script_at}
+use Rattle.tmw_bench.specs.Rounds.{last_bound, HasPlayed, HasPlayedLast, IsReady}
 use Rattle.tmw_events.specs.declared.event.Kind.{Kind}
 use Rattle.tmw_recorded.specs.Recording.{kinds_made}
 use Rattle.tmw_ring.specs.Ends.{WriterIs}
 use Rattle.tmw_ring.specs.declared.part.Made.{Made}
 use Rattle.tmw_ring.specs.declared.refused.Refused.{Refused}
-use Rattle.tmw_rounds.specs.Meeting.{HasMet, HaveAllMet}
+use Rattle.tmw_bench.specs.Meeting.{HasMet}
 use Rattle.tmw_tm.specs.Answers.{Call, Answer}
 use Rattle.tmw_work.specs.Working.{EndsWork, FindsFrom, HasWorked}
 
@@ -71,39 +70,3 @@ earlier_played gives script (bound ∷ bounds) made (old, fresh, split, played, 
     let before = earlier_played gives script bounds old played in
     let lower : All (λ m. m.place < bound) old = λ place fallback low. omega (arith, before place fallback low, round.rises) in
     subst (All (λ (m : Made). m.place < bound)) (sym split) (All-append (λ (m : Made). m.place < bound) old fresh lower round.earlier)
-
--- all writers of a new ring
-pub all_ready-new : (gives : Call → Answer → Type 0) (scripts : List (List (List Kind))) (writers : List WriterIs)
-    → length writers ≡ length scripts
-    → ((thread : ℕ) (fallback : WriterIs) → thread < length scripts → (get_or writers thread fallback).made ≡ [])
-    → AreAllReady gives scripts [] writers
-all_ready-new gives scripts writers counted none_made = record {
-  counted = counted;
-  each = λ thread fallback low. ready-new gives (script_at scripts thread) (get_or writers thread fallback) (none_made thread fallback low);
-}
-
--- all threads have carried their scripts out
-pub all_played_last-worked : (gives : Call → Answer → Type 0) (scripts : List (List (List Kind))) (bounds : List ℕ) (old : List WriterIs)
-    (stops : List (Option Refused)) (new : List WriterIs) → AreAllReady gives scripts bounds old → length new ≡ length old
-    → ((thread : ℕ) (fallback : WriterIs) → thread < length scripts
-    → HasWorked gives (script_at scripts thread) (get_or old thread fallback) (get_or stops thread None) (get_or new thread fallback))
-    → HaveAllPlayedLast gives scripts bounds stops new
-all_played_last-worked gives scripts bounds old stops new ready counted worked = record {
-  counted = counted ∙ ready.counted;
-  each = λ thread fallback low.
-      played_last-worked gives (script_at scripts thread) bounds (get_or old thread fallback) (get_or stops thread None) (get_or new thread fallback)
-      (ready.each thread fallback low) (worked thread fallback low);
-}
-
--- no thread was stopped, and all writers have met: the round is over
-pub all_ready-met : (gives : Call → Answer → Type 0) (scripts : List (List (List Kind))) (bounds : List ℕ) (tail : ℕ) (old : List WriterIs)
-    (stops : List (Option Refused)) (new : List WriterIs)
-    → ((thread : ℕ) → thread < length scripts → get_or stops thread None ≡ None)
-    → HaveAllPlayedLast gives scripts bounds stops old → HaveAllMet tail old new → AreAllReady gives scripts (tail ∷ bounds) new
-all_ready-met gives scripts bounds tail old stops new not_stopped last met = record {
-  counted = met.counted ∙ last.counted;
-  each = λ thread fallback low.
-      ready-met gives (script_at scripts thread) bounds tail (get_or old thread fallback) (get_or stops thread None) (get_or new thread fallback)
-      (not_stopped thread low) (last.each thread fallback low)
-      (met.each thread fallback (subst (λ (n : ℕ). thread < n) (sym last.counted) low));
-}

@@ -57,12 +57,6 @@ pub record IsReady (gives : Call → Answer → Type 0) (script : List (List Kin
   pub played : HasPlayed gives script bounds writer.made
   pub seen : last_bound bounds ≤ writer.seen
 
--- Before the next round: all writers.
-pub record AreAllReady (gives : Call → Answer → Type 0) (scripts : List (List (List Kind))) (bounds : List ℕ) (writers : List WriterIs) : Type 0 where
-  pub counted : length writers ≡ length scripts
-  pub each : (thread : ℕ) (fallback : WriterIs) → thread < length scripts
-      → IsReady gives (script_at scripts thread) bounds (get_or writers thread fallback)
-
 -- After a round: all writers, and where their threads were stopped, if anywhere.
 pub record HaveAllPlayedLast (gives : Call → Answer → Type 0) (scripts : List (List (List Kind))) (bounds : List ℕ) (stops : List (Option Refused)) (writers : List WriterIs) : Type 0 where
   pub counted : length writers ≡ length scripts

@@ -5,9 +5,10 @@ ghost use Rattle.tmw_runs.specs.Scripts.{scripts_of};
 use crate::benched::Benched;
 use crate::ends::ends_of;
 use crate::fault::BenchFault;
-use crate::round::Left;
-use crate::rounds::play_rounds;
+use crate::orders::Orders;
+use crate::play::play_rounds;
 use crate::settings::Settings;
+use crate::stage::Stage;
 use std::alloc::Global;
 use std::marker::Brand;
 use std::sync::Wait;
@@ -16,7 +17,7 @@ use tmw_drive::Outcome;
 use tmw_events::Registers;
 use tmw_monitor::Monitor;
 use tmw_pump::Pump;
-use tmw_recorded::judge_rest;
+use tmw_recorded::{Signals, judge_rest};
 use tmw_ring::{RingFault, ring};
 use tmw_tm::Tm;
 use tmw_workloads::Workload;
@@ -25,14 +26,14 @@ use tmw_workloads::Workload;
 /// are all 0. The memory should be fresh. The workload's order is not used.
 ///
 /// Each thread records in one ring what it calls and what it is answered, and this thread judges it as it comes. The workload is
-/// carried out round after round on the same memory: a round begins when all threads of the one before have ended, and only
+/// carried out round after round on the same memory: a round begins when all threads have ended the one before, and only
 /// where the verdict is opaque so far and no thread was stopped.
 ///
 /// `Registers` where the memory has fewer registers than the workload, which is tested first; `Ring` where there is no ring of this
 /// size; `Memory` where a growth was refused; `Spawn` where a thread could not be started. All threads have ended then.
 ///
 /// It returns if each call of the memory does.
-pub fn run_bench<R: Threads + Wait>(
+pub fn run_bench<R: Threads + Wait + Sync>(
     rt: &R,
     alloc: Global,
     memory: &(dyn Tm + Sync),
@@ -56,23 +57,25 @@ pub fn run_bench<R: Threads + Wait>(
         return Err(BenchFault::Memory);
     };
     let pump = Pump::new(alloc, reader, monitor);
-    let (left, rounds) = play_rounds::<R, Brand>(
-        rt, alloc, memory, &ring, pump, writers, workload, settings,
-    )?;
-    let Left {
-        pump,
-        writers,
-        stops,
-    } = left;
-    let Ok((log, verdict)) = judge_rest(pump.settle(ring, writers)) else {
+    let (signals, orders) = (Signals::new(), Orders::new());
+    let stage = Stage {
+        ring: &ring,
+        scripts: workload.scripts.as_slice(),
+        patience: settings.patience,
+        rounds: settings.rounds,
+        signals: &signals,
+        orders: &orders,
+    };
+    let left = play_rounds::<R, Brand>(rt, alloc, memory, stage, pump, writers)?;
+    let Ok((log, verdict)) = judge_rest(left.pump.settle(ring, left.writers)) else {
         return Err(BenchFault::Memory);
     };
-    let Ok(ends) = ends_of(alloc, &stops) else {
+    let Ok(ends) = ends_of(alloc, &left.stops) else {
         return Err(BenchFault::Memory);
     };
     Ok(Benched {
         outcome: Outcome { log, verdict, ends },
-        rounds,
+        rounds: left.rounds,
     })
 }
 

@@ -3,12 +3,22 @@
 
 mod bench;
 mod benched;
+mod close;
+mod ended;
 mod ends;
 mod fault;
-mod round;
-mod rounds;
+mod giving;
+mod judging;
+mod leading;
+mod line;
+mod open;
+mod orders;
+mod play;
 mod settings;
+mod stage;
 mod threads;
+mod waits;
+mod worker;
 
 pub use bench::run_bench;
 pub use benched::Benched;

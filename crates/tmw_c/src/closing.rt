@@ -101,7 +101,7 @@ fn close_open(
     }
 }
 
-/// The same of whatever is held.
+/// Closes what is held, and answers as `close_open` does, also where it is a closing that was left.
 fn end(
     alloc: Global,
     held: HeldWatch,

@@ -21,7 +21,8 @@ fn pump_held(held: &mut HeldWatch, most: u64) -> Result<u64, Status>
     }
 }
 
-/// The same by what the handle holds, which it holds then again. The count is told where all was done, and else stays.
+/// Judges up to so many events by what the handle holds, which it holds then again. The count is told where all was done, and else
+/// stays.
 pub fn pump(alloc: Global, watch: &mut WatchHandle, most: u64, judged: &mut u64) -> Status
     ensures { IsPumping most watch.old.slot.held watch.new.slot.held judged.old judged.new result }
 {
@@ -50,7 +51,7 @@ fn report_held(held: &HeldWatch) -> Option<Told>
     Some(Told::of(watch.report()))
 }
 
-/// The same of what the handle holds, which it holds then again.
+/// Reports on what the handle holds, which it holds then again.
 pub fn report(alloc: Global, watch: &mut WatchHandle, out: &mut Told) -> Status
     ensures { IsReporting watch.old.slot.held watch.new.slot.held out.old out.new result }
 {

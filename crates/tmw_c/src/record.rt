@@ -29,7 +29,8 @@ fn record_held(
     }
 }
 
-/// The same by what the handle holds, which it holds then again. The place is told where the event was recorded, and else stays.
+/// Records an event by what the handle holds, which it holds then again. The place is told where the event was recorded, and else
+/// stays.
 pub fn record(
     alloc: Global,
     recorder: &mut RecorderHandle,

@@ -31,7 +31,7 @@ const VERSION_LINE: &str =
 /// status: that of the order, 0 for help and for the version, or 4 for any fault and for either of these that was cut short.
 ///
 /// It waits in a bench alone, for the threads that this starts.
-pub fn run_command<S: Source, K: Sink, E: Sink, R: Threads + Wait>(
+pub fn run_command<S: Source, K: Sink, E: Sink, R: Threads + Wait + Sync>(
     rt: &R,
     alloc: Global,
     words: Result<Vec<String>, Fault>,
@@ -52,7 +52,7 @@ pub fn run_command<S: Source, K: Sink, E: Sink, R: Threads + Wait>(
 }
 
 /// Reads the words, and runs their order or answers why there is none.
-fn run_words<W: AsStr, S: Source, K: Sink, E: Sink, R: Threads + Wait>(
+fn run_words<W: AsStr, S: Source, K: Sink, E: Sink, R: Threads + Wait + Sync>(
     rt: &R,
     alloc: Global,
     words: &[W],
@@ -73,7 +73,7 @@ fn run_words<W: AsStr, S: Source, K: Sink, E: Sink, R: Threads + Wait>(
 }
 
 /// Runs an order's command, over the memory that it names.
-fn run_order<S: Source, K: Sink, R: Threads + Wait>(
+fn run_order<S: Source, K: Sink, R: Threads + Wait + Sync>(
     rt: &R,
     alloc: Global,
     order: Order,

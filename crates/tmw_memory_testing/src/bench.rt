@@ -7,10 +7,10 @@ use std::test::Fail;
 use tmw_bench::{BenchFault, Settings, run_bench};
 use tmw_defs::Verdict;
 use tmw_drive::Ending;
-use tmw_events::{Kind, Registers};
+use tmw_events::{Event, Kind, Registers};
 use tmw_monitor::Bounds;
 use tmw_ring::{Refused, RingFault};
-use tmw_testing::{FIRST, one, other};
+use tmw_testing::{FIRST, one};
 use tmw_tm::Did;
 use tmw_workloads::{Workload, read_workload};
 
@@ -19,7 +19,7 @@ mod memories;
 mod rounds;
 
 use crate::counting::Counting;
-use memories::{Holding, Overtaken, Waiting};
+use memories::{Holding, Overlapping, Overtaken, Waiting};
 
 const ONE: Registers = Registers { number: 1 };
 

@@ -85,7 +85,7 @@ fn what_a_memory_answers_is_driven_and_judged(rt: HostRuntime) {
 }
 
 /// Carries a workload out, which a source tells a byte a call, and compares what went out, which a sink takes a byte a call.
-fn expect<R: Abort + AllocGlobal + Threads + Wait>(
+fn expect<R: Abort + AllocGlobal + Threads + Wait + Sync>(
     rt: &R,
     memory: &Counting,
     text: &[u8],

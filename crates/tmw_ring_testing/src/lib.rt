@@ -1,5 +1,5 @@
 //! Threads that record into a ring, for the tests that run some, and the tests of the ring and of the machine of its steps, of the pump,
-//! of whole runs, of rounds and of watches: no part of the product.
+//! of whole runs and of watches: no part of the product.
 #![tactic(auto)]
 
 #[cfg(test)]
@@ -10,7 +10,6 @@ mod returning;
 #[cfg(test)]
 mod ring;
 #[cfg(test)]
-mod rounds;
 mod soon;
 #[cfg(test)]
 mod steps;

@@ -18,7 +18,7 @@ use tmw_tm::Tm;
 use tmw_workloads::{WorkloadFault, read_workload};
 
 /// Reads a workload up to the source's end, and carries it out by threads on the memory.
-pub fn bench_source<S: Source, R: Threads + Wait>(
+pub fn bench_source<S: Source, R: Threads + Wait + Sync>(
     rt: &R,
     alloc: Global,
     source: &mut S,
@@ -38,7 +38,7 @@ pub fn bench_source<S: Source, R: Threads + Wait>(
 }
 
 /// Carries the workload that these bytes are the text of out by threads on the memory. Never `Io`.
-fn bench_bytes<R: Threads + Wait>(
+fn bench_bytes<R: Threads + Wait + Sync>(
     rt: &R,
     alloc: Global,
     bytes: &[u8],

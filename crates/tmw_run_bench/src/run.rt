@@ -17,7 +17,7 @@ use tmw_tm::Tm;
 /// violated, 2 for one that is undecided, 4 for any fault, whose line alone is written.
 ///
 /// It returns if each call of the memory, of the source and of the sink does.
-pub fn run_bench_cmd<S: Source, K: Sink, R: Threads + Wait>(
+pub fn run_bench_cmd<S: Source, K: Sink, R: Threads + Wait + Sync>(
     rt: &R,
     alloc: Global,
     source: &mut S,

@@ -34,7 +34,7 @@ fn main(rt: HostRuntime) -> ExitCode {
 }
 
 /// Makes the memories, and runs the command line with them.
-fn run<R: AllocGlobal + Threads + Wait, S: Source, K: Sink, E: Sink>(
+fn run<R: AllocGlobal + Threads + Wait + Sync, S: Source, K: Sink, E: Sink>(
     rt: &R,
     words: Result<Vec<String>, Fault>,
     source: &mut S,

@@ -1,9 +1,26 @@
 //! Threads work at once, and record each call before they make it, and its answer behind it.
 use super::*;
 
-/// The first thread commits while the second is in a call, which returns when the first has begun again.
-const OVERTAKEN: &str =
-    r#"{"order": [], "registers": 1, "scripts": [[["W 0 1", "T"], ["R 0", "T"]], [["R 0", "T"]]]}"#;
+const BOTH_READ: &str =
+    r#"{"order": [], "registers": 1, "scripts": [[["R 0", "R 0", "R 0", "T"]], [["R 0", "R 0", "R 0", "T"]]]}"#;
+
+const ROUNDS: u64 = 100;
+
+/// So many of the rounds are to overlap. Where the workers wait for one another nearly all do, and where they do not, hardly any do
+/// on processors that are free.
+const OVERLAPS: u64 = 75;
+
+/// Two threads make this transaction twice each.
+fn twice_by_two(alloc: Global, transaction: &str) -> Result<Workload, Fail> {
+    let script = format!(in alloc; "[{transaction},{transaction}]")?;
+    let text = format!(in alloc; r#"{{"order":[],"registers":1,"scripts":[{script},{script}]}}"#)?;
+    told(alloc, &text)
+}
+
+/// The kind of the event at this place, if there is one.
+fn kind_at(log: &[Event], place: usize) -> Option<Kind> {
+    log.get(place).map(|event| event.kind)
+}
 
 #[test]
 fn threads_work_at_once(rt: HostRuntime) -> Result<(), Fail> {
@@ -25,22 +42,49 @@ fn threads_work_at_once(rt: HostRuntime) -> Result<(), Fail> {
     Ok(())
 }
 
+/// One thread's first call is held in the memory until the other thread has made two. So the log begins with the first calls of
+/// both, and goes on with the other thread's answer and its next call.
 #[test]
 fn the_log_has_the_order_of_calls_and_answers(rt: HostRuntime) -> Result<(), Fail> {
-    let workload = told(rt.alloc(), OVERTAKEN)?;
-    let memory = Overtaken::new();
-    let settings = settings(8, 1_000, PATIENT, 1);
-    let benched = run_bench(&rt, rt.alloc(), &memory, &workload, settings)?;
-    let log = benched.outcome.log.as_slice();
-    assert_eq!(rt; log.len(), 12);
-    assert_eq!(rt; benched.outcome.verdict, Verdict::OpaqueSoFar);
-    let call = log.iter().position(|event| *event == other(Kind::R(FIRST)));
-    let commit = log.iter().position(|event| *event == one(Kind::C));
-    let answer = log.iter().position(|event| *event == other(Kind::V(1)));
-    let (Some(call), Some(commit), Some(answer)) = (call, commit, answer) else {
-        panic!(rt; "a call was answered by an abort");
-    };
-    assert!(rt; call < commit);
-    assert!(rt; commit < answer);
+    let read = Kind::R(FIRST);
+    let write = Kind::W(FIRST, 0);
+    let add = Kind::N(FIRST, 0);
+    for (transaction, holds_begin, call, answer, next, events) in [
+        (r#"["R 0","T"]"#, true, read, Kind::V(0), Kind::T, 16),
+        (r#"["R 0","T"]"#, false, read, Kind::V(0), Kind::T, 16),
+        (r#"["W 0 0","T"]"#, false, write, Kind::K, Kind::T, 16),
+        (r#"["N 0 0","T"]"#, false, add, Kind::V(0), Kind::T, 16),
+        (r#"["T"]"#, false, Kind::T, Kind::C, Kind::T, 8),
+        (r#"["X"]"#, false, Kind::X, Kind::A, Kind::X, 8),
+    ] {
+        let workload = twice_by_two(rt.alloc(), transaction)?;
+        let memory = Overtaken::new(holds_begin);
+        let settings = settings(8, 1_000, PATIENT, 1);
+        let benched = run_bench(&rt, rt.alloc(), &memory, &workload, settings)?;
+        let log = benched.outcome.log.as_slice();
+        let begun = [
+            kind_at(log, 0),
+            kind_at(log, 1),
+            kind_at(log, 2),
+            kind_at(log, 3),
+        ];
+        let wanted = [Some(call), Some(call), Some(answer), Some(next)];
+        assert_eq!(rt;
+            (log.len(), begun),
+            (events, wanted),
+            "of {transaction}, where begins are held: {holds_begin}"
+        );
+    }
+    Ok(())
+}
+
+#[test]
+fn the_workers_of_a_round_begin_together(rt: HostRuntime) -> Result<(), Fail> {
+    let workload = told(rt.alloc(), BOTH_READ)?;
+    let memory = Overlapping::new();
+    let settings = settings(8, 10_000, PATIENT, ROUNDS);
+    run_bench(&rt, rt.alloc(), &memory, &workload, settings)?;
+    let overlaps = memory.overlaps();
+    assert!(rt; overlaps >= OVERLAPS, "{overlaps} of {ROUNDS} rounds");
     Ok(())
 }

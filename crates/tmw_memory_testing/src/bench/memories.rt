@@ -10,6 +10,9 @@ const LOOKS: u64 = 1_000_000_000;
 /// So often a commit that is held lets others run.
 const TURNS: u64 = 10_000;
 
+/// So often a read lets others run. Where processors are busy this takes as long as another thread waits for its turn.
+const YIELDS: u64 = 3;
+
 /// Waits until there are so many, and answers whether there were. It does not wait for ever.
 fn come(count: &AtomicU64, least: u64) -> bool {
     for _ in 0..LOOKS {
@@ -79,18 +82,28 @@ impl Tm for Waiting {
     fn abort(&self, _tx: &mut Tx) {}
 }
 
-/// A memory of one register, in which a commit waits until two transactions have begun, and a read until three have. It answers 1 to
-/// each read, and aborts what waits in vain.
+/// A memory of one register that stays 0. It holds the first begin, or the first of all other calls, until two more of these were
+/// made, and aborts what it holds in vain.
 #[derive(Drop)]
 pub struct Overtaken {
-    begins: AtomicU64,
+    holds_begin: bool,
+    calls: AtomicU64,
 }
 
 impl Overtaken {
-    pub fn new() -> Overtaken {
+    pub fn new(holds_begin: bool) -> Overtaken {
         Overtaken {
-            begins: AtomicU64::new(0),
+            holds_begin,
+            calls: AtomicU64::new(0),
         }
+    }
+
+    /// Holds a begin or another call where it is the one to be held, and aborts it where that was in vain.
+    fn let_go(&self, begins: bool) -> Did {
+        let goes_on = begins != self.holds_begin
+            || self.calls.fetch_add(1, Ordering::SeqCst) > 0
+            || come(&self.calls, 3);
+        if goes_on { Did::Done } else { Did::Abort }
     }
 }
 
@@ -102,16 +115,73 @@ impl Tm for Overtaken {
     }
 
     fn begin(&self, _tx: &mut Tx) -> Did {
-        self.begins.fetch_add(1, Ordering::SeqCst);
+        self.let_go(true)
+    }
+
+    fn read(&self, _tx: &mut Tx, _register: Ix) -> Got {
+        match self.let_go(false) {
+            Did::Done => Got::Value(0),
+            Did::Abort => Got::Abort,
+        }
+    }
+
+    fn write(&self, _tx: &mut Tx, _register: Ix, _value: u64) -> Did {
+        self.let_go(false)
+    }
+
+    fn add(&self, tx: &mut Tx, register: Ix, _addend: u64) -> Got {
+        self.read(tx, register)
+    }
+
+    fn commit(&self, _tx: &mut Tx) -> Did {
+        self.let_go(false)
+    }
+
+    fn abort(&self, _tx: &mut Tx) {
+        self.let_go(false);
+    }
+}
+
+/// A memory of one register that stays 0. It counts how often a transaction began while another was live.
+#[derive(Drop)]
+pub struct Overlapping {
+    live: AtomicU64,
+    overlaps: AtomicU64,
+}
+
+impl Overlapping {
+    pub fn new() -> Overlapping {
+        Overlapping {
+            live: AtomicU64::new(0),
+            overlaps: AtomicU64::new(0),
+        }
+    }
+
+    /// How often a transaction began while another was live.
+    pub fn overlaps(&self) -> u64 {
+        self.overlaps.load(Ordering::SeqCst)
+    }
+}
+
+impl Tm for Overlapping {
+    ghost gives = { λ memory call answer. Unit {0} };
+
+    fn registers(&self) -> Registers {
+        Registers { number: 1 }
+    }
+
+    fn begin(&self, _tx: &mut Tx) -> Did {
+        if self.live.fetch_add(1, Ordering::SeqCst) > 0 {
+            self.overlaps.fetch_add(1, Ordering::SeqCst);
+        }
         Did::Done
     }
 
     fn read(&self, _tx: &mut Tx, _register: Ix) -> Got {
-        if come(&self.begins, 3) {
-            Got::Value(1)
-        } else {
-            Got::Abort
+        for _ in 0..YIELDS {
+            thread::yield_now();
         }
+        Got::Value(0)
     }
 
     fn write(&self, _tx: &mut Tx, _register: Ix, _value: u64) -> Did {
@@ -122,15 +192,14 @@ impl Tm for Overtaken {
         self.read(tx, register)
     }
 
-    fn commit(&self, _tx: &mut Tx) -> Did {
-        if come(&self.begins, 2) {
-            Did::Done
-        } else {
-            Did::Abort
-        }
+    fn commit(&self, tx: &mut Tx) -> Did {
+        self.abort(tx);
+        Did::Done
     }
 
-    fn abort(&self, _tx: &mut Tx) {}
+    fn abort(&self, _tx: &mut Tx) {
+        self.live.fetch_sub(1, Ordering::SeqCst);
+    }
 }
 
 /// A memory of two registers, each for one thread, which answers 0 to each read. A commit of the second thread is held until the

@@ -26,11 +26,11 @@ fn no_round_follows_a_violation(rt: HostRuntime) -> Result<(), Fail> {
 fn no_round_follows_one_that_was_stopped(rt: HostRuntime) -> Result<(), Fail> {
     let workload = told(rt.alloc(), WRITES)?;
     let memory = Counting::new(ONE, Did::Done, 7);
-    let settings = settings(8, 6, PATIENT, 5);
+    let settings = settings(8, 38, PATIENT, 50);
     let benched = run_bench(&rt, rt.alloc(), &memory, &workload, settings)?;
-    assert_eq!(rt; benched.rounds, 2);
-    assert_eq!(rt; benched.outcome.log.len(), 6);
-    let stopped = [Ending::Stopped(Refused::Spent { tail: 6 })];
+    assert_eq!(rt; benched.rounds, 10);
+    assert_eq!(rt; benched.outcome.log.len(), 38);
+    let stopped = [Ending::Stopped(Refused::Spent { tail: 38 })];
     assert_eq!(rt; benched.outcome.ends.as_slice(), stopped.as_slice());
     Ok(())
 }

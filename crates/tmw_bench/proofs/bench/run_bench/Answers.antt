@@ -1,8 +1,12 @@
-use Rattle.std.proofs.Common.{◌≡◌, ◌++◌, ℕ, List, Option, length, map, refl, sym, ap, ◌∙◌, subst, append_assoc, arith}
+use Rattle.std.proofs.Common.{◌≡◌, ◌++◌, ℕ, List, [], Option, length, map, refl, sym, ap, ◌∙◌, subst, append_assoc, arith}
 use Rattle.std.proofs.lemmas.List.{length-map}
 use Rattle.tmw_bench.proofs.OpaqueRounds.{all_opaque-append}
 use Rattle.tmw_bench.proofs.RoundsOver.{are_endings-map, over-log}
 use Rattle.tmw_bench.proofs.Whole.{is_benched, HasCome}
+use Rattle.std.specs.Global.{Vec}
+use Rattle.tmw_bench.specs.Begun.{HaveBegun}
+use Rattle.tmw_bench.specs.Playing.{AreTransactions}
+use Rattle.tmw_events.specs.declared.event.Kind.{Kind}
 use Rattle.tmw_bench.specs.Rounds.{ending_of, AllOpaque, AreEndings}
 use Rattle.tmw_bench.specs.declared.benched.Benched.{Benched}
 use Rattle.tmw_defs.specs.Opaque.{zeros}
@@ -19,6 +23,26 @@ use Rattle.tmw_ring_defs.specs.Sizes.{HasNumbers}
 use Rattle.tmw_runs.specs.Scripts.{script_of, scripts_of}
 use Rattle.tmw_bench.proofs.bench.run_bench.Goals as goal
 
+pub play_rounds-requires-clause-scripts : goal.play_rounds-requires-clause-scripts
+play_rounds-requires-clause-scripts g c κs within =
+    let workload = c.args.workload.now in
+    let scripts = scripts_of workload.scripts.items in
+    subst (λ (l : List (Vec (Vec Kind))). AreTransactions (scripts_of l)) (sym c.as_slice.ensures.value)
+    (workload.registers.number, are_transactions-workload workload.registers.number scripts workload.order.items workload.is)
+
+pub settle-requires-clause-count : goal.settle-requires-clause-count
+settle-requires-clause-count g c =
+    let workload = c.args.workload.now in
+    let rules = rules_of workload.registers zeros c.args.settings.bounds in
+    let begun = c.in_ok-left.ensures.begun rules (subst (Fits rules []) (sym c.new-pump.ensures.monitor) c.in-Ok-new.ensures.fits) in
+    let counted = begun.after.played.counted in
+    let scripts = length-map c.as_slice.result.now script_of in
+    let same : length c.as_slice.result.now ≡ length workload.scripts.items = ap (λ (l : List (Vec (Vec Kind))). length l) c.as_slice.ensures.value in
+    let sized = c.in-Ok.ensures.ok.sized.writers_are in
+    let threads = c.len-threads.ensures in
+    let whole = workload.scripts.ok.0 in
+    omega (arith, counted, scripts, same, sized, threads, whole)
+
 pub returns-clause-ok : goal.returns-clause-ok
 returns-clause-ok g c =
     let workload = c.args.workload.now in
@@ -29,7 +53,10 @@ returns-clause-ok g c =
     let ring = c.in-Ok.made.0 in
     let left = c.in_ok-left.left in
     let played = c.in_ok-left.ensures in
-    let begun = played.begun in
+    let begun : HaveBegun rules gives ring scripts left.rounds left.pump.forgetting.reader left.pump.forgetting.front left.writers.items left.stops.items =
+    subst (λ (l : List (Vec (Vec Kind))). HaveBegun rules gives ring (scripts_of l) left.rounds left.pump.forgetting.reader
+    left.pump.forgetting.front left.writers.items left.stops.items) c.as_slice.ensures.value
+    (played.begun rules (subst (Fits rules []) (sym c.new-pump.ensures.monitor) c.in-Ok-new.ensures.fits)) in
     let after = begun.after in
     let front = left.pump.forgetting.front in
     let reader = left.pump.forgetting.reader in
@@ -41,7 +68,7 @@ returns-clause-ok g c =
     let ends = c.in-Ok-ends_of.ends in
     let log = c.in-Ok-judge_rest.log in
     let verdict = c.in-Ok-judge_rest.verdict in
-    let benched : Benched = record { outcome = record { log = log; verdict = verdict; ends = ends }; rounds = c.in_ok-left.rounds } in
+    let benched : Benched = record { outcome = record { log = log; verdict = verdict; ends = ends }; rounds = left.rounds } in
     let threads : length workload.scripts.items ≡ length scripts = sym (length-map workload.scripts.items script_of) in
     let sized : c.len-threads.result ≡ length workload.scripts.items =
     (let one = c.len-threads.ensures in let two = workload.scripts.ok.0 in omega (arith, one, two)) in

@@ -1,0 +1,163 @@
+-- A worker, from one round to the next, and to its end.
+use Rattle.std.proofs.Common.{◌≡◌, ◌≤◌, ◌+◌, ◌++◌, ℕ, List, [], ◌∷◌, Option, Some, None, length, refl, sym, ap, ◌∙◌, subst, arith}
+use Rattle.std.specs.Prelude.{All}
+use Rattle.std.proofs.lemmas.List.{length_push}
+use Rattle.rtrb.specs.Ring.{received, sent, SameConsumer, SameProducer}
+use Rattle.rtrb.specs.declared.producer.Producer.{Producer}
+use Rattle.rtrb.specs.declared.consumer.Consumer.{Consumer}
+use Rattle.tmw_bench.proofs.PlayedRounds.{ready-new, ready-met, played_last-worked}
+use Rattle.tmw_bench.specs.Rounds.{HasPlayedLast, IsReady}
+use Rattle.tmw_events.specs.declared.event.Kind.{Kind}
+use Rattle.tmw_bench.specs.Workers.{in_order, HasPlayedOn, HasSeen, IsBetween, IsSameWorker}
+use Rattle.tmw_bench.specs.declared.ended.Ended.{Ended}
+use Rattle.tmw_bench.specs.declared.worker.Worker.{Worker}
+use Rattle.tmw_recorded.specs.Recording.{kinds_made}
+use Rattle.tmw_ring.specs.Ends.{RingIs, WriterIs, WriterOf}
+use Rattle.tmw_ring.specs.Meeting.{FindsTail}
+use Rattle.tmw_ring.specs.declared.refused.Refused.{Refused}
+use Rattle.tmw_bench.specs.Meeting.{HasMet}
+use Rattle.tmw_tm.specs.Answers.{Call, Answer}
+use Rattle.tmw_work.specs.Working.{EndsWork, HasWorked}
+
+module _ {T A P : Type 0} where
+  pub up-then : (a b c : Producer T A P) → SameProducer a b → SameProducer b c → SameProducer a c
+  up-then a b c one two = (
+    (two.0.0 ∙ one.0.0, two.0.1 ∙ one.0.1, two.0.2 ∙ one.0.2, two.0.3 ∙ one.0.3),
+    two.1 ∙ one.1,
+  )
+
+  pub down-then : (a b c : Consumer T A P) → SameConsumer a b → SameConsumer b c → SameConsumer a c
+  down-then a b c one two = (
+    (two.0.0 ∙ one.0.0, two.0.1 ∙ one.0.1, two.0.2 ∙ one.0.2, two.0.3 ∙ one.0.3),
+    two.1 ∙ one.1,
+  )
+
+-- a writer that has found a tail has met there
+met-found : (tail : ℕ) (old new : WriterIs) → FindsTail tail old new → HasMet tail old new
+met-found tail old new found =
+    let is = found.counted in
+    let low = found.meets.reached in
+    let high = found.meets.seen in
+    record {
+      table = found.meets.table;
+      sized = found.meets.size;
+      number = found.meets.number;
+      made = found.meets.made;
+      reached = omega (arith, is, low);
+      seen = omega (arith, is, high);
+    }
+
+-- and one that has then been told of a bound behind it, and has seen it, has met at the bound
+met-told : (tail bound : ℕ) (old found new : WriterIs) → FindsTail tail old found → tail ≤ bound → HasSeen bound found new → HasMet bound old new
+met-told tail bound old found new finds behind seen =
+    let met = met-found tail old found finds in
+    let low = met.reached in
+    record {
+      table = seen.same.table ∙ met.table;
+      sized = seen.same.sized ∙ met.sized;
+      number = seen.same.number ∙ met.number;
+      made = seen.same.made ∙ met.made;
+      reached = omega (arith, low, behind);
+      seen = seen.reached;
+    }
+
+-- what was claimed stays so where a writer meets that was not stopped
+last-met : (gives : Call → Answer → Type 0) (script : List (List Kind)) (bounds : List ℕ) (tail : ℕ) (old new : WriterIs)
+    → HasPlayedLast gives script bounds old.made None old → HasMet tail old new → HasPlayedLast gives script bounds new.made None new
+last-met gives script bounds tail old new last met = record {
+  old = last.old;
+  fresh = last.fresh;
+  split = met.made ∙ last.split;
+  played = last.played;
+  later = last.later;
+  earlier = λ place fallback low. omega (arith, last.earlier place fallback low, met.reached, met.seen);
+  seen = omega (arith, last.seen, met.reached, met.seen);
+  found = last.found;
+  stands = last.stands;
+  ended = last.ended;
+}
+
+-- a new worker
+pub between-new : (gives : Call → Answer → Type 0) (ring : RingIs) (script : List (List Kind)) (worker : Worker) → WriterOf ring worker.writer
+    → worker.writer.made ≡ [] → received worker.down ≡ [] → sent worker.up ≡ [] → IsBetween gives ring script worker worker
+between-new gives ring script worker of_ring new none_told none_sent = record {
+  of_ring = of_ring;
+  same = record { number = refl; up = ((refl, refl, refl, refl), refl); down = ((refl, refl, refl, refl), refl) };
+  bounds = [];
+  told = none_told;
+  counted = ap (λ (l : List Ended). length l) none_sent;
+  ready = ready-new gives script worker.writer new;
+}
+
+module _ (gives : Call → Answer → Type 0) (ring : RingIs) (script : List (List Kind)) (first old new : Worker) (was : IsBetween gives ring script first old) where
+  -- It was stopped in a round, and has told of it.
+  pub played_on-stopped : (stop : Option Refused) (ended : Ended) → ended.stop ≡ stop → WriterOf ring new.writer → new.writer.number ≡ old.writer.number
+      → HasWorked gives script old.writer stop new.writer → SameProducer old.up new.up → sent new.up ≡ sent old.up ++ ended ∷ []
+      → new.down ≡ old.down → HasPlayedOn gives ring script first stop new
+  played_on-stopped stop ended stopped of_ring number worked up told down = record {
+    of_ring = of_ring;
+    same = record {
+      number = number ∙ was.same.number;
+      up = up-then first.up old.up new.up was.same.up up;
+      down = subst (SameConsumer first.down) (sym down) was.same.down;
+    };
+    bounds = was.bounds;
+    told = ap received down ∙ was.told;
+    earlier = sent old.up;
+    last = ended;
+    sent_all = told;
+    counted = was.counted;
+    stopped = stopped;
+    played = played_last-worked gives script was.bounds old.writer stop new.writer was.ready worked;
+  }
+
+  -- It was not stopped, has told of the round, and no further round begins.
+  pub played_on-over : (tail : ℕ) (stop : Option Refused) (ended : Ended) (worked : WriterIs) → stop ≡ None → ended.stop ≡ stop → WriterOf ring worked
+      → worked.number ≡ old.writer.number → HasWorked gives script old.writer stop worked → FindsTail tail worked new.writer
+      → SameProducer old.up new.up → sent new.up ≡ sent old.up ++ ended ∷ [] → SameConsumer old.down new.down → received new.down ≡ received old.down
+      → HasPlayedOn gives ring script first stop new
+  played_on-over tail stop ended worked not_stopped stopped of_ring number works finds up told down none_more =
+      let met = met-found tail worked new.writer finds in
+      let works_whole : HasWorked gives script old.writer None worked
+      = subst (λ (s : Option Refused). HasWorked gives script old.writer s worked) not_stopped works in
+      let last = last-met gives script was.bounds tail worked new.writer
+      (played_last-worked gives script was.bounds old.writer None worked was.ready works_whole) met in
+      record {
+        of_ring = (met.table ∙ of_ring.0, met.sized ∙ of_ring.1);
+        same = record {
+          number = met.number ∙ number ∙ was.same.number;
+          up = up-then first.up old.up new.up was.same.up up;
+          down = down-then first.down old.down new.down was.same.down down;
+        };
+        bounds = was.bounds;
+        told = none_more ∙ was.told;
+        earlier = sent old.up;
+        last = ended;
+        sent_all = told;
+        counted = was.counted;
+        stopped = stopped;
+        played = subst (λ (s : Option Refused). HasPlayedLast gives script was.bounds new.writer.made s new.writer) (sym not_stopped) last;
+      }
+
+  -- It was not stopped, has told of the round, was told of a bound behind it, and has seen it.
+  pub between-next : (tail bound : ℕ) (stop : Option Refused) (ended : Ended) (worked found : WriterIs) → stop ≡ None → WriterOf ring worked
+      → worked.number ≡ old.writer.number → HasWorked gives script old.writer stop worked → FindsTail tail worked found
+      → SameProducer old.up new.up → sent new.up ≡ sent old.up ++ ended ∷ [] → SameConsumer old.down new.down
+      → received new.down ≡ received old.down ++ bound ∷ [] → tail ≤ bound → HasSeen bound found new.writer
+      → IsBetween gives ring script first new
+  between-next tail bound stop ended worked found not_stopped of_ring number works finds up told down next behind seen =
+      let met = met-told tail bound worked found new.writer finds behind seen in
+      record {
+        of_ring = (met.table ∙ of_ring.0, met.sized ∙ of_ring.1);
+        same = record {
+          number = met.number ∙ number ∙ was.same.number;
+          up = up-then first.up old.up new.up was.same.up up;
+          down = down-then first.down old.down new.down was.same.down down;
+        };
+        bounds = bound ∷ was.bounds;
+        told = next ∙ ap (λ (l : List ℕ). l ++ bound ∷ []) was.told;
+        counted = let all : length (sent new.up) ≡ length (sent old.up) + 1 = ap (λ (l : List Ended). length l) told ∙ length_push (sent old.up) ended in
+            let before : length (sent old.up) ≡ length was.bounds = was.counted in omega (arith, all, before);
+        ready = ready-met gives script was.bounds bound worked stop new.writer not_stopped
+            (played_last-worked gives script was.bounds old.writer stop worked was.ready works) met;
+      }

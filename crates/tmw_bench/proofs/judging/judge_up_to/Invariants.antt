@@ -1,0 +1,7 @@
+-- More was judged.
+use Rattle.tmw_recorded.specs.Pumping.{GoesOn}
+use Rattle.tmw_ring.specs.Ends.{ReaderOf}
+use Rattle.tmw_bench.proofs.judging.judge_up_to.Given as goal
+
+abbrev pub invariant-loop : goal.invariant-loop
+invariant-loop g l = ReaderOf l.ring l.pump.forgetting.reader × GoesOn l.fn.pump.forgetting.front l.pump.forgetting.front

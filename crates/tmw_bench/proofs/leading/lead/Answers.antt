@@ -1,0 +1,76 @@
+use Rattle.std.proofs.Common.{◌≡◌, ◌+◌, ℕ, List, [], ◌∷◌, length, sym, ◌∙◌, subst, arith, refl}
+use Rattle.tmw_defs.specs.Verdict.{IsVerdict}
+use Rattle.tmw_bench.specs.Leading.{HasLedTo}
+use Rattle.tmw_bench.proofs.Leads.{led-heard, led-on, led-told, led-new}
+use Rattle.tmw_bench.proofs.leading.lead.Goals as goal
+
+pub loop-round-init : goal.loop-round-init
+loop-round-init g c = (
+  c.requires.reader,
+  refl,
+  λ rules fits. ([], refl, led-new rules c.args.lines.now c.args.pump.now.forgetting.front c.requires.new c.requires.judged fits),
+)
+
+pub returns-then-stopped-clause-led : goal.returns-then-stopped-clause-led
+returns-then-stopped-clause-led g c = λ rules fits.
+    let at = c.loop-round in
+    let was = at.invariant.2 rules fits in
+    let one = c.in_ok-tail.ensures in record {
+      bounds = was.0;
+      counted = was.1;
+      led = subst (λ (n : ℕ). HasLedTo rules n was.0 c.hear_all.new.pump.forgetting.front c.args.lines.now c.hear_all.new.lines) (sym was.1)
+          (led-heard rules was.0 c.args.lines.now at.lines c.hear_all.new.lines at.pump.forgetting.front c.hear_all.new.pump.forgetting.front
+          was.2 one.heard one.goes_on);
+    }
+
+pub returns-then-not-is_opaque_so_far-clause-led : goal.returns-then-not-is_opaque_so_far-clause-led
+returns-then-not-is_opaque_so_far-clause-led g c = λ rules fits.
+    let at = c.loop-round in
+    let was = at.invariant.2 rules fits in
+    let one = c.in_ok-tail.ensures in record {
+      bounds = was.0;
+      counted = was.1;
+      led = subst (λ (n : ℕ). HasLedTo rules n was.0 c.judge_up_to.new.pump.forgetting.front c.args.lines.now c.hear_all.new.lines) (sym was.1)
+          (led-on rules was.0 c.args.lines.now c.hear_all.new.lines c.hear_all.new.lines c.hear_all.new.pump.forgetting.front
+          c.judge_up_to.new.pump.forgetting.front (length was.0 + 1)
+          (led-heard rules was.0 c.args.lines.now at.lines c.hear_all.new.lines at.pump.forgetting.front c.hear_all.new.pump.forgetting.front
+          was.2 one.heard one.goes_on) c.in_ok-judge_up_to.ensures.goes_on);
+    }
+
+pub loop-round-preserved : goal.loop-round-preserved
+loop-round-preserved g c =
+    let at = c.loop-round in
+    let one = c.in_ok-tail.ensures in
+    let two = c.in_ok-judge_up_to.ensures in
+    let told = c.tell_all.ensures in (
+      two.of_ring,
+      told.counted ∙ one.heard.counted ∙ at.invariant.1,
+      λ rules fits.
+          let was = at.invariant.2 rules fits in
+          let led = led-on rules was.0 c.args.lines.now c.hear_all.new.lines c.hear_all.new.lines c.hear_all.new.pump.forgetting.front
+          c.judge_up_to.new.pump.forgetting.front (length was.0 + 1)
+          (led-heard rules was.0 c.args.lines.now at.lines c.hear_all.new.lines at.pump.forgetting.front c.hear_all.new.pump.forgetting.front
+          was.2 one.heard one.goes_on) two.goes_on in
+          let verdict = subst (IsVerdict rules c.judge_up_to.new.pump.forgetting.front.judged.items) c.if-not-is_opaque_so_far.ensures
+          (c.verdict.ensures.fits rules led.fits) in (
+            c.in_ok-tail.tail ∷ was.0,
+            (let n = was.1 in omega (arith, n)),
+            subst (λ (n : ℕ). HasLedTo rules n (c.in_ok-tail.tail ∷ was.0) c.judge_up_to.new.pump.forgetting.front c.args.lines.now c.tell_all.new.lines)
+                (omega arith)
+                (led-told rules was.0 c.in_ok-tail.tail c.args.lines.now c.hear_all.new.lines c.tell_all.new.lines
+                c.judge_up_to.new.pump.forgetting.front led two.judged verdict told),
+          ),
+    )
+
+pub returns-clause-led : goal.returns-clause-led
+returns-clause-led g c = λ rules fits.
+    let at = c.loop-round in
+    let was = at.invariant.2 rules fits in
+    let one = c.in_ok-hear_all.ensures in
+    let all : at.round ≡ c.args.rounds = (let t = c.loop-round-test.false in let a = at.auto.round in let b = at.auto.round-end in let s = c.requires.some in omega (arith, t, a, b, s)) in record {
+      bounds = was.0;
+      counted = sym all ∙ was.1;
+      led = subst (λ (n : ℕ). HasLedTo rules n was.0 c.hear_all-2.new.pump.forgetting.front c.args.lines.now c.hear_all-2.new.lines) (sym was.1 ∙ all)
+          (led-heard rules was.0 c.args.lines.now at.lines c.hear_all-2.new.lines at.pump.forgetting.front c.hear_all-2.new.pump.forgetting.front
+          was.2 one.heard one.goes_on);
+    }

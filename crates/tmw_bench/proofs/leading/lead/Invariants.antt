@@ -1,0 +1,13 @@
+-- So many rounds have ended, and the workers were told where.
+use Rattle.std.proofs.Common.{◌≡◌, ◌+◌, ℕ, List, [], length}
+use Rattle.tmw_defs.specs.Verdict.{Rules}
+use Rattle.tmw_bench.specs.Leading.{HasLedTo}
+use Rattle.tmw_monitor.specs.Fitting.{Fits}
+use Rattle.tmw_ring.specs.Ends.{ReaderOf}
+use Rattle.tmw_bench.proofs.leading.lead.Given as goal
+
+abbrev pub invariant-loop-round : goal.invariant-loop-round
+invariant-loop-round g l =
+    ReaderOf l.ring l.pump.forgetting.reader × (length l.lines ≡ length l.fn.lines)
+    × ((rules : Rules) → Fits rules [] l.fn.pump.forgetting.front.monitor
+    → (bounds : List ℕ) × (l.round ≡ length bounds + 1) × HasLedTo rules (length bounds) bounds l.pump.forgetting.front l.fn.lines l.lines)

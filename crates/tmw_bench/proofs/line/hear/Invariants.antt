@@ -1,0 +1,11 @@
+-- Nothing was heard yet.
+use Rattle.std.proofs.Common.{◌≡◌}
+use Rattle.rtrb.specs.Ring.{received, SameConsumer}
+use Rattle.tmw_recorded.specs.Pumping.{GoesOn}
+use Rattle.tmw_ring.specs.Ends.{ReaderOf}
+use Rattle.tmw_bench.proofs.line.hear.Given as goal
+
+abbrev pub invariant-loop : goal.invariant-loop
+invariant-loop g l =
+    ReaderOf l.ring l.pump.forgetting.reader × GoesOn l.initial.pump.forgetting.front l.pump.forgetting.front
+    × SameConsumer l.initial.line.up l.line.up × (received l.line.up ≡ received l.initial.line.up) × (l.line.down ≡ l.initial.line.down)

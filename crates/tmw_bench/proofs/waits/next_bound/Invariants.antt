@@ -1,0 +1,7 @@
+-- Nothing was taken yet.
+use Rattle.std.proofs.Common.{◌≡◌}
+use Rattle.rtrb.specs.Ring.{received, SameConsumer}
+use Rattle.tmw_bench.proofs.waits.next_bound.Given as goal
+
+abbrev pub invariant-loop : goal.invariant-loop
+invariant-loop g l = SameConsumer l.initial.down l.down × (received l.down ≡ received l.initial.down)

@@ -1,0 +1,8 @@
+-- The writer has only seen more.
+use Rattle.std.proofs.Common.{◌≡◌}
+use Rattle.tmw_ring.specs.Ends.{WriterOf}
+use Rattle.tmw_bench.specs.Meeting.{HasOnlySeen}
+use Rattle.tmw_bench.proofs.waits.see.Given as goal
+
+abbrev pub invariant-loop : goal.invariant-loop
+invariant-loop g l = WriterOf l.ring l.writer × HasOnlySeen l.initial.writer l.writer

@@ -1,0 +1,7 @@
+-- Nothing was told yet.
+use Rattle.std.proofs.Common.{◌≡◌}
+use Rattle.rtrb.specs.Ring.{sent, SameProducer}
+use Rattle.tmw_bench.proofs.waits.tell_bound.Given as goal
+
+abbrev pub invariant-loop : goal.invariant-loop
+invariant-loop g l = SameProducer l.initial.down l.down × (sent l.down ≡ sent l.initial.down)

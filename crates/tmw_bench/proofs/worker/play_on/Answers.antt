@@ -1,0 +1,44 @@
+use Rattle.std.proofs.Common.{◌≡◌, Option, None, refl, ap, sym, ◌∙◌}
+use Rattle.tmw_drive.specs.Playing.{calls_of}
+use Rattle.tmw_bench.proofs.Returns.{worked-more}
+use Rattle.tmw_bench.proofs.Between.{between-new, between-next, played_on-stopped, played_on-over}
+use Rattle.tmw_bench.proofs.worker.play_on.Goals as goal
+
+pub loop-init : goal.loop-init
+loop-init g c =
+    between-new g.J.Giving.gave c.args.stage.ring.now (calls_of c.args.script.now) c.args.worker.now
+    c.requires.of_ring c.requires.new c.requires.told c.requires.sent
+
+pub loop-preserved : goal.loop-preserved
+loop-preserved g c =
+    let worked = c.work-stop in
+    let next = c.in-Some-next_bound.ensures in
+    let works = worked-more ((goal.Tm-dyn g c.args.memory.now).gives c.args.memory.now.1) g.J.Giving.gave (calls_of c.args.script.now)
+    c.loop.worker.writer worked.new.writer c.work-stop.result c.requires.gives worked.ensures.worked in
+    between-next g.J.Giving.gave c.args.stage.ring.now (calls_of c.args.script.now) c.args.worker.now
+    c.loop.worker (record { writer = c.see.new.writer; up = c.tell-in-loop.new.up; down = c.next_bound.new.down }) c.loop.invariant
+    c.find_tail-tail.result c.in-Some-next_bound.bound c.work-stop.result
+    (record { tail = c.find_tail-tail.result; stop = c.work-stop.result }) worked.new.writer c.find_tail-tail.new.writer
+    c.in_default.is worked.ensures.of_ring worked.ensures.number works c.find_tail-tail.ensures
+    c.tell-in-loop.ensures.ring c.tell-in-loop.ensures.sent next.ring next.next.1 next.next.0 c.see.ensures
+
+pub returns-in-Some-stop : goal.returns-in-Some-stop
+returns-in-Some-stop g c =
+    let worked = c.work-stop in
+    let works = worked-more ((goal.Tm-dyn g c.args.memory.now).gives c.args.memory.now.1) g.J.Giving.gave (calls_of c.args.script.now)
+    c.loop.worker.writer worked.new.writer c.work-stop.result c.requires.gives worked.ensures.worked in
+    played_on-stopped g.J.Giving.gave c.args.stage.ring.now (calls_of c.args.script.now) c.args.worker.now c.loop.worker
+    (record { writer = worked.new.writer; up = c.tell.new.up; down = c.loop.worker.down }) c.loop.invariant worked.result
+    (record { tail = 0; stop = worked.result }) refl worked.ensures.of_ring worked.ensures.number works c.tell.ensures.ring c.tell.ensures.sent refl
+
+pub returns-in_default-next_bound : goal.returns-in_default-next_bound
+returns-in_default-next_bound g c =
+    let worked = c.work-stop in
+    let over = c.in_default-next_bound.ensures in
+    let works = worked-more ((goal.Tm-dyn g c.args.memory.now).gives c.args.memory.now.1) g.J.Giving.gave (calls_of c.args.script.now)
+    c.loop.worker.writer worked.new.writer c.work-stop.result c.requires.gives worked.ensures.worked in
+    played_on-over g.J.Giving.gave c.args.stage.ring.now (calls_of c.args.script.now) c.args.worker.now c.loop.worker
+    (record { writer = c.find_tail-tail.new.writer; up = c.tell-in-loop.new.up; down = c.next_bound.new.down }) c.loop.invariant
+    c.find_tail-tail.result worked.result (record { tail = c.find_tail-tail.result; stop = worked.result }) worked.new.writer
+    c.in_default.is refl worked.ensures.of_ring worked.ensures.number works c.find_tail-tail.ensures
+    c.tell-in-loop.ensures.ring c.tell-in-loop.ensures.sent over.ring over.over

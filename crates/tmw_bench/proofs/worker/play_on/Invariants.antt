@@ -1,0 +1,8 @@
+-- The worker is between two rounds.
+use Rattle.std.proofs.Common.{◌≡◌}
+use Rattle.tmw_drive.specs.Playing.{calls_of}
+use Rattle.tmw_bench.specs.Workers.{IsBetween}
+use Rattle.tmw_bench.proofs.worker.play_on.Given as goal
+
+abbrev pub invariant-loop : goal.invariant-loop
+invariant-loop g l = IsBetween g.J.Giving.gave l.stage.ring.now (calls_of l.script) l.initial.worker l.worker

@@ -1,0 +1,90 @@
+//! The leader's ends of the lines to its workers.
+ghost use Rattle.std.specs.Prelude.{◌≡◌, length, IfOk, OnOk, IsTrue, IsSome};
+ghost use Rattle.tmw_bench.specs.Leading.{HasHeard, HaveHeardUpTo, HaveToldUpTo, SomeToldStop};
+ghost use Rattle.tmw_recorded.specs.Pumping.{GoesOn};
+ghost use Rattle.tmw_ring.specs.Ends.{ReaderOf};
+
+use crate::ended::Ended;
+use crate::waits::{pause, tell_bound};
+use rtrb::{Consumer, Producer};
+use std::alloc::AllocError;
+use std::sync::Wait;
+use tmw_pump::Pump;
+use tmw_ring::Ring;
+
+/// So many events are judged at once before it is asked whether a worker has ended.
+const TURN: u64 = 64;
+
+/// The leader's ends of the line to one worker.
+#[derive(Drop)]
+pub struct Line {
+    pub up: Consumer<Ended>,
+    pub down: Producer<u64>,
+}
+
+/// Waits until a worker has told that its round has ended, and judges meanwhile what is recorded.
+fn hear<R: Wait>(rt: &R, ring: &Ring, pump: &mut Pump, line: &mut Line) -> Result<Ended, AllocError>
+    requires reader { ReaderOf ring.now pump.old.forgetting.reader }
+    ensures reader { OnOk result (ReaderOf ring.now pump.new.forgetting.reader) }
+    ensures goes_on { OnOk result (GoesOn pump.old.forgetting.front pump.new.forgetting.front) }
+    ensures heard { IfOk result (λ ended. HasHeard ended line.old line.new) }
+{
+    let mut idle = 0u64;
+    for _ in rt.forever() {
+        if let Ok(ended) = line.up.pop() {
+            return Ok(ended);
+        }
+        let pumped = pump.pump(ring, TURN)?;
+        idle = if pumped.judged > 0 {
+            0
+        } else {
+            idle.saturating_add(1)
+        };
+        pause(idle);
+    }
+    unreachable!()
+}
+
+/// Whether the worker was stopped.
+fn is_stopped(ended: &Ended) -> bool
+    ensures { IsTrue result → IsSome ended.now.stop }
+{
+    ended.stop.is_some()
+}
+
+/// Waits until all workers have told that their round has ended. Answers the most places that one of them has found claimed, and
+/// whether some worker was stopped.
+pub fn hear_all<R: Wait>(
+    rt: &R,
+    ring: &Ring,
+    pump: &mut Pump,
+    lines: &mut [Line],
+) -> Result<(u64, bool), AllocError>
+    requires reader { ReaderOf ring.now pump.old.forgetting.reader }
+    ensures reader { OnOk result (ReaderOf ring.now pump.new.forgetting.reader) }
+    ensures goes_on { OnOk result (GoesOn pump.old.forgetting.front pump.new.forgetting.front) }
+    ensures heard { OnOk result (HaveHeardUpTo (length lines.old) lines.old lines.new) }
+    ensures stopped { IfOk result (λ heard. IsTrue heard.1 → SomeToldStop (length lines.old) lines.new) }
+{
+    let mut most = 0;
+    let mut stopped = false;
+    for line in lines.iter_mut() {
+        let ended = hear(rt, ring, pump, line)?;
+        if ended.tail > most {
+            most = ended.tail;
+        }
+        if is_stopped(&ended) {
+            stopped = true;
+        }
+    }
+    Ok((most, stopped))
+}
+
+/// Tells all workers where the round has ended.
+pub fn tell_all<R: Wait>(rt: &R, lines: &mut [Line], bound: u64)
+    ensures { HaveToldUpTo bound (length lines.old) lines.old lines.new }
+{
+    for line in lines.iter_mut() {
+        tell_bound(rt, &mut line.down, bound);
+    }
+}

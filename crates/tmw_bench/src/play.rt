@@ -1,0 +1,151 @@
+//! All rounds, by workers that live as long.
+ghost use Rattle.std.specs.Prelude.{◌≡◌, ◌≤◌, ◌<◌, [], length, IfOk, IfErr};
+ghost use Rattle.tmw_bench.specs.Begun.{HaveBegun, IsOver};
+ghost use Rattle.tmw_bench.specs.Playing.{AreTransactions, GivesWithin, IsOfThreads};
+ghost use Rattle.tmw_defs.specs.Verdict.{Rules};
+ghost use Rattle.tmw_monitor.specs.Fitting.{Fits};
+ghost use Rattle.tmw_ring.specs.Ends.{ReaderOf};
+ghost use Rattle.tmw_ring.specs.NewRing.{AreNewWriters};
+ghost use Rattle.tmw_runs.specs.Scripts.{scripts_of};
+
+use crate::close::close_all;
+use crate::fault::BenchFault;
+use crate::giving::Giving;
+use crate::leading::lead;
+use crate::open::open_all;
+use crate::stage::Stage;
+use crate::threads::start_all;
+use std::alloc::Global;
+use std::sync::Wait;
+use std::thread;
+use std::thread::{Scope, Threads};
+use tmw_pump::Pump;
+use tmw_ring::{Refused, Writer};
+use tmw_tm::Tm;
+
+/// What the last round has left: the pump, the writers, the refusals at which workers were stopped, and how many rounds were begun.
+#[derive(Drop)]
+pub struct Left {
+    pub pump: Pump,
+    pub writers: Vec<Writer>,
+    pub stops: Vec<Option<Refused>>,
+    pub rounds: u64,
+}
+
+/// Carries the scripts out round after round, and answers what the last round has left. None is left out but behind one after which
+/// the verdict is not opaque so far, or in which a worker was stopped. All workers have ended, also where it fails.
+pub fn play_rounds<R: Threads + Wait + Sync, J: Giving + Send>(
+    rt: &R,
+    alloc: Global,
+    memory: &(dyn Tm + Sync),
+    stage: Stage<'_>,
+    pump: Pump,
+    writers: Vec<Writer>,
+) -> Result<Left, BenchFault>
+    requires gives { GivesWithin (gives memory.now) J.gave }
+    requires reader { ReaderOf stage.ring.now pump.forgetting.reader }
+    requires writers { AreNewWriters stage.ring.now writers.items }
+    requires count { length writers.items ≡ length stage.scripts.now }
+    requires scripts { AreTransactions (scripts_of stage.scripts.now) }
+    requires judged { pump.forgetting.front.judged.items ≡ [] }
+    requires fits { (rules : Rules) × Fits rules [] pump.forgetting.front.monitor }
+    requires some { 1 ≤ stage.rounds }
+    ensures begun { IfOk result (λ left. (rules : Rules) → Fits rules [] pump.forgetting.front.monitor
+        → HaveBegun rules J.gave stage.entry.ring.now (scripts_of stage.entry.scripts.now) left.rounds
+        left.pump.forgetting.reader left.pump.forgetting.front left.writers.items left.stops.items) }
+    ensures within { IfOk result (λ left. left.rounds ≤ stage.entry.rounds) }
+    ensures over { IfOk result (λ left. left.rounds < stage.entry.rounds
+        → IsOver left.stops.items left.pump.forgetting.front) }
+    ensures err { IfErr result IsOfThreads }
+{
+    thread::scope(
+        thread::scope_env(),
+        rt,
+        move |scope| -> Result<Left, BenchFault>
+            requires gives { GivesWithin (gives memory.now) J.gave }
+            requires reader { ReaderOf stage.ring.now pump.forgetting.reader }
+            requires writers { AreNewWriters stage.ring.now writers.items }
+            requires count { length writers.items ≡ length stage.scripts.now }
+            requires scripts { AreTransactions (scripts_of stage.scripts.now) }
+            requires judged { pump.forgetting.front.judged.items ≡ [] }
+            requires fits { (rules : Rules) × Fits rules [] pump.forgetting.front.monitor }
+            requires some { 1 ≤ stage.rounds }
+            ensures begun { IfOk result (λ left. (rules : Rules) → Fits rules [] pump.forgetting.front.monitor
+                → HaveBegun rules J.gave stage.entry.ring.now (scripts_of stage.entry.scripts.now) left.rounds
+                left.pump.forgetting.reader left.pump.forgetting.front left.writers.items left.stops.items) }
+            ensures within { IfOk result (λ left. left.rounds ≤ stage.entry.rounds) }
+            ensures over { IfOk result (λ left. left.rounds < stage.entry.rounds
+                → IsOver left.stops.items left.pump.forgetting.front) }
+            ensures err { IfErr result IsOfThreads }
+        { play_within::<_, R, J>(rt, scope, alloc, memory, stage, pump, writers) },
+    )
+}
+
+/// The rounds, by threads of this scope. Where it fails, threads that find the ring full stop.
+fn play_within<'s, E, R: Threads + Wait + Sync, J: Giving + Send + 's>(
+    rt: &'s R,
+    scope: &Scope<'s, E>,
+    alloc: Global,
+    memory: &'s (dyn Tm + Sync),
+    stage: Stage<'s>,
+    mut pump: Pump,
+    writers: Vec<Writer>,
+) -> Result<Left, BenchFault>
+    requires gives { GivesWithin (gives memory.now) J.gave }
+    requires reader { ReaderOf stage.ring.now pump.forgetting.reader }
+    requires writers { AreNewWriters stage.ring.now writers.items }
+    requires count { length writers.items ≡ length stage.scripts.now }
+    requires scripts { AreTransactions (scripts_of stage.scripts.now) }
+    requires judged { pump.forgetting.front.judged.items ≡ [] }
+    requires fits { (rules : Rules) × Fits rules [] pump.forgetting.front.monitor }
+    requires some { 1 ≤ stage.rounds }
+    ensures begun { IfOk result (λ left. (rules : Rules) → Fits rules [] pump.forgetting.front.monitor
+        → HaveBegun rules J.gave stage.entry.ring.now (scripts_of stage.entry.scripts.now) left.rounds
+        left.pump.forgetting.reader left.pump.forgetting.front left.writers.items left.stops.items) }
+    ensures within { IfOk result (λ left. left.rounds ≤ stage.entry.rounds) }
+    ensures over { IfOk result (λ left. left.rounds < stage.entry.rounds
+        → IsOver left.stops.items left.pump.forgetting.front) }
+    ensures err { IfErr result IsOfThreads }
+{
+    let Ok((workers, mut lines)) = open_all(alloc, writers) else {
+        return Err(BenchFault::Memory);
+    };
+    let handles = match start_all::<E, R, J>(rt, scope, alloc, memory, stage, workers) {
+        Ok(handles) => handles,
+        Err(fault) => {
+            give_up(stage);
+            return Err(fault);
+        }
+    };
+    let led = lead(
+        rt,
+        stage.ring,
+        &mut pump,
+        lines.as_mut_slice(),
+        stage.rounds,
+        stage.orders,
+    );
+    let Ok(rounds) = led else {
+        give_up(stage);
+        return Err(BenchFault::Memory);
+    };
+    stage.orders.end();
+    let Ok(back) = thread::join_promised(rt, handles) else {
+        return Err(BenchFault::Memory);
+    };
+    let Ok((writers, stops)) = close_all(alloc, back, lines) else {
+        return Err(BenchFault::Memory);
+    };
+    Ok(Left {
+        pump,
+        writers,
+        stops,
+        rounds,
+    })
+}
+
+/// Nobody leads or pumps any more, so that each worker ends.
+fn give_up(stage: Stage<'_>) {
+    stage.signals.give_up();
+    stage.orders.end();
+}

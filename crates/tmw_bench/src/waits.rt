@@ -1,0 +1,122 @@
+//! What a worker waits for between two rounds, and its leader.
+ghost use Rattle.std.specs.Prelude.{◌≡◌, ◌≤◌, [], ◌∷◌, ◌++◌, IfSome, IfNone};
+ghost use Rattle.rtrb.specs.Ring.{received, sent, SameConsumer, SameProducer};
+ghost use Rattle.tmw_ring.specs.Ends.{WriterOf};
+ghost use Rattle.tmw_bench.specs.Workers.{HasSeen};
+
+use crate::ended::Ended;
+use crate::orders::Orders;
+use rtrb::{Consumer, Producer, PushError};
+use std::sync::Wait;
+use std::{hint, thread};
+use tmw_recorded::Signals;
+use tmw_ring::{Ring, Writer};
+
+/// So often a thread looks at once. Then it lets others run before each look, or sleeps.
+const SPINS: u64 = 1_000;
+
+/// So often a worker looks whether all have begun a round. Then it works without the others.
+const LOOKS: u64 = 1_000_000;
+
+/// Lets some time pass, more after many looks.
+pub fn pause(look: u64) {
+    if look < SPINS {
+        hint::spin_loop();
+    } else {
+        thread::yield_now();
+    }
+}
+
+/// Waits until workers have begun a round so often, so that all work at once, but not for ever, and not where none is to begin.
+pub fn wait_for_all(signals: &Signals, orders: &Orders, begun: u64) {
+    for look in 0..LOOKS {
+        if signals.begun() >= begun || orders.is_over() {
+            return;
+        }
+        pause(look);
+    }
+}
+
+/// Waits until it is told where the round has ended, behind so many places. None where no further round begins.
+pub fn next_bound<R: Wait>(
+    rt: &R,
+    down: &mut Consumer<u64>,
+    tail: u64,
+    orders: &Orders,
+) -> Option<u64>
+    ensures ring { SameConsumer down.old down.new }
+    ensures next { IfSome result (λ bound. (tail ≤ bound) × (received down.new ≡ received down.old ++ bound ∷ [])) }
+    ensures over { IfNone result (received down.new ≡ received down.old) }
+{
+    let mut look = 0u64;
+    for _ in rt.forever() {
+        // Asked before the line is looked into, so that the last bound is not missed.
+        let told = orders.told();
+        let over = orders.is_over();
+        if down.slots() > 0 {
+            let bound = *down.peek_known();
+            if tail <= bound {
+                return Some(down.pop_known());
+            }
+        } else if over {
+            return None;
+        }
+        look = look.saturating_add(1);
+        if look < SPINS {
+            hint::spin_loop();
+        } else {
+            orders.sleep(rt, told);
+        }
+    }
+    unreachable!()
+}
+
+/// Waits until the writer has seen so many places claimed.
+pub fn see<R: Wait>(rt: &R, ring: &Ring, writer: &mut Writer, bound: u64)
+    requires { WriterOf ring.now writer.old }
+    ensures { HasSeen bound writer.old writer.new }
+{
+    let mut look = 0u64;
+    for _ in rt.forever() {
+        if ring.find_tail(writer) >= bound {
+            return;
+        }
+        look = look.saturating_add(1);
+        pause(look);
+    }
+    unreachable!()
+}
+
+/// Tells the leader that the round has ended.
+pub fn tell<R: Wait>(rt: &R, up: &mut Producer<Ended>, ended: Ended)
+    ensures ring { SameProducer up.old up.new }
+    ensures sent { sent up.new ≡ sent up.old ++ ended ∷ [] }
+{
+    let mut ended = ended;
+    let mut look = 0u64;
+    for _ in rt.forever() {
+        match up.push(ended) {
+            Ok(()) => return,
+            Err(PushError::Full(back)) => ended = back,
+        }
+        look = look.saturating_add(1);
+        pause(look);
+    }
+    unreachable!()
+}
+
+/// Tells a worker where the round has ended.
+pub fn tell_bound<R: Wait>(rt: &R, down: &mut Producer<u64>, bound: u64)
+    ensures ring { SameProducer down.old down.new }
+    ensures sent { sent down.new ≡ sent down.old ++ bound ∷ [] }
+{
+    let mut look = 0u64;
+    for _ in rt.forever() {
+        if let Ok(()) = down.push(bound) {
+            return;
+        }
+        look = look.saturating_add(1);
+        pause(look);
+    }
+    unreachable!()
+}
