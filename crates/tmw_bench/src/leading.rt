@@ -37,7 +37,7 @@ pub fn lead<R: Wait>(
         → SomeToldStop (length lines.old) lines.new ⊎ (pump.new.forgetting.front.monitor.verdict ≢ OpaqueSoFar)) }
 {
     for round in 1..rounds {
-        let (tail, stopped) = hear_all(rt, ring, pump, lines)?;
+        let (tail, stopped) = hear_all(rt, ring, pump, lines, orders)?;
         if stopped {
             return Ok(round);
         }
@@ -46,9 +46,9 @@ pub fn lead<R: Wait>(
             return Ok(round);
         }
         tell_all(rt, lines, tail);
-        orders.tell();
+        orders.told.rise(1);
     }
-    hear_all(rt, ring, pump, lines)?;
+    hear_all(rt, ring, pump, lines, orders)?;
     Ok(rounds)
 }
 

@@ -4,6 +4,7 @@
 mod bench;
 mod benched;
 mod close;
+mod count;
 mod ended;
 mod ends;
 mod fault;

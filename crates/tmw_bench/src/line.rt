@@ -5,7 +5,8 @@ ghost use Rattle.tmw_recorded.specs.Pumping.{GoesOn};
 ghost use Rattle.tmw_ring.specs.Ends.{ReaderOf};
 
 use crate::ended::Ended;
-use crate::waits::{pause, tell_bound};
+use crate::orders::Orders;
+use crate::waits::{tell_bound, wait};
 use rtrb::{Consumer, Producer};
 use std::alloc::AllocError;
 use std::sync::Wait;
@@ -23,7 +24,13 @@ pub struct Line {
 }
 
 /// Waits until a worker has told that its round has ended, and judges meanwhile what is recorded.
-fn hear<R: Wait>(rt: &R, ring: &Ring, pump: &mut Pump, line: &mut Line) -> Result<Ended, AllocError>
+fn hear<R: Wait>(
+    rt: &R,
+    ring: &Ring,
+    pump: &mut Pump,
+    line: &mut Line,
+    orders: &Orders,
+) -> Result<Ended, AllocError>
     requires reader { ReaderOf ring.now pump.old.forgetting.reader }
     ensures reader { OnOk result (ReaderOf ring.now pump.new.forgetting.reader) }
     ensures goes_on { OnOk result (GoesOn pump.old.forgetting.front pump.new.forgetting.front) }
@@ -31,6 +38,7 @@ fn hear<R: Wait>(rt: &R, ring: &Ring, pump: &mut Pump, line: &mut Line) -> Resul
 {
     let mut idle = 0u64;
     for _ in rt.forever() {
+        let count = orders.ended.get();
         if let Ok(ended) = line.up.pop() {
             return Ok(ended);
         }
@@ -40,7 +48,7 @@ fn hear<R: Wait>(rt: &R, ring: &Ring, pump: &mut Pump, line: &mut Line) -> Resul
         } else {
             idle.saturating_add(1)
         };
-        pause(idle);
+        wait(rt, idle, &orders.ended, count);
     }
     unreachable!()
 }
@@ -59,6 +67,7 @@ pub fn hear_all<R: Wait>(
     ring: &Ring,
     pump: &mut Pump,
     lines: &mut [Line],
+    orders: &Orders,
 ) -> Result<(u64, bool), AllocError>
     requires reader { ReaderOf ring.now pump.old.forgetting.reader }
     ensures reader { OnOk result (ReaderOf ring.now pump.new.forgetting.reader) }
@@ -69,7 +78,7 @@ pub fn hear_all<R: Wait>(
     let mut most = 0;
     let mut stopped = false;
     for line in lines.iter_mut() {
-        let ended = hear(rt, ring, pump, line)?;
+        let ended = hear(rt, ring, pump, line, orders)?;
         if ended.tail > most {
             most = ended.tail;
         }

@@ -1,50 +1,35 @@
-use std::sync::Wait;
-use std::sync::atomic::{AtomicBool, AtomicU64, Ordering};
+use crate::count::Count;
+use std::sync::atomic::{AtomicBool, Ordering};
 
-/// What the leader tells its workers beside the bounds: that it has told one, and that no further round begins. No clause rests on
-/// it: it saves a worker that waits long the looking.
+/// What a leader and its workers tell all, beside what goes by their lines. No clause rests on it: it saves those that wait long the
+/// looking.
 #[derive(Drop)]
 pub struct Orders {
+    /// How often a worker has begun a round.
+    pub begun: Count,
+    /// How often one has ended a round.
+    pub ended: Count,
+    /// How often the leader has told something.
+    pub told: Count,
     over: AtomicBool,
-    told: AtomicU64,
-    asleep: AtomicU64,
 }
 
 impl Orders {
     /// Nothing was told.
     pub fn new() -> Orders {
         Orders {
+            begun: Count::new(),
+            ended: Count::new(),
+            told: Count::new(),
             over: AtomicBool::new(false),
-            told: AtomicU64::new(0),
-            asleep: AtomicU64::new(0),
         }
-    }
-
-    /// Something was told: workers that sleep look again.
-    pub fn tell(&self) {
-        self.told.fetch_add(1, Ordering::SeqCst);
-        if self.asleep.load(Ordering::SeqCst) > 0 {
-            self.told.wake_all();
-        }
-    }
-
-    /// How often something was told.
-    pub fn told(&self) -> u64 {
-        self.told.load(Ordering::SeqCst)
-    }
-
-    /// Sleeps until something is told once more than so often, or for less.
-    pub fn sleep<R: Wait>(&self, rt: &R, told: u64) {
-        self.asleep.fetch_add(1, Ordering::SeqCst);
-        // The low 32 bits, which are what is slept on.
-        self.told.park(rt, (told % 0x1_0000_0000) as u32);
-        self.asleep.fetch_sub(1, Ordering::SeqCst);
     }
 
     /// No further round begins.
     pub fn end(&self) {
         self.over.store(true, Ordering::SeqCst);
-        self.tell();
+        self.told.rise(1);
+        self.begun.wake();
     }
 
     /// Whether no further round begins.

@@ -4,19 +4,23 @@ ghost use Rattle.rtrb.specs.Ring.{received, sent, SameConsumer, SameProducer};
 ghost use Rattle.tmw_ring.specs.Ends.{WriterOf};
 ghost use Rattle.tmw_bench.specs.Workers.{HasSeen};
 
+use crate::count::Count;
 use crate::ended::Ended;
 use crate::orders::Orders;
 use rtrb::{Consumer, Producer, PushError};
 use std::sync::Wait;
+use std::time::Duration;
 use std::{hint, thread};
-use tmw_recorded::Signals;
 use tmw_ring::{Ring, Writer};
 
 /// So often a thread looks at once. Then it lets others run before each look, or sleeps.
 const SPINS: u64 = 1_000;
 
 /// So often a worker looks whether all have begun a round. Then it works without the others.
-const LOOKS: u64 = 1_000_000;
+const LOOKS: u64 = 2_000;
+
+/// So many microseconds a thread sleeps before it looks again, where nobody wakes it: a ring that becomes full is pumped by then.
+const NAP: u64 = 200;
 
 /// Lets some time pass, more after many looks.
 pub fn pause(look: u64) {
@@ -27,13 +31,23 @@ pub fn pause(look: u64) {
     }
 }
 
+/// Looks again soon, or after many looks when the count has risen.
+pub fn wait<R: Wait>(rt: &R, look: u64, on: &Count, count: u64) {
+    if look < SPINS {
+        hint::spin_loop();
+    } else {
+        on.sleep(rt, count, Duration::from_micros(NAP));
+    }
+}
+
 /// Waits until workers have begun a round so often, so that all work at once, but not for ever, and not where none is to begin.
-pub fn wait_for_all(signals: &Signals, orders: &Orders, begun: u64) {
+pub fn wait_for_all<R: Wait>(rt: &R, orders: &Orders, begun: u64) {
     for look in 0..LOOKS {
-        if signals.begun() >= begun || orders.is_over() {
+        let count = orders.begun.get();
+        if count >= begun || orders.is_over() {
             return;
         }
-        pause(look);
+        wait(rt, look, &orders.begun, count);
     }
 }
 
@@ -51,7 +65,7 @@ pub fn next_bound<R: Wait>(
     let mut look = 0u64;
     for _ in rt.forever() {
         // Asked before the line is looked into, so that the last bound is not missed.
-        let told = orders.told();
+        let told = orders.told.get();
         let over = orders.is_over();
         if down.slots() > 0 {
             let bound = *down.peek_known();
@@ -62,11 +76,7 @@ pub fn next_bound<R: Wait>(
             return None;
         }
         look = look.saturating_add(1);
-        if look < SPINS {
-            hint::spin_loop();
-        } else {
-            orders.sleep(rt, told);
-        }
+        wait(rt, look, &orders.told, told);
     }
     unreachable!()
 }

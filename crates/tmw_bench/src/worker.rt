@@ -48,9 +48,9 @@ pub fn play_on<R: Wait, J: Giving>(
     let threads = stage.scripts.len() as u64;
     let mut begun = 0u64;
     for _ in rt.forever() {
-        stage.signals.begin();
+        stage.orders.begun.rise(threads);
         begun = begun.saturating_add(threads);
-        wait_for_all(stage.signals, stage.orders, begun);
+        wait_for_all(rt, stage.orders, begun);
         let stop = work(
             memory,
             stage.ring,
@@ -61,10 +61,12 @@ pub fn play_on<R: Wait, J: Giving>(
         );
         if let Some(_) = stop {
             tell(rt, &mut worker.up, Ended { tail: 0, stop });
+            stage.orders.ended.rise(threads);
             return stop;
         }
         let tail = stage.ring.find_tail(&mut worker.writer);
         tell(rt, &mut worker.up, Ended { tail, stop });
+        stage.orders.ended.rise(threads);
         let Some(bound) = next_bound(rt, &mut worker.down, tail, stage.orders) else {
             return stop;
         };

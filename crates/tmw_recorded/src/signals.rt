@@ -3,29 +3,17 @@ use std::sync::atomic::{AtomicBool, AtomicU64, Ordering};
 /// What the threads that record and the one that pumps tell one another.
 #[derive(Drop)]
 pub struct Signals {
-    begun: AtomicU64,
     ended: AtomicU64,
     given_up: AtomicBool,
 }
 
 impl Signals {
-    /// No thread has begun or ended, and nothing is given up.
+    /// No thread has ended, and nothing is given up.
     pub fn new() -> Signals {
         Signals {
-            begun: AtomicU64::new(0),
             ended: AtomicU64::new(0),
             given_up: AtomicBool::new(false),
         }
-    }
-
-    /// One more thread has begun.
-    pub fn begin(&self) {
-        self.begun.fetch_add(1, Ordering::SeqCst);
-    }
-
-    /// How many threads have begun.
-    pub fn begun(&self) -> u64 {
-        self.begun.load(Ordering::SeqCst)
     }
 
     /// One more thread has ended.

@@ -3,13 +3,12 @@ use std::test::Fail;
 use std::thread;
 use tmw_recorded::Signals;
 
-/// So many threads begin and end, one after another, beside as many others.
+/// So many threads end, one after another, beside as many others.
 const MANY: u64 = 20_000;
 
-/// Tells that so many threads have begun, and that each has ended.
-fn begin_and_end(signals: &Signals) {
+/// Tells that so many threads have ended.
+fn end_all(signals: &Signals) {
     for _ in 0..MANY {
-        signals.begin();
         signals.end();
     }
 }
@@ -17,18 +16,14 @@ fn begin_and_end(signals: &Signals) {
 #[test]
 fn nothing_is_told_at_first(rt: HostRuntime) {
     let signals = Signals::new();
-    assert_eq!(rt; signals.begun(), 0);
     assert_eq!(rt; signals.ended(), 0);
     assert!(rt; !signals.is_given_up());
 }
 
 #[test]
-fn threads_that_begin_and_that_end_are_counted(rt: HostRuntime) {
+fn threads_that_end_are_counted(rt: HostRuntime) {
     let signals = Signals::new();
-    signals.begin();
-    signals.begin();
     signals.end();
-    assert_eq!(rt; signals.begun(), 2);
     assert_eq!(rt; signals.ended(), 1);
     assert!(rt; !signals.is_given_up());
 }
@@ -39,14 +34,12 @@ fn what_is_given_up_stays_so(rt: HostRuntime) {
     signals.give_up();
     assert!(rt; signals.is_given_up());
     assert!(rt; signals.is_given_up());
-    assert_eq!(rt; signals.begun(), 0);
     assert_eq!(rt; signals.ended(), 0);
 }
 
 #[test]
 fn threads_are_counted_by_two_at_once(rt: HostRuntime) {
     let signals = Signals::new();
-    thread::join(&rt, || begin_and_end(&signals), || begin_and_end(&signals));
-    assert_eq!(rt; signals.begun(), 2 * MANY);
+    thread::join(&rt, || end_all(&signals), || end_all(&signals));
     assert_eq!(rt; signals.ended(), 2 * MANY);
 }
