@@ -3,10 +3,12 @@ use Rattle.std.specs.Prelude.{◌≡◌, ◌≢◌, ◌<◌, ◌≤◌, ◌+◌,
 use Rattle.tmw_bench.specs.declared.benched.Benched.{Benched}
 use Rattle.tmw_bench.specs.declared.fault.BenchFault.{BenchFault}
 use Rattle.tmw_bench.specs.declared.fault.BenchFault.TheVariants.{Registers as TooManyRegisters, Ring, Memory, Spawn}
+use Rattle.tmw_bench.specs.declared.hunted.Hunted.{Hunted}
 use Rattle.tmw_bench.specs.declared.settings.Settings.{Settings}
 use Rattle.tmw_defs.specs.Opaque.{zeros}
 use Rattle.tmw_defs.specs.Texts.{kinds_of}
 use Rattle.tmw_defs.specs.Verdict.{Rules, IsVerdict}
+use Rattle.tmw_defs.specs.declared.verdict.Verdict.{Verdict}
 use Rattle.tmw_defs.specs.declared.verdict.Verdict.TheVariants.{OpaqueSoFar, Malformed}
 use Rattle.tmw_drive.specs.Driving.{script_at}
 use Rattle.tmw_drive.specs.declared.ending.Ending.{Ending}
@@ -24,6 +26,7 @@ use Rattle.tmw_ring_defs.specs.Sizes.{HasNumbers, HasRoom, HasLimit, IsWrongSize
 use Rattle.tmw_ring_defs.specs.declared.ring_step.Answered.{Answered}
 use Rattle.tmw_runs.specs.Runs.{IsWholeRun}
 use Rattle.tmw_runs.specs.Standing.{AllStand}
+use Rattle.tmw_show.specs.Showing.{IsShowing}
 use Rattle.tmw_tm.specs.Answers.{Call, Answer}
 use Rattle.tmw_work.specs.Working.{tail_of, StopsBefore}
 
@@ -69,27 +72,38 @@ pub record SomeStopped (ends : List Ending) : Type 0 where
 -- the one on all of it, of which the headline tells, and never malformed. The log is one round after another, the last of them to its end or up to
 -- where threads were stopped. No round is left out but behind one after which the verdict is not opaque so far, or in which a
 -- thread was stopped.
-pub record IsBenched (gives : Call → Answer → Type 0) (registers : Registers) (scripts : List (List (List Kind))) (settings : Settings) (benched : Benched) : Type 0 where
+pub record HasBenched (gives : Call → Answer → Type 0) (registers : Registers) (scripts : List (List (List Kind))) (settings : Settings) (log : List Event) (verdict : Verdict) (ends : List Ending) (rounds : ℕ) : Type 0 where
   pub ring : RingIs
   pub sized : HasNumbers settings.cells (length scripts) settings.limit ring.size
   pub writers : List WriterIs
   pub of_ring : All (WriterOf ring) writers
   pub order : AreInOrder writers
   pub count : length writers ≡ length scripts
-  pub end_count : length benched.outcome.ends.items ≡ length scripts
-  pub judged : IsVerdict (rules_of registers zeros settings.bounds) benched.outcome.log.items benched.outcome.verdict
-  pub headline : Headline (rules_of registers zeros settings.bounds) benched.outcome.log.items writers benched.outcome.log.items benched.outcome.verdict
-  pub formed : (events : ℕ) → benched.outcome.verdict ≢ Malformed events
+  pub end_count : length ends ≡ length scripts
+  pub judged : IsVerdict (rules_of registers zeros settings.bounds) log verdict
+  pub headline : Headline (rules_of registers zeros settings.bounds) log writers log verdict
+  pub formed : (events : ℕ) → verdict ≢ Malformed events
   pub run : List Answered
-  pub run_to : IsRunTo ring.size run benched.outcome.log.items
+  pub run_to : IsRunTo ring.size run log
   pub gone : All (λ writer. Gone (writer_actor writer.number) writer.run [] run) writers
-  pub own : All (λ event. event.thread.number < length scripts) benched.outcome.log.items
+  pub own : All (λ event. event.thread.number < length scripts) log
   pub earlier : ℕ
-  pub rounds : benched.rounds ≡ earlier + 1
-  pub within : benched.rounds ≤ settings.rounds
-  pub in_rounds : IsInRounds (rules_of registers zeros settings.bounds) gives scripts earlier benched.outcome.log.items
-      benched.outcome.ends.items writers
-  pub over : benched.rounds < settings.rounds → (benched.outcome.verdict ≢ OpaqueSoFar) ⊎ SomeStopped benched.outcome.ends.items
+  pub rounds : rounds ≡ earlier + 1
+  pub within : rounds ≤ settings.rounds
+  pub in_rounds : IsInRounds (rules_of registers zeros settings.bounds) gives scripts earlier log
+      ends writers
+  pub over : rounds < settings.rounds → (verdict ≢ OpaqueSoFar) ⊎ SomeStopped ends
+
+-- The log is kept whole.
+abbrev pub IsBenched : (Call → Answer → Type 0) → Registers → List (List (List Kind)) → Settings → Benched → Type 0
+IsBenched gives registers scripts settings benched =
+    HasBenched gives registers scripts settings benched.outcome.log.items benched.outcome.verdict benched.outcome.ends.items benched.rounds
+
+-- Of the log its last window is kept, and of what it was judged no more than its length and the verdict.
+pub record IsHunted (gives : Call → Answer → Type 0) (registers : Registers) (scripts : List (List (List Kind))) (settings : Settings) (hunted : Hunted) : Type 0 where
+  pub log : List Event
+  pub benched : HasBenched gives registers scripts settings log hunted.showing.verdict hunted.ends.items hunted.rounds
+  pub shown : IsShowing (rules_of registers zeros settings.bounds) log hunted.showing
 
 -- A ring may have the settings' numbers of cells and of places, and a writer for each of so many threads.
 pub record CanBench (threads : ℕ) (settings : Settings) : Type 0 where

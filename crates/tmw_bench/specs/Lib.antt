@@ -1,5 +1,6 @@
 pub mod Begun
 pub mod Benched
+pub mod Keeping
 pub mod Leading
 pub mod Lines
 pub mod Meeting

@@ -1,24 +1,30 @@
 ghost use Rattle.std.specs.Prelude.{◌<◌, length, IfOk, IfErr, IsTrue};
-ghost use Rattle.tmw_bench.specs.Benched.{IsBenched, IsNoBench};
+ghost use Rattle.tmw_bench.specs.Benched.{IsBenched, IsHunted, IsNoBench};
+ghost use Rattle.tmw_bench.specs.Keeping.{IsCarriedOut};
 ghost use Rattle.tmw_runs.specs.Scripts.{scripts_of};
 
 use crate::benched::Benched;
 use crate::ends::ends_of;
 use crate::fault::BenchFault;
+use crate::hunted::Hunted;
+use crate::judge::Judge;
+use crate::keep::{Keep, Log};
 use crate::orders::Orders;
 use crate::play::play_rounds;
+use crate::rest::judge_rest;
 use crate::settings::Settings;
 use crate::stage::Stage;
 use std::alloc::Global;
 use std::marker::Brand;
 use std::sync::Wait;
 use std::thread::Threads;
-use tmw_drive::Outcome;
+use tmw_drive::{Ending, Outcome};
 use tmw_events::Registers;
 use tmw_monitor::Monitor;
-use tmw_pump::Pump;
-use tmw_recorded::{Signals, judge_rest};
+use tmw_pump::{ForgettingPump, ForgettingRest};
+use tmw_recorded::Signals;
 use tmw_ring::{RingFault, ring};
+use tmw_show::KeptWindow;
 use tmw_tm::Tm;
 use tmw_workloads::Workload;
 
@@ -43,6 +49,58 @@ pub fn run_bench<R: Threads + Wait + Sync>(
     ensures ok { IfOk result (IsBenched (gives memory.now) workload.now.registers (scripts_of workload.now.scripts.items) settings) }
     ensures err { IfErr result (IsNoBench workload.now.registers.number (length workload.now.scripts.items) settings) }
 {
+    let carried = carry_out::<R, Log>(rt, alloc, memory, workload, settings)?;
+    Ok(Benched {
+        outcome: Outcome {
+            log: carried.kept.events,
+            verdict: carried.rest.verdict(),
+            ends: carried.ends,
+        },
+        rounds: carried.rounds,
+    })
+}
+
+/// Does as `run_bench` does, with no event kept but those of the last window, so that the memory that it takes is the same however
+/// long the log is.
+pub fn hunt<R: Threads + Wait + Sync>(
+    rt: &R,
+    alloc: Global,
+    memory: &(dyn Tm + Sync),
+    workload: &Workload,
+    settings: Settings,
+) -> Result<Hunted, BenchFault>
+    ensures ok { IfOk result (IsHunted (gives memory.now) workload.now.registers (scripts_of workload.now.scripts.items) settings) }
+    ensures err { IfErr result (IsNoBench workload.now.registers.number (length workload.now.scripts.items) settings) }
+{
+    let carried = carry_out::<R, KeptWindow>(rt, alloc, memory, workload, settings)?;
+    Ok(Hunted {
+        showing: carried.kept.finish(carried.rest.monitor()),
+        ends: carried.ends,
+        rounds: carried.rounds,
+    })
+}
+
+/// What a workload that is carried out has left: what was kept of its log, and the ring's rest, which is judged whole.
+#[derive(Drop)]
+pub struct Carried<K> {
+    pub kept: K,
+    pub rest: ForgettingRest,
+    pub ends: Vec<Ending>,
+    pub rounds: u64,
+}
+
+/// Carries the scripts out, and judges all that is recorded.
+fn carry_out<R: Threads + Wait + Sync, K: Keep>(
+    rt: &R,
+    alloc: Global,
+    memory: &(dyn Tm + Sync),
+    workload: &Workload,
+    settings: Settings,
+) -> Result<Carried<K>, BenchFault>
+    ensures ok { IfOk result (IsCarriedOut K.keeps (gives memory.now) workload.now.registers
+        (scripts_of workload.now.scripts.items) settings) }
+    ensures err { IfErr result (IsNoBench workload.now.registers.number (length workload.now.scripts.items) settings) }
+{
     if has_too_few(memory.registers(), workload.registers) {
         return Err(BenchFault::Registers);
     }
@@ -56,7 +114,13 @@ pub fn run_bench<R: Threads + Wait + Sync>(
     let Ok(monitor) = Monitor::new(alloc, workload.registers, settings.bounds) else {
         return Err(BenchFault::Memory);
     };
-    let pump = Pump::new(alloc, reader, monitor);
+    let Ok(kept) = K::begin(alloc, &monitor) else {
+        return Err(BenchFault::Memory);
+    };
+    let judge = Judge {
+        forgetting: ForgettingPump::new(reader, monitor),
+        kept,
+    };
     let (signals, orders) = (Signals::new(), Orders::new());
     let stage = Stage {
         ring: &ring,
@@ -66,15 +130,19 @@ pub fn run_bench<R: Threads + Wait + Sync>(
         signals: &signals,
         orders: &orders,
     };
-    let left = play_rounds::<R, Brand>(rt, alloc, memory, stage, pump, writers)?;
-    let Ok((log, verdict)) = judge_rest(left.pump.settle(ring, left.writers)) else {
+    let left = play_rounds::<R, Brand, K>(rt, alloc, memory, stage, judge, writers)?;
+    let mut rest = left.judge.forgetting.settle(ring, left.writers);
+    let mut kept = left.judge.kept;
+    let Ok(()) = judge_rest(&mut rest, &mut kept) else {
         return Err(BenchFault::Memory);
     };
     let Ok(ends) = ends_of(alloc, &left.stops) else {
         return Err(BenchFault::Memory);
     };
-    Ok(Benched {
-        outcome: Outcome { log, verdict, ends },
+    Ok(Carried {
+        kept,
+        rest,
+        ends,
         rounds: left.rounds,
     })
 }

@@ -1,16 +1,17 @@
 //! The leader's ends of the lines to its workers.
 ghost use Rattle.std.specs.Prelude.{◌≡◌, length, IfOk, OnOk, IsTrue, IsSome};
 ghost use Rattle.tmw_bench.specs.Leading.{HasHeard, HaveHeardUpTo, HaveToldUpTo, SomeToldStop};
-ghost use Rattle.tmw_recorded.specs.Pumping.{GoesOn};
+ghost use Rattle.tmw_bench.specs.Keeping.{HasGoneOn};
 ghost use Rattle.tmw_ring.specs.Ends.{ReaderOf};
 
 use crate::ended::Ended;
+use crate::judge::Judge;
+use crate::keep::Keep;
 use crate::orders::Orders;
 use crate::waits::{tell_bound, wait};
 use rtrb::{Consumer, Producer};
 use std::alloc::AllocError;
 use std::sync::Wait;
-use tmw_pump::Pump;
 use tmw_ring::Ring;
 
 /// So many events are judged at once before it is asked whether a worker has ended.
@@ -24,16 +25,16 @@ pub struct Line {
 }
 
 /// Waits until a worker has told that its round has ended, and judges meanwhile what is recorded.
-fn hear<R: Wait>(
+fn hear<R: Wait, K: Keep>(
     rt: &R,
     ring: &Ring,
-    pump: &mut Pump,
+    judge: &mut Judge<K>,
     line: &mut Line,
     orders: &Orders,
 ) -> Result<Ended, AllocError>
-    requires reader { ReaderOf ring.now pump.old.forgetting.reader }
-    ensures reader { OnOk result (ReaderOf ring.now pump.new.forgetting.reader) }
-    ensures goes_on { OnOk result (GoesOn pump.old.forgetting.front pump.new.forgetting.front) }
+    requires reader { ReaderOf ring.now judge.old.forgetting.reader }
+    ensures reader { OnOk result (ReaderOf ring.now judge.new.forgetting.reader) }
+    ensures goes_on { OnOk result (HasGoneOn K.keeps judge.old judge.new) }
     ensures heard { IfOk result (λ ended. HasHeard ended line.old line.new) }
 {
     let mut idle = 0u64;
@@ -42,8 +43,8 @@ fn hear<R: Wait>(
         if let Ok(ended) = line.up.pop() {
             return Ok(ended);
         }
-        let pumped = pump.pump(ring, TURN)?;
-        idle = if pumped.judged > 0 {
+        let judged = judge.pump(ring, TURN)?;
+        idle = if judged > 0 {
             0
         } else {
             idle.saturating_add(1)
@@ -62,23 +63,23 @@ fn is_stopped(ended: &Ended) -> bool
 
 /// Waits until all workers have told that their round has ended. Answers the most places that one of them has found claimed, and
 /// whether some worker was stopped.
-pub fn hear_all<R: Wait>(
+pub fn hear_all<R: Wait, K: Keep>(
     rt: &R,
     ring: &Ring,
-    pump: &mut Pump,
+    judge: &mut Judge<K>,
     lines: &mut [Line],
     orders: &Orders,
 ) -> Result<(u64, bool), AllocError>
-    requires reader { ReaderOf ring.now pump.old.forgetting.reader }
-    ensures reader { OnOk result (ReaderOf ring.now pump.new.forgetting.reader) }
-    ensures goes_on { OnOk result (GoesOn pump.old.forgetting.front pump.new.forgetting.front) }
+    requires reader { ReaderOf ring.now judge.old.forgetting.reader }
+    ensures reader { OnOk result (ReaderOf ring.now judge.new.forgetting.reader) }
+    ensures goes_on { OnOk result (HasGoneOn K.keeps judge.old judge.new) }
     ensures heard { OnOk result (HaveHeardUpTo (length lines.old) lines.old lines.new) }
     ensures stopped { IfOk result (λ heard. IsTrue heard.1 → SomeToldStop (length lines.old) lines.new) }
 {
     let mut most = 0;
     let mut stopped = false;
     for line in lines.iter_mut() {
-        let ended = hear(rt, ring, pump, line, orders)?;
+        let ended = hear(rt, ring, judge, line, orders)?;
         if ended.tail > most {
             most = ended.tail;
         }

@@ -1,6 +1,7 @@
 //! All rounds, by workers that live as long.
 ghost use Rattle.std.specs.Prelude.{◌≡◌, ◌≤◌, ◌<◌, [], length, IfOk, IfErr};
 ghost use Rattle.tmw_bench.specs.Begun.{HaveBegun, IsOver};
+ghost use Rattle.tmw_bench.specs.Keeping.{IsKept};
 ghost use Rattle.tmw_bench.specs.Playing.{AreTransactions, GivesWithin, IsOfThreads};
 ghost use Rattle.tmw_defs.specs.Verdict.{Rules};
 ghost use Rattle.tmw_monitor.specs.Fitting.{Fits};
@@ -11,6 +12,8 @@ ghost use Rattle.tmw_runs.specs.Scripts.{scripts_of};
 use crate::close::close_all;
 use crate::fault::BenchFault;
 use crate::giving::Giving;
+use crate::judge::Judge;
+use crate::keep::Keep;
 use crate::leading::lead;
 use crate::open::open_all;
 use crate::stage::Stage;
@@ -19,14 +22,13 @@ use std::alloc::Global;
 use std::sync::Wait;
 use std::thread;
 use std::thread::{Scope, Threads};
-use tmw_pump::Pump;
 use tmw_ring::{Refused, Writer};
 use tmw_tm::Tm;
 
-/// What the last round has left: the pump, the writers, the refusals at which workers were stopped, and how many rounds were begun.
+/// What the last round has left: the judge, the writers, the refusals at which workers were stopped, and how many rounds were begun.
 #[derive(Drop)]
-pub struct Left {
-    pub pump: Pump,
+pub struct Left<K> {
+    pub judge: Judge<K>,
     pub writers: Vec<Writer>,
     pub stops: Vec<Option<Refused>>,
     pub rounds: u64,
@@ -34,77 +36,83 @@ pub struct Left {
 
 /// Carries the scripts out round after round, and answers what the last round has left. None is left out but behind one after which
 /// the verdict is not opaque so far, or in which a worker was stopped. All workers have ended, also where it fails.
-pub fn play_rounds<R: Threads + Wait + Sync, J: Giving + Send>(
+pub fn play_rounds<R: Threads + Wait + Sync, J: Giving + Send, K: Keep>(
     rt: &R,
     alloc: Global,
     memory: &(dyn Tm + Sync),
     stage: Stage<'_>,
-    pump: Pump,
+    judge: Judge<K>,
     writers: Vec<Writer>,
-) -> Result<Left, BenchFault>
+) -> Result<Left<K>, BenchFault>
     requires gives { GivesWithin (gives memory.now) J.gave }
-    requires reader { ReaderOf stage.ring.now pump.forgetting.reader }
+    requires reader { ReaderOf stage.ring.now judge.forgetting.reader }
     requires writers { AreNewWriters stage.ring.now writers.items }
     requires count { length writers.items ≡ length stage.scripts.now }
     requires scripts { AreTransactions (scripts_of stage.scripts.now) }
-    requires judged { pump.forgetting.front.judged.items ≡ [] }
-    requires fits { (rules : Rules) × Fits rules [] pump.forgetting.front.monitor }
+    requires judged { judge.forgetting.front.judged.items ≡ [] }
+    requires fits { (rules : Rules) × Fits rules [] judge.forgetting.front.monitor }
     requires some { 1 ≤ stage.rounds }
-    ensures begun { IfOk result (λ left. (rules : Rules) → Fits rules [] pump.forgetting.front.monitor
+    ensures begun { IfOk result (λ left. (rules : Rules) → Fits rules [] judge.forgetting.front.monitor
         → HaveBegun rules J.gave stage.entry.ring.now (scripts_of stage.entry.scripts.now) left.rounds
-        left.pump.forgetting.reader left.pump.forgetting.front left.writers.items left.stops.items) }
+        left.judge.forgetting.reader left.judge.forgetting.front left.writers.items left.stops.items) }
+    ensures kept { IfOk result (λ left. (rules : Rules) → IsKept K.keeps rules judge.forgetting.front judge.kept
+        → IsKept K.keeps rules left.judge.forgetting.front left.judge.kept) }
     ensures within { IfOk result (λ left. left.rounds ≤ stage.entry.rounds) }
     ensures over { IfOk result (λ left. left.rounds < stage.entry.rounds
-        → IsOver left.stops.items left.pump.forgetting.front) }
+        → IsOver left.stops.items left.judge.forgetting.front) }
     ensures err { IfErr result IsOfThreads }
 {
     thread::scope(
         thread::scope_env(),
         rt,
-        move |scope| -> Result<Left, BenchFault>
+        move |scope| -> Result<Left<K>, BenchFault>
             requires gives { GivesWithin (gives memory.now) J.gave }
-            requires reader { ReaderOf stage.ring.now pump.forgetting.reader }
+            requires reader { ReaderOf stage.ring.now judge.forgetting.reader }
             requires writers { AreNewWriters stage.ring.now writers.items }
             requires count { length writers.items ≡ length stage.scripts.now }
             requires scripts { AreTransactions (scripts_of stage.scripts.now) }
-            requires judged { pump.forgetting.front.judged.items ≡ [] }
-            requires fits { (rules : Rules) × Fits rules [] pump.forgetting.front.monitor }
+            requires judged { judge.forgetting.front.judged.items ≡ [] }
+            requires fits { (rules : Rules) × Fits rules [] judge.forgetting.front.monitor }
             requires some { 1 ≤ stage.rounds }
-            ensures begun { IfOk result (λ left. (rules : Rules) → Fits rules [] pump.forgetting.front.monitor
+            ensures begun { IfOk result (λ left. (rules : Rules) → Fits rules [] judge.forgetting.front.monitor
                 → HaveBegun rules J.gave stage.entry.ring.now (scripts_of stage.entry.scripts.now) left.rounds
-                left.pump.forgetting.reader left.pump.forgetting.front left.writers.items left.stops.items) }
+                left.judge.forgetting.reader left.judge.forgetting.front left.writers.items left.stops.items) }
+            ensures kept { IfOk result (λ left. (rules : Rules) → IsKept K.keeps rules judge.forgetting.front judge.kept
+                → IsKept K.keeps rules left.judge.forgetting.front left.judge.kept) }
             ensures within { IfOk result (λ left. left.rounds ≤ stage.entry.rounds) }
             ensures over { IfOk result (λ left. left.rounds < stage.entry.rounds
-                → IsOver left.stops.items left.pump.forgetting.front) }
+                → IsOver left.stops.items left.judge.forgetting.front) }
             ensures err { IfErr result IsOfThreads }
-        { play_within::<_, R, J>(rt, scope, alloc, memory, stage, pump, writers) },
+        { play_within::<_, R, J, K>(rt, scope, alloc, memory, stage, judge, writers) },
     )
 }
 
 /// The rounds, by threads of this scope. Where it fails, threads that find the ring full stop.
-fn play_within<'s, E, R: Threads + Wait + Sync, J: Giving + Send + 's>(
+fn play_within<'s, E, R: Threads + Wait + Sync, J: Giving + Send + 's, K: Keep>(
     rt: &'s R,
     scope: &Scope<'s, E>,
     alloc: Global,
     memory: &'s (dyn Tm + Sync),
     stage: Stage<'s>,
-    mut pump: Pump,
+    mut judge: Judge<K>,
     writers: Vec<Writer>,
-) -> Result<Left, BenchFault>
+) -> Result<Left<K>, BenchFault>
     requires gives { GivesWithin (gives memory.now) J.gave }
-    requires reader { ReaderOf stage.ring.now pump.forgetting.reader }
+    requires reader { ReaderOf stage.ring.now judge.forgetting.reader }
     requires writers { AreNewWriters stage.ring.now writers.items }
     requires count { length writers.items ≡ length stage.scripts.now }
     requires scripts { AreTransactions (scripts_of stage.scripts.now) }
-    requires judged { pump.forgetting.front.judged.items ≡ [] }
-    requires fits { (rules : Rules) × Fits rules [] pump.forgetting.front.monitor }
+    requires judged { judge.forgetting.front.judged.items ≡ [] }
+    requires fits { (rules : Rules) × Fits rules [] judge.forgetting.front.monitor }
     requires some { 1 ≤ stage.rounds }
-    ensures begun { IfOk result (λ left. (rules : Rules) → Fits rules [] pump.forgetting.front.monitor
+    ensures begun { IfOk result (λ left. (rules : Rules) → Fits rules [] judge.forgetting.front.monitor
         → HaveBegun rules J.gave stage.entry.ring.now (scripts_of stage.entry.scripts.now) left.rounds
-        left.pump.forgetting.reader left.pump.forgetting.front left.writers.items left.stops.items) }
+        left.judge.forgetting.reader left.judge.forgetting.front left.writers.items left.stops.items) }
+    ensures kept { IfOk result (λ left. (rules : Rules) → IsKept K.keeps rules judge.forgetting.front judge.kept
+        → IsKept K.keeps rules left.judge.forgetting.front left.judge.kept) }
     ensures within { IfOk result (λ left. left.rounds ≤ stage.entry.rounds) }
     ensures over { IfOk result (λ left. left.rounds < stage.entry.rounds
-        → IsOver left.stops.items left.pump.forgetting.front) }
+        → IsOver left.stops.items left.judge.forgetting.front) }
     ensures err { IfErr result IsOfThreads }
 {
     let Ok((workers, mut lines)) = open_all(alloc, writers) else {
@@ -120,7 +128,7 @@ fn play_within<'s, E, R: Threads + Wait + Sync, J: Giving + Send + 's>(
     let led = lead(
         rt,
         stage.ring,
-        &mut pump,
+        &mut judge,
         lines.as_mut_slice(),
         stage.rounds,
         stage.orders,
@@ -137,7 +145,7 @@ fn play_within<'s, E, R: Threads + Wait + Sync, J: Giving + Send + 's>(
         return Err(BenchFault::Memory);
     };
     Ok(Left {
-        pump,
+        judge,
         writers,
         stops,
         rounds,

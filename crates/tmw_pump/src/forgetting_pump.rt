@@ -72,7 +72,7 @@ impl ForgettingPump {
     }
 
     /// The event to be judged next: the one that is held, or else the next of the ring, which is held from now on.
-    pub(crate) fn next(&mut self, ring: &Ring) -> Option<Event>
+    pub fn next(&mut self, ring: &Ring) -> Option<Event>
         requires { ReaderOf ring.now self.old.reader }
         ensures of_ring { ReaderOf ring.now self.new.reader }
         ensures front { HasCome result self.old.front self.new.front }
@@ -90,7 +90,7 @@ impl ForgettingPump {
     }
 
     /// Judges the event that is held. Where memory is refused, it is still held.
-    pub(crate) fn judge(&mut self, event: Event) -> Result<(), AllocError>
+    pub fn judge(&mut self, event: Event) -> Result<(), AllocError>
         requires { self.old.front.held ≡ Some event }
         ensures reader { self.new.reader ≡ self.old.reader }
         ensures fits { KeepsFit self.old.front self.new.front }
@@ -107,6 +107,13 @@ impl ForgettingPump {
         ensures { result ≡ record { judged = judged; verdict = self.now.front.monitor.verdict } }
     {
         self.front.pumped(judged)
+    }
+
+    /// The monitor that judges.
+    pub fn monitor(&self) -> &Monitor
+        ensures { result.now ≡ self.now.front.monitor }
+    {
+        self.front.monitor()
     }
 
     /// How many events were judged.

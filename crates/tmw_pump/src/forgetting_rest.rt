@@ -7,6 +7,7 @@ use crate::pumped::Pumped;
 use std::alloc::AllocError;
 use tmw_defs::Verdict;
 use tmw_events::Event;
+use tmw_monitor::Monitor;
 use tmw_ring::Settled;
 
 /// Judges what a settled ring has left, behind what a pump has judged of it. It keeps no event that it has judged.
@@ -49,7 +50,7 @@ impl ForgettingRest {
     }
 
     /// The event to be judged next: the one that is held, or else the next of what is left, which is held from now on.
-    pub(crate) fn next(&mut self) -> Option<Event>
+    pub fn next(&mut self) -> Option<Event>
         ensures front { HasCome result self.old.front self.new.front }
         ensures all { all_of self.new ≡ all_of self.old }
         ensures none { IfNone result (self.new.settled ≡ []) }
@@ -65,7 +66,7 @@ impl ForgettingRest {
     }
 
     /// Judges the event that is held. Where memory is refused, it is still held.
-    pub(crate) fn judge(&mut self, event: Event) -> Result<(), AllocError>
+    pub fn judge(&mut self, event: Event) -> Result<(), AllocError>
         requires { self.old.front.held ≡ Some event }
         ensures settled { self.new.settled ≡ self.old.settled }
         ensures fits { KeepsFit self.old.front self.new.front }
@@ -82,6 +83,13 @@ impl ForgettingRest {
         ensures { result ≡ record { judged = judged; verdict = self.now.front.monitor.verdict } }
     {
         self.front.pumped(judged)
+    }
+
+    /// The monitor that judges.
+    pub fn monitor(&self) -> &Monitor
+        ensures { result.now ≡ self.now.front.monitor }
+    {
+        self.front.monitor()
     }
 
     /// How many events were judged.

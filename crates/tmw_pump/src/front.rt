@@ -62,6 +62,13 @@ impl Front {
         Ok(())
     }
 
+    /// The monitor that judges.
+    pub(crate) fn monitor(&self) -> &Monitor
+        ensures { result.now ≡ self.now.monitor }
+    {
+        &self.monitor
+    }
+
     /// How many events were judged.
     pub(crate) fn fed(&self) -> u64
         ensures { result ≡ length self.now.judged.items }

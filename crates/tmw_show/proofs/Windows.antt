@@ -25,7 +25,9 @@ use Rattle.tmw_monitor.specs.Holding.{AreLastOutcomes}
 use Rattle.tmw_monitor.specs.Fitting.{Fits}
 use Rattle.tmw_monitor.specs.declared.monitor.Monitor.{Monitor}
 use Rattle.tmw_show.specs.Shown.{shown_length, before_shown, IsShown}
+use Rattle.tmw_show.specs.Keeping.{KeepsSame}
 use Rattle.tmw_show.specs.Watching.{Watches}
+use Rattle.tmw_show.specs.declared.kept_window.KeptWindow.{KeptWindow}
 use Rattle.tmw_show.specs.declared.last_window.LastWindow.{LastWindow}
 
 -- what is wrong first with a history, and was not before its last event, is so at its whole length
@@ -145,16 +147,37 @@ settled rules h e (Undecided m Transactions) is final = record { same = refl; wi
 settled rules h e (Undecided m States) is final = record { same = refl; within = is.within }
 settled rules h e (Violated m) is final = record { same = refl; within = is.within }
 
-pub shown-final : (rules : Rules) (h : List Event) (e : Event) (v : Verdict) (from : ℕ) (states : List State) (events : List Event)
-    → IsVerdict rules h v → (v ≡ so_far rules.criterion → ⊥) → IsShown rules h v from states events → IsShown rules (h ++ e ∷ []) v from states events
-shown-final rules h e v from states events is final shown =
+-- with an event more, what is wrong first stays so
+first-stays : (Wrong : Rules → List Event → Type 0) (rules : Rules) (h : List Event) (e : Event) (m : ℕ) → IsFirst Wrong rules h m
+    → IsFirst Wrong rules (h ++ e ∷ []) m
+first-stays Wrong rules h e m first =
+    let within = first.within in record {
+      within = (let long = length-push h e in omega (arith, within, long));
+      here = subst (Wrong rules) (sym (take-push m h e within)) first.here;
+      before = λ k less. subst (IsFine rules) (sym (take-push k h e (omega (arith, within, less)))) (first.before k less);
+    }
+
+-- and so does a final verdict
+verdict-stays : (rules : Rules) (h : List Event) (e : Event) (v : Verdict) → IsVerdict rules h v → (v ≡ so_far rules.criterion → ⊥)
+    → IsVerdict rules (h ++ e ∷ []) v
+verdict-stays rules h e OpaqueSoFar is final = absurd (final (sym (ap so_far is.0)))
+verdict-stays rules h e StrictSoFar is final = absurd (final (sym (ap so_far is.0)))
+verdict-stays rules h e (Malformed m) is final = first-stays IsMalformed rules h e m is
+verdict-stays rules h e (Undecided m Transactions) is final = first-stays IsTooWide rules h e m is
+verdict-stays rules h e (Undecided m States) is final = first-stays IsTooMany rules h e m is
+verdict-stays rules h e (Violated m) is final = first-stays IsViolated rules h e m is
+
+pub shown-final : (rules : Rules) (h : List Event) (e : Event) (v w : Verdict) (from : ℕ) (states : List State) (events : List Event)
+    → IsVerdict rules h v → (v ≡ so_far rules.criterion → ⊥) → IsVerdict rules (h ++ e ∷ []) w → IsShown rules h v from states events
+    → IsShown rules (h ++ e ∷ []) w from states events
+shown-final rules h e v w from states events is final now shown =
     let s = settled rules h e v is final in
     let o = shown.outcomes in
     let m = shown_length (length h) v in
     let low : shown_length (length h) v ≤ length h = s.within in
     let before : before_shown (h ++ e ∷ []) v ≡ before_shown h v =
     ap (λ n. take (n - 1) (h ++ e ∷ [])) s.same ∙ take-push (m - 1) h e (omega (arith, low)) in
-    record {
+    let still : IsShown rules (h ++ e ∷ []) v from states events = record {
       outcomes = record {
         cut = o.cut;
         last = subst (λ (t : List Event). IsLastCut t o.cut) (sym before) o.last;
@@ -164,7 +187,9 @@ shown-final rules h e v from states events is final shown =
       };
       begins = shown.begins;
       window = shown.window ∙ (ap (drop from) (sym (take-push m h e s.within)) ∙ ap (λ n. between from n (h ++ e ∷ [])) (sym s.same));
-    }
+    } in
+    subst (λ u. IsShown rules (h ++ e ∷ []) u from states events)
+    (verdict-one rules (h ++ e ∷ []) v w (verdict-stays rules h e v is final) now) still
 
 -- where nothing is wrong, the whole is shown
 pub so_far-length : (c : Criterion) (n : ℕ) (v : Verdict) → v ≡ so_far c → shown_length n v ≡ n
@@ -200,10 +225,12 @@ shown-same rules h v w from states old new a b shown same =
     let one = subst (λ u. IsShown rules h u from states old) (verdict-one rules h v w a b) shown in
     record { outcomes = one.outcomes; begins = one.begins; window = same ∙ one.window }
 
-pub watches-kept : (rules : Rules) (h : List Event) (old : LastWindow) (new : Monitor) → Watches rules h old → Fits rules h new
-    → Watches rules h (record old { monitor = new })
-watches-kept rules h old new watches fits = record {
+pub watches-kept : (rules : Rules) (h : List Event) (old : LastWindow) (new : Monitor) (kept : KeptWindow) → Watches rules h old
+    → Fits rules h new → KeepsSame old.kept kept → Watches rules h (record { monitor = new; kept = kept })
+watches-kept rules h old new kept watches fits same = record {
   fits = fits;
-  shown = shown-same rules h old.monitor.verdict new.verdict old.from (members old.states) old.events.items old.events.items
-      watches.fits.judged fits.judged watches.shown refl;
+  shown = subst (λ n. IsShown rules h new.verdict n (members kept.states) kept.events.items) (sym same.from)
+      (subst (λ (s : List State). IsShown rules h new.verdict old.kept.from s kept.events.items) (sym same.states)
+      (shown-same rules h old.monitor.verdict new.verdict old.kept.from (members old.kept.states) old.kept.events.items kept.events.items
+      watches.fits.judged fits.judged watches.shown same.events));
 }

@@ -1,11 +1,11 @@
-ghost use Rattle.std.specs.Prelude.{◌≡◌, ◌<◌, ◌^◌, List, [], ◌∷◌, ◌++◌, IfOk, IsOk, OnOk, OnErr, IsTrue, IsFalse, length};
+ghost use Rattle.std.specs.Prelude.{◌≡◌, ◌<◌, ◌^◌, List, [], ◌∷◌, ◌++◌, IfOk, IsOk, OnOk, OnErr, length};
 ghost use Rattle.tmw_events.specs.declared.event.Event.{Event};
 ghost use Rattle.tmw_defs.specs.Criteria.{so_far};
-ghost use Rattle.tmw_defs.specs.Cuts.{is_cut};
 ghost use Rattle.tmw_defs.specs.Verdict.{Rules, IsVerdict};
 ghost use Rattle.tmw_cuts.specs.Members.{members};
 ghost use Rattle.tmw_monitor.specs.Fitting.{rules_for};
 
+use crate::kept_window::KeptWindow;
 use crate::showing::Showing;
 use std::alloc::{AllocError, Global};
 use tmw_cuts::{State, States};
@@ -16,11 +16,8 @@ use tmw_monitor::{Bounds, Criterion, Monitor, Verdict};
 /// from which that window begins. It keeps no event before them.
 #[derive(Drop)]
 pub struct LastWindow {
-    alloc: Global,
     monitor: Monitor,
-    from: u64,
-    states: States,
-    events: Vec<Event>,
+    kept: KeptWindow,
 }
 
 impl LastWindow {
@@ -38,14 +35,8 @@ impl LastWindow {
         ensures { IfOk result (λ window. Watches (rules_for criterion registers start bounds) [] window) }
     {
         let monitor = Monitor::for_criterion(alloc, criterion, registers, start, bounds)?;
-        let states = monitor.outcomes().copy()?;
-        Ok(LastWindow {
-            alloc,
-            monitor,
-            from: 0,
-            states,
-            events: Vec::new(alloc),
-        })
+        let kept = KeptWindow::new(alloc, &monitor)?;
+        Ok(LastWindow { monitor, kept })
     }
 
     /// Takes the next event. Where memory is refused, the event is not taken.
@@ -59,75 +50,31 @@ impl LastWindow {
         // After a verdict that something is wrong each call succeeds.
         ensures stays { (self.old.monitor.verdict ≡ so_far self.old.monitor.criterion → ⊥) → IsOk result }
     {
-        if !self.monitor.is_open() {
-            self.monitor.feed(event)?;
-            return Ok(());
-        }
-        if self.monitor.is_at_cut() {
-            self.begin_window(event)
-        } else {
-            self.go_on(event)
-        }
-    }
-
-    /// The same, where nothing is wrong before the event, and it is the first behind a cut.
-    fn begin_window(&mut self, event: Event) -> Result<(), AllocError>
-        requires room { self.old.monitor.count < 2 ^ 40 }
-        requires fine { self.old.monitor.verdict ≡ so_far self.old.monitor.criterion }
-        ensures ok { OnOk result ((rules : Rules) (history : List Event) → Watches rules history self.old
-            → IsTrue (is_cut history) → Watches rules (history ++ event ∷ []) self.new) }
-        ensures err { OnErr result ((rules : Rules) (history : List Event) → Watches rules history self.old
-            → Watches rules history self.new) }
-    {
-        let from = self.monitor.fed();
-        let states = self.monitor.outcomes().copy()?;
-        let mut events = Vec::new(self.alloc);
-        events.push(event)?;
+        let next = self.kept.make_room(&self.monitor)?;
         self.monitor.feed(event)?;
-        self.from = from;
-        self.states = states;
-        self.events = events;
+        self.kept.take(next, event);
         Ok(())
-    }
-
-    /// The same, where nothing is wrong before the event, and that is at no cut.
-    fn go_on(&mut self, event: Event) -> Result<(), AllocError>
-        requires room { self.old.monitor.count < 2 ^ 40 }
-        requires fine { self.old.monitor.verdict ≡ so_far self.old.monitor.criterion }
-        ensures ok { OnOk result ((rules : Rules) (history : List Event) → Watches rules history self.old
-            → IsFalse (is_cut history) → Watches rules (history ++ event ∷ []) self.new) }
-        ensures err { OnErr result ((rules : Rules) (history : List Event) → Watches rules history self.old
-            → Watches rules history self.new) }
-    {
-        self.events.push(event)?;
-        match self.monitor.feed(event) {
-            Ok(_) => Ok(()),
-            Err(error) => {
-                self.events.pop();
-                Err(error)
-            }
-        }
     }
 
     /// How many events stand before the window that is shown.
     pub fn from(&self) -> u64
-        ensures { result ≡ self.now.from }
+        ensures { result ≡ self.now.kept.from }
     {
-        self.from
+        self.kept.from()
     }
 
     /// The states from which that window begins, in rising order, 1 to 64.
     pub fn states(&self) -> &States
-        ensures { members result.now ≡ members self.now.states }
+        ensures { members result.now ≡ members self.now.kept.states }
     {
-        &self.states
+        self.kept.states()
     }
 
     /// The events of that window: up to the one at which something is wrong, or else all.
     pub fn events(&self) -> &[Event]
-        ensures { result.now ≡ self.now.events.items }
+        ensures { result.now ≡ self.now.kept.events.items }
     {
-        &self.events
+        self.kept.events()
     }
 
     /// How many events were taken.
@@ -149,12 +96,6 @@ impl LastWindow {
     pub fn finish(self) -> Showing
         ensures { (rules : Rules) (history : List Event) → Watches rules history self → IsShowing rules history result }
     {
-        Showing {
-            fed: self.monitor.fed(),
-            verdict: self.monitor.verdict(),
-            from: self.from,
-            states: self.states,
-            events: self.events,
-        }
+        self.kept.finish(&self.monitor)
     }
 }

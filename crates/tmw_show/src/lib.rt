@@ -2,10 +2,14 @@
 #![tactic(auto)]
 
 mod feeding;
+mod kept_window;
 mod last_window;
 mod law;
+mod next_shown;
 mod showing;
 
+pub use kept_window::KeptWindow;
 pub use last_window::LastWindow;
 pub use law::{law_states, law_window};
+pub use next_shown::NextShown;
 pub use showing::Showing;

@@ -53,13 +53,13 @@ returns-clause-ok g c =
     let ring = c.in-Ok.made.0 in
     let left = c.in_ok-left.left in
     let played = c.in_ok-left.ensures in
-    let begun : HaveBegun rules gives ring scripts left.rounds left.pump.forgetting.reader left.pump.forgetting.front left.writers.items left.stops.items =
-    subst (λ (l : List (Vec (Vec Kind))). HaveBegun rules gives ring (scripts_of l) left.rounds left.pump.forgetting.reader
-    left.pump.forgetting.front left.writers.items left.stops.items) c.as_slice.ensures.value
+    let begun : HaveBegun rules gives ring scripts left.rounds left.judge.forgetting.reader left.judge.forgetting.front left.writers.items left.stops.items =
+    subst (λ (l : List (Vec (Vec Kind))). HaveBegun rules gives ring (scripts_of l) left.rounds left.judge.forgetting.reader
+    left.judge.forgetting.front left.writers.items left.stops.items) c.as_slice.ensures.value
     (played.begun rules (subst (Fits rules []) (sym c.new-pump.ensures.monitor) c.in-Ok-new.ensures.fits)) in
     let after = begun.after in
-    let front = left.pump.forgetting.front in
-    let reader = left.pump.forgetting.reader in
+    let front = left.judge.forgetting.front in
+    let reader = left.judge.forgetting.reader in
     let writers = left.writers.items in
     let stops = left.stops.items in
     let rest = c.settle.result.forgetting in
@@ -74,7 +74,7 @@ returns-clause-ok g c =
     (let one = c.len-threads.ensures in let two = workload.scripts.ok.0 in omega (arith, one, two)) in
     let all : all_of rest ≡ came front ++ rest.settled = ap (λ (f : Front). came f ++ rest.settled) settled.front in
     let whole : log.items ≡ reader.taken ++ rest.settled =
-    judged.all ∙ all ∙ ap (λ (l : List Event). l ++ rest.settled) left.pump.forgetting.all in
+    judged.all ∙ all ∙ ap (λ (l : List Event). l ++ rest.settled) left.judge.forgetting.all in
     let begins : log.items ≡ front.judged.items ++ (listed front.held ++ rest.settled) =
     judged.all ∙ all ∙ append_assoc front.judged.items (listed front.held) rest.settled in
     let fits : Fits rules rest.front.judged.items rest.front.monitor =

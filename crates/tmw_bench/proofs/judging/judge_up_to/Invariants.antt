@@ -4,4 +4,4 @@ use Rattle.tmw_ring.specs.Ends.{ReaderOf}
 use Rattle.tmw_bench.proofs.judging.judge_up_to.Given as goal
 
 abbrev pub invariant-loop : goal.invariant-loop
-invariant-loop g l = ReaderOf l.ring l.pump.forgetting.reader × GoesOn l.fn.pump.forgetting.front l.pump.forgetting.front
+invariant-loop g l = ReaderOf l.ring l.judge.forgetting.reader × GoesOn l.fn.judge.forgetting.front l.judge.forgetting.front

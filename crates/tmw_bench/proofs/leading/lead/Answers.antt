@@ -18,8 +18,8 @@ returns-then-stopped-clause-led g c = λ rules fits.
     let one = c.in_ok-tail.ensures in record {
       bounds = was.0;
       counted = was.1;
-      led = subst (λ (n : ℕ). HasLedTo rules n was.0 c.hear_all.new.pump.forgetting.front c.args.lines.now c.hear_all.new.lines) (sym was.1)
-          (led-heard rules was.0 c.args.lines.now at.lines c.hear_all.new.lines at.pump.forgetting.front c.hear_all.new.pump.forgetting.front
+      led = subst (λ (n : ℕ). HasLedTo rules n was.0 c.hear_all.new.judge.forgetting.front c.args.lines.now c.hear_all.new.lines) (sym was.1)
+          (led-heard rules was.0 c.args.lines.now at.lines c.hear_all.new.lines at.judge.forgetting.front c.hear_all.new.judge.forgetting.front
           was.2 one.heard one.goes_on);
     }
 
@@ -30,10 +30,10 @@ returns-then-not-is_opaque_so_far-clause-led g c = λ rules fits.
     let one = c.in_ok-tail.ensures in record {
       bounds = was.0;
       counted = was.1;
-      led = subst (λ (n : ℕ). HasLedTo rules n was.0 c.judge_up_to.new.pump.forgetting.front c.args.lines.now c.hear_all.new.lines) (sym was.1)
-          (led-on rules was.0 c.args.lines.now c.hear_all.new.lines c.hear_all.new.lines c.hear_all.new.pump.forgetting.front
-          c.judge_up_to.new.pump.forgetting.front (length was.0 + 1)
-          (led-heard rules was.0 c.args.lines.now at.lines c.hear_all.new.lines at.pump.forgetting.front c.hear_all.new.pump.forgetting.front
+      led = subst (λ (n : ℕ). HasLedTo rules n was.0 c.judge_up_to.new.judge.forgetting.front c.args.lines.now c.hear_all.new.lines) (sym was.1)
+          (led-on rules was.0 c.args.lines.now c.hear_all.new.lines c.hear_all.new.lines c.hear_all.new.judge.forgetting.front
+          c.judge_up_to.new.judge.forgetting.front (length was.0 + 1)
+          (led-heard rules was.0 c.args.lines.now at.lines c.hear_all.new.lines at.judge.forgetting.front c.hear_all.new.judge.forgetting.front
           was.2 one.heard one.goes_on) c.in_ok-judge_up_to.ensures.goes_on);
     }
 
@@ -47,18 +47,18 @@ loop-round-preserved g c =
       told.counted ∙ one.heard.counted ∙ at.invariant.1,
       λ rules fits.
           let was = at.invariant.2 rules fits in
-          let led = led-on rules was.0 c.args.lines.now c.hear_all.new.lines c.hear_all.new.lines c.hear_all.new.pump.forgetting.front
-          c.judge_up_to.new.pump.forgetting.front (length was.0 + 1)
-          (led-heard rules was.0 c.args.lines.now at.lines c.hear_all.new.lines at.pump.forgetting.front c.hear_all.new.pump.forgetting.front
+          let led = led-on rules was.0 c.args.lines.now c.hear_all.new.lines c.hear_all.new.lines c.hear_all.new.judge.forgetting.front
+          c.judge_up_to.new.judge.forgetting.front (length was.0 + 1)
+          (led-heard rules was.0 c.args.lines.now at.lines c.hear_all.new.lines at.judge.forgetting.front c.hear_all.new.judge.forgetting.front
           was.2 one.heard one.goes_on) two.goes_on in
-          let verdict = subst (IsVerdict rules c.judge_up_to.new.pump.forgetting.front.judged.items) c.if-not-is_opaque_so_far.ensures
+          let verdict = subst (IsVerdict rules c.judge_up_to.new.judge.forgetting.front.judged.items) c.if-not-is_opaque_so_far.ensures
           (c.verdict.ensures.fits rules led.fits) in (
             c.in_ok-tail.tail ∷ was.0,
             (let n = was.1 in omega (arith, n)),
-            subst (λ (n : ℕ). HasLedTo rules n (c.in_ok-tail.tail ∷ was.0) c.judge_up_to.new.pump.forgetting.front c.args.lines.now c.tell_all.new.lines)
+            subst (λ (n : ℕ). HasLedTo rules n (c.in_ok-tail.tail ∷ was.0) c.judge_up_to.new.judge.forgetting.front c.args.lines.now c.tell_all.new.lines)
                 (omega arith)
                 (led-told rules was.0 c.in_ok-tail.tail c.args.lines.now c.hear_all.new.lines c.tell_all.new.lines
-                c.judge_up_to.new.pump.forgetting.front led two.judged verdict told),
+                c.judge_up_to.new.judge.forgetting.front led two.judged verdict told),
           ),
     )
 
@@ -70,7 +70,7 @@ returns-clause-led g c = λ rules fits.
     let all : at.round ≡ c.args.rounds = (let t = c.loop-round-test.false in let a = at.auto.round in let b = at.auto.round-end in let s = c.requires.some in omega (arith, t, a, b, s)) in record {
       bounds = was.0;
       counted = sym all ∙ was.1;
-      led = subst (λ (n : ℕ). HasLedTo rules n was.0 c.hear_all-2.new.pump.forgetting.front c.args.lines.now c.hear_all-2.new.lines) (sym was.1 ∙ all)
-          (led-heard rules was.0 c.args.lines.now at.lines c.hear_all-2.new.lines at.pump.forgetting.front c.hear_all-2.new.pump.forgetting.front
+      led = subst (λ (n : ℕ). HasLedTo rules n was.0 c.hear_all-2.new.judge.forgetting.front c.args.lines.now c.hear_all-2.new.lines) (sym was.1 ∙ all)
+          (led-heard rules was.0 c.args.lines.now at.lines c.hear_all-2.new.lines at.judge.forgetting.front c.hear_all-2.new.judge.forgetting.front
           was.2 one.heard one.goes_on);
     }

@@ -8,6 +8,6 @@ use Rattle.tmw_bench.proofs.leading.lead.Given as goal
 
 abbrev pub invariant-loop-round : goal.invariant-loop-round
 invariant-loop-round g l =
-    ReaderOf l.ring l.pump.forgetting.reader × (length l.lines ≡ length l.fn.lines)
-    × ((rules : Rules) → Fits rules [] l.fn.pump.forgetting.front.monitor
-    → (bounds : List ℕ) × (l.round ≡ length bounds + 1) × HasLedTo rules (length bounds) bounds l.pump.forgetting.front l.fn.lines l.lines)
+    ReaderOf l.ring l.judge.forgetting.reader × (length l.lines ≡ length l.fn.lines)
+    × ((rules : Rules) → Fits rules [] l.fn.judge.forgetting.front.monitor
+    → (bounds : List ℕ) × (l.round ≡ length bounds + 1) × HasLedTo rules (length bounds) bounds l.judge.forgetting.front l.fn.lines l.lines)

@@ -7,5 +7,5 @@ use Rattle.tmw_bench.proofs.line.hear.Given as goal
 
 abbrev pub invariant-loop : goal.invariant-loop
 invariant-loop g l =
-    ReaderOf l.ring l.pump.forgetting.reader × GoesOn l.initial.pump.forgetting.front l.pump.forgetting.front
+    ReaderOf l.ring l.judge.forgetting.reader × GoesOn l.initial.judge.forgetting.front l.judge.forgetting.front
     × SameConsumer l.initial.line.up l.line.up × (received l.line.up ≡ received l.initial.line.up) × (l.line.down ≡ l.initial.line.down)

@@ -13,7 +13,7 @@ loop-line-preserved g c =
     let low : at.line-index < length at.lines = (let t = c.loop-line-test.true in let n = at.invariant.2.counted in omega (arith, t, n)) in
     let is : (fallback : Line) → get_or at.lines at.line-index fallback ≡ item = λ fallback. get_or_default at.lines at.line-index fallback c.line-item.result low in (
       one.reader,
-      goes_on-then c.args.pump.now.forgetting.front at.pump.forgetting.front c.hear.new.pump.forgetting.front at.invariant.1 one.goes_on,
+      goes_on-then c.args.pump.now.forgetting.front at.judge.forgetting.front c.hear.new.judge.forgetting.front at.invariant.1 one.goes_on,
       heard-next c.args.lines.now at.lines at.line-index item c.hear.new.line c.in_ok-ended.ended low is one.heard at.invariant.2,
       elim c.if-is_stopped.branch [
         | then-is_stopped w ↦ λ _.

@@ -7,5 +7,5 @@ use Rattle.tmw_bench.proofs.line.hear_all.Given as goal
 
 abbrev pub invariant-loop-line : goal.invariant-loop-line
 invariant-loop-line g l =
-    ReaderOf l.ring l.pump.forgetting.reader × GoesOn l.fn.pump.forgetting.front l.pump.forgetting.front
+    ReaderOf l.ring l.judge.forgetting.reader × GoesOn l.fn.judge.forgetting.front l.judge.forgetting.front
     × HaveHeardUpTo l.line-index l.fn.lines l.lines × (IsTrue l.stopped → SomeToldStop l.line-index l.lines)

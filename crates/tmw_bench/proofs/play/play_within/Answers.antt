@@ -59,13 +59,13 @@ close_all-requires-clause-pairs g c =
     promised_at gave ring scripts workers place kept.handle.promise.ring.now (calls_of kept.handle.promise.script.now)
     kept.handle.promise.before.value (get_or backs place d) d promise kept.kept in
     let led = c.in-Ok-led.ensures.led rules fits in
-    let led_to : HasLedTo rules (length led.bounds + 1) led.bounds c.lead-led.new.pump.forgetting.front lines after =
-    subst (λ (l : List Line). HasLedTo rules (length led.bounds + 1) led.bounds c.lead-led.new.pump.forgetting.front l after) c.as_mut_slice.ensures.value
-    (subst (λ (n : ℕ). HasLedTo rules n led.bounds c.lead-led.new.pump.forgetting.front c.as_mut_slice.result.now after) led.counted led.led) in
+    let led_to : HasLedTo rules (length led.bounds + 1) led.bounds c.lead-led.new.judge.forgetting.front lines after =
+    subst (λ (l : List Line). HasLedTo rules (length led.bounds + 1) led.bounds c.lead-led.new.judge.forgetting.front l after) c.as_mut_slice.ensures.value
+    (subst (λ (n : ℕ). HasLedTo rules n led.bounds c.lead-led.new.judge.forgetting.front c.as_mut_slice.result.now after) led.counted led.led) in
     let lines_are : take c.in-Ok.lines.len (after ++ drop (length after) lines) ≡ after =
     written_back c.in-Ok.lines.len after lines
     (let one = led_to.line_count in let two = c.in-Ok.lines.ok.0 in omega (arith, one, two)) in
-    subst (ArePairs (map (λ (one : Back). one.0) backs)) (sym lines_are) (pairs gave ring scripts rules led.bounds c.lead-led.new.pump.forgetting.front writers workers lines after backs opened led_to count all on)
+    subst (ArePairs (map (λ (one : Back). one.0) backs)) (sym lines_are) (pairs gave ring scripts rules led.bounds c.lead-led.new.judge.forgetting.front writers workers lines after backs opened led_to count all on)
 
 pub returns-clause-begun : goal.returns-clause-begun
 returns-clause-begun g c = λ rules fits.
@@ -100,9 +100,9 @@ returns-clause-begun g c = λ rules fits.
     promised_at gave ring scripts workers place kept.handle.promise.ring.now (calls_of kept.handle.promise.script.now)
     kept.handle.promise.before.value (get_or backs place d) d promise kept.kept in
     let led = c.in-Ok-led.ensures.led rules fits in
-    let led_to : HasLedTo rules (length led.bounds + 1) led.bounds c.lead-led.new.pump.forgetting.front lines after =
-    subst (λ (l : List Line). HasLedTo rules (length led.bounds + 1) led.bounds c.lead-led.new.pump.forgetting.front l after) c.as_mut_slice.ensures.value
-    (subst (λ (n : ℕ). HasLedTo rules n led.bounds c.lead-led.new.pump.forgetting.front c.as_mut_slice.result.now after) led.counted led.led) in
+    let led_to : HasLedTo rules (length led.bounds + 1) led.bounds c.lead-led.new.judge.forgetting.front lines after =
+    subst (λ (l : List Line). HasLedTo rules (length led.bounds + 1) led.bounds c.lead-led.new.judge.forgetting.front l after) c.as_mut_slice.ensures.value
+    (subst (λ (n : ℕ). HasLedTo rules n led.bounds c.lead-led.new.judge.forgetting.front c.as_mut_slice.result.now after) led.counted led.led) in
     let lines_are : take c.in-Ok.lines.len (after ++ drop (length after) lines) ≡ after =
     written_back c.in-Ok.lines.len after lines
     (let one = led_to.line_count in let two = c.in-Ok.lines.ok.0 in omega (arith, one, two)) in
@@ -111,12 +111,12 @@ returns-clause-begun g c = λ rules fits.
     record {
       bounds = led.bounds;
       counted = led.counted;
-      after = subst (λ (ws : List WriterIs). IsAfter rules gave ring scripts led.bounds c.lead-led.new.pump.forgetting.reader
-          c.lead-led.new.pump.forgetting.front ws c.in-Ok-close_all.stops.items) (sym c.in-Ok-close_all.ensures.writers)
-          (subst (λ (ss : List (Option Refused)). IsAfter rules gave ring scripts led.bounds c.lead-led.new.pump.forgetting.reader
-          c.lead-led.new.pump.forgetting.front (map (λ (one : Back). one.0.writer) backs) ss) (sym c.in-Ok-close_all.ensures.stops)
-          (is_after-gathered gave ring scripts rules led.bounds c.lead-led.new.pump.forgetting.front writers workers lines after backs opened led_to count all on
-          closed c.lead-led.new.pump.forgetting.reader c.in-Ok-led.ensures.reader c.requires.writers));
+      after = subst (λ (ws : List WriterIs). IsAfter rules gave ring scripts led.bounds c.lead-led.new.judge.forgetting.reader
+          c.lead-led.new.judge.forgetting.front ws c.in-Ok-close_all.stops.items) (sym c.in-Ok-close_all.ensures.writers)
+          (subst (λ (ss : List (Option Refused)). IsAfter rules gave ring scripts led.bounds c.lead-led.new.judge.forgetting.reader
+          c.lead-led.new.judge.forgetting.front (map (λ (one : Back). one.0.writer) backs) ss) (sym c.in-Ok-close_all.ensures.stops)
+          (is_after-gathered gave ring scripts rules led.bounds c.lead-led.new.judge.forgetting.front writers workers lines after backs opened led_to count all on
+          closed c.lead-led.new.judge.forgetting.reader c.in-Ok-led.ensures.reader c.requires.writers));
     }
 
 pub returns-clause-over : goal.returns-clause-over
@@ -154,9 +154,9 @@ returns-clause-over g c = λ fewer.
     promised_at gave ring scripts workers place kept.handle.promise.ring.now (calls_of kept.handle.promise.script.now)
     kept.handle.promise.before.value (get_or backs place d) d promise kept.kept in
     let led = c.in-Ok-led.ensures.led rules fits in
-    let led_to : HasLedTo rules (length led.bounds + 1) led.bounds c.lead-led.new.pump.forgetting.front lines after =
-    subst (λ (l : List Line). HasLedTo rules (length led.bounds + 1) led.bounds c.lead-led.new.pump.forgetting.front l after) c.as_mut_slice.ensures.value
-    (subst (λ (n : ℕ). HasLedTo rules n led.bounds c.lead-led.new.pump.forgetting.front c.as_mut_slice.result.now after) led.counted led.led) in
+    let led_to : HasLedTo rules (length led.bounds + 1) led.bounds c.lead-led.new.judge.forgetting.front lines after =
+    subst (λ (l : List Line). HasLedTo rules (length led.bounds + 1) led.bounds c.lead-led.new.judge.forgetting.front l after) c.as_mut_slice.ensures.value
+    (subst (λ (n : ℕ). HasLedTo rules n led.bounds c.lead-led.new.judge.forgetting.front c.as_mut_slice.result.now after) led.counted led.led) in
     let lines_are : take c.in-Ok.lines.len (after ++ drop (length after) lines) ≡ after =
     written_back c.in-Ok.lines.len after lines
     (let one = led_to.line_count in let two = c.in-Ok.lines.ok.0 in omega (arith, one, two)) in
@@ -165,7 +165,7 @@ returns-clause-over g c = λ fewer.
     elim (c.in-Ok-led.ensures.over fewer) [
       | inl some ↦
           inl (subst SomeStop (sym c.in-Ok-close_all.ensures.stops)
-          (some_stop-gathered gave ring scripts rules led.bounds c.lead-led.new.pump.forgetting.front writers workers lines after backs opened led_to count all on
+          (some_stop-gathered gave ring scripts rules led.bounds c.lead-led.new.judge.forgetting.front writers workers lines after backs opened led_to count all on
           closed (subst (λ (l : List Line). SomeToldStop (length l) after) c.as_mut_slice.ensures.value some)))
       | inr other ↦ inr other
     ]

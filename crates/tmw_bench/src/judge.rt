@@ -1,0 +1,51 @@
+ghost use Rattle.std.specs.Prelude.{◌≡◌, ◌+◌, ◌≤◌, ◌<◌, List, [], ◌∷◌, ◌++◌, length, Some, None, IfOk, OnOk};
+ghost use Rattle.tmw_ring.specs.Ends.{ReaderOf};
+
+use crate::keep::Keep;
+use std::alloc::AllocError;
+use tmw_events::Event;
+use tmw_pump::ForgettingPump;
+use tmw_ring::Ring;
+
+/// Judges the events of a running ring, and keeps of them what K keeps.
+#[derive(Drop)]
+pub struct Judge<K> {
+    pub forgetting: ForgettingPump,
+    pub kept: K,
+}
+
+impl<K: Keep> Judge<K> {
+    ghost use Rattle.tmw_bench.specs.Keeping.{HasGoneOn};
+
+    /// Takes and judges up to so many events, and answers how many: fewer only where the next place is not published.
+    pub fn pump(&mut self, ring: &Ring, max: u64) -> Result<u64, AllocError>
+        requires { ReaderOf ring.now self.old.forgetting.reader }
+        ensures of_ring { ReaderOf ring.now self.new.forgetting.reader }
+        ensures goes_on { OnOk result (HasGoneOn K.keeps self.old self.new) }
+        ensures judged { IfOk result (λ judged. length self.new.forgetting.front.judged.items
+            ≡ length self.old.forgetting.front.judged.items + judged) }
+        ensures within { IfOk result (λ judged. judged ≤ max) }
+    {
+        for judged in 0..max {
+            let Some(event) = self.forgetting.next(ring) else {
+                return Ok(judged);
+            };
+            self.judge(event)?;
+        }
+        Ok(max)
+    }
+
+    /// Judges the event that is held, and keeps it.
+    fn judge(&mut self, event: Event) -> Result<(), AllocError>
+        requires { self.old.forgetting.front.held ≡ Some event }
+        ensures reader { self.new.forgetting.reader ≡ self.old.forgetting.reader }
+        ensures goes_on { OnOk result (HasGoneOn K.keeps self.old self.new) }
+        ensures judged { OnOk result (length self.new.forgetting.front.judged.items
+            ≡ length self.old.forgetting.front.judged.items + 1) }
+    {
+        let next = self.kept.make_room(self.forgetting.monitor())?;
+        self.forgetting.judge(event)?;
+        self.kept.take(next, event);
+        Ok(())
+    }
+}

@@ -1,0 +1,116 @@
+ghost use Rattle.std.specs.Prelude.{◌≡◌, List, [], ◌∷◌, ◌++◌, IfOk, IsOk, OnOk};
+ghost use Rattle.tmw_events.specs.declared.event.Event.{Event};
+ghost use Rattle.tmw_defs.specs.Verdict.{Rules, IsVerdict};
+ghost use Rattle.tmw_defs.specs.declared.verdict.Verdict.{Verdict};
+ghost use Rattle.tmw_monitor.specs.Fitting.{Fits};
+ghost use Rattle.tmw_monitor.specs.declared.monitor.Monitor.{Monitor};
+
+use crate::next_shown::NextShown;
+use crate::showing::Showing;
+use std::alloc::{AllocError, Global};
+use tmw_cuts::States;
+use tmw_events::Event;
+use tmw_monitor::Monitor;
+
+/// The last window of a history that a monitor judges, up to the event at which something is wrong, and the states from which that
+/// window begins. No event before them is kept.
+#[derive(Debug, Drop)]
+pub struct KeptWindow {
+    from: u64,
+    states: States,
+    events: Vec<Event>,
+}
+
+impl KeptWindow {
+    ghost use Rattle.tmw_show.specs.Keeping.{HasRoom, IsNext, IsOpen, KeepsSame, KeepsShown};
+    ghost use Rattle.tmw_show.specs.Showing.{IsShowing};
+
+    /// Before the first event that the monitor is fed.
+    pub fn new(alloc: Global, monitor: &Monitor) -> Result<KeptWindow, AllocError>
+        ensures { IfOk result (λ kept. (rules : Rules) → Fits rules [] monitor.now → IsOpen monitor.now
+            → KeepsShown rules [] monitor.now.verdict kept) }
+    {
+        let states = monitor.outcomes().copy()?;
+        Ok(KeptWindow {
+            from: 0,
+            states,
+            events: Vec::new(alloc),
+        })
+    }
+
+    /// Makes room for the event that the monitor takes next, and answers what that does with the window. Where something is wrong
+    /// already it succeeds.
+    pub fn make_room(&mut self, monitor: &Monitor) -> Result<NextShown, AllocError>
+        ensures same { KeepsSame self.old self.new }
+        ensures next { IfOk result (IsNext monitor.now) }
+        ensures room { IfOk result (λ next. HasRoom next self.new) }
+        ensures stays { (IsOpen monitor.now → ⊥) → IsOk result }
+    {
+        if !monitor.is_open() {
+            return Ok(NextShown::None);
+        }
+        self.events.reserve(1)?;
+        if !monitor.is_at_cut() {
+            return Ok(NextShown::GoesOn);
+        }
+        let states = monitor.outcomes().copy()?;
+        Ok(NextShown::Begins {
+            from: monitor.fed(),
+            states,
+        })
+    }
+
+    /// Keeps the event that the monitor has taken, by what that does with the window.
+    pub fn take(&mut self, next: NextShown, event: Event)
+        requires { HasRoom next self.old }
+        ensures { (rules : Rules) (history : List Event) (before : Monitor) (verdict : Verdict) → IsNext before next
+            → Fits rules history before → IsVerdict rules (history ++ event ∷ []) verdict
+            → KeepsShown rules history before.verdict self.old → KeepsShown rules (history ++ event ∷ []) verdict self.new }
+    {
+        match next {
+            NextShown::None => {}
+            NextShown::Begins { from, states } => {
+                self.from = from;
+                self.states = states;
+                self.events.clear();
+                self.events.push_reserved(event);
+            }
+            NextShown::GoesOn => self.events.push_reserved(event),
+        }
+    }
+
+    /// How many events stand before the window.
+    pub fn from(&self) -> u64
+        ensures { result ≡ self.now.from }
+    {
+        self.from
+    }
+
+    /// The states from which it begins, in rising order, 1 to 64.
+    pub fn states(&self) -> &States
+        ensures { result.now ≡ self.now.states }
+    {
+        &self.states
+    }
+
+    /// Its events: up to the one at which something is wrong, or else all.
+    pub fn events(&self) -> &[Event]
+        ensures { result.now ≡ self.now.events.items }
+    {
+        &self.events
+    }
+
+    /// What is shown of the run that the monitor was fed, where no event follows.
+    pub fn finish(self, monitor: &Monitor) -> Showing
+        ensures { (rules : Rules) (history : List Event) → Fits rules history monitor.now
+            → KeepsShown rules history monitor.now.verdict self → IsShowing rules history result }
+    {
+        Showing {
+            fed: monitor.fed(),
+            verdict: monitor.verdict(),
+            from: self.from,
+            states: self.states,
+            events: self.events,
+        }
+    }
+}
