@@ -1,5 +1,5 @@
 -- What the leader has heard and told, from one worker to the next.
-use Rattle.std.proofs.Common.{◌≡◌, ◌≢◌, ◌≤◌, ◌<◌, ◌+◌, ◌++◌, ℕ, List, [], ◌∷◌, Option, Some, length, get_or, set, IsTrue, None, refl, inl, inr, sym, ap, ◌∙◌, subst, arith, append_assoc}
+use Rattle.std.proofs.Common.{◌≡◌, ◌≢◌, ◌≤◌, ◌<◌, ◌+◌, ◌++◌, ℕ, List, [], ◌∷◌, Option, Some, length, get_or, set, IsTrue, None, refl, inl, inr, sym, ap, ◌∙◌, subst, arith, append_assoc, append-nil}
 use Rattle.std.specs.Option.{IsSome}
 use Rattle.std.proofs.Math.Nat.{ne_of_lt}
 use Rattle.std.proofs.lemmas.Bool.{cases_lt}
@@ -8,10 +8,13 @@ use Rattle.rtrb.specs.Ring.{received, sent, SameConsumer, SameProducer}
 use Rattle.tmw_bench.proofs.OpaqueRounds.{all_opaque-append, all_opaque-round}
 use Rattle.tmw_bench.specs.Rounds.{AllOpaque}
 use Rattle.tmw_defs.specs.Verdict.{Rules, IsVerdict}
+use Rattle.tmw_defs.specs.declared.verdict.Verdict.{Verdict}
 use Rattle.tmw_defs.specs.declared.verdict.Verdict.TheVariants.{OpaqueSoFar}
 use Rattle.tmw_events.specs.declared.event.Event.{Event}
 use Rattle.tmw_bench.proofs.Between.{up-then, down-then}
+use Rattle.tmw_bench.specs.Keeping.{HasGoneOn}
 use Rattle.tmw_bench.specs.Workers.{in_order}
+use Rattle.tmw_bench.specs.declared.judge.Judge.{Judge}
 use Rattle.tmw_bench.specs.Leading.{AreNewLines, HasHeard, HasLed, HasLedTo, HasTold, HasToldStop, HaveHeardUpTo, HaveToldUpTo, IsLineAt, SomeToldStop}
 use Rattle.tmw_bench.specs.declared.ended.Ended.{Ended}
 use Rattle.tmw_bench.specs.declared.line.Line.{Line}
@@ -27,6 +30,21 @@ goes_on-then old mid new one two = record {
   judged = two.judged ∙ ap (λ (l : List Event). l ++ two.more) one.judged ∙ append_assoc old.judged.items one.more two.more;
   fits = λ rules was. two.fits rules (one.fits rules was);
 }
+
+module _ {K : Type 0} (keeps : Rules → List Event → Verdict → K → Type 0) where
+  -- nothing more
+  pub gone_on-none : (judge : Judge K) → HasGoneOn keeps judge judge
+  gone_on-none judge = record {
+    front = record { more = []; judged = sym (append-nil judge.forgetting.front.judged.items); fits = λ rules was. was };
+    kept = λ rules was. was;
+  }
+
+  -- and more behind more
+  pub gone_on-then : (old mid new : Judge K) → HasGoneOn keeps old mid → HasGoneOn keeps mid new → HasGoneOn keeps old new
+  gone_on-then old mid new one two = record {
+    front = goes_on-then old.forgetting.front mid.forgetting.front new.forgetting.front one.front two.front;
+    kept = λ rules was. two.kept rules (one.kept rules was);
+  }
 
 some_of : (stop : Option Refused) → IsSome stop → (refused : Refused) × (stop ≡ Some refused)
 some_of None is = absurd (grind (arith, is))

@@ -8,7 +8,7 @@ use crate::worker::Worker;
 use std::alloc::{AllocError, Global};
 use tmw_ring::{Refused, Writer};
 
-/// What was told and not heard is in the rings.
+/// Gives the writer that came back. What was told by the worker or to it, and not heard, is in the rings.
 fn close_one(worker: Worker, line: &mut Line) -> Writer
     requires up { IsPair worker.up line.old.up }
     requires down { IsPair line.old.down worker.down }

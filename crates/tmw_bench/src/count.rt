@@ -26,14 +26,7 @@ impl Count {
     /// One more. Those who sleep look again where the count is now a multiple of `each`.
     pub fn rise(&self, each: u64) {
         let count = self.count.fetch_add(1, Ordering::SeqCst).wrapping_add(1);
-        if count.is_multiple_of(each) {
-            self.wake();
-        }
-    }
-
-    /// Those who sleep look again.
-    pub fn wake(&self) {
-        if self.asleep.load(Ordering::SeqCst) > 0 {
+        if count.is_multiple_of(each) && self.asleep.load(Ordering::SeqCst) > 0 {
             self.count.wake_all();
         }
     }

@@ -8,7 +8,7 @@ use rtrb::RingBuffer;
 use std::alloc::{AllocError, Global};
 use tmw_ring::Writer;
 
-/// A ring holds so many things at most. There is never more than one.
+/// A ring holds so many things at most, one more than there ever are.
 const ROOM: usize = 2;
 
 fn open_one(alloc: Global, writer: Writer) -> Result<(Worker, Line), AllocError>

@@ -1,11 +1,11 @@
 use crate::count::Count;
 use std::sync::atomic::{AtomicBool, Ordering};
 
-/// What a leader and its workers tell all, beside what goes by their lines. No clause rests on it: it saves those that wait long the
-/// looking.
+/// What a leader and its workers tell all, beside what goes by their lines. No clause rests on it; that a run ends does, since workers
+/// end when the run is over.
 #[derive(Drop)]
 pub struct Orders {
-    /// How often a worker has begun a round.
+    /// How often a worker has begun a round, and then that no further one begins.
     pub begun: Count,
     /// How often one has ended a round.
     pub ended: Count,
@@ -29,7 +29,7 @@ impl Orders {
     pub fn end(&self) {
         self.over.store(true, Ordering::SeqCst);
         self.told.rise(1);
-        self.begun.wake();
+        self.begun.rise(1);
     }
 
     /// Whether no further round begins.

@@ -87,7 +87,7 @@ pub fn play_rounds<R: Threads + Wait + Sync, J: Giving + Send, K: Keep>(
     )
 }
 
-/// The rounds, by threads of this scope. Where it fails, threads that find the ring full stop.
+/// The rounds, by threads of this scope. Where it fails, each of them ends: one that waits, and one that finds the ring full.
 fn play_within<'s, E, R: Threads + Wait + Sync, J: Giving + Send + 's, K: Keep>(
     rt: &'s R,
     scope: &Scope<'s, E>,
@@ -152,7 +152,7 @@ fn play_within<'s, E, R: Threads + Wait + Sync, J: Giving + Send + 's, K: Keep>(
     })
 }
 
-/// Nobody leads or pumps any more, so that each worker ends.
+/// Nobody leads or pumps any more: a worker that waits or finds the ring full ends.
 fn give_up(stage: Stage<'_>) {
     stage.signals.give_up();
     stage.orders.end();

@@ -1,7 +1,7 @@
 -- More was judged.
-use Rattle.tmw_recorded.specs.Pumping.{GoesOn}
+use Rattle.tmw_bench.specs.Keeping.{HasGoneOn}
 use Rattle.tmw_ring.specs.Ends.{ReaderOf}
 use Rattle.tmw_bench.proofs.judging.judge_up_to.Given as goal
 
 abbrev pub invariant-loop : goal.invariant-loop
-invariant-loop g l = ReaderOf l.ring l.judge.forgetting.reader × GoesOn l.fn.judge.forgetting.front l.judge.forgetting.front
+invariant-loop g l = ReaderOf l.ring l.judge.forgetting.reader × HasGoneOn g.K.Keep.keeps l.fn.judge l.judge

@@ -1,14 +1,15 @@
 use Rattle.std.proofs.Common.{◌≡◌, ◌+◌, ℕ, List, [], ◌∷◌, length, sym, ◌∙◌, subst, arith, refl}
 use Rattle.tmw_defs.specs.Verdict.{IsVerdict}
 use Rattle.tmw_bench.specs.Leading.{HasLedTo}
-use Rattle.tmw_bench.proofs.Leads.{led-heard, led-on, led-told, led-new}
+use Rattle.tmw_bench.proofs.Leads.{gone_on-none, gone_on-then, led-heard, led-on, led-told, led-new}
 use Rattle.tmw_bench.proofs.leading.lead.Goals as goal
 
 pub loop-round-init : goal.loop-round-init
 loop-round-init g c = (
   c.requires.reader,
   refl,
-  λ rules fits. ([], refl, led-new rules c.args.lines.now c.args.pump.now.forgetting.front c.requires.new c.requires.judged fits),
+  λ rules fits. ([], refl, led-new rules c.args.lines.now c.args.judge.now.forgetting.front c.requires.new c.requires.judged fits),
+  gone_on-none g.K.Keep.keeps c.args.judge.now,
 )
 
 pub returns-then-stopped-clause-led : goal.returns-then-stopped-clause-led
@@ -20,7 +21,7 @@ returns-then-stopped-clause-led g c = λ rules fits.
       counted = was.1;
       led = subst (λ (n : ℕ). HasLedTo rules n was.0 c.hear_all.new.judge.forgetting.front c.args.lines.now c.hear_all.new.lines) (sym was.1)
           (led-heard rules was.0 c.args.lines.now at.lines c.hear_all.new.lines at.judge.forgetting.front c.hear_all.new.judge.forgetting.front
-          was.2 one.heard one.goes_on);
+          was.2 one.heard one.goes_on.front);
     }
 
 pub returns-then-not-is_opaque_so_far-clause-led : goal.returns-then-not-is_opaque_so_far-clause-led
@@ -34,7 +35,7 @@ returns-then-not-is_opaque_so_far-clause-led g c = λ rules fits.
           (led-on rules was.0 c.args.lines.now c.hear_all.new.lines c.hear_all.new.lines c.hear_all.new.judge.forgetting.front
           c.judge_up_to.new.judge.forgetting.front (length was.0 + 1)
           (led-heard rules was.0 c.args.lines.now at.lines c.hear_all.new.lines at.judge.forgetting.front c.hear_all.new.judge.forgetting.front
-          was.2 one.heard one.goes_on) c.in_ok-judge_up_to.ensures.goes_on);
+          was.2 one.heard one.goes_on.front) c.in_ok-judge_up_to.ensures.goes_on.front);
     }
 
 pub loop-round-preserved : goal.loop-round-preserved
@@ -50,7 +51,7 @@ loop-round-preserved g c =
           let led = led-on rules was.0 c.args.lines.now c.hear_all.new.lines c.hear_all.new.lines c.hear_all.new.judge.forgetting.front
           c.judge_up_to.new.judge.forgetting.front (length was.0 + 1)
           (led-heard rules was.0 c.args.lines.now at.lines c.hear_all.new.lines at.judge.forgetting.front c.hear_all.new.judge.forgetting.front
-          was.2 one.heard one.goes_on) two.goes_on in
+          was.2 one.heard one.goes_on.front) two.goes_on.front in
           let verdict = subst (IsVerdict rules c.judge_up_to.new.judge.forgetting.front.judged.items) c.if-not-is_opaque_so_far.ensures
           (c.verdict.ensures.fits rules led.fits) in (
             c.in_ok-tail.tail ∷ was.0,
@@ -60,6 +61,8 @@ loop-round-preserved g c =
                 (led-told rules was.0 c.in_ok-tail.tail c.args.lines.now c.hear_all.new.lines c.tell_all.new.lines
                 c.judge_up_to.new.judge.forgetting.front led two.judged verdict told),
           ),
+      gone_on-then g.K.Keep.keeps c.args.judge.now at.judge c.judge_up_to.new.judge at.invariant.3
+          (gone_on-then g.K.Keep.keeps at.judge c.hear_all.new.judge c.judge_up_to.new.judge one.goes_on two.goes_on),
     )
 
 pub returns-clause-led : goal.returns-clause-led
@@ -72,5 +75,5 @@ returns-clause-led g c = λ rules fits.
       counted = sym all ∙ was.1;
       led = subst (λ (n : ℕ). HasLedTo rules n was.0 c.hear_all-2.new.judge.forgetting.front c.args.lines.now c.hear_all-2.new.lines) (sym was.1 ∙ all)
           (led-heard rules was.0 c.args.lines.now at.lines c.hear_all-2.new.lines at.judge.forgetting.front c.hear_all-2.new.judge.forgetting.front
-          was.2 one.heard one.goes_on);
+          was.2 one.heard one.goes_on.front);
     }

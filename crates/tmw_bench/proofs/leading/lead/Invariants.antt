@@ -1,6 +1,7 @@
 -- So many rounds have ended, and the workers were told where.
 use Rattle.std.proofs.Common.{◌≡◌, ◌+◌, ℕ, List, [], length}
 use Rattle.tmw_defs.specs.Verdict.{Rules}
+use Rattle.tmw_bench.specs.Keeping.{HasGoneOn}
 use Rattle.tmw_bench.specs.Leading.{HasLedTo}
 use Rattle.tmw_monitor.specs.Fitting.{Fits}
 use Rattle.tmw_ring.specs.Ends.{ReaderOf}
@@ -11,3 +12,4 @@ invariant-loop-round g l =
     ReaderOf l.ring l.judge.forgetting.reader × (length l.lines ≡ length l.fn.lines)
     × ((rules : Rules) → Fits rules [] l.fn.judge.forgetting.front.monitor
     → (bounds : List ℕ) × (l.round ≡ length bounds + 1) × HasLedTo rules (length bounds) bounds l.judge.forgetting.front l.fn.lines l.lines)
+    × HasGoneOn g.K.Keep.keeps l.fn.judge l.judge

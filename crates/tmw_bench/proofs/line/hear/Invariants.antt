@@ -1,11 +1,11 @@
 -- Nothing was heard yet.
 use Rattle.std.proofs.Common.{◌≡◌}
 use Rattle.rtrb.specs.Ring.{received, SameConsumer}
-use Rattle.tmw_recorded.specs.Pumping.{GoesOn}
+use Rattle.tmw_bench.specs.Keeping.{HasGoneOn}
 use Rattle.tmw_ring.specs.Ends.{ReaderOf}
 use Rattle.tmw_bench.proofs.line.hear.Given as goal
 
 abbrev pub invariant-loop : goal.invariant-loop
 invariant-loop g l =
-    ReaderOf l.ring l.judge.forgetting.reader × GoesOn l.initial.judge.forgetting.front l.judge.forgetting.front
+    ReaderOf l.ring l.judge.forgetting.reader × HasGoneOn g.K.Keep.keeps l.initial.judge l.judge
     × SameConsumer l.initial.line.up l.line.up × (received l.line.up ≡ received l.initial.line.up) × (l.line.down ≡ l.initial.line.down)

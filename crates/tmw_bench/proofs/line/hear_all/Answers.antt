@@ -1,6 +1,6 @@
 use Rattle.std.proofs.Common.{◌≡◌, ◌<◌, arith, IsTrue, get_or, length, subst, sym, ◌∙◌}
 use Rattle.std.proofs.lemmas.List.{get_or_default}
-use Rattle.tmw_bench.proofs.Leads.{goes_on-then, heard-next, some_stop-here, some_stop-later}
+use Rattle.tmw_bench.proofs.Leads.{gone_on-then, heard-next, some_stop-here, some_stop-later}
 use Rattle.tmw_bench.specs.declared.line.Line.{Line}
 use Rattle.tmw_bench.proofs.line.hear_all.Goals as goal
 use Rattle.tmw_bench.proofs.line.hear_all.Goals.{then-is_stopped, else-is_stopped}
@@ -13,7 +13,7 @@ loop-line-preserved g c =
     let low : at.line-index < length at.lines = (let t = c.loop-line-test.true in let n = at.invariant.2.counted in omega (arith, t, n)) in
     let is : (fallback : Line) → get_or at.lines at.line-index fallback ≡ item = λ fallback. get_or_default at.lines at.line-index fallback c.line-item.result low in (
       one.reader,
-      goes_on-then c.args.pump.now.forgetting.front at.judge.forgetting.front c.hear.new.judge.forgetting.front at.invariant.1 one.goes_on,
+      gone_on-then g.K.Keep.keeps c.args.judge.now at.judge c.hear.new.judge at.invariant.1 one.goes_on,
       heard-next c.args.lines.now at.lines at.line-index item c.hear.new.line c.in_ok-ended.ended low is one.heard at.invariant.2,
       elim c.if-is_stopped.branch [
         | then-is_stopped w ↦ λ _.

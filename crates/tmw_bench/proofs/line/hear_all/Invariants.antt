@@ -1,11 +1,11 @@
 -- The first workers have told one thing more.
 use Rattle.std.proofs.Common.{◌≡◌, IsTrue}
 use Rattle.tmw_bench.specs.Leading.{HaveHeardUpTo, SomeToldStop}
-use Rattle.tmw_recorded.specs.Pumping.{GoesOn}
+use Rattle.tmw_bench.specs.Keeping.{HasGoneOn}
 use Rattle.tmw_ring.specs.Ends.{ReaderOf}
 use Rattle.tmw_bench.proofs.line.hear_all.Given as goal
 
 abbrev pub invariant-loop-line : goal.invariant-loop-line
 invariant-loop-line g l =
-    ReaderOf l.ring l.judge.forgetting.reader × GoesOn l.fn.judge.forgetting.front l.judge.forgetting.front
+    ReaderOf l.ring l.judge.forgetting.reader × HasGoneOn g.K.Keep.keeps l.fn.judge l.judge
     × HaveHeardUpTo l.line-index l.fn.lines l.lines × (IsTrue l.stopped → SomeToldStop l.line-index l.lines)

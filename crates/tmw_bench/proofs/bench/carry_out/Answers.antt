@@ -21,7 +21,7 @@ use Rattle.tmw_pump.specs.declared.front.Front.{Front}
 use Rattle.tmw_ring.specs.declared.refused.Refused.{Refused}
 use Rattle.tmw_ring_defs.specs.Sizes.{HasNumbers}
 use Rattle.tmw_runs.specs.Scripts.{script_of, scripts_of}
-use Rattle.tmw_bench.proofs.bench.run_bench.Goals as goal
+use Rattle.tmw_bench.proofs.bench.carry_out.Goals as goal
 
 pub play_rounds-requires-clause-scripts : goal.play_rounds-requires-clause-scripts
 play_rounds-requires-clause-scripts g c κs within =
@@ -53,50 +53,20 @@ returns-clause-ok g c =
     let ring = c.in-Ok.made.0 in
     let left = c.in_ok-left.left in
     let played = c.in_ok-left.ensures in
+    let fitted : Fits rules [] c.new.result.front.monitor = subst (Fits rules []) (sym c.new.ensures.monitor) c.in-Ok-new.ensures.fits in
     let begun : HaveBegun rules gives ring scripts left.rounds left.judge.forgetting.reader left.judge.forgetting.front left.writers.items left.stops.items =
     subst (λ (l : List (Vec (Vec Kind))). HaveBegun rules gives ring (scripts_of l) left.rounds left.judge.forgetting.reader
-    left.judge.forgetting.front left.writers.items left.stops.items) c.as_slice.ensures.value
-    (played.begun rules (subst (Fits rules []) (sym c.new-pump.ensures.monitor) c.in-Ok-new.ensures.fits)) in
+    left.judge.forgetting.front left.writers.items left.stops.items) c.as_slice.ensures.value (played.begun rules fitted) in
     let after = begun.after in
     let front = left.judge.forgetting.front in
     let reader = left.judge.forgetting.reader in
     let writers = left.writers.items in
     let stops = left.stops.items in
-    let rest = c.settle.result.forgetting in
-    let settled = c.settle.ensures in
+    let settled = c.settle-rest.ensures in
+    let before = c.settle-rest.result in
+    let rest = c.judge_rest.new.rest in
     let judged = c.in-Ok-judge_rest.ensures in
     let ends = c.in-Ok-ends_of.ends in
-    let log = c.in-Ok-judge_rest.log in
-    let verdict = c.in-Ok-judge_rest.verdict in
-    let benched : Benched = record { outcome = record { log = log; verdict = verdict; ends = ends }; rounds = left.rounds } in
-    let threads : length workload.scripts.items ≡ length scripts = sym (length-map workload.scripts.items script_of) in
-    let sized : c.len-threads.result ≡ length workload.scripts.items =
-    (let one = c.len-threads.ensures in let two = workload.scripts.ok.0 in omega (arith, one, two)) in
-    let all : all_of rest ≡ came front ++ rest.settled = ap (λ (f : Front). came f ++ rest.settled) settled.front in
-    let whole : log.items ≡ reader.taken ++ rest.settled =
-    judged.all ∙ all ∙ ap (λ (l : List Event). l ++ rest.settled) left.judge.forgetting.all in
-    let begins : log.items ≡ front.judged.items ++ (listed front.held ++ rest.settled) =
-    judged.all ∙ all ∙ append_assoc front.judged.items (listed front.held) rest.settled in
-    let fits : Fits rules rest.front.judged.items rest.front.monitor =
-    subst (λ (f : Front). Fits rules f.judged.items f.monitor) (sym settled.front) after.fits in
-    let headline : Headline rules log.items writers log.items verdict =
-    subst (λ (l : List Event). Headline rules l writers log.items verdict) (sym judged.all)
-    (judged.headline rules (all_of rest) writers fits settled.one_log) in
-    let endings : AreEndings scripts stops ends.items =
-    are_endings-map scripts stops ends.items after.stop_count
-    (c.in-Ok-ends_of.ensures ∙ ap (λ (l : List (Option Refused)). map ending_of l) c.deref.ensures.value) in
-    let come : HasCome (length scripts) ring reader writers rest.settled = record {
-      reader_of = after.reader_of;
-      writers_of = after.of_ring;
-      order = after.order;
-      count = after.played.counted;
-      settled = settled.settled;
-    } in
-    is_benched gives workload.registers scripts settings benched ring reader writers rest.settled begun.bounds stops
-    (are_transactions-workload workload.registers.number scripts workload.order.items workload.is)
-    (subst (λ (n : ℕ). HasNumbers settings.cells n settings.limit ring.size) (sized ∙ threads) c.in-Ok.ensures.ok.sized) come whole after.played
-    (subst (AllOpaque rules begun.bounds) (sym begins)
-    (all_opaque-append rules begun.bounds front.judged.items (listed front.held ++ rest.settled) after.opaque))
-    endings (judged.verdict rules fits) headline begun.counted played.within
-    (λ fewer. over-log rules scripts stops ends.items front (listed front.held ++ rest.settled) log.items writers verdict refl after.stop_count endings
-    begins after.fits.judged headline (played.over fewer))
+    let log = rest.front.judged.items in
+    let verdict = rest.front.monitor.verdict in
+    ?
