@@ -9,7 +9,6 @@ mod recorded;
 mod returning;
 #[cfg(test)]
 mod ring;
-#[cfg(test)]
 mod soon;
 #[cfg(test)]
 mod steps;
