@@ -25,7 +25,7 @@ use Rattle.tmw_monitor.specs.Holding.{AreLastOutcomes}
 use Rattle.tmw_monitor.specs.Fitting.{Fits}
 use Rattle.tmw_monitor.specs.declared.monitor.Monitor.{Monitor}
 use Rattle.tmw_show.specs.Shown.{shown_length, before_shown, IsShown}
-use Rattle.tmw_show.specs.Keeping.{KeepsSame}
+use Rattle.tmw_show.specs.Keeping.{KeepsSame, KeepsShown}
 use Rattle.tmw_show.specs.Watching.{Watches}
 use Rattle.tmw_show.specs.declared.kept_window.KeptWindow.{KeptWindow}
 use Rattle.tmw_show.specs.declared.last_window.LastWindow.{LastWindow}
@@ -225,12 +225,19 @@ shown-same rules h v w from states old new a b shown same =
     let one = subst (λ u. IsShown rules h u from states old) (verdict-one rules h v w a b) shown in
     record { outcomes = one.outcomes; begins = one.begins; window = same ∙ one.window }
 
+-- what is kept is shown, where the same is kept
+pub kept-same : (rules : Rules) (h : List Event) (v : Verdict) (old new : KeptWindow) → KeepsSame old new → KeepsShown rules h v old
+    → KeepsShown rules h v new
+kept-same rules h v old new same shown =
+    subst (λ n. IsShown rules h v n (members new.states) new.events.items) (sym same.from)
+    (subst (λ (s : List State). IsShown rules h v old.from s new.events.items) (sym same.states)
+    (subst (λ (l : List Event). IsShown rules h v old.from (members old.states) l) (sym same.events) shown))
+
 pub watches-kept : (rules : Rules) (h : List Event) (old : LastWindow) (new : Monitor) (kept : KeptWindow) → Watches rules h old
     → Fits rules h new → KeepsSame old.kept kept → Watches rules h (record { monitor = new; kept = kept })
 watches-kept rules h old new kept watches fits same = record {
   fits = fits;
-  shown = subst (λ n. IsShown rules h new.verdict n (members kept.states) kept.events.items) (sym same.from)
-      (subst (λ (s : List State). IsShown rules h new.verdict old.kept.from s kept.events.items) (sym same.states)
-      (shown-same rules h old.monitor.verdict new.verdict old.kept.from (members old.kept.states) old.kept.events.items kept.events.items
-      watches.fits.judged fits.judged watches.shown same.events));
+  shown = kept-same rules h new.verdict old.kept kept same
+      (shown-same rules h old.monitor.verdict new.verdict old.kept.from (members old.kept.states) old.kept.events.items old.kept.events.items
+      watches.fits.judged fits.judged watches.shown refl);
 }

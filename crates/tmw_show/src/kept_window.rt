@@ -27,8 +27,7 @@ impl KeptWindow {
 
     /// Before the first event that the monitor is fed.
     pub fn new(alloc: Global, monitor: &Monitor) -> Result<KeptWindow, AllocError>
-        ensures { IfOk result (λ kept. (rules : Rules) → Fits rules [] monitor.now → IsOpen monitor.now
-            → KeepsShown rules [] monitor.now.verdict kept) }
+        ensures { IfOk result (λ kept. (rules : Rules) → Fits rules [] monitor.now → KeepsShown rules [] monitor.now.verdict kept) }
     {
         let states = monitor.outcomes().copy()?;
         Ok(KeptWindow {
