@@ -12,6 +12,7 @@ use Rattle.tmw_defs.specs.declared.verdict.Verdict.{Verdict}
 use Rattle.tmw_defs.specs.declared.verdict.Verdict.TheVariants.{OpaqueSoFar}
 use Rattle.tmw_events.specs.declared.event.Event.{Event}
 use Rattle.tmw_bench.proofs.Between.{up-then, down-then}
+use Rattle.tmw_bench.proofs.Keeps.{goes_on_of, kept-none, kept-then}
 use Rattle.tmw_bench.specs.Keeping.{HasGoneOn}
 use Rattle.tmw_bench.specs.Workers.{in_order}
 use Rattle.tmw_bench.specs.declared.judge.Judge.{Judge}
@@ -23,28 +24,19 @@ use Rattle.tmw_pump.specs.declared.front.Front.{Front}
 use Rattle.tmw_recorded.specs.Pumping.{GoesOn}
 use Rattle.tmw_ring.specs.declared.refused.Refused.{Refused}
 
--- more goes on
-pub goes_on-then : (old mid new : Front) → GoesOn old mid → GoesOn mid new → GoesOn old new
-goes_on-then old mid new one two = record {
-  more = one.more ++ two.more;
-  judged = two.judged ∙ ap (λ (l : List Event). l ++ two.more) one.judged ∙ append_assoc old.judged.items one.more two.more;
-  fits = λ rules was. two.fits rules (one.fits rules was);
-}
-
+-- The judge goes on.
 module _ {K : Type 0} (keeps : Rules → List Event → Verdict → K → Type 0) where
-  -- nothing more
   pub gone_on-none : (judge : Judge K) → HasGoneOn keeps judge judge
-  gone_on-none judge = record {
-    front = record { more = []; judged = sym (append-nil judge.forgetting.front.judged.items); fits = λ rules was. was };
-    kept = λ rules was. was;
-  }
+  gone_on-none judge = (0, kept-none keeps judge.forgetting.front judge.kept)
 
-  -- and more behind more
   pub gone_on-then : (old mid new : Judge K) → HasGoneOn keeps old mid → HasGoneOn keeps mid new → HasGoneOn keeps old new
-  gone_on-then old mid new one two = record {
-    front = goes_on-then old.forgetting.front mid.forgetting.front new.forgetting.front one.front two.front;
-    kept = λ rules was. two.kept rules (one.kept rules was);
-  }
+  gone_on-then old mid new one two = (
+    one.0 + two.0,
+    kept-then keeps one.0 two.0 old.forgetting.front mid.forgetting.front new.forgetting.front old.kept mid.kept new.kept one.1 two.1,
+  )
+
+  pub front-gone_on : (old new : Judge K) → HasGoneOn keeps old new → GoesOn old.forgetting.front new.forgetting.front
+  front-gone_on old new one = goes_on_of one.0 old.forgetting.front new.forgetting.front one.1.judged
 
 some_of : (stop : Option Refused) → IsSome stop → (refused : Refused) × (stop ≡ Some refused)
 some_of None is = absurd (grind (arith, is))

@@ -3,6 +3,7 @@ pub mod Closing
 pub mod Cutting
 pub mod Gathered
 pub mod InRounds
+pub mod Keeps
 pub mod Leads
 pub mod MadeFrom
 pub mod NeverMalformed

@@ -1,5 +1,5 @@
 -- How a judge of a ring's events goes on, and what is kept of them.
-use Rattle.std.specs.Prelude.{◌≡◌, List}
+use Rattle.std.specs.Prelude.{◌≡◌, ℕ, List}
 use Rattle.tmw_bench.specs.Benched.{HasBenched}
 use Rattle.tmw_bench.specs.declared.bench.Carried.{Carried}
 use Rattle.tmw_bench.specs.declared.judge.Judge.{Judge}
@@ -11,26 +11,31 @@ use Rattle.tmw_events.specs.declared.event.Event.{Event}
 use Rattle.tmw_events.specs.declared.event.Kind.{Kind}
 use Rattle.tmw_events.specs.declared.registers.Registers.{Registers}
 use Rattle.tmw_monitor.specs.Fitting.{Fits, rules_of}
+use Rattle.tmw_pump.specs.Fronts.{HasJudged}
 use Rattle.tmw_pump.specs.Resting.{all_of}
 use Rattle.tmw_pump.specs.declared.forgetting_rest.ForgettingRest.{ForgettingRest}
 use Rattle.tmw_pump.specs.declared.front.Front.{Front}
-use Rattle.tmw_recorded.specs.Pumping.{GoesOn}
 use Rattle.tmw_tm.specs.Answers.{Call, Answer}
 
--- By these rules the monitor has judged the front, and what is kept is kept of it.
+-- By these rules the monitor has judged the front, and this is kept of it.
 pub record IsKept {K : Type 0} (keeps : Rules → List Event → Verdict → K → Type 0) (rules : Rules) (front : Front) (kept : K) : Type 0 where
   pub fits : Fits rules front.judged.items front.monitor
   pub keeps_it : keeps rules front.judged.items front.monitor.verdict kept
 
--- More events were judged, behind those before and by the same rules, and what was kept is kept of all of them.
-pub record HasGoneOn {K : Type 0} (keeps : Rules → List Event → Verdict → K → Type 0) (old new : Judge K) : Type 0 where
-  pub front : GoesOn old.forgetting.front new.forgetting.front
-  pub kept : (rules : Rules) → IsKept keeps rules old.forgetting.front old.kept → IsKept keeps rules new.forgetting.front new.kept
+-- So many events more were judged, and where this was kept of those before, that is kept of all.
+pub record HasKept {K : Type 0} (keeps : Rules → List Event → Verdict → K → Type 0) (count : ℕ) (old new : Front) (before after : K) : Type 0 where
+  pub judged : HasJudged count old new
+  pub kept : (rules : Rules) → IsKept keeps rules old before → IsKept keeps rules new after
 
--- All that the settled ring has left was judged, by the same rules, and what was kept is kept of all events.
+-- The judge has judged some events more.
+abbrev pub HasGoneOn : {K : Type 0} → (Rules → List Event → Verdict → K → Type 0) → Judge K → Judge K → Type 0
+HasGoneOn keeps old new = (count : ℕ) × HasKept keeps count old.forgetting.front new.forgetting.front old.kept new.kept
+
+-- All that the settled ring has left was judged.
 pub record HasJudgedRest {K : Type 0} (keeps : Rules → List Event → Verdict → K → Type 0) (old new : ForgettingRest) (before after : K) : Type 0 where
   pub all : new.front.judged.items ≡ all_of old
-  pub kept : (rules : Rules) → IsKept keeps rules old.front before → IsKept keeps rules new.front after
+  pub count : ℕ
+  pub kept : HasKept keeps count old.front new.front before after
 
 -- The workload was carried out, all of its log was judged, and this was kept of that.
 pub record IsCarriedOut {K : Type 0} (keeps : Rules → List Event → Verdict → K → Type 0) (gives : Call → Answer → Type 0) (registers : Registers) (scripts : List (List (List Kind))) (settings : Settings) (carried : Carried K) : Type 0 where

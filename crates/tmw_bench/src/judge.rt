@@ -1,4 +1,4 @@
-ghost use Rattle.std.specs.Prelude.{◌≡◌, ◌+◌, ◌≤◌, ◌<◌, List, [], ◌∷◌, ◌++◌, length, Some, None, IfOk, OnOk};
+ghost use Rattle.std.specs.Prelude.{◌≡◌, ◌≤◌, Some, IfOk, OnOk};
 ghost use Rattle.tmw_ring.specs.Ends.{ReaderOf};
 
 use crate::keep::Keep;
@@ -15,15 +15,14 @@ pub struct Judge<K> {
 }
 
 impl<K: Keep> Judge<K> {
-    ghost use Rattle.tmw_bench.specs.Keeping.{HasGoneOn};
+    ghost use Rattle.tmw_bench.specs.Keeping.{HasKept};
 
     /// Takes and judges up to so many events, and answers how many: fewer only where the next place is not published.
     pub fn pump(&mut self, ring: &Ring, max: u64) -> Result<u64, AllocError>
         requires { ReaderOf ring.now self.old.forgetting.reader }
         ensures of_ring { ReaderOf ring.now self.new.forgetting.reader }
-        ensures goes_on { OnOk result (HasGoneOn K.keeps self.old self.new) }
-        ensures judged { IfOk result (λ judged. length self.new.forgetting.front.judged.items
-            ≡ length self.old.forgetting.front.judged.items + judged) }
+        ensures judged { IfOk result (λ judged. HasKept K.keeps judged self.old.forgetting.front self.new.forgetting.front
+            self.old.kept self.new.kept) }
         ensures within { IfOk result (λ judged. judged ≤ max) }
     {
         for judged in 0..max {
@@ -35,13 +34,12 @@ impl<K: Keep> Judge<K> {
         Ok(max)
     }
 
-    /// Judges the event that is held, and keeps it.
+    /// Judges the event that is held, and keeps of it what is kept.
     fn judge(&mut self, event: Event) -> Result<(), AllocError>
         requires { self.old.forgetting.front.held ≡ Some event }
         ensures reader { self.new.forgetting.reader ≡ self.old.forgetting.reader }
-        ensures goes_on { OnOk result (HasGoneOn K.keeps self.old self.new) }
-        ensures judged { OnOk result (length self.new.forgetting.front.judged.items
-            ≡ length self.old.forgetting.front.judged.items + 1) }
+        ensures judged { OnOk result (HasKept K.keeps 1 self.old.forgetting.front self.new.forgetting.front
+            self.old.kept self.new.kept) }
     {
         let next = self.kept.make_room(self.forgetting.monitor())?;
         self.forgetting.judge(event)?;

@@ -1,7 +1,7 @@
 use Rattle.std.proofs.Common.{◌≡◌, ◌+◌, ℕ, List, [], ◌∷◌, length, sym, ◌∙◌, subst, arith, refl}
 use Rattle.tmw_defs.specs.Verdict.{IsVerdict}
 use Rattle.tmw_bench.specs.Leading.{HasLedTo}
-use Rattle.tmw_bench.proofs.Leads.{gone_on-none, gone_on-then, led-heard, led-on, led-told, led-new}
+use Rattle.tmw_bench.proofs.Leads.{front-gone_on, gone_on-none, gone_on-then, led-heard, led-on, led-told, led-new}
 use Rattle.tmw_bench.proofs.leading.lead.Goals as goal
 
 pub loop-round-init : goal.loop-round-init
@@ -21,7 +21,7 @@ returns-then-stopped-clause-led g c = λ rules fits.
       counted = was.1;
       led = subst (λ (n : ℕ). HasLedTo rules n was.0 c.hear_all.new.judge.forgetting.front c.args.lines.now c.hear_all.new.lines) (sym was.1)
           (led-heard rules was.0 c.args.lines.now at.lines c.hear_all.new.lines at.judge.forgetting.front c.hear_all.new.judge.forgetting.front
-          was.2 one.heard one.goes_on.front);
+          was.2 one.heard (front-gone_on g.K.Keep.keeps at.judge c.hear_all.new.judge one.goes_on));
     }
 
 pub returns-then-not-is_opaque_so_far-clause-led : goal.returns-then-not-is_opaque_so_far-clause-led
@@ -35,7 +35,7 @@ returns-then-not-is_opaque_so_far-clause-led g c = λ rules fits.
           (led-on rules was.0 c.args.lines.now c.hear_all.new.lines c.hear_all.new.lines c.hear_all.new.judge.forgetting.front
           c.judge_up_to.new.judge.forgetting.front (length was.0 + 1)
           (led-heard rules was.0 c.args.lines.now at.lines c.hear_all.new.lines at.judge.forgetting.front c.hear_all.new.judge.forgetting.front
-          was.2 one.heard one.goes_on.front) c.in_ok-judge_up_to.ensures.goes_on.front);
+          was.2 one.heard (front-gone_on g.K.Keep.keeps at.judge c.hear_all.new.judge one.goes_on)) (front-gone_on g.K.Keep.keeps c.hear_all.new.judge c.judge_up_to.new.judge c.in_ok-judge_up_to.ensures.goes_on));
     }
 
 pub loop-round-preserved : goal.loop-round-preserved
@@ -51,7 +51,7 @@ loop-round-preserved g c =
           let led = led-on rules was.0 c.args.lines.now c.hear_all.new.lines c.hear_all.new.lines c.hear_all.new.judge.forgetting.front
           c.judge_up_to.new.judge.forgetting.front (length was.0 + 1)
           (led-heard rules was.0 c.args.lines.now at.lines c.hear_all.new.lines at.judge.forgetting.front c.hear_all.new.judge.forgetting.front
-          was.2 one.heard one.goes_on.front) two.goes_on.front in
+          was.2 one.heard (front-gone_on g.K.Keep.keeps at.judge c.hear_all.new.judge one.goes_on)) (front-gone_on g.K.Keep.keeps c.hear_all.new.judge c.judge_up_to.new.judge two.goes_on) in
           let verdict = subst (IsVerdict rules c.judge_up_to.new.judge.forgetting.front.judged.items) c.if-not-is_opaque_so_far.ensures
           (c.verdict.ensures.fits rules led.fits) in (
             c.in_ok-tail.tail ∷ was.0,
@@ -75,5 +75,5 @@ returns-clause-led g c = λ rules fits.
       counted = sym all ∙ was.1;
       led = subst (λ (n : ℕ). HasLedTo rules n was.0 c.hear_all-2.new.judge.forgetting.front c.args.lines.now c.hear_all-2.new.lines) (sym was.1 ∙ all)
           (led-heard rules was.0 c.args.lines.now at.lines c.hear_all-2.new.lines at.judge.forgetting.front c.hear_all-2.new.judge.forgetting.front
-          was.2 one.heard one.goes_on.front);
+          was.2 one.heard (front-gone_on g.K.Keep.keeps at.judge c.hear_all-2.new.judge one.goes_on));
     }
