@@ -1,5 +1,5 @@
 -- What is kept, from one event to the next.
-use Rattle.std.proofs.Common.{◌≡◌, ◌+◌, ◌++◌, ℕ, List, [], ◌∷◌, Option, refl, sym, ap, ◌∙◌, subst, append_assoc}
+use Rattle.std.proofs.Common.{◌≡◌, ◌+◌, ◌++◌, ℕ, List, [], ◌∷◌, Option, None, refl, sym, ap, ◌∙◌, subst, append_assoc}
 use Rattle.std.proofs.lemmas.List.{append-nil, length-append}
 use Rattle.tmw_bench.specs.Keeping.{HasKept, IsKept}
 use Rattle.tmw_defs.specs.Verdict.{Rules, IsVerdict}
@@ -8,7 +8,10 @@ use Rattle.tmw_events.specs.declared.event.Event.{Event}
 use Rattle.tmw_monitor.specs.Fitting.{Fits}
 use Rattle.tmw_monitor.specs.declared.monitor.Monitor.{Monitor}
 use Rattle.tmw_pump.proofs.Turns.{fits-came, judged-none, judged-came}
-use Rattle.tmw_pump.specs.Fronts.{HasCome, HasJudged, KeepsFit}
+use Rattle.tmw_pump.specs.Fronts.{came, HasCome, HasJudged, KeepsFit}
+use Rattle.tmw_pump.specs.Held.{listed}
+use Rattle.tmw_pump.specs.Resting.{all_of}
+use Rattle.tmw_pump.specs.declared.forgetting_rest.ForgettingRest.{ForgettingRest}
 use Rattle.tmw_pump.specs.declared.front.Front.{Front}
 use Rattle.tmw_recorded.specs.Pumping.{GoesOn}
 
@@ -24,6 +27,13 @@ judged-then one two old mid new first second = record {
   judged = second.judged ∙ ap (λ (l : List Event). l ++ second.more) first.judged ∙ append_assoc old.judged.items first.more second.more;
   fits = λ rules was. second.fits rules (first.fits rules was);
 }
+
+-- all is judged where none is left or held
+pub all-judged : (rest : ForgettingRest) → rest.settled ≡ [] → rest.front.held ≡ None → all_of rest ≡ rest.front.judged.items
+all-judged rest none free =
+    let items = rest.front.judged.items in
+    ap (λ (l : List Event). came rest.front ++ l) none ∙ append-nil (came rest.front)
+    ∙ (ap (λ (h : Option Event). items ++ listed h) free ∙ append-nil items)
 
 module _ {K : Type 0} (keeps : Rules → List Event → Verdict → K → Type 0) where
   -- before the first event

@@ -3,12 +3,12 @@ use Rattle.std.proofs.Common.{◌≡◌, ◌<◌, ◌≤◌, ◌+◌, ◌++◌, 
 use Rattle.std.specs.Prelude.{◌≢◌, ◌⊎◌, All}
 use Rattle.tmw_bench.proofs.InRounds.{in_rounds, log_of_all-settled}
 use Rattle.tmw_bench.proofs.NeverMalformed.{formed-in_rounds}
-use Rattle.tmw_bench.specs.Benched.{IsBenched, IsInRounds, SomeStopped}
+use Rattle.tmw_bench.specs.Benched.{HasBenched, IsInRounds, SomeStopped}
 use Rattle.tmw_bench.specs.Rounds.{ending_of, AllOpaque, AreEndings, HaveAllPlayedLast, IsLogOfAll}
-use Rattle.tmw_bench.specs.declared.benched.Benched.{Benched}
 use Rattle.tmw_bench.specs.declared.settings.Settings.{Settings}
 use Rattle.tmw_defs.specs.Opaque.{zeros}
 use Rattle.tmw_defs.specs.Verdict.{Rules, IsVerdict}
+use Rattle.tmw_defs.specs.declared.verdict.Verdict.{Verdict}
 use Rattle.tmw_defs.specs.declared.verdict.Verdict.TheVariants.{OpaqueSoFar}
 use Rattle.tmw_drive.specs.Driving.{script_at}
 use Rattle.tmw_drive.specs.declared.ending.Ending.{Ending}
@@ -52,20 +52,19 @@ run_to threads ring reader writers left log come is =
     (subst (λ (l : List Event). IsRunTo reader.size come.settled.run l) (come.settled.rest ∙ sym is) come.settled.run_to)
 
 -- the bench is over, of which all but the last round are whole
-pub is_benched : (gives : Call → Answer → Type 0) (registers : Registers) (scripts : List (List (List Kind))) (settings : Settings) (benched : Benched)
+pub is_benched : (gives : Call → Answer → Type 0) (registers : Registers) (scripts : List (List (List Kind))) (settings : Settings) (log : List Event) (verdict : Verdict)
+    (ends : List Ending) (begun : ℕ)
     (ring : RingIs) (reader : ReaderIs) (writers : List WriterIs) (left : List Event) (bounds : List ℕ) (stops : List (Option Refused))
     → ((thread : ℕ) → IsTrue (are_transactions registers.number (script_at scripts thread)))
     → HasNumbers settings.cells (length scripts) settings.limit ring.size → HasCome (length scripts) ring reader writers left
-    → benched.outcome.log.items ≡ reader.taken ++ left → HaveAllPlayedLast gives scripts bounds stops writers
-    → AllOpaque (rules_of registers zeros settings.bounds) bounds benched.outcome.log.items → AreEndings scripts stops benched.outcome.ends.items
-    → IsVerdict (rules_of registers zeros settings.bounds) benched.outcome.log.items benched.outcome.verdict
-    → Headline (rules_of registers zeros settings.bounds) benched.outcome.log.items writers benched.outcome.log.items benched.outcome.verdict
-    → benched.rounds ≡ length bounds + 1 → benched.rounds ≤ settings.rounds
-    → (benched.rounds < settings.rounds → (benched.outcome.verdict ≢ OpaqueSoFar) ⊎ SomeStopped benched.outcome.ends.items)
-    → IsBenched gives registers scripts settings benched
-is_benched gives registers scripts settings benched ring reader writers left bounds stops asks sized come is last opaque endings judged headline rounds within over =
-    let log = benched.outcome.log.items in
-    let ends = benched.outcome.ends.items in
+    → log ≡ reader.taken ++ left → HaveAllPlayedLast gives scripts bounds stops writers
+    → AllOpaque (rules_of registers zeros settings.bounds) bounds log → AreEndings scripts stops ends
+    → IsVerdict (rules_of registers zeros settings.bounds) log verdict
+    → Headline (rules_of registers zeros settings.bounds) log writers log verdict
+    → begun ≡ length bounds + 1 → begun ≤ settings.rounds
+    → (begun < settings.rounds → (verdict ≢ OpaqueSoFar) ⊎ SomeStopped ends)
+    → HasBenched gives registers scripts settings log verdict ends begun
+is_benched gives registers scripts settings log verdict ends begun ring reader writers left bounds stops asks sized come is last opaque endings judged headline counted within over =
     let rules : Rules = rules_of registers zeros settings.bounds in
     let whole : IsLogOfAll scripts log writers = log_of_all-settled scripts reader writers left log come.count come.settled is in
     let parts : IsInRounds rules gives scripts (length bounds) log ends writers =
@@ -80,13 +79,13 @@ is_benched gives registers scripts settings benched ring reader writers left bou
       end_count = endings.counted;
       judged = judged;
       headline = headline;
-      formed = formed-in_rounds rules gives scripts (length bounds) log ends writers benched.outcome.verdict asks come.count whole.own parts headline;
+      formed = formed-in_rounds rules gives scripts (length bounds) log ends writers verdict asks come.count whole.own parts headline;
       run = come.settled.run;
       run_to = run_to (length scripts) ring reader writers left log come is;
       gone = come.settled.writers_gone;
       own = whole.own;
       earlier = length bounds;
-      rounds = rounds;
+      rounds = counted;
       within = within;
       in_rounds = parts;
       over = over;

@@ -72,7 +72,7 @@ pub record SomeStopped (ends : List Ending) : Type 0 where
 -- the one on all of it, of which the headline tells, and never malformed. The log is one round after another, the last of them to its end or up to
 -- where threads were stopped. No round is left out but behind one after which the verdict is not opaque so far, or in which a
 -- thread was stopped.
-pub record HasBenched (gives : Call → Answer → Type 0) (registers : Registers) (scripts : List (List (List Kind))) (settings : Settings) (log : List Event) (verdict : Verdict) (ends : List Ending) (rounds : ℕ) : Type 0 where
+pub record HasBenched (gives : Call → Answer → Type 0) (registers : Registers) (scripts : List (List (List Kind))) (settings : Settings) (log : List Event) (verdict : Verdict) (ends : List Ending) (begun : ℕ) : Type 0 where
   pub ring : RingIs
   pub sized : HasNumbers settings.cells (length scripts) settings.limit ring.size
   pub writers : List WriterIs
@@ -88,11 +88,11 @@ pub record HasBenched (gives : Call → Answer → Type 0) (registers : Register
   pub gone : All (λ writer. Gone (writer_actor writer.number) writer.run [] run) writers
   pub own : All (λ event. event.thread.number < length scripts) log
   pub earlier : ℕ
-  pub rounds : rounds ≡ earlier + 1
-  pub within : rounds ≤ settings.rounds
+  pub rounds : begun ≡ earlier + 1
+  pub within : begun ≤ settings.rounds
   pub in_rounds : IsInRounds (rules_of registers zeros settings.bounds) gives scripts earlier log
       ends writers
-  pub over : rounds < settings.rounds → (verdict ≢ OpaqueSoFar) ⊎ SomeStopped ends
+  pub over : begun < settings.rounds → (verdict ≢ OpaqueSoFar) ⊎ SomeStopped ends
 
 -- The log is kept whole.
 abbrev pub IsBenched : (Call → Answer → Type 0) → Registers → List (List (List Kind)) → Settings → Benched → Type 0

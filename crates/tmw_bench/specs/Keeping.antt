@@ -1,5 +1,5 @@
 -- How a judge of a ring's events goes on, and what is kept of them.
-use Rattle.std.specs.Prelude.{◌≡◌, ℕ, List}
+use Rattle.std.specs.Prelude.{◌≡◌, ℕ, List, [], None}
 use Rattle.tmw_bench.specs.Benched.{HasBenched}
 use Rattle.tmw_bench.specs.declared.bench.Carried.{Carried}
 use Rattle.tmw_bench.specs.declared.judge.Judge.{Judge}
@@ -12,7 +12,7 @@ use Rattle.tmw_events.specs.declared.event.Kind.{Kind}
 use Rattle.tmw_events.specs.declared.registers.Registers.{Registers}
 use Rattle.tmw_monitor.specs.Fitting.{Fits, rules_of}
 use Rattle.tmw_pump.specs.Fronts.{HasJudged}
-use Rattle.tmw_pump.specs.Resting.{all_of}
+use Rattle.tmw_pump.specs.Resting.{HasRested}
 use Rattle.tmw_pump.specs.declared.forgetting_rest.ForgettingRest.{ForgettingRest}
 use Rattle.tmw_pump.specs.declared.front.Front.{Front}
 use Rattle.tmw_tm.specs.Answers.{Call, Answer}
@@ -31,10 +31,12 @@ pub record HasKept {K : Type 0} (keeps : Rules → List Event → Verdict → K 
 abbrev pub HasGoneOn : {K : Type 0} → (Rules → List Event → Verdict → K → Type 0) → Judge K → Judge K → Type 0
 HasGoneOn keeps old new = (count : ℕ) × HasKept keeps count old.forgetting.front new.forgetting.front old.kept new.kept
 
--- All that the settled ring has left was judged.
+-- All that the settled ring has left was judged: so many events, none of which is held.
 pub record HasJudgedRest {K : Type 0} (keeps : Rules → List Event → Verdict → K → Type 0) (old new : ForgettingRest) (before after : K) : Type 0 where
-  pub all : new.front.judged.items ≡ all_of old
   pub count : ℕ
+  pub rested : HasRested count old new
+  pub none_left : new.settled ≡ []
+  pub free : new.front.held ≡ None
   pub kept : HasKept keeps count old.front new.front before after
 
 -- The workload was carried out, all of its log was judged, and this was kept of that.

@@ -8,14 +8,18 @@ use Rattle.tmw_bench.specs.Begun.{HaveBegun}
 use Rattle.tmw_bench.specs.Playing.{AreTransactions}
 use Rattle.tmw_events.specs.declared.event.Kind.{Kind}
 use Rattle.tmw_bench.specs.Rounds.{ending_of, AllOpaque, AreEndings}
-use Rattle.tmw_bench.specs.declared.benched.Benched.{Benched}
 use Rattle.tmw_defs.specs.Opaque.{zeros}
 use Rattle.tmw_drive.proofs.Workloads.{are_transactions-workload}
 use Rattle.tmw_events.specs.declared.event.Event.{Event}
 use Rattle.tmw_monitor.specs.Fitting.{Fits, rules_of}
 use Rattle.tmw_pump.specs.Fronts.{came}
 use Rattle.tmw_pump.specs.Held.{listed}
-use Rattle.tmw_pump.specs.Headline.{Headline}
+use Rattle.tmw_bench.proofs.Keeps.{all-judged}
+use Rattle.tmw_bench.specs.Keeping.{IsKept}
+use Rattle.tmw_defs.specs.Verdict.{IsVerdict}
+use Rattle.tmw_monitor.specs.declared.monitor.Monitor.{Monitor}
+use Rattle.tmw_pump.proofs.Calls.{gives_rested}
+use Rattle.tmw_pump.specs.Headline.{Headline, IsLogOf}
 use Rattle.tmw_pump.specs.Resting.{all_of}
 use Rattle.tmw_pump.specs.declared.front.Front.{Front}
 use Rattle.tmw_ring.specs.declared.refused.Refused.{Refused}
@@ -34,7 +38,7 @@ pub settle-requires-clause-count : goal.settle-requires-clause-count
 settle-requires-clause-count g c =
     let workload = c.args.workload.now in
     let rules = rules_of workload.registers zeros c.args.settings.bounds in
-    let begun = c.in_ok-left.ensures.begun rules (subst (Fits rules []) (sym c.new-pump.ensures.monitor) c.in-Ok-new.ensures.fits) in
+    let begun = c.in_ok-left.ensures.begun rules (subst (Fits rules []) (sym c.new.ensures.monitor) c.in-Ok-new.ensures.fits) in
     let counted = begun.after.played.counted in
     let scripts = length-map c.as_slice.result.now script_of in
     let same : length c.as_slice.result.now ≡ length workload.scripts.items = ap (λ (l : List (Vec (Vec Kind))). length l) c.as_slice.ensures.value in
@@ -47,13 +51,15 @@ pub returns-clause-ok : goal.returns-clause-ok
 returns-clause-ok g c =
     let workload = c.args.workload.now in
     let settings = c.args.settings in
+    let keeps = g.K.Keep.keeps in
     let gives = (goal.Tm-dyn g c.args.memory.now).gives c.args.memory.now.1 in
     let scripts = scripts_of workload.scripts.items in
     let rules = rules_of workload.registers zeros settings.bounds in
     let ring = c.in-Ok.made.0 in
     let left = c.in_ok-left.left in
     let played = c.in_ok-left.ensures in
-    let fitted : Fits rules [] c.new.result.front.monitor = subst (Fits rules []) (sym c.new.ensures.monitor) c.in-Ok-new.ensures.fits in
+    let new = c.new.result.front in
+    let fitted : Fits rules [] new.monitor = subst (Fits rules []) (sym c.new.ensures.monitor) c.in-Ok-new.ensures.fits in
     let begun : HaveBegun rules gives ring scripts left.rounds left.judge.forgetting.reader left.judge.forgetting.front left.writers.items left.stops.items =
     subst (λ (l : List (Vec (Vec Kind))). HaveBegun rules gives ring (scripts_of l) left.rounds left.judge.forgetting.reader
     left.judge.forgetting.front left.writers.items left.stops.items) c.as_slice.ensures.value (played.begun rules fitted) in
@@ -65,8 +71,48 @@ returns-clause-ok g c =
     let settled = c.settle-rest.ensures in
     let before = c.settle-rest.result in
     let rest = c.judge_rest.new.rest in
-    let judged = c.in-Ok-judge_rest.ensures in
-    let ends = c.in-Ok-ends_of.ends in
+    let done = c.in-Ok-judge_rest.ensures in
+    let ends = c.in-Ok-ends_of.ends.items in
     let log = rest.front.judged.items in
     let verdict = rest.front.monitor.verdict in
-    ?
+    let threads : length workload.scripts.items ≡ length scripts = sym (length-map workload.scripts.items script_of) in
+    let sized : c.len-threads.result ≡ length workload.scripts.items =
+    (let one = c.len-threads.ensures in let two = workload.scripts.ok.0 in omega (arith, one, two)) in
+    let was : log ≡ all_of before = sym (all-judged rest done.none_left done.free) ∙ done.rested.all in
+    let all : all_of before ≡ came front ++ before.settled = ap (λ (f : Front). came f ++ before.settled) settled.front in
+    let whole : log ≡ reader.taken ++ before.settled = was ∙ all ∙ ap (λ (l : List Event). l ++ before.settled) left.judge.forgetting.all in
+    let begins : log ≡ front.judged.items ++ (listed front.held ++ before.settled) =
+    was ∙ all ∙ append_assoc front.judged.items (listed front.held) before.settled in
+    let fits : Fits rules before.front.judged.items before.front.monitor =
+    subst (λ (f : Front). Fits rules f.judged.items f.monitor) (sym settled.front) after.fits in
+    let judged : IsVerdict rules log verdict = (done.kept.judged.fits rules fits).judged in
+    let headline : Headline rules log writers log verdict =
+    subst (λ (l : List Event). Headline rules l writers log verdict) (sym was)
+    (gives_rested done.count before rest done.rested rules (all_of before) writers fits
+    (subst (IsLogOf (all_of before) writers) (sym done.rested.all) settled.one_log)) in
+    let endings : AreEndings scripts stops ends =
+    are_endings-map scripts stops ends after.stop_count
+    (c.in-Ok-ends_of.ensures ∙ ap (λ (l : List (Option Refused)). map ending_of l) c.deref.ensures.value) in
+    let come : HasCome (length scripts) ring reader writers before.settled = record {
+      reader_of = after.reader_of;
+      writers_of = after.of_ring;
+      order = after.order;
+      count = after.played.counted;
+      settled = settled.settled;
+    } in
+    let kept_new : IsKept keeps rules new c.in-Ok-begin.kept = record {
+      fits = subst (λ (l : List Event). Fits rules l new.monitor) (sym c.new.ensures.judged) fitted;
+      keeps_it = subst (λ (l : List Event). keeps rules l new.monitor.verdict c.in-Ok-begin.kept) (sym c.new.ensures.judged)
+          (subst (λ (m : Monitor). keeps rules [] m.verdict c.in-Ok-begin.kept) (sym c.new.ensures.monitor)
+          (c.in-Ok-begin.ensures rules c.in-Ok-new.ensures.fits));
+    } in record {
+      benched = is_benched gives workload.registers scripts settings log verdict ends left.rounds ring reader writers before.settled begun.bounds stops
+          (are_transactions-workload workload.registers.number scripts workload.order.items workload.is)
+          (subst (λ (n : ℕ). HasNumbers settings.cells n settings.limit ring.size) (sized ∙ threads) c.in-Ok.ensures.ok.sized) come whole after.played
+          (subst (AllOpaque rules begun.bounds) (sym begins)
+          (all_opaque-append rules begun.bounds front.judged.items (listed front.held ++ before.settled) after.opaque))
+          endings judged headline begun.counted played.within
+          (λ fewer. over-log rules scripts stops ends front (listed front.held ++ before.settled) log writers verdict refl after.stop_count endings
+          begins after.fits.judged headline (played.over fewer));
+      kept = done.kept.kept rules (subst (λ (f : Front). IsKept keeps rules f left.judge.kept) (sym settled.front) (played.kept rules kept_new));
+    }

@@ -1,0 +1,15 @@
+-- All of the log is kept.
+use Rattle.std.proofs.Common.{ℕ, List, subst, sym}
+use Rattle.tmw_bench.specs.Benched.{HasBenched}
+use Rattle.tmw_events.specs.declared.event.Event.{Event}
+use Rattle.tmw_runs.specs.Scripts.{scripts_of}
+use Rattle.tmw_bench.proofs.bench.run_bench.Goals as goal
+
+pub returns-clause-ok : goal.returns-clause-ok
+returns-clause-ok g c =
+    let workload = c.args.workload.now in
+    let carried = c.in_ok-carried.carried in
+    let done = c.in_ok-carried.ensures in
+    let gives = (goal.Tm-dyn g c.args.memory.now).gives c.args.memory.now.1 in
+    subst (λ (l : List Event). HasBenched gives workload.registers (scripts_of workload.scripts.items) c.args.settings l _ carried.ends.items carried.rounds)
+    (sym done.kept.keeps_it) ?
