@@ -1,6 +1,8 @@
 -- The text of what threads have made of a memory.
-use Rattle.std.specs.Prelude.{ℕ, Bool, List, ◌++◌}
+use Rattle.std.specs.Prelude.{ℕ, true, List, ◌++◌}
 use Rattle.tmw_bench.specs.declared.benched.Benched.{Benched}
+use Rattle.tmw_bench.specs.declared.hunted.Hunted.{Hunted}
+use Rattle.tmw_report.specs.Lines.{report_text, verdict_status}
 use Rattle.tmw_run_bench.specs.Ends.{ends_line}
 use Rattle.tmw_run_bench.specs.declared.bench_run.BenchRun.{BenchRun}
 use Rattle.tmw_run_drive.specs.Driven.{driven_line, driven_status, log_text}
@@ -9,9 +11,16 @@ use Rattle.tmw_run_drive.specs.Driven.{driven_line, driven_status, log_text}
 abbrev pub benched_of : BenchRun → Benched
 benched_of run = record { outcome = run.driven.outcome; rounds = run.rounds }
 
--- What is written: the trace where it is asked for, the report's line, and the line of the ends.
-abbrev pub bench_text : Bool → BenchRun → List ℕ
-bench_text trace run = log_text trace run.driven ++ (driven_line run.driven ++ ends_line run.driven.outcome.ends.items)
+-- What is written with the trace: that, the report's line, and the line of the ends.
+abbrev pub bench_text : BenchRun → List ℕ
+bench_text run = log_text true run.driven ++ (driven_line run.driven ++ ends_line run.driven.outcome.ends.items)
 
 abbrev pub bench_status : BenchRun → ℕ
 bench_status run = driven_status run.driven
+
+-- What is written without it: the two lines.
+abbrev pub hunt_text : Hunted → List ℕ
+hunt_text hunted = report_text hunted.showing.fed hunted.showing.verdict ++ ends_line hunted.ends.items
+
+abbrev pub hunt_status : Hunted → ℕ
+hunt_status hunted = verdict_status hunted.showing.verdict

@@ -1,8 +1,9 @@
 -- What `bench` promises: from the bytes that its source tells to what its sink takes and the exit status.
-use Rattle.std.specs.Prelude.{ℕ, Bool, List, Result, Ok, Err, length}
-use Rattle.tmw_bench.specs.Benched.{IsBenched, IsNoBench}
+use Rattle.std.specs.Prelude.{ℕ, Bool, true, false, List, Result, Ok, Err, length}
+use Rattle.tmw_bench.specs.Benched.{IsBenched, IsHunted, IsNoBench}
 use Rattle.tmw_bench.specs.declared.fault.BenchFault.{BenchFault}
 use Rattle.tmw_bench.specs.declared.fault.BenchFault.TheVariants.{Registers as LacksRegisters, Ring as HasNoRing, Spawn as LacksThreads}
+use Rattle.tmw_bench.specs.declared.hunted.Hunted.{Hunted}
 use Rattle.tmw_bench.specs.declared.settings.Settings.{Settings}
 use Rattle.tmw_events.specs.declared.registers.Registers.{Registers}
 use Rattle.tmw_report.specs.CommandRun.{IsCommandRun}
@@ -10,12 +11,14 @@ use Rattle.tmw_report.specs.Streams.{FromSource, ToSink}
 use Rattle.tmw_report.specs.declared.fault.Fault.{Fault}
 use Rattle.tmw_report.specs.declared.fault.Fault.TheVariants.{Io, Json, Memory, Registers as TooManyRegisters, Ring, Shape, Spawn}
 use Rattle.tmw_ring_defs.specs.declared.ring_fault.RingFault.{RingFault}
-use Rattle.tmw_run_bench.specs.BenchRun.{bench_status, bench_text, benched_of}
+use Rattle.tmw_run_bench.specs.BenchRun.{bench_status, bench_text, benched_of, hunt_status, hunt_text}
 use Rattle.tmw_run_bench.specs.declared.bench_run.BenchRun.{BenchRun}
 use Rattle.tmw_run_drive.specs.Driven.{IsHeaderOf}
 use Rattle.tmw_run_drive.specs.Running.{IsTextOver}
 use Rattle.tmw_tm.specs.Answers.{Call, Answer}
-use Rattle.tmw_workloads.specs.Json.{IsNoText, IsOtherText}
+use Rattle.tmw_runs.specs.Scripts.{scripts_of}
+use Rattle.tmw_workloads.specs.Json.{IsNoText, IsOtherText, IsWorkloadText}
+use Rattle.tmw_workloads.specs.declared.workload.Workload.{Workload}
 
 -- The bytes are the text of a workload, and this is what threads have made of it on a memory that gives these answers: its
 -- scripts, round after round, the verdict on the record, from registers that all hold 0, and how each thread has ended.
@@ -24,6 +27,12 @@ pub record IsBenchedFrom (gives : Call → Answer → Type 0) (settings : Settin
   pub workload : IsTextOver registers.number bytes
   pub header : IsHeaderOf registers run.driven.outcome.log.items run.driven.header
   pub benched : IsBenched gives registers workload.scripts settings (benched_of run)
+
+-- The same, where no event was kept but those of the last window.
+pub record IsHuntedFrom (gives : Call → Answer → Type 0) (settings : Settings) (bytes : List ℕ) (hunted : Hunted) : Type 0 where
+  pub registers : Registers
+  pub workload : IsTextOver registers.number bytes
+  pub made : IsHunted gives registers workload.scripts settings hunted
 
 -- The bytes are the text of a workload, of which no run was judged to its end, by this fault.
 pub record IsNoBenchFrom (settings : Settings) (bytes : List ℕ) (fault : BenchFault) : Type 0 where
@@ -45,13 +54,29 @@ IsRightFault Ended settings bytes Io = Ended → ⊥
 IsRightFault Ended settings bytes Memory = Unit {0}
 IsRightFault Ended settings bytes _ = ⊥
 
--- This answers the bytes that a source told: what threads have made of the workload of which they are the text, on a memory that
--- gives these answers, or a fault that is right of them.
-abbrev pub AnswersBench : (Call → Answer → Type 0) → Settings → Type 0 → List ℕ → Result BenchRun Fault → Type 0
-AnswersBench gives settings Ended bytes (Ok run) = Ended × IsBenchedFrom gives settings bytes run
-AnswersBench gives settings Ended bytes (Err fault) = IsRightFault Ended settings bytes fault
+-- This answers the bytes that a source told: the workload of which they are the text, or a fault that is right of them, whatever the
+-- settings are.
+abbrev pub AnswersText : Type 0 → List ℕ → Result Workload Fault → Type 0
+AnswersText Ended bytes (Ok workload) =
+    Ended × IsWorkloadText workload.registers.number (scripts_of workload.scripts.items) workload.order.items bytes
+AnswersText Ended bytes (Err fault) = (settings : Settings) → IsRightFault Ended settings bytes fault
 
--- What a run of `bench` does: an answer to the bytes that its source tells in it, and the answer's text to its sink.
+-- This answers the bytes that a source told: what was found of the workload of which they are the text, or a fault that is right
+-- of them.
+abbrev pub AnswersBy : {Found : Type 0} → (List ℕ → Found → Type 0) → Settings → Type 0 → List ℕ → Result Found Fault → Type 0
+AnswersBy IsFound settings Ended bytes (Ok found) = Ended × IsFound bytes found
+AnswersBy IsFound settings Ended bytes (Err fault) = IsRightFault Ended settings bytes fault
+
+-- What threads have made of the workload on a memory that gives these answers, with their log.
+abbrev pub AnswersBench : (Call → Answer → Type 0) → Settings → Type 0 → List ℕ → Result BenchRun Fault → Type 0
+AnswersBench gives settings = AnswersBy (IsBenchedFrom gives settings) settings
+
+-- The same, with the log's last window.
+abbrev pub AnswersHunt : (Call → Answer → Type 0) → Settings → Type 0 → List ℕ → Result Hunted Fault → Type 0
+AnswersHunt gives settings = AnswersBy (IsHuntedFrom gives settings) settings
+
+-- What a run of `bench` does: an answer to the bytes that its source tells in it, and the answer's text to its sink. The log is kept
+-- where its trace is asked for.
 abbrev pub BenchesBytes : {S K : Type 0} → FromSource S → ToSink K → (Call → Answer → Type 0) → Bool → Settings → S → S → K → K → ℕ → Type 0
-BenchesBytes From To gives trace settings =
-    IsCommandRun From To (AnswersBench gives settings) (bench_text trace) bench_status
+BenchesBytes From To gives true settings = IsCommandRun From To (AnswersBench gives settings) bench_text bench_status
+BenchesBytes From To gives false settings = IsCommandRun From To (AnswersHunt gives settings) hunt_text hunt_status

@@ -1,7 +1,7 @@
 ghost use Rattle.std.specs.Prelude.{◌≡◌, ℕ, List};
 ghost use Rattle.tmw_report.specs.CommandRun.{failures_after_answer};
 ghost use Rattle.tmw_run_bench.specs.BenchRun.{benched_of};
-ghost use Rattle.tmw_run_bench.specs.Running.{AnswersBench};
+ghost use Rattle.tmw_run_bench.specs.Running.{AnswersBench, AnswersHunt, AnswersText, IsNoBenchFrom, IsRightFault};
 ghost use Rattle.tmw_run_drive.specs.Driven.{IsHeaderOf};
 ghost use Rattle.tmw_streams.specs.Told.{Tells};
 
@@ -9,15 +9,15 @@ use crate::bench_run::BenchRun;
 use std::alloc::Global;
 use std::sync::Wait;
 use std::thread::Threads;
-use tmw_bench::{BenchFault, Benched, Settings, run_bench};
+use tmw_bench::{BenchFault, Benched, Hunted, Settings, hunt, run_bench};
 use tmw_events::Registers;
 use tmw_report::Fault;
 use tmw_run_drive::{Driven, header_of};
 use tmw_streams::{ReadFault, Source, read_all};
 use tmw_tm::Tm;
-use tmw_workloads::{WorkloadFault, read_workload};
+use tmw_workloads::{Workload, WorkloadFault, read_workload};
 
-/// Reads a workload up to the source's end, and carries it out by threads on the memory.
+/// Reads a workload up to the source's end, and carries it out by threads on the memory. The log is kept.
 pub fn bench_source<S: Source, R: Threads + Wait + Sync>(
     rt: &R,
     alloc: Global,
@@ -29,36 +29,74 @@ pub fn bench_source<S: Source, R: Threads + Wait + Sync>(
         × AnswersBench (gives memory.now) settings (S.ended source.new) bytes result }
     ensures failures { S.failures source.new ≡ failures_after_answer result (S.failures source.old) }
 {
+    let workload = match read_source(alloc, source) {
+        Ok(workload) => workload,
+        Err(fault) => return Err(fault),
+    };
+    match run_bench(rt, alloc, memory, &workload, settings) {
+        Ok(benched) => Ok(with_header(workload.registers, benched)),
+        Err(fault) => Err(fault_of(fault)),
+    }
+}
+
+/// Reads a workload up to the source's end, and carries it out by threads on the memory. Of the log the last window is kept.
+pub fn hunt_source<S: Source, R: Threads + Wait + Sync>(
+    rt: &R,
+    alloc: Global,
+    source: &mut S,
+    memory: &(dyn Tm + Sync),
+    settings: Settings,
+) -> Result<Hunted, Fault>
+    ensures right { (bytes : List ℕ) × Tells S.told S.remaining source.old bytes source.new
+        × AnswersHunt (gives memory.now) settings (S.ended source.new) bytes result }
+    ensures failures { S.failures source.new ≡ failures_after_answer result (S.failures source.old) }
+{
+    let workload = match read_source(alloc, source) {
+        Ok(workload) => workload,
+        Err(fault) => return Err(fault),
+    };
+    match hunt(rt, alloc, memory, &workload, settings) {
+        Ok(hunted) => Ok(hunted),
+        Err(fault) => Err(fault_of(fault)),
+    }
+}
+
+/// Reads a workload up to the source's end.
+fn read_source<S: Source>(alloc: Global, source: &mut S) -> Result<Workload, Fault>
+    ensures right { (bytes : List ℕ) × Tells S.told S.remaining source.old bytes source.new
+        × AnswersText (S.ended source.new) bytes result }
+    ensures failures { S.failures source.new ≡ failures_after_answer result (S.failures source.old) }
+{
     let mut bytes = Vec::new(alloc);
     match read_all(source, &mut bytes) {
-        Ok(()) => bench_bytes(rt, alloc, &bytes, memory, settings),
+        Ok(()) => read_bytes(alloc, &bytes),
         Err(ReadFault::Io) => Err(Fault::Io),
         Err(ReadFault::Memory) => Err(Fault::Memory),
     }
 }
 
-/// Carries the workload that these bytes are the text of out by threads on the memory. Never `Io`.
-fn bench_bytes<R: Threads + Wait + Sync>(
-    rt: &R,
-    alloc: Global,
-    bytes: &[u8],
-    memory: &(dyn Tm + Sync),
-    settings: Settings,
-) -> Result<BenchRun, Fault>
-    ensures { AnswersBench (gives memory.now) settings (Unit {0}) bytes.now result }
+/// The workload that these bytes are the text of. Never `Io`.
+fn read_bytes(alloc: Global, bytes: &[u8]) -> Result<Workload, Fault>
+    ensures { AnswersText (Unit {0}) bytes.now result }
 {
-    let workload = match read_workload(alloc, bytes) {
-        Ok(workload) => workload,
-        Err(WorkloadFault::Json) => return Err(Fault::Json),
-        Err(WorkloadFault::Shape) => return Err(Fault::Shape),
-        Err(WorkloadFault::Memory) => return Err(Fault::Memory),
-    };
-    match run_bench(rt, alloc, memory, &workload, settings) {
-        Ok(benched) => Ok(with_header(workload.registers, benched)),
-        Err(BenchFault::Registers) => Err(Fault::Registers),
-        Err(BenchFault::Ring(_)) => Err(Fault::Ring),
-        Err(BenchFault::Memory) => Err(Fault::Memory),
-        Err(BenchFault::Spawn) => Err(Fault::Spawn),
+    match read_workload(alloc, bytes) {
+        Ok(workload) => Ok(workload),
+        Err(WorkloadFault::Json) => Err(Fault::Json),
+        Err(WorkloadFault::Shape) => Err(Fault::Shape),
+        Err(WorkloadFault::Memory) => Err(Fault::Memory),
+    }
+}
+
+/// The fault by which a workload was not carried out.
+fn fault_of(fault: BenchFault) -> Fault
+    ensures { (Ended : Type 0) (settings : Settings) (bytes : List ℕ) → Ended → IsNoBenchFrom settings bytes fault
+        → IsRightFault Ended settings bytes result }
+{
+    match fault {
+        BenchFault::Registers => Fault::Registers,
+        BenchFault::Ring(_) => Fault::Ring,
+        BenchFault::Memory => Fault::Memory,
+        BenchFault::Spawn => Fault::Spawn,
     }
 }
 

@@ -6,12 +6,12 @@ use Rattle.tmw_show.proofs.kept_window.KeptWindow.make_room.Goals as goal
 
 pub returns-clause-next : goal.returns-clause-next
 returns-clause-next c =
-    let open = c.is_open.ensures.0 (search rules) in (
-      open,
+    let fine = c.is_open.ensures.0 (search rules) in (
+      fine,
       λ judged_by history fits. (
-        (c.is_at_cut.ensures judged_by history fits open).0 (search rules),
+        (c.is_at_cut.ensures judged_by history fits fine).0 (search rules),
         subst (λ (s : List State). AreLastOutcomes judged_by history s) (sym c.in_ok-states.ensures)
-            (c.outcomes.ensures.last judged_by history fits open),
+            (c.outcomes.ensures.last judged_by history fits fine),
         c.fed.ensures.fits judged_by history fits,
       ),
     )
