@@ -10,7 +10,7 @@ use crate::hunted::Hunted;
 use crate::judge::Judge;
 use crate::keep::{Keep, Log};
 use crate::orders::Orders;
-use crate::play::play_rounds;
+use crate::play::{Left, play_rounds};
 use crate::rest::judge_rest;
 use crate::settings::Settings;
 use crate::stage::Stage;
@@ -131,19 +131,28 @@ fn carry_out<R: Threads + Wait + Sync, K: Keep>(
         orders: &orders,
     };
     let left = play_rounds::<R, Brand, K>(rt, alloc, memory, stage, judge, writers)?;
-    let mut rest = left.judge.forgetting.settle(ring, left.writers);
-    let mut kept = left.judge.kept;
+    let Left {
+        judge,
+        writers,
+        stops,
+        rounds,
+    } = left;
+    let Judge {
+        forgetting,
+        mut kept,
+    } = judge;
+    let mut rest = forgetting.settle(ring, writers);
     let Ok(()) = judge_rest(&mut rest, &mut kept) else {
         return Err(BenchFault::Memory);
     };
-    let Ok(ends) = ends_of(alloc, &left.stops) else {
+    let Ok(ends) = ends_of(alloc, &stops) else {
         return Err(BenchFault::Memory);
     };
     Ok(Carried {
         kept,
         rest,
         ends,
-        rounds: left.rounds,
+        rounds,
     })
 }
 

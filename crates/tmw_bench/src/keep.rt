@@ -49,6 +49,7 @@ impl Keep for Log {
     ghost use Rattle.std.specs.Vec.{vec_capacity};
 
     ghost keeps = { λ rules history verdict log. log.events.items ≡ history };
+
     ghost awaits = { λ monitor next log. length log.events.items < vec_capacity log.events };
 
     fn begin(alloc: Global, _monitor: &Monitor) -> Result<Log, AllocError> {
@@ -71,6 +72,7 @@ impl Keep for KeptWindow {
     ghost use Rattle.tmw_show.specs.Keeping.{HasRoom, IsNext, KeepsShown};
 
     ghost keeps = { KeepsShown };
+
     ghost awaits = { λ monitor next kept. IsNext monitor next × HasRoom next kept };
 
     fn begin(alloc: Global, monitor: &Monitor) -> Result<KeptWindow, AllocError> {

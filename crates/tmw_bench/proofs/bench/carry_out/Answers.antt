@@ -34,11 +34,11 @@ play_rounds-requires-clause-scripts g c κs within =
     subst (λ (l : List (Vec (Vec Kind))). AreTransactions (scripts_of l)) (sym c.as_slice.ensures.value)
     (workload.registers.number, are_transactions-workload workload.registers.number scripts workload.order.items workload.is)
 
-pub settle-requires-clause-count : goal.settle-requires-clause-count
-settle-requires-clause-count g c =
+pub settle-rest-requires-clause-count : goal.settle-rest-requires-clause-count
+settle-rest-requires-clause-count g c =
     let workload = c.args.workload.now in
     let rules = rules_of workload.registers zeros c.args.settings.bounds in
-    let begun = c.in_ok-left.ensures.begun rules (subst (Fits rules []) (sym c.new.ensures.monitor) c.in-Ok-new.ensures.fits) in
+    let begun = c.in_ok-left.ensures.begun rules (subst (Fits rules []) (sym c.new-2.ensures.monitor) c.in-Ok-new.ensures.fits) in
     let counted = begun.after.played.counted in
     let scripts = length-map c.as_slice.result.now script_of in
     let same : length c.as_slice.result.now ≡ length workload.scripts.items = ap (λ (l : List (Vec (Vec Kind))). length l) c.as_slice.ensures.value in
@@ -58,8 +58,8 @@ returns-clause-ok g c =
     let ring = c.in-Ok.made.0 in
     let left = c.in_ok-left.left in
     let played = c.in_ok-left.ensures in
-    let new = c.new.result.front in
-    let fitted : Fits rules [] new.monitor = subst (Fits rules []) (sym c.new.ensures.monitor) c.in-Ok-new.ensures.fits in
+    let new = c.new-2.result.front in
+    let fitted : Fits rules [] new.monitor = subst (Fits rules []) (sym c.new-2.ensures.monitor) c.in-Ok-new.ensures.fits in
     let begun : HaveBegun rules gives ring scripts left.rounds left.judge.forgetting.reader left.judge.forgetting.front left.writers.items left.stops.items =
     subst (λ (l : List (Vec (Vec Kind))). HaveBegun rules gives ring (scripts_of l) left.rounds left.judge.forgetting.reader
     left.judge.forgetting.front left.writers.items left.stops.items) c.as_slice.ensures.value (played.begun rules fitted) in
@@ -101,9 +101,9 @@ returns-clause-ok g c =
       settled = settled.settled;
     } in
     let kept_new : IsKept keeps rules new c.in-Ok-begin.kept = record {
-      fits = subst (λ (l : List Event). Fits rules l new.monitor) (sym c.new.ensures.judged) fitted;
-      keeps_it = subst (λ (l : List Event). keeps rules l new.monitor.verdict c.in-Ok-begin.kept) (sym c.new.ensures.judged)
-          (subst (λ (m : Monitor). keeps rules [] m.verdict c.in-Ok-begin.kept) (sym c.new.ensures.monitor)
+      fits = subst (λ (l : List Event). Fits rules l new.monitor) (sym c.new-2.ensures.judged) fitted;
+      keeps_it = subst (λ (l : List Event). keeps rules l new.monitor.verdict c.in-Ok-begin.kept) (sym c.new-2.ensures.judged)
+          (subst (λ (m : Monitor). keeps rules [] m.verdict c.in-Ok-begin.kept) (sym c.new-2.ensures.monitor)
           (c.in-Ok-begin.ensures rules c.in-Ok-new.ensures.fits));
     } in record {
       benched = is_benched gives workload.registers scripts settings log verdict ends left.rounds ring reader writers before.settled begun.bounds stops

@@ -77,3 +77,20 @@ returns-clause-led g c = λ rules fits.
           (led-heard rules was.0 c.args.lines.now at.lines c.hear_all-2.new.lines at.judge.forgetting.front c.hear_all-2.new.judge.forgetting.front
           was.2 one.heard (front-gone_on g.K.Keep.keeps at.judge c.hear_all-2.new.judge one.goes_on));
     }
+
+pub returns-then-stopped-clause-goes_on : goal.returns-then-stopped-clause-goes_on
+returns-then-stopped-clause-goes_on g c =
+    let at = c.loop-round in
+    gone_on-then g.K.Keep.keeps c.args.judge.now at.judge c.hear_all.new.judge at.invariant.3 c.in_ok-tail.ensures.goes_on
+
+pub returns-then-not-is_opaque_so_far-clause-goes_on : goal.returns-then-not-is_opaque_so_far-clause-goes_on
+returns-then-not-is_opaque_so_far-clause-goes_on g c =
+    let keeps = g.K.Keep.keeps in
+    let at = c.loop-round in
+    gone_on-then keeps c.args.judge.now at.judge c.judge_up_to.new.judge at.invariant.3
+    (gone_on-then keeps at.judge c.hear_all.new.judge c.judge_up_to.new.judge c.in_ok-tail.ensures.goes_on c.in_ok-judge_up_to.ensures.goes_on)
+
+pub returns-clause-goes_on : goal.returns-clause-goes_on
+returns-clause-goes_on g c =
+    let at = c.loop-round in
+    gone_on-then g.K.Keep.keeps c.args.judge.now at.judge c.hear_all-2.new.judge at.invariant.3 c.in_ok-hear_all.ensures.goes_on

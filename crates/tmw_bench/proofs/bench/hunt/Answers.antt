@@ -1,0 +1,32 @@
+-- The last window of the log is kept.
+use Rattle.std.proofs.Common.{◌≡◌, subst, sym}
+use Rattle.tmw_bench.specs.Benched.{HasBenched}
+use Rattle.tmw_bench.specs.Keeping.{IsKept}
+use Rattle.tmw_defs.proofs.VerdictProof.{verdict-one}
+use Rattle.tmw_defs.specs.Opaque.{zeros}
+use Rattle.tmw_defs.specs.declared.verdict.Verdict.{Verdict}
+use Rattle.tmw_monitor.specs.Fitting.{Fits, rules_of}
+use Rattle.tmw_monitor.specs.declared.monitor.Monitor.{Monitor}
+use Rattle.tmw_runs.specs.Scripts.{scripts_of}
+use Rattle.tmw_show.specs.Keeping.{KeepsShown}
+use Rattle.tmw_bench.proofs.bench.hunt.Goals as goal
+
+pub returns-clause-ok : goal.returns-clause-ok
+returns-clause-ok g c =
+    let workload = c.args.workload.now in
+    let scripts = scripts_of workload.scripts.items in
+    let gives = (goal.Tm-dyn g c.args.memory.now).gives c.args.memory.now.1 in
+    let rules = rules_of workload.registers zeros c.args.settings.bounds in
+    let carried = c.in_ok-carried.carried in
+    let done = c.in_ok-carried.ensures.ok in
+    let log = carried.rest.front.judged.items in
+    let same = sym c.monitor.ensures in
+    let shown = c.finish.ensures rules log (subst (λ (m : Monitor). Fits rules log m) same done.kept.fits)
+    (subst (λ (m : Monitor). KeepsShown rules log m.verdict carried.kept) same done.kept.keeps_it) in
+    let verdict : carried.rest.front.monitor.verdict ≡ c.finish.result.verdict =
+    verdict-one rules log carried.rest.front.monitor.verdict c.finish.result.verdict done.kept.fits.judged shown.judged in record {
+      log = log;
+      benched = subst (λ (v : Verdict). HasBenched gives workload.registers scripts c.args.settings log v carried.ends.items carried.rounds) verdict
+          done.benched;
+      shown = shown;
+    }
