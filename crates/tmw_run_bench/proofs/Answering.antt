@@ -5,34 +5,54 @@ use Rattle.tmw_bench.specs.Benched.{IsNoBench}
 use Rattle.tmw_bench.specs.declared.fault.BenchFault.{BenchFault}
 use Rattle.tmw_bench.specs.declared.settings.Settings.{Settings}
 use Rattle.tmw_report.specs.CommandRun.{failures_after_answer}
+use Rattle.tmw_report.specs.Putting.{failures_behind}
 use Rattle.tmw_report.specs.declared.fault.Fault.{Fault}
 use Rattle.tmw_report.specs.declared.fault.Fault.TheVariants.{Io, Json, Memory, Registers, Ring, Shape, Spawn}
-use Rattle.tmw_run_bench.specs.Running.{AnswersBench, IsNoBenchFrom}
-use Rattle.tmw_run_bench.specs.declared.bench_run.BenchRun.{BenchRun}
+use Rattle.tmw_run_bench.specs.Running.{AnswersText, IsNoBenchFrom, IsRightFault, IsTextFault}
 use Rattle.tmw_runs.specs.Scripts.{scripts_of, script_of}
-use Rattle.tmw_tm.specs.Answers.{Call, Answer}
 use Rattle.tmw_workloads.specs.Json.{IsWorkloadText}
 use Rattle.tmw_workloads.specs.declared.workload.Workload.{Workload}
 
-module _ (gives : Call → Answer → Type 0) (settings : Settings) (bytes : List ℕ) where
-  pub answers-ended : (Ended : Type 0) (answer : Result BenchRun Fault) → Ended → AnswersBench gives settings (Unit {0}) bytes answer
-      → AnswersBench gives settings Ended bytes answer
-  answers-ended Ended (Ok run) ended right = (ended, right.1)
-  answers-ended Ended (Err Json) ended right = (ended, right.1)
-  answers-ended Ended (Err Shape) ended right = (ended, right.1)
-  answers-ended Ended (Err Registers) ended right = (ended, right.1)
-  answers-ended Ended (Err Ring) ended right = (ended, right.1, right.2)
-  answers-ended Ended (Err Spawn) ended right = (ended, right.1)
-  answers-ended Ended (Err Io) ended right = absurd (right tt)
-  answers-ended Ended (Err Memory) ended right = tt
-  answers-ended Ended (Err _) ended right = absurd right
+module _ (bytes : List ℕ) where
+  pub text-ended : (Ended : Type 0) (answer : Result Workload Fault) → Ended → AnswersText (Unit {0}) bytes answer → AnswersText Ended bytes answer
+  text-ended Ended (Ok workload) ended right = (ended, right.1)
+  text-ended Ended (Err Json) ended right = (ended, right.1)
+  text-ended Ended (Err Shape) ended right = (ended, right.1)
+  text-ended Ended (Err Io) ended right = absurd (right tt)
+  text-ended Ended (Err Memory) ended right = tt
+  text-ended Ended (Err _) ended right = absurd right
 
   -- no read failed
-  pub failures-same : (count : ℕ) (answer : Result BenchRun Fault) → AnswersBench gives settings (Unit {0}) bytes answer
+  pub failures-same : (count : ℕ) (answer : Result Workload Fault) → AnswersText (Unit {0}) bytes answer
       → failures_after_answer answer count ≡ count
-  failures-same count (Ok run) right = refl
+  failures-same count (Ok workload) right = refl
   failures-same count (Err Io) right = absurd (right tt)
   failures-same count (Err _) right = refl
+
+  -- a fault that is right of the bytes as a text is right of them
+  pub right-text : (Ended : Type 0) (settings : Settings) (fault : Fault) → IsTextFault Ended bytes fault → IsRightFault Ended settings bytes fault
+  right-text Ended settings Json right = right
+  right-text Ended settings Shape right = right
+  right-text Ended settings Io right = right
+  right-text Ended settings Memory right = right
+  right-text Ended settings _ right = absurd right
+
+  pub fault-ended : (Ended : Type 0) (settings : Settings) (fault : Fault) → Ended → IsRightFault (Unit {0}) settings bytes fault
+      → IsRightFault Ended settings bytes fault
+  fault-ended Ended settings Json ended right = (ended, right.1)
+  fault-ended Ended settings Shape ended right = (ended, right.1)
+  fault-ended Ended settings Registers ended right = (ended, right.1)
+  fault-ended Ended settings Ring ended right = (ended, right.1, right.2)
+  fault-ended Ended settings Spawn ended right = (ended, right.1)
+  fault-ended Ended settings Io ended right = absurd (right tt)
+  fault-ended Ended settings Memory ended right = tt
+  fault-ended Ended settings _ ended right = absurd right
+
+  -- and no read failed
+  pub fault-well : (settings : Settings) (count : ℕ) (fault : Fault) → IsRightFault (Unit {0}) settings bytes fault
+      → failures_behind fault count ≡ count
+  fault-well settings count Io right = absurd (right tt)
+  fault-well settings count _ right = refl
 
 -- the text of a workload of which no run was judged to its end
 pub no_bench_from : (workload : Workload) (settings : Settings) (bytes : List ℕ) (fault : BenchFault)

@@ -54,12 +54,19 @@ IsRightFault Ended settings bytes Io = Ended → ⊥
 IsRightFault Ended settings bytes Memory = Unit {0}
 IsRightFault Ended settings bytes _ = ⊥
 
--- This answers the bytes that a source told: the workload of which they are the text, or a fault that is right of them, whatever the
--- settings are.
+-- The fault is right of these bytes, as the text of a workload.
+abbrev pub IsTextFault : Type 0 → List ℕ → Fault → Type 0
+IsTextFault Ended bytes Json = Ended × IsNoText bytes
+IsTextFault Ended bytes Shape = Ended × IsOtherText bytes
+IsTextFault Ended bytes Io = Ended → ⊥
+IsTextFault Ended bytes Memory = Unit {0}
+IsTextFault Ended bytes _ = ⊥
+
+-- This answers the bytes that a source told: the workload of which they are the text, or a fault that is right of such a text.
 abbrev pub AnswersText : Type 0 → List ℕ → Result Workload Fault → Type 0
 AnswersText Ended bytes (Ok workload) =
     Ended × IsWorkloadText workload.registers.number (scripts_of workload.scripts.items) workload.order.items bytes
-AnswersText Ended bytes (Err fault) = (settings : Settings) → IsRightFault Ended settings bytes fault
+AnswersText Ended bytes (Err fault) = IsTextFault Ended bytes fault
 
 -- This answers the bytes that a source told: what was found of the workload of which they are the text, or a fault that is right
 -- of them.

@@ -89,8 +89,8 @@ fn read_bytes(alloc: Global, bytes: &[u8]) -> Result<Workload, Fault>
 
 /// The fault by which a workload was not carried out.
 fn fault_of(fault: BenchFault) -> Fault
-    ensures { (Ended : Type 0) (settings : Settings) (bytes : List ℕ) → Ended → IsNoBenchFrom settings bytes fault
-        → IsRightFault Ended settings bytes result }
+    ensures { (settings : Settings) (bytes : List ℕ) → IsNoBenchFrom settings bytes fault
+        → IsRightFault (Unit {0}) settings bytes result }
 {
     match fault {
         BenchFault::Registers => Fault::Registers,

@@ -1,24 +1,42 @@
--- What answers the bytes that were read answers the source, which has ended.
-use Rattle.std.proofs.Common.{rules, ◌≡◌, ℕ, List, [], ◌∙◌, sym, subst}
-use Rattle.tmw_run_bench.proofs.Answering.{answers-ended, failures-same}
-use Rattle.tmw_run_bench.specs.Running.{AnswersBench}
-use Rattle.tmw_streams.proofs.ToldBytes.{Tells-held}
-use Rattle.tmw_tm.specs.Answers.{Call, Answer}
+-- The workload that was read was carried out, and its log has the header; or it was not, by the fault that is answered.
+use Rattle.std.proofs.Common.{◌∙◌, subst, sym}
+use Rattle.tmw_bench.specs.Benched.{IsBenched}
+use Rattle.tmw_bench.specs.declared.benched.Benched.{Benched}
+use Rattle.tmw_run_bench.proofs.Answering.{fault-ended, fault-well, no_bench_from}
+use Rattle.tmw_runs.specs.Scripts.{scripts_of}
 use Rattle.tmw_run_bench.proofs.benching.bench_source.Goals as goal
 
-pub returns-in-Ok-clause-right : goal.returns-in-Ok-clause-right
-returns-in-Ok-clause-right g c =
-    let bytes = c.read_all.new.bytes.items in
-    let none : c.new-bytes.result.items ≡ [] = search rules in
-    let gives : Call → Answer → Type 0 = λ call answer. (goal.Tm-dyn g c.args.memory.now).gives c.args.memory.now.1 call answer in
-    let right = subst (λ (xs : List ℕ). AnswersBench gives c.args.settings (Unit {0}) xs c.bench_bytes.result) c.deref.ensures.value c.bench_bytes.ensures in (
-      bytes,
-      Tells-held g.S.Source.told g.S.Source.remaining c.args.source.now c.read_all.new.source c.new-bytes.result.items bytes none c.read_all.ensures.held,
-      answers-ended gives c.args.settings bytes (g.S.Source.ended c.read_all.new.source) c.bench_bytes.result (c.in-Ok.ensures.ended) right,
+pub returns-in-Ok-run_bench-clause-right : goal.returns-in-Ok-run_bench-clause-right
+returns-in-Ok-run_bench-clause-right g c =
+    let told = c.in-Ok.ensures.right in
+    let workload = c.in-Ok.workload in (
+      told.0,
+      told.1,
+      (told.2.0, record {
+        registers = workload.registers;
+        workload = record { scripts = scripts_of workload.scripts.items; order = workload.order.items; is = workload.is; text = told.2.1 };
+        header = c.with_header.ensures.header;
+        benched = subst (λ (b : Benched). IsBenched (λ call answer. (goal.Tm-dyn g c.args.memory.now).gives c.args.memory.now.1 call answer)
+            workload.registers (scripts_of workload.scripts.items) c.args.settings b) (sym c.with_header.ensures.same) c.in-Ok-run_bench.ensures.ok;
+      }),
     )
 
-pub returns-in-Ok-clause-failures : goal.returns-in-Ok-clause-failures
-returns-in-Ok-clause-failures g c =
-    let gives : Call → Answer → Type 0 = λ call answer. (goal.Tm-dyn g c.args.memory.now).gives c.args.memory.now.1 call answer in
-    c.in-Ok.ensures.well
-    ∙ sym (failures-same gives c.args.settings c.deref.result.now (g.S.Source.failures c.args.source.now) c.bench_bytes.result c.bench_bytes.ensures)
+pub returns-clause-right : goal.returns-clause-right
+returns-clause-right g c =
+    let told = c.in-Ok.ensures.right in
+    let workload = c.in-Ok.workload in (
+      told.0,
+      told.1,
+      fault-ended told.0 (g.S.Source.ended c.read_source.new.source) c.args.settings c.fault_of.result told.2.0
+          (c.fault_of.ensures c.args.settings told.0
+          (no_bench_from workload c.args.settings told.0 c.in-Err-run_bench.fault told.2.1 c.in-Err-run_bench.ensures.err)),
+    )
+
+pub returns-clause-failures : goal.returns-clause-failures
+returns-clause-failures g c =
+    let told = c.in-Ok.ensures.right in
+    let workload = c.in-Ok.workload in
+    c.in-Ok.ensures.failures
+    ∙ sym (fault-well told.0 c.args.settings (g.S.Source.failures c.args.source.now) c.fault_of.result
+    (c.fault_of.ensures c.args.settings told.0
+    (no_bench_from workload c.args.settings told.0 c.in-Err-run_bench.fault told.2.1 c.in-Err-run_bench.ensures.err)))
