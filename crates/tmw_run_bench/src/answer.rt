@@ -25,8 +25,12 @@ pub fn answer_run<K: Sink>(alloc: Global, sink: &mut K, run: &BenchRun) -> u8
         ⊎ IsPut (to_sink K.took K.holds K.failures) sink.old sink.new (fault_line Memory) 4 result }
 {
     let outcome = &run.driven.outcome;
-    let Ok(lines) = lines_of(alloc, outcome.log.len() as u64, &outcome.verdict, &outcome.ends)
-    else {
+    let Ok(lines) = lines_of(
+        alloc,
+        outcome.log.len() as u64,
+        &outcome.verdict,
+        &outcome.ends,
+    ) else {
         return answer_fault(sink, Fault::Memory);
     };
     match put_driven(sink, &run.driven, true, lines.as_bytes()) {

@@ -1,5 +1,5 @@
 -- How the last window of a history is kept beside the monitor that judges it.
-use Rattle.std.specs.Prelude.{◌≡◌, ◌<◌, ◌++◌, ℕ, List, [], ◌∷◌, length, IsTrue, IsFalse}
+use Rattle.std.specs.Prelude.{◌≡◌, ◌<◌, List, length, IsTrue, IsFalse}
 use Rattle.std.specs.Vec.{vec_capacity}
 use Rattle.tmw_cuts.specs.Members.{members}
 use Rattle.tmw_defs.specs.Criteria.{so_far}

@@ -191,7 +191,7 @@ no_round : kinds_of (said (codes "bench" ∷ codes "--rounds" ∷ codes "0" ∷ 
 unfolding clap_on_literals
 no_round = refl
 
-too_many_rounds : kinds_of (said (codes "bench" ∷ codes "--rounds=1000001" ∷ [])) ≡ ValueValidation ∷ []
+too_many_rounds : kinds_of (said (codes "bench" ∷ codes "--rounds=1000000001" ∷ [])) ≡ ValueValidation ∷ []
 unfolding clap_on_literals
 too_many_rounds = refl
 

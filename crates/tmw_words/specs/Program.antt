@@ -89,7 +89,7 @@ with_memory memories app = with_rule (with_rule app (value_rule (codes "memory")
 abbrev pub with_counts : App → App
 with_counts app = with_rule (with_rule (with_rule app (value_rule (codes "ring") (count_to 4096) (codes "256")))
     (value_rule (codes "patience") (count_to 1000000000) (codes "1000000")))
-    (value_rule (codes "rounds") (count_to 1000000) (codes "1"))
+    (value_rule (codes "rounds") (count_to 1000000000) (codes "1"))
 
 -- `judge`, by one of these criteria
 abbrev pub judge_among : ValueParser → App

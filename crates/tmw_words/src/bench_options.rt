@@ -9,7 +9,7 @@ pub struct BenchOptions {
     pub cells: u64,
     /// So often in all a record is tried for which the ring lacks room: 1 to 1,000,000,000.
     pub patience: u64,
-    /// The workload is carried out so many times: 1 to 1,000,000.
+    /// The workload is carried out so many times: 1 to 1,000,000,000.
     pub rounds: u64,
     pub bounds: Bounds,
     pub ghost some_cell: { 1 ≤ cells },
@@ -17,5 +17,5 @@ pub struct BenchOptions {
     pub ghost some_try: { 1 ≤ patience },
     pub ghost few_tries: { patience ≤ 1000000000 },
     pub ghost some_round: { 1 ≤ rounds },
-    pub ghost few_rounds: { rounds ≤ 1000000 },
+    pub ghost few_rounds: { rounds ≤ 1000000000 },
 }

@@ -224,7 +224,7 @@ fn options_of(matches: &ArgMatches<'_>) -> Option<BenchOptions>
     let Some(patience) = count_of(matches, "patience", 1_000_000_000) else {
         return None;
     };
-    let Some(rounds) = count_of(matches, "rounds", 1_000_000) else {
+    let Some(rounds) = count_of(matches, "rounds", 1_000_000_000) else {
         return None;
     };
     let Some(bounds) = bounds_of(matches) else {

@@ -33,7 +33,7 @@ const PATIENCE_HELP: &str =
     "How often in all a thread tries a record for which the ring lacks room, 1 to 1000000000, before it stops";
 
 const ROUNDS_HELP: &str =
-    "How often the workload is run over the memory, one run after another, 1 to 1000000";
+    "How often the workload is run over the memory, one run after another, 1 to 1000000000";
 
 const WINDOW_HELP: &str =
     "The most transactions that a window may have, 1 to 8: past it the verdict is `undecided`";
@@ -204,7 +204,7 @@ fn with_counts<'a>(alloc: Global, command: Command<'a>) -> Result<Command<'a>, A
     command
         .arg(count_option(alloc, "ring", 4096, "256", RING_HELP))?
         .arg(count_option(alloc, "patience", 1_000_000_000, "1000000", PATIENCE_HELP))?
-        .arg(count_option(alloc, "rounds", 1_000_000, "1", ROUNDS_HELP))
+        .arg(count_option(alloc, "rounds", 1_000_000_000, "1", ROUNDS_HELP))
 }
 
 /// The command with the two bounds of judging as options.

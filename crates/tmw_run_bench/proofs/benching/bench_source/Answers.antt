@@ -12,13 +12,16 @@ returns-in-Ok-run_bench-clause-right g c =
     let workload = c.in-Ok.workload in (
       told.0,
       told.1,
-      (told.2.0, record {
-        registers = workload.registers;
-        workload = record { scripts = scripts_of workload.scripts.items; order = workload.order.items; is = workload.is; text = told.2.1 };
-        header = c.with_header.ensures.header;
-        benched = subst (λ (b : Benched). IsBenched (λ call answer. (goal.Tm-dyn g c.args.memory.now).gives c.args.memory.now.1 call answer)
-            workload.registers (scripts_of workload.scripts.items) c.args.settings b) (sym c.with_header.ensures.same) c.in-Ok-run_bench.ensures.ok;
-      }),
+      (
+        told.2.0,
+        record {
+          registers = workload.registers;
+          workload = record { scripts = scripts_of workload.scripts.items; order = workload.order.items; is = workload.is; text = told.2.1 };
+          header = c.with_header.ensures.header;
+          benched = subst (λ (b : Benched). IsBenched (λ call answer. (goal.Tm-dyn g c.args.memory.now).gives c.args.memory.now.1 call answer)
+              workload.registers (scripts_of workload.scripts.items) c.args.settings b) (sym c.with_header.ensures.same) c.in-Ok-run_bench.ensures.ok;
+        },
+      ),
     )
 
 pub returns-clause-right : goal.returns-clause-right

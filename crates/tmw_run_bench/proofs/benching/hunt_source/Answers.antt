@@ -10,11 +10,14 @@ returns-in-Ok-hunt-clause-right g c =
     let workload = c.in-Ok.workload in (
       told.0,
       told.1,
-      (told.2.0, record {
-        registers = workload.registers;
-        workload = record { scripts = scripts_of workload.scripts.items; order = workload.order.items; is = workload.is; text = told.2.1 };
-        made = c.in-Ok-hunt.ensures.ok;
-      }),
+      (
+        told.2.0,
+        record {
+          registers = workload.registers;
+          workload = record { scripts = scripts_of workload.scripts.items; order = workload.order.items; is = workload.is; text = told.2.1 };
+          made = c.in-Ok-hunt.ensures.ok;
+        },
+      ),
     )
 
 pub returns-clause-right : goal.returns-clause-right

@@ -1,5 +1,5 @@
 -- Behind a final verdict nothing more is shown; else the event is, in a new window or in the last.
-use Rattle.std.proofs.Common.{rules, ◌≡◌, List, [], ◌∷◌, ◌++◌, sym, ap, ◌∙◌, subst}
+use Rattle.std.proofs.Common.{rules, sym, ap, ◌∙◌, subst}
 use Rattle.tmw_defs.proofs.VerdictProof.{fine-so_far}
 use Rattle.tmw_defs.specs.Criteria.{so_far}
 use Rattle.tmw_show.specs.Keeping.{IsNext}
