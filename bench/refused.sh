@@ -276,7 +276,7 @@ row 'bench' 0 4 "$folder/worker" bench
 row 'bench, with the trace' 0 4 "$folder/worker" bench --trace
 row 'bench, three rounds over one cell' 0 4 "$folder/worker" bench --memory lock --ring 1 --patience 1000000000 --rounds 3
 row 'bench, three workers' 0 4 "$folder/workers" bench --memory torn
-row 'bench, three workers and three rounds' 0 4 "$folder/workers" bench --memory lock --patience 1000000000 --rounds 3
+row 'bench, three workers and three rounds' 0 4 "$folder/workers" bench --memory torn --rounds 3
 kinds='growth growths read interrupted_read write interrupted_write'
 row 'bench, fewer cells than scripts' 4 4 "$folder/empty" bench --ring 1
 kinds='growth growths write interrupted_write'

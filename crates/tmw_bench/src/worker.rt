@@ -61,12 +61,12 @@ pub fn play_on<R: Wait, J: Giving>(
         );
         if let Some(_) = stop {
             tell(rt, &mut worker.up, Ended { tail: 0, stop });
-            stage.orders.ended.rise(threads);
+            stage.orders.ended.rise(1);
             return stop;
         }
         let tail = stage.ring.find_tail(&mut worker.writer);
         tell(rt, &mut worker.up, Ended { tail, stop });
-        stage.orders.ended.rise(threads);
+        stage.orders.ended.rise(1);
         let Some(bound) = next_bound(rt, &mut worker.down, tail, stage.orders) else {
             return stop;
         };
