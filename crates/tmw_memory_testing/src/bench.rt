@@ -15,6 +15,7 @@ use tmw_tm::Did;
 use tmw_workloads::{Workload, read_workload};
 
 mod at_once;
+mod hunting;
 mod memories;
 mod rounds;
 
