@@ -1,23 +1,21 @@
 -- A worker, from one round to the next, and to its end.
-use Rattle.std.proofs.Common.{◌≡◌, ◌≤◌, ◌+◌, ◌++◌, ℕ, List, [], ◌∷◌, Option, Some, None, length, refl, sym, ap, ◌∙◌, subst, arith}
-use Rattle.std.specs.Prelude.{All}
+use Rattle.std.proofs.Common.{◌≡◌, ◌≤◌, ◌+◌, ◌++◌, ℕ, List, [], ◌∷◌, Option, None, length, refl, sym, ap, ◌∙◌, subst, arith}
 use Rattle.std.proofs.lemmas.List.{length_push}
 use Rattle.rtrb.specs.Ring.{received, sent, SameConsumer, SameProducer}
 use Rattle.rtrb.specs.declared.producer.Producer.{Producer}
 use Rattle.rtrb.specs.declared.consumer.Consumer.{Consumer}
 use Rattle.tmw_bench.proofs.PlayedRounds.{ready-new, ready-met, played_last-worked}
-use Rattle.tmw_bench.specs.Rounds.{HasPlayedLast, IsReady}
+use Rattle.tmw_bench.specs.Rounds.{HasPlayedLast}
 use Rattle.tmw_events.specs.declared.event.Kind.{Kind}
-use Rattle.tmw_bench.specs.Workers.{in_order, HasPlayedOn, HasSeen, IsBetween, IsSameWorker}
+use Rattle.tmw_bench.specs.Workers.{HasPlayedOn, HasSeen, IsBetween}
 use Rattle.tmw_bench.specs.declared.ended.Ended.{Ended}
 use Rattle.tmw_bench.specs.declared.worker.Worker.{Worker}
-use Rattle.tmw_recorded.specs.Recording.{kinds_made}
 use Rattle.tmw_ring.specs.Ends.{RingIs, WriterIs, WriterOf}
 use Rattle.tmw_ring.specs.Meeting.{FindsTail}
 use Rattle.tmw_ring.specs.declared.refused.Refused.{Refused}
 use Rattle.tmw_bench.specs.Meeting.{HasMet}
 use Rattle.tmw_tm.specs.Answers.{Call, Answer}
-use Rattle.tmw_work.specs.Working.{EndsWork, HasWorked}
+use Rattle.tmw_work.specs.Working.{HasWorked}
 
 module _ {T A P : Type 0} where
   pub up-then : (a b c : Producer T A P) → SameProducer a b → SameProducer b c → SameProducer a c

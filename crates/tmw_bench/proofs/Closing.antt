@@ -1,6 +1,6 @@
 -- What the leader knows of a worker that has come back: it was told all bounds and no others, and has told all that was heard.
-use Rattle.std.proofs.Common.{◌≡◌, ◌≤◌, ◌<◌, ◌+◌, ◌++◌, ℕ, zero, suc, List, [], ◌∷◌, Option, Some, None, length, refl, sym, ap, ◌∙◌, subst, arith, append_assoc}
-use Rattle.std.proofs.lemmas.List.{append-nil, append_cancel_right, length-append, length_push, nil_from_length}
+use Rattle.std.proofs.Common.{◌≡◌, ◌+◌, ◌++◌, ℕ, List, [], ◌∷◌, Option, length, refl, sym, ap, ◌∙◌, subst, arith}
+use Rattle.std.proofs.lemmas.List.{append-nil, length-append, length_push, nil_from_length}
 use Rattle.rtrb.specs.Ring.{received, sent}
 use Rattle.tmw_bench.specs.Rounds.{HasPlayedLast}
 use Rattle.tmw_events.specs.declared.event.Kind.{Kind}

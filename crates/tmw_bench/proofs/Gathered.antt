@@ -1,7 +1,6 @@
 -- All workers have come back.
-use Rattle.std.proofs.Common.{◌≡◌, ◌≤◌, ◌<◌, ◌+◌, ◌++◌, ℕ, List, [], ◌∷◌, Option, Some, None, length, get_or, map, take, drop, refl, sym, ap, ◌∙◌, subst, arith}
+use Rattle.std.proofs.Common.{◌≡◌, ◌<◌, ◌+◌, ◌++◌, ℕ, List, [], ◌∷◌, Option, Some, None, length, get_or, map, take, drop, sym, ap, ◌∙◌, subst, arith}
 use Rattle.std.proofs.lemmas.List.{get_or-map, length-map, length_push, take-append-le, take_all}
-use Rattle.std.specs.Prelude.{All}
 use Rattle.rtrb.specs.Ring.{received, sent, IsPair, SameConsumer, SameProducer}
 use Rattle.rtrb.specs.declared.producer.Producer.{Producer}
 use Rattle.rtrb.specs.declared.consumer.Consumer.{Consumer}
@@ -14,7 +13,7 @@ use Rattle.tmw_events.specs.declared.event.Kind.{Kind}
 use Rattle.tmw_events.specs.declared.ix.Ix.{Ix}
 use Rattle.tmw_bench.proofs.Closing.{last-same, played-closed}
 use Rattle.tmw_bench.proofs.Starts.{Back}
-use Rattle.tmw_bench.specs.Lines.{AreClosed, AreNewWorkers, AreOpened, ArePairs, IsClosed, IsOpened, IsPairOf, IsPromised}
+use Rattle.tmw_bench.specs.Lines.{AreClosed, AreNewWorkers, AreOpened, ArePairs, IsClosed, IsPairOf, IsPromised}
 use Rattle.tmw_bench.specs.Workers.{HasPlayedOn}
 use Rattle.tmw_bench.specs.Leading.{AreNewLines, HasLedTo, SomeToldStop}
 use Rattle.tmw_bench.specs.declared.ended.Ended.{Ended}
@@ -23,7 +22,6 @@ use Rattle.tmw_bench.specs.declared.worker.Worker.{Worker}
 use Rattle.tmw_pump.specs.declared.front.Front.{Front}
 use Rattle.tmw_ring.specs.Ends.{RingIs, WriterIs, WriterOf, ReaderIs, ReaderOf}
 use Rattle.tmw_ring.specs.NewRing.{AreNewWriters}
-use Rattle.tmw_ring.specs.Settling.{AreInOrder}
 use Rattle.tmw_ring.specs.declared.refused.Refused.{Refused}
 use Rattle.tmw_tm.specs.Answers.{Call, Answer}
 

@@ -1,7 +1,7 @@
 -- What is kept, from one event to the next.
 use Rattle.std.proofs.Common.{◌≡◌, ◌+◌, ◌++◌, ℕ, List, [], ◌∷◌, Option, None, length, refl, sym, ap, ◌∙◌, subst, append_assoc}
 use Rattle.std.proofs.lemmas.List.{append-nil, length-append}
-use Rattle.tmw_bench.specs.Keeping.{HasKept, IsKept}
+use Rattle.tmw_bench.specs.Keeping.{HasKept}
 use Rattle.tmw_defs.specs.Verdict.{Rules, IsVerdict}
 use Rattle.tmw_defs.specs.declared.verdict.Verdict.{Verdict}
 use Rattle.tmw_events.specs.declared.event.Event.{Event}

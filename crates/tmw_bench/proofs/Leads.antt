@@ -1,5 +1,5 @@
 -- What the leader has heard and told, from one worker to the next.
-use Rattle.std.proofs.Common.{◌≡◌, ◌≢◌, ◌≤◌, ◌<◌, ◌+◌, ◌++◌, ℕ, List, [], ◌∷◌, Option, Some, length, get_or, set, IsTrue, None, refl, inl, inr, sym, ap, ◌∙◌, subst, arith, append_assoc, append-nil}
+use Rattle.std.proofs.Common.{◌≡◌, ◌≢◌, ◌<◌, ◌+◌, ◌++◌, ℕ, List, [], ◌∷◌, Option, Some, length, get_or, set, None, refl, inl, inr, sym, ap, ◌∙◌, subst, arith}
 use Rattle.std.specs.Option.{IsSome}
 use Rattle.std.proofs.Math.Nat.{ne_of_lt}
 use Rattle.std.proofs.lemmas.Bool.{cases_lt}
@@ -14,9 +14,8 @@ use Rattle.tmw_events.specs.declared.event.Event.{Event}
 use Rattle.tmw_bench.proofs.Between.{up-then, down-then}
 use Rattle.tmw_bench.proofs.Keeps.{goes_on_of, kept-none, kept-then}
 use Rattle.tmw_bench.specs.Keeping.{HasGoneOn}
-use Rattle.tmw_bench.specs.Workers.{in_order}
 use Rattle.tmw_bench.specs.declared.judge.Judge.{Judge}
-use Rattle.tmw_bench.specs.Leading.{AreNewLines, HasHeard, HasLed, HasLedTo, HasTold, HasToldStop, HaveHeardUpTo, HaveToldUpTo, IsLineAt, SomeToldStop}
+use Rattle.tmw_bench.specs.Leading.{AreNewLines, HasHeard, HasLedTo, HasToldStop, HaveHeardUpTo, HaveToldUpTo, SomeToldStop}
 use Rattle.tmw_bench.specs.declared.ended.Ended.{Ended}
 use Rattle.tmw_bench.specs.declared.line.Line.{Line}
 use Rattle.tmw_monitor.specs.Fitting.{Fits}

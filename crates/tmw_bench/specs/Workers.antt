@@ -1,5 +1,5 @@
 -- What a worker has done that plays its script round after round.
-use Rattle.std.specs.Prelude.{◌≡◌, ◌≤◌, ◌+◌, ◌++◌, ℕ, List, [], ◌∷◌, Option, length}
+use Rattle.std.specs.Prelude.{◌≡◌, ◌≤◌, ◌++◌, ℕ, List, [], ◌∷◌, Option, length}
 use Rattle.rtrb.specs.Ring.{received, sent, SameConsumer, SameProducer}
 use Rattle.tmw_bench.specs.Rounds.{HasPlayedLast, IsReady}
 use Rattle.tmw_events.specs.declared.event.Kind.{Kind}

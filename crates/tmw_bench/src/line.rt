@@ -1,5 +1,5 @@
 //! The leader's ends of the lines to its workers.
-ghost use Rattle.std.specs.Prelude.{◌≡◌, length, IfOk, OnOk, IsTrue, IsSome};
+ghost use Rattle.std.specs.Prelude.{length, IfOk, OnOk, IsTrue, IsSome};
 ghost use Rattle.tmw_bench.specs.Leading.{HasHeard, HaveHeardUpTo, HaveToldUpTo, SomeToldStop};
 ghost use Rattle.tmw_bench.specs.Keeping.{HasGoneOn};
 ghost use Rattle.tmw_ring.specs.Ends.{ReaderOf};

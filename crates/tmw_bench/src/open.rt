@@ -1,5 +1,5 @@
 //! New rings between a leader and its workers.
-ghost use Rattle.std.specs.Prelude.{◌≡◌, IfOk};
+ghost use Rattle.std.specs.Prelude.{IfOk};
 ghost use Rattle.tmw_bench.specs.Lines.{AreOpened, IsOpened};
 
 use crate::line::Line;

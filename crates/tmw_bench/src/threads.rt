@@ -1,5 +1,5 @@
 //! A thread for each worker, which gives the worker back.
-ghost use Rattle.std.specs.Prelude.{◌≡◌, ◌<◌, ℕ, length, get_or, IfOk, IfErr, IsTrue, All};
+ghost use Rattle.std.specs.Prelude.{◌≡◌, ◌<◌, ℕ, length, get_or, IfOk, IfErr, IsTrue};
 ghost use Rattle.tmw_bench.specs.Playing.{AreTransactions, GivesWithin, IsOfThreads};
 ghost use Rattle.tmw_drive.specs.Playing.{calls_of};
 ghost use Rattle.tmw_bench.specs.Lines.{AreNewWorkers, IsNewWorker, IsPromised};

@@ -1,7 +1,6 @@
 -- The last window of the log is kept.
 use Rattle.std.proofs.Common.{◌≡◌, subst, sym}
 use Rattle.tmw_bench.specs.Benched.{HasBenched}
-use Rattle.tmw_bench.specs.Keeping.{IsKept}
 use Rattle.tmw_defs.proofs.VerdictProof.{verdict-one}
 use Rattle.tmw_defs.specs.Opaque.{zeros}
 use Rattle.tmw_defs.specs.declared.verdict.Verdict.{Verdict}

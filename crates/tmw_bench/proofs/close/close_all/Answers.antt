@@ -1,9 +1,8 @@
-use Rattle.std.proofs.Common.{◌≡◌, ◌<◌, ◌≤◌, ◌+◌, ◌++◌, ℕ, List, [], ◌∷◌, Option, length, get_or, map, set, refl, sym, ap, ◌∙◌, subst, append_assoc, arith}
-use Rattle.std.proofs.lemmas.List.{append-nil, length-set, length-map, length_push, map_push, nil_from_length, get_or-map, get_or_default}
+use Rattle.std.proofs.Common.{◌≡◌, ◌<◌, ◌≤◌, ◌+◌, ◌++◌, ℕ, List, [], ◌∷◌, Option, length, get_or, map, sym, ap, ◌∙◌, subst, append_assoc, arith}
+use Rattle.std.proofs.lemmas.List.{append-nil, length-set, length-map, length_push, map_push, nil_from_length, get_or_default}
 use Rattle.std.specs.Vec.Iter.{into_iter_items}
-use Rattle.tmw_bench.proofs.Returns.{at_seam}
 use Rattle.tmw_bench.proofs.Starts.{Back, closed-next, rest-next, behind, worker_at}
-use Rattle.tmw_bench.specs.Lines.{IsClosed, IsPairOf}
+use Rattle.tmw_bench.specs.Lines.{IsClosed}
 use Rattle.tmw_bench.specs.declared.line.Line.{Line}
 use Rattle.tmw_bench.specs.declared.worker.Worker.{Worker}
 use Rattle.tmw_recorded.proofs.Returns.{shorter}

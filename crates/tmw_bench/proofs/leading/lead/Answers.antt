@@ -1,4 +1,4 @@
-use Rattle.std.proofs.Common.{◌≡◌, ◌+◌, ℕ, List, [], ◌∷◌, length, sym, ◌∙◌, subst, arith, refl}
+use Rattle.std.proofs.Common.{◌≡◌, ◌+◌, ℕ, [], ◌∷◌, length, sym, ◌∙◌, subst, arith, refl}
 use Rattle.tmw_defs.specs.Verdict.{IsVerdict}
 use Rattle.tmw_bench.specs.Leading.{HasLedTo}
 use Rattle.tmw_bench.proofs.Leads.{front-gone_on, gone_on-none, gone_on-then, led-heard, led-on, led-told, led-new}

@@ -1,4 +1,4 @@
-use Rattle.std.proofs.Common.{◌≡◌, ◌<◌, arith, IsTrue, get_or, length, subst, sym, ◌∙◌}
+use Rattle.std.proofs.Common.{◌≡◌, ◌<◌, arith, IsTrue, get_or, length, subst}
 use Rattle.std.proofs.lemmas.List.{get_or_default}
 use Rattle.tmw_bench.proofs.Leads.{gone_on-then, heard-next, some_stop-here, some_stop-later}
 use Rattle.tmw_bench.specs.declared.line.Line.{Line}

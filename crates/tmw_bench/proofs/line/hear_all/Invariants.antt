@@ -1,5 +1,5 @@
 -- The first workers have told one thing more.
-use Rattle.std.proofs.Common.{◌≡◌, IsTrue}
+use Rattle.std.proofs.Common.{IsTrue}
 use Rattle.tmw_bench.specs.Leading.{HaveHeardUpTo, SomeToldStop}
 use Rattle.tmw_bench.specs.Keeping.{HasGoneOn}
 use Rattle.tmw_ring.specs.Ends.{ReaderOf}

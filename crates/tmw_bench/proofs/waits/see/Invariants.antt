@@ -1,5 +1,4 @@
 -- The writer has only seen more.
-use Rattle.std.proofs.Common.{◌≡◌}
 use Rattle.tmw_ring.specs.Ends.{WriterOf}
 use Rattle.tmw_bench.specs.Meeting.{HasOnlySeen}
 use Rattle.tmw_bench.proofs.waits.see.Given as goal

@@ -1,4 +1,4 @@
-use Rattle.std.proofs.Common.{◌≡◌, Option, None, refl, ap, sym, ◌∙◌}
+use Rattle.std.proofs.Common.{refl}
 use Rattle.tmw_drive.specs.Playing.{calls_of}
 use Rattle.tmw_bench.proofs.Returns.{worked-more}
 use Rattle.tmw_bench.proofs.Between.{between-new, between-next, played_on-stopped, played_on-over}

@@ -1,5 +1,4 @@
 -- The worker is between two rounds.
-use Rattle.std.proofs.Common.{◌≡◌}
 use Rattle.tmw_drive.specs.Playing.{calls_of}
 use Rattle.tmw_bench.specs.Workers.{IsBetween}
 use Rattle.tmw_bench.proofs.worker.play_on.Given as goal

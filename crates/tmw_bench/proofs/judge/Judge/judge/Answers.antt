@@ -1,5 +1,5 @@
 -- The event is judged, and what is kept of it is.
-use Rattle.std.proofs.Common.{sym, subst}
+use Rattle.std.proofs.Common.{subst}
 use Rattle.tmw_monitor.specs.declared.monitor.Monitor.{Monitor}
 use Rattle.tmw_bench.proofs.Keeps.{kept-one}
 use Rattle.tmw_bench.proofs.judge.Judge.judge.Goals as goal

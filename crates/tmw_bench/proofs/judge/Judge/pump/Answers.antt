@@ -1,4 +1,3 @@
-use Rattle.std.proofs.Common.{sym}
 use Rattle.tmw_bench.proofs.Keeps.{kept-came, kept-none, kept-then}
 use Rattle.tmw_bench.proofs.judge.Judge.pump.Goals as goal
 
