@@ -7,8 +7,8 @@ use tmw_tm::{Did, Got, Tm, Tx};
 /// So often a thread looks for the other one.
 const LOOKS: u64 = 1_000_000_000;
 
-/// So often a commit that is held lets others run.
-const TURNS: u64 = 10_000;
+/// So many turns a commit is held: for longer than a worker that begins too early would wait for the others.
+const TURNS: u64 = 20_000_000;
 
 /// So often a read lets others run. Where processors are busy this takes as long as another thread waits for its turn.
 const YIELDS: u64 = 3;
@@ -237,7 +237,7 @@ impl Holding {
         let own = self.held.fetch_add(1, Ordering::SeqCst).wrapping_add(1);
         let has_come = come(&self.commits, own);
         for _ in 0..TURNS {
-            thread::yield_now();
+            hint::spin_loop();
         }
         let noted = if own == 1 { &self.first } else { &self.second };
         let begins = self.begins.load(Ordering::SeqCst);
