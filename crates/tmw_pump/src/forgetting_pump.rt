@@ -1,5 +1,6 @@
 //! Judging the events of a running ring, and keeping none.
-ghost use Rattle.std.specs.Prelude.{◌≡◌, ◌++◌, List, [], ◌∷◌, length, All, Some, None, IfOk, OnOk, OnErr, IfSome, IfNone, IsSome, IsTrue, ◌↔◌};
+ghost use Rattle.std.specs.Prelude.{◌≡◌, ◌++◌, List, [], ◌∷◌, length, All, Some, None, IfOk, OnOk, OnErr, IfSome, IfNone, IsOk, IsSome, IsTrue, ◌↔◌};
+ghost use Rattle.tmw_defs.specs.Criteria.{so_far};
 ghost use Rattle.tmw_defs.specs.declared.criterion.Criterion.TheVariants.{Opacity};
 ghost use Rattle.tmw_events.specs.declared.event.Event.{Event};
 ghost use Rattle.tmw_pump.specs.Held.{listed, WasFed};
@@ -18,8 +19,8 @@ use tmw_monitor::Monitor;
 use tmw_ring::{Reader, Ring, Writer};
 
 /// Takes events from a running ring and judges them, by the definition of opacity (Guerraoui and Kapalka 2008, section 5) at each
-/// prefix. What it has judged is a beginning of the ring's one log: what its reader has taken, less one event where a growth of
-/// memory was refused. It keeps no event but that one, so its memory is the monitor's, however long the run.
+/// prefix. What it has judged is a beginning of the ring's one log: what its reader has taken, less the event that is held, if
+/// any: one for which memory was refused, or that `next` has told. It keeps no event but that one, so its memory is the monitor's, however long the run.
 #[derive(Drop)]
 pub struct ForgettingPump {
     reader: Reader,
@@ -71,7 +72,8 @@ impl ForgettingPump {
         Ok(self.pumped(max))
     }
 
-    /// The event to be judged next: the one that is held, or else the next of the ring, which is held from now on.
+    /// The event to be judged next: the one that is held, or else the next of the ring, which is held from now on. `None` where the
+    /// next place is not published.
     pub fn next(&mut self, ring: &Ring) -> Option<Event>
         requires { ReaderOf ring.now self.old.reader }
         ensures of_ring { ReaderOf ring.now self.new.reader }
@@ -89,7 +91,7 @@ impl ForgettingPump {
         Some(event)
     }
 
-    /// Judges the event that is held. Where memory is refused, it is still held.
+    /// Judges the event that is held. Where memory is refused, it is still held. After a final verdict it succeeds.
     pub fn judge(&mut self, event: Event) -> Result<(), AllocError>
         requires { self.old.front.held ≡ Some event }
         ensures reader { self.new.reader ≡ self.old.reader }
@@ -98,6 +100,7 @@ impl ForgettingPump {
         ensures free { OnOk result (self.new.front.held ≡ None) }
         ensures stays { OnErr result (self.new.front.judged.items ≡ self.old.front.judged.items) }
         ensures held { OnErr result (self.new.front.held ≡ self.old.front.held) }
+        ensures after { (self.old.front.monitor.verdict ≡ so_far self.old.front.monitor.criterion → ⊥) → IsOk result }
     {
         self.front.judge(event)
     }
@@ -123,7 +126,7 @@ impl ForgettingPump {
         self.front.fed()
     }
 
-    /// Whether an event was taken that is not judged yet, since memory was refused.
+    /// Whether an event was taken that is not judged yet.
     pub fn held(&self) -> bool
         ensures { IsTrue result ↔ IsSome self.now.front.held }
     {

@@ -1,5 +1,6 @@
 //! Judging what a settled ring has left, and keeping none of it.
-ghost use Rattle.std.specs.Prelude.{◌≡◌, ◌+◌, ◌++◌, [], ◌∷◌, ◌≤◌, ◌^◌, length, Some, None, IfOk, OnOk, OnErr, IfNone, IsSome, IsTrue, ◌↔◌};
+ghost use Rattle.std.specs.Prelude.{◌≡◌, ◌+◌, ◌++◌, [], ◌∷◌, ◌≤◌, ◌^◌, length, Some, None, IfOk, OnOk, OnErr, IfNone, IsOk, IsSome, IsTrue, ◌↔◌};
+ghost use Rattle.tmw_defs.specs.Criteria.{so_far};
 ghost use Rattle.tmw_pump.specs.Held.{listed};
 
 use crate::front::Front;
@@ -49,7 +50,8 @@ impl ForgettingRest {
         Ok(self.pumped(max))
     }
 
-    /// The event to be judged next: the one that is held, or else the next of what is left, which is held from now on.
+    /// The event to be judged next: the one that is held, or else the next of what is left, which is held from now on. `None` where all
+    /// are judged.
     pub fn next(&mut self) -> Option<Event>
         ensures front { HasCome result self.old.front self.new.front }
         ensures all { all_of self.new ≡ all_of self.old }
@@ -65,7 +67,7 @@ impl ForgettingRest {
         Some(event)
     }
 
-    /// Judges the event that is held. Where memory is refused, it is still held.
+    /// Judges the event that is held. Where memory is refused, it is still held. After a final verdict it succeeds.
     pub fn judge(&mut self, event: Event) -> Result<(), AllocError>
         requires { self.old.front.held ≡ Some event }
         ensures settled { self.new.settled ≡ self.old.settled }
@@ -74,6 +76,7 @@ impl ForgettingRest {
         ensures free { OnOk result (self.new.front.held ≡ None) }
         ensures stays { OnErr result (self.new.front.judged.items ≡ self.old.front.judged.items) }
         ensures held { OnErr result (self.new.front.held ≡ self.old.front.held) }
+        ensures after { (self.old.front.monitor.verdict ≡ so_far self.old.front.monitor.criterion → ⊥) → IsOk result }
     {
         self.front.judge(event)
     }
@@ -99,7 +102,7 @@ impl ForgettingRest {
         self.front.fed()
     }
 
-    /// Whether an event was taken that is not judged yet, since memory was refused.
+    /// Whether an event was taken that is not judged yet.
     pub fn held(&self) -> bool
         ensures { IsTrue result ↔ IsSome self.now.front.held }
     {

@@ -1,4 +1,5 @@
-ghost use Rattle.std.specs.Prelude.{◌≡◌, ◌∷◌, ◌++◌, ◌+◌, ◌<◌, ◌≤◌, ◌^◌, [], length, Some, None, OnOk, OnErr};
+ghost use Rattle.std.specs.Prelude.{◌≡◌, ◌∷◌, ◌++◌, ◌+◌, ◌<◌, ◌≤◌, ◌^◌, [], length, Some, None, IsOk, OnOk, OnErr};
+ghost use Rattle.tmw_defs.specs.Criteria.{so_far};
 ghost use Rattle.tmw_defs.specs.declared.criterion.Criterion.TheVariants.{Opacity};
 ghost use Rattle.tmw_pump.specs.Held.{listed, WasFed};
 
@@ -9,8 +10,8 @@ use tmw_defs::Verdict;
 use tmw_events::Event;
 use tmw_monitor::Monitor;
 
-/// The judged front, and at most one event that came behind it and waits for memory. No event is kept but that one: the list of
-/// those that were judged is for clauses alone.
+/// The judged front, and at most one event that came behind it and is held. No event is kept but that one: the list of those that
+/// were judged is for clauses alone.
 #[derive(Drop)]
 pub struct Front {
     monitor: Monitor,
@@ -47,7 +48,7 @@ impl Front {
         self.held = Some(event);
     }
 
-    /// Judges the event that came. Where memory is refused, the event is still held.
+    /// Judges the event that came. Where memory is refused, the event is still held. After a final verdict it succeeds.
     pub(crate) fn judge(&mut self, event: Event) -> Result<(), AllocError>
         requires { self.old.held ≡ Some event }
         ensures fits { KeepsFit self.old self.new }
@@ -55,6 +56,7 @@ impl Front {
         ensures free { OnOk result (self.new.held ≡ None) }
         ensures stays { OnErr result (self.new.judged.items ≡ self.old.judged.items) }
         ensures held { OnErr result (self.new.held ≡ self.old.held) }
+        ensures after { (self.old.monitor.verdict ≡ so_far self.old.monitor.criterion → ⊥) → IsOk result }
     {
         self.monitor.feed(event)?;
         self.judged = self.judged.then(&event);
