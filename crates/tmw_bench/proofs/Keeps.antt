@@ -1,7 +1,7 @@
 -- What is kept, from one event to the next.
 use Rattle.std.proofs.Common.{◌≡◌, ◌+◌, ◌++◌, ℕ, List, [], ◌∷◌, Option, None, length, refl, sym, ap, ◌∙◌, subst, append_assoc}
 use Rattle.std.proofs.lemmas.List.{append-nil, length-append}
-use Rattle.tmw_bench.specs.Keeping.{HasKept}
+use Rattle.tmw_bench.specs.Keeping.{HasKept, IsKept}
 use Rattle.tmw_defs.specs.Verdict.{Rules, IsVerdict}
 use Rattle.tmw_defs.specs.declared.verdict.Verdict.{Verdict}
 use Rattle.tmw_events.specs.declared.event.Event.{Event}
@@ -38,13 +38,13 @@ all-judged rest none free =
 module _ {K : Type 0} (keeps : Rules → List Event → Verdict → K → Type 0) where
   -- before the first event
   pub kept-none : (front : Front) (kept : K) → HasKept keeps 0 front front kept kept
-  kept-none front kept = record { judged = judged-none front; kept = λ rules was. was }
+  kept-none front kept = record { judged = judged-none front; kept = λ rules was. was.keeps_it }
 
   pub kept-then : (one two : ℕ) (old mid new : Front) (before between after : K) → HasKept keeps one old mid before between
       → HasKept keeps two mid new between after → HasKept keeps (one + two) old new before after
   kept-then one two old mid new before between after first second = record {
     judged = judged-then one two old mid new first.judged second.judged;
-    kept = λ rules was. second.kept rules (first.kept rules was);
+    kept = λ rules was. second.kept rules (record { fits = first.judged.fits rules was.fits; keeps_it = first.kept rules was });
   }
 
   -- an event that has come is not judged yet
@@ -53,11 +53,8 @@ module _ {K : Type 0} (keeps : Rules → List Event → Verdict → K → Type 0
   kept-came count event old mid new before kept done come = record {
     judged = judged-came count event old mid new done.judged come;
     kept = λ rules was.
-        let had = done.kept rules was in record {
-          fits = fits-came event mid new come rules had.fits;
-          keeps_it = subst (λ (m : Monitor). keeps rules new.judged.items m.verdict kept) (sym come.monitor)
-              (subst (λ (l : List Event). keeps rules l mid.monitor.verdict kept) (ap (λ v. v.items) (sym come.judged)) had.keeps_it);
-        };
+        subst (λ (m : Monitor). keeps rules new.judged.items m.verdict kept) (sym come.monitor)
+        (subst (λ (l : List Event). keeps rules l mid.monitor.verdict kept) (ap (λ v. v.items) (sym come.judged)) (done.kept rules was));
   }
 
   -- an event that is judged is kept
@@ -68,9 +65,12 @@ module _ {K : Type 0} (keeps : Rules → List Event → Verdict → K → Type 0
   kept-one old new event before after judged fits taken = record {
     judged = record { more = event ∷ []; counted = refl; judged = judged; fits = fits };
     kept = λ rules was.
-        let now = fits rules was.fits in record {
-          fits = now;
-          keeps_it = subst (λ (l : List Event). keeps rules l new.monitor.verdict after) (sym judged)
-              (taken rules was.fits (subst (λ (l : List Event). IsVerdict rules l new.monitor.verdict) judged now.judged) was.keeps_it);
-        };
+        let now = fits rules was.fits in
+        subst (λ (l : List Event). keeps rules l new.monitor.verdict after) (sym judged)
+        (taken rules was.fits (subst (λ (l : List Event). IsVerdict rules l new.monitor.verdict) judged now.judged) was.keeps_it);
   }
+
+  -- what was kept is kept of all
+  pub kept-of : (count : ℕ) (old new : Front) (before after : K) → HasKept keeps count old new before after → (rules : Rules)
+      → IsKept keeps rules old before → IsKept keeps rules new after
+  kept-of count old new before after done rules was = record { fits = done.judged.fits rules was.fits; keeps_it = done.kept rules was }

@@ -99,7 +99,7 @@ abbrev pub IsBenched : (Call → Answer → Type 0) → Registers → List (List
 IsBenched gives registers scripts settings benched =
     HasBenched gives registers scripts settings benched.outcome.log.items benched.outcome.verdict benched.outcome.ends.items benched.rounds
 
--- Of the log its last window is kept, and of what it was judged no more than its length and the verdict.
+-- There is a log of which that holds. Its length, its verdict and its last window are told.
 pub record IsHunted (gives : Call → Answer → Type 0) (registers : Registers) (scripts : List (List (List Kind))) (settings : Settings) (hunted : Hunted) : Type 0 where
   pub log : List Event
   pub benched : HasBenched gives registers scripts settings log hunted.showing.verdict hunted.ends.items hunted.rounds

@@ -12,7 +12,7 @@ use Rattle.tmw_events.specs.declared.event.Kind.{Kind}
 use Rattle.tmw_events.specs.declared.registers.Registers.{Registers}
 use Rattle.tmw_monitor.specs.Fitting.{Fits, rules_of}
 use Rattle.tmw_pump.specs.Fronts.{HasJudged}
-use Rattle.tmw_pump.specs.Resting.{HasRested}
+use Rattle.tmw_pump.specs.Resting.{all_of}
 use Rattle.tmw_pump.specs.declared.forgetting_rest.ForgettingRest.{ForgettingRest}
 use Rattle.tmw_pump.specs.declared.front.Front.{Front}
 use Rattle.tmw_tm.specs.Answers.{Call, Answer}
@@ -25,7 +25,7 @@ pub record IsKept {K : Type 0} (keeps : Rules → List Event → Verdict → K �
 -- So many events more were judged, and where this was kept of those before, that is kept of all.
 pub record HasKept {K : Type 0} (keeps : Rules → List Event → Verdict → K → Type 0) (count : ℕ) (old new : Front) (before after : K) : Type 0 where
   pub judged : HasJudged count old new
-  pub kept : (rules : Rules) → IsKept keeps rules old before → IsKept keeps rules new after
+  pub kept : (rules : Rules) → IsKept keeps rules old before → keeps rules new.judged.items new.monitor.verdict after
 
 -- The judge has judged some events more.
 abbrev pub HasGoneOn : {K : Type 0} → (Rules → List Event → Verdict → K → Type 0) → Judge K → Judge K → Type 0
@@ -34,7 +34,7 @@ HasGoneOn keeps old new = (count : ℕ) × HasKept keeps count old.forgetting.fr
 -- All that the settled ring has left was judged: so many events, none of which is held.
 pub record HasJudgedRest {K : Type 0} (keeps : Rules → List Event → Verdict → K → Type 0) (old new : ForgettingRest) (before after : K) : Type 0 where
   pub count : ℕ
-  pub rested : HasRested count old new
+  pub all : all_of new ≡ all_of old
   pub none_left : new.settled ≡ []
   pub free : new.front.held ≡ None
   pub kept : HasKept keeps count old.front new.front before after

@@ -60,8 +60,8 @@ pub fn run_bench<R: Threads + Wait + Sync>(
     })
 }
 
-/// Does as `run_bench` does, with no event kept but those of the last window, so that the memory that it takes is the same however
-/// long the log is.
+/// Does as `run_bench` does, but keeps no event except those of the last window. So its memory does not grow with the number of
+/// rounds.
 pub fn hunt<R: Threads + Wait + Sync>(
     rt: &R,
     alloc: Global,

@@ -1,5 +1,6 @@
-ghost use Rattle.std.specs.Prelude.{◌≡◌, ◌≤◌, Some, IfOk, OnOk};
-ghost use Rattle.tmw_ring.specs.Ends.{ReaderOf};
+ghost use Rattle.std.specs.Prelude.{◌≡◌, ◌≤◌, ◌<◌, Some, IfOk, OnOk};
+ghost use Rattle.tmw_ring.specs.Ends.{ReaderIs, ReaderOf};
+ghost use Rattle.tmw_ring.specs.Takes.{HasFoundNone};
 
 use crate::keep::Keep;
 use std::alloc::AllocError;
@@ -24,6 +25,7 @@ impl<K: Keep> Judge<K> {
         ensures judged { IfOk result (λ judged. HasKept K.keeps judged self.old.forgetting.front self.new.forgetting.front
             self.old.kept self.new.kept) }
         ensures within { IfOk result (λ judged. judged ≤ max) }
+        ensures ended { IfOk result (λ judged. judged < max → (last : ReaderIs) × HasFoundNone last self.new.forgetting.reader) }
     {
         for judged in 0..max {
             let Some(event) = self.forgetting.next(ring) else {

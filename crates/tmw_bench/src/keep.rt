@@ -18,14 +18,14 @@ pub trait Keep: Drop {
 
     /// By these rules, this is what is kept of a history with this verdict.
     ghost keeps: { Rules → List Event → Verdict → Self → Type 0 };
-    /// There is room for the event that this monitor takes next, which does this with the window.
+    /// There is room for the event that this monitor takes next, which does this with the window, where one is kept.
     ghost awaits: { Monitor → NextShown → Self → Type 0 };
 
     /// Before the first event that the monitor is fed.
     fn begin(alloc: Global, monitor: &Monitor) -> Result<Self, AllocError>
         ensures { IfOk result (λ kept. (rules : Rules) → Fits rules [] monitor.now → keeps rules [] monitor.now.verdict kept) };
 
-    /// Makes room for the event that the monitor takes next, and answers what that does with the window.
+    /// Makes room for the event that the monitor takes next, and answers what that does with the window, where one is kept.
     fn make_room(&mut self, monitor: &Monitor) -> Result<NextShown, AllocError>
         ensures same { (rules : Rules) (history : List Event) (verdict : Verdict) → keeps rules history verdict self.old
             → keeps rules history verdict self.new }
@@ -69,11 +69,11 @@ impl Keep for Log {
 }
 
 impl Keep for KeptWindow {
-    ghost use Rattle.tmw_show.specs.Keeping.{HasRoom, IsNext, KeepsShown};
+    ghost use Rattle.tmw_show.specs.Keeping.{HasPlaceFor, IsNext, KeepsShown};
 
     ghost keeps = { KeepsShown };
 
-    ghost awaits = { λ monitor next kept. IsNext monitor next × HasRoom next kept };
+    ghost awaits = { λ monitor next kept. IsNext monitor next × HasPlaceFor next kept };
 
     fn begin(alloc: Global, monitor: &Monitor) -> Result<KeptWindow, AllocError> {
         KeptWindow::new(alloc, monitor)

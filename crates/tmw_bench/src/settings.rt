@@ -11,7 +11,7 @@ pub struct Settings {
     pub limit: u64,
     /// So often in all a record is tried for which the ring lacks room, before its thread stops. 0 counts as 1.
     pub patience: u64,
-    /// The workload is carried out so many times: 1 to 1,000,000,000.
+    /// The workload is carried out so many times at most: 1 to 1,000,000,000.
     pub rounds: u64,
     pub bounds: Bounds,
     pub ghost some_round: { 1 ≤ rounds },

@@ -11,14 +11,14 @@ use Rattle.tmw_run_drive.specs.Driven.{driven_line, driven_status, log_text}
 abbrev pub benched_of : BenchRun → Benched
 benched_of run = record { outcome = run.driven.outcome; rounds = run.rounds }
 
--- What is written with the trace: that, the report's line, and the line of the ends.
+-- With the trace: the log's trace, the report's line and the line of the ends.
 abbrev pub bench_text : BenchRun → List ℕ
 bench_text run = log_text true run.driven ++ (driven_line run.driven ++ ends_line run.driven.outcome.ends.items)
 
 abbrev pub bench_status : BenchRun → ℕ
 bench_status run = driven_status run.driven
 
--- What is written without it: the two lines.
+-- Without the trace: the report's line and the line of the ends.
 abbrev pub hunt_text : Hunted → List ℕ
 hunt_text hunted = report_text hunted.showing.fed hunted.showing.verdict ++ ends_line hunted.ends.items
 

@@ -28,11 +28,11 @@ pub record IsBenchedFrom (gives : Call → Answer → Type 0) (settings : Settin
   pub header : IsHeaderOf registers run.driven.outcome.log.items run.driven.header
   pub benched : IsBenched gives registers workload.scripts settings (benched_of run)
 
--- The same, where no event was kept but those of the last window.
-pub record IsHuntedFrom (gives : Call → Answer → Type 0) (settings : Settings) (bytes : List ℕ) (hunted : Hunted) : Type 0 where
+-- The bytes are the text of a workload, and this is what threads have made of it, of whose log the last window is told.
+pub record IsHuntedFrom (gives : Call → Answer → Type 0) (settings : Settings) (bytes : List ℕ) (run : Hunted) : Type 0 where
   pub registers : Registers
   pub workload : IsTextOver registers.number bytes
-  pub made : IsHunted gives registers workload.scripts settings hunted
+  pub hunted : IsHunted gives registers workload.scripts settings run
 
 -- The bytes are the text of a workload, of which no run was judged to its end, by this fault.
 pub record IsNoBenchFrom (settings : Settings) (bytes : List ℕ) (fault : BenchFault) : Type 0 where
@@ -78,12 +78,12 @@ AnswersBy IsFound settings Ended bytes (Err fault) = IsRightFault Ended settings
 abbrev pub AnswersBench : (Call → Answer → Type 0) → Settings → Type 0 → List ℕ → Result BenchRun Fault → Type 0
 AnswersBench gives settings = AnswersBy (IsBenchedFrom gives settings) settings
 
--- The same, with the log's last window.
+-- What threads have made of it, with the last window of their log.
 abbrev pub AnswersHunt : (Call → Answer → Type 0) → Settings → Type 0 → List ℕ → Result Hunted Fault → Type 0
 AnswersHunt gives settings = AnswersBy (IsHuntedFrom gives settings) settings
 
--- What a run of `bench` does: an answer to the bytes that its source tells in it, and the answer's text to its sink. The log is kept
--- where its trace is asked for.
+-- What a run of `bench` does: an answer to the bytes that its source tells in it, and the answer's text to its sink. With the trace
+-- the answer has the log, and else its length, its verdict and its last window.
 abbrev pub BenchesBytes : {S K : Type 0} → FromSource S → ToSink K → (Call → Answer → Type 0) → Bool → Settings → S → S → K → K → ℕ → Type 0
 BenchesBytes From To gives true settings = IsCommandRun From To (AnswersBench gives settings) bench_text bench_status
 BenchesBytes From To gives false settings = IsCommandRun From To (AnswersHunt gives settings) hunt_text hunt_status

@@ -19,7 +19,7 @@ use Rattle.tmw_show.specs.declared.next_shown.NextShown.TheVariants.{None, Begin
 abbrev pub KeepsShown : Rules → List Event → Verdict → KeptWindow → Type 0
 KeepsShown rules history verdict kept = IsShown rules history verdict kept.from (members kept.states) kept.events.items
 
--- The same is kept.
+-- Both keep one window.
 pub record KeepsSame (old new : KeptWindow) : Type 0 where
   pub from : new.from ≡ old.from
   pub states : members new.states ≡ members old.states
@@ -29,8 +29,8 @@ pub record KeepsSame (old new : KeptWindow) : Type 0 where
 abbrev pub IsOpen : Monitor → Type 0
 IsOpen monitor = monitor.verdict ≡ so_far monitor.criterion
 
--- What the event does with the window that the monitor takes next: nothing behind a final verdict; at a cut it begins a new one
--- there, from the outcomes; and else it goes on with the last one.
+-- What the event that the monitor takes next does with the window. Behind a final verdict: nothing. At a cut: it begins a new one
+-- there, from the outcomes. Else: it goes on with the last one.
 abbrev pub IsNext : Monitor → NextShown → Type 0
 IsNext monitor None = IsOpen monitor → ⊥
 IsNext monitor (Begins from states) = IsOpen monitor × ((rules : Rules) (history : List Event) → Fits rules history monitor
@@ -38,7 +38,7 @@ IsNext monitor (Begins from states) = IsOpen monitor × ((rules : Rules) (histor
 IsNext monitor GoesOn = IsOpen monitor × ((rules : Rules) (history : List Event) → Fits rules history monitor → IsFalse (is_cut history))
 
 -- There is room for the event, where it is kept.
-abbrev pub HasRoom : NextShown → KeptWindow → Type 0
-HasRoom None kept = Unit {0}
-HasRoom (Begins from states) kept = length kept.events.items < vec_capacity kept.events
-HasRoom GoesOn kept = length kept.events.items < vec_capacity kept.events
+abbrev pub HasPlaceFor : NextShown → KeptWindow → Type 0
+HasPlaceFor None kept = Unit {0}
+HasPlaceFor (Begins from states) kept = length kept.events.items < vec_capacity kept.events
+HasPlaceFor GoesOn kept = length kept.events.items < vec_capacity kept.events

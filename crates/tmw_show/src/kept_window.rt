@@ -12,8 +12,8 @@ use tmw_cuts::States;
 use tmw_events::Event;
 use tmw_monitor::Monitor;
 
-/// The last window of a history that a monitor judges, up to the event at which something is wrong, and the states from which that
-/// window begins. No event before them is kept.
+/// The last window of a history that a monitor judges, up to the event at which something is wrong. Beside it stand the states from
+/// which it begins. No event before it is kept.
 #[derive(Debug, Drop)]
 pub struct KeptWindow {
     from: u64,
@@ -22,7 +22,7 @@ pub struct KeptWindow {
 }
 
 impl KeptWindow {
-    ghost use Rattle.tmw_show.specs.Keeping.{HasRoom, IsNext, IsOpen, KeepsSame, KeepsShown};
+    ghost use Rattle.tmw_show.specs.Keeping.{HasPlaceFor, IsNext, IsOpen, KeepsSame, KeepsShown};
     ghost use Rattle.tmw_show.specs.Showing.{IsShowing};
 
     /// Before the first event that the monitor is fed.
@@ -42,7 +42,7 @@ impl KeptWindow {
     pub fn make_room(&mut self, monitor: &Monitor) -> Result<NextShown, AllocError>
         ensures same { KeepsSame self.old self.new }
         ensures next { IfOk result (IsNext monitor.now) }
-        ensures room { IfOk result (λ next. HasRoom next self.new) }
+        ensures room { IfOk result (λ next. HasPlaceFor next self.new) }
         ensures stays { (IsOpen monitor.now → ⊥) → IsOk result }
     {
         if !monitor.is_open() {
@@ -59,9 +59,9 @@ impl KeptWindow {
         })
     }
 
-    /// Keeps the event that the monitor has taken, by what that does with the window.
+    /// Goes on by the event that the monitor has taken, which is kept unless something was wrong before it.
     pub fn take(&mut self, next: NextShown, event: Event)
-        requires { HasRoom next self.old }
+        requires { HasPlaceFor next self.old }
         ensures { (rules : Rules) (history : List Event) (before : Monitor) (verdict : Verdict) → IsNext before next
             → Fits rules history before → IsVerdict rules (history ++ event ∷ []) verdict
             → KeepsShown rules history before.verdict self.old → KeepsShown rules (history ++ event ∷ []) verdict self.new }

@@ -9,7 +9,7 @@ pub struct BenchOptions {
     pub cells: u64,
     /// So often in all a record is tried for which the ring lacks room: 1 to 1,000,000,000.
     pub patience: u64,
-    /// The workload is carried out so many times: 1 to 1,000,000,000.
+    /// The workload is carried out so many times at most: 1 to 1,000,000,000.
     pub rounds: u64,
     pub bounds: Bounds,
     pub ghost some_cell: { 1 ≤ cells },

@@ -14,7 +14,7 @@ use Rattle.tmw_events.specs.declared.event.Event.{Event}
 use Rattle.tmw_monitor.specs.Fitting.{Fits, rules_of}
 use Rattle.tmw_pump.specs.Fronts.{came}
 use Rattle.tmw_pump.specs.Held.{listed}
-use Rattle.tmw_bench.proofs.Keeps.{all-judged}
+use Rattle.tmw_bench.proofs.Keeps.{all-judged, kept-of}
 use Rattle.tmw_bench.specs.Keeping.{IsKept}
 use Rattle.tmw_defs.specs.Verdict.{IsVerdict}
 use Rattle.tmw_monitor.specs.declared.monitor.Monitor.{Monitor}
@@ -78,7 +78,7 @@ returns-clause-ok g c =
     let threads : length workload.scripts.items ≡ length scripts = sym (length-map workload.scripts.items script_of) in
     let sized : c.len-threads.result ≡ length workload.scripts.items =
     (let one = c.len-threads.ensures in let two = workload.scripts.ok.0 in omega (arith, one, two)) in
-    let was : log ≡ all_of before = sym (all-judged rest done.none_left done.free) ∙ done.rested.all in
+    let was : log ≡ all_of before = sym (all-judged rest done.none_left done.free) ∙ done.all in
     let all : all_of before ≡ came front ++ before.settled = ap (λ (f : Front). came f ++ before.settled) settled.front in
     let whole : log ≡ reader.taken ++ before.settled = was ∙ all ∙ ap (λ (l : List Event). l ++ before.settled) left.judge.forgetting.all in
     let begins : log ≡ front.judged.items ++ (listed front.held ++ before.settled) =
@@ -88,8 +88,8 @@ returns-clause-ok g c =
     let judged : IsVerdict rules log verdict = (done.kept.judged.fits rules fits).judged in
     let headline : Headline rules log writers log verdict =
     subst (λ (l : List Event). Headline rules l writers log verdict) (sym was)
-    (gives_rested done.count before rest done.rested rules (all_of before) writers fits
-    (subst (IsLogOf (all_of before) writers) (sym done.rested.all) settled.one_log)) in
+    (gives_rested done.count before rest (record { all = done.all; judged = done.kept.judged }) rules (all_of before) writers fits
+    (subst (IsLogOf (all_of before) writers) (sym done.all) settled.one_log)) in
     let endings : AreEndings scripts stops ends =
     are_endings-map scripts stops ends after.stop_count
     (c.in-Ok-ends_of.ensures ∙ ap (λ (l : List (Option Refused)). map ending_of l) c.deref.ensures.value) in
@@ -114,5 +114,5 @@ returns-clause-ok g c =
           endings judged headline begun.counted played.within
           (λ fewer. over-log rules scripts stops ends front (listed front.held ++ before.settled) log writers verdict refl after.stop_count endings
           begins after.fits.judged headline (played.over fewer));
-      kept = done.kept.kept rules (subst (λ (f : Front). IsKept keeps rules f left.judge.kept) (sym settled.front) (played.kept rules kept_new));
+      kept = kept-of keeps done.count before.front rest.front left.judge.kept c.judge_rest.new.kept done.kept rules (subst (λ (f : Front). IsKept keeps rules f left.judge.kept) (sym settled.front) (played.kept rules kept_new));
     }

@@ -15,7 +15,7 @@ returns-in-Ok-hunt-clause-right g c =
         record {
           registers = workload.registers;
           workload = record { scripts = scripts_of workload.scripts.items; order = workload.order.items; is = workload.is; text = told.2.1 };
-          made = c.in-Ok-hunt.ensures.ok;
+          hunted = c.in-Ok-hunt.ensures.ok;
         },
       ),
     )

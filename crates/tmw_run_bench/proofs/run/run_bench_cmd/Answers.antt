@@ -21,7 +21,7 @@ answer_run-requires g c = λ strict.
 pub answer_hunt-requires : goal.answer_hunt-requires
 answer_hunt-requires g c = λ strict.
     let found = c.in-Ok-hunt_source.ensures.right.2.1 in
-    let told = subst (IsVerdict (rules_of found.registers zeros c.args.settings.bounds) found.made.log) strict found.made.benched.judged in
+    let told = subst (IsVerdict (rules_of found.registers zeros c.args.settings.bounds) found.hunted.log) strict found.hunted.benched.judged in
     let bad : Opacity ≡ Strict = told.0 in
     absurd (cc)
 
