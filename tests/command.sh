@@ -297,8 +297,8 @@ expect_usage "error: the argument '--trace' cannot be used multiple times" drive
 expect_usage "error: invalid value '0' for '--ring <N>': 0 is not in 1..=4096" bench --ring 0
 expect_usage "error: invalid value '4097' for '--ring <N>': 4097 is not in 1..=4096" bench --ring=4097
 expect_usage "error: invalid value '0' for '--patience <N>': 0 is not in 1..=1000000000" bench --patience 0
-expect_usage "error: invalid value '0' for '--rounds <N>': 0 is not in 1..=1000000" bench --rounds 0
-expect_usage "error: invalid value '1000001' for '--rounds <N>': 1000001 is not in 1..=1000000" bench --rounds 1000001
+expect_usage "error: invalid value '0' for '--rounds <N>': 0 is not in 1..=1000000000" bench --rounds 0
+expect_usage "error: invalid value '1000000001' for '--rounds <N>': 1000000001 is not in 1..=1000000000" bench --rounds 1000000001
 expect_usage "error: the argument '--rounds <N>' cannot be used multiple times" bench --rounds 1 --rounds 2
 expect_usage "error: unexpected argument '--rounds' found" drive --rounds 1
 expect_usage "error: unexpected argument '--trace' found" judge --trace
