@@ -1,6 +1,7 @@
--- The settings of a bench that a command line asks for.
-use Rattle.std.specs.Prelude.{◌^◌}
+-- The settings of a bench that a command line asks for, and what it writes.
+use Rattle.std.specs.Prelude.{◌^◌, Bool}
 use Rattle.tmw_bench.specs.declared.settings.Settings.{Settings}
+use Rattle.tmw_run_bench.specs.declared.flags.Flags.{Flags}
 use Rattle.tmw_words.specs.declared.bench_options.BenchOptions.{BenchOptions}
 
 -- Its options, and the most events that any record has.
@@ -14,3 +15,7 @@ settings_of options = record {
   some_round = options.some_round;
   few_rounds = options.few_rounds;
 }
+
+-- What is written by the flags `--trace` and `--show`.
+abbrev pub flags_of : Bool → BenchOptions → Flags
+flags_of trace options = record { trace = trace; show = options.show }

@@ -13,7 +13,7 @@ use Rattle.tmw_run_drive.specs.Running.{DrivesBytes}
 use Rattle.tmw_run_show.specs.Running.{ShowsBytes}
 use Rattle.tmw_steps.specs.Running.{RunsSteps}
 use Rattle.tmw_tm.specs.Answers.{Call, Answer}
-use Rattle.tmw_command.specs.Options.{settings_of}
+use Rattle.tmw_command.specs.Options.{flags_of, settings_of}
 use Rattle.tmw_words.specs.Reading.{IsReading}
 use Rattle.tmw_command.specs.Version.{version_line}
 use Rattle.tmw_words.specs.declared.order.Order.{Order}
@@ -38,7 +38,7 @@ abbrev pub RunsOrder : {S K : Type 0} → FromSource S → ToSink K → MemoryAn
 RunsOrder From To memories (Judge bounds asked) = JudgesBytes From To bounds asked
 RunsOrder From To memories (Show criterion trace bounds) = ShowsBytes From To criterion trace bounds
 RunsOrder From To memories (Drive memory trace bounds) = DrivesBytes From To (memories memory) trace bounds
-RunsOrder From To memories (Bench memory trace options) = BenchesBytes From To (memories memory) trace (settings_of options)
+RunsOrder From To memories (Bench memory trace options) = BenchesBytes From To (memories memory) (flags_of trace options) (settings_of options)
 RunsOrder From To memories Steps = RunsSteps From To
 
 -- What is answered to words that give no order. Help, and the line of the version, is put to the sink. The line of a wrong command line is put to it whatever

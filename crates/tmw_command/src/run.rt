@@ -5,7 +5,7 @@ ghost use Rattle.tmw_report.specs.Streams.{from_source, to_sink};
 ghost use Rattle.tmw_command.specs.Running.{AnswersRefusal, RunsCommand, RunsOrder, RunsWords, by_name};
 
 use crate::memories::Memories;
-use crate::settings::bench_settings;
+use crate::settings::{bench_flags, bench_settings};
 use std::alloc::Global;
 use std::convert::AsStr;
 use std::sync::Wait;
@@ -112,7 +112,7 @@ fn run_order<S: Source, K: Sink, R: Threads + Wait + Sync>(
                 source,
                 sink,
                 picked,
-                trace,
+                bench_flags(trace, options),
                 bench_settings(options),
             )
         }

@@ -1,7 +1,8 @@
 ghost use Rattle.std.specs.Prelude.{◌≡◌};
-ghost use Rattle.tmw_command.specs.Options.{settings_of};
+ghost use Rattle.tmw_command.specs.Options.{flags_of, settings_of};
 
 use tmw_bench::Settings;
+use tmw_run_bench::Flags;
 use tmw_words::BenchOptions;
 
 /// The most events that are recorded in all.
@@ -17,5 +18,15 @@ pub const fn bench_settings(options: BenchOptions) -> Settings
         patience: options.patience,
         rounds: options.rounds,
         bounds: options.bounds,
+    }
+}
+
+/// Returns what the bench writes by `--trace` and these options.
+pub const fn bench_flags(trace: bool, options: BenchOptions) -> Flags
+    ensures { result ≡ flags_of trace options }
+{
+    Flags {
+        trace,
+        show: options.show,
     }
 }

@@ -11,7 +11,7 @@ use tmw_drive::Ending;
 use tmw_events::Registers;
 use tmw_monitor::Bounds;
 use tmw_ring::Refused;
-use tmw_run_bench::{ends_text, run_bench_cmd};
+use tmw_run_bench::{Flags, ends_text, run_bench_cmd};
 use tmw_run_drive::run_drive;
 use tmw_streams::{MemorySink, MemorySource};
 use tmw_tm::Did;
@@ -48,6 +48,29 @@ const ADDS_TRACE: &[u8] =
 
 const SPENT_TRACE: &[u8] =
     b"opacity-trace 1 1\n0 W 0 5\n0 K\n{\"events\":2,\"verdict\":\"opaque so far\"}\n{\"ends\":[\"spent\"]}\n";
+
+const READS_WINDOW: &[u8] =
+    b"{\"at\":2,\"events\":6,\"verdict\":\"violated\"}\n    state  0\n    event  thread 0\n        1  R 0\n        2  V 7       violated, by opacity\n{\"ends\":[\"done\"]}\n";
+
+const REPORT: Flags = Flags {
+    trace: false,
+    show: false,
+};
+
+const LOG: Flags = Flags {
+    trace: true,
+    show: false,
+};
+
+const WINDOW: Flags = Flags {
+    trace: false,
+    show: true,
+};
+
+const TRACES: Flags = Flags {
+    trace: true,
+    show: true,
+};
 
 /// Settings of so many places and rounds.
 const fn settings(limit: u64, rounds: u64) -> Settings
@@ -89,7 +112,7 @@ fn expect<R: Abort + AllocGlobal + Threads + Wait + Sync>(
     rt: &R,
     memory: &Counting,
     text: &[u8],
-    trace: bool,
+    flags: Flags,
     settings: Settings,
     written: &[u8],
     status: u8,
@@ -102,7 +125,7 @@ fn expect<R: Abort + AllocGlobal + Threads + Wait + Sync>(
         &mut source,
         &mut sink,
         memory,
-        trace,
+        flags,
         settings,
     );
     assert_eq!(rt; sink.bytes(), written, "of {text:?}");
@@ -118,12 +141,28 @@ fn a_workload_is_carried_out_once_and_no_round_follows_a_violation(rt: HostRunti
         &rt,
         &memory,
         READS,
-        false,
+        REPORT,
         settings(1 << 40, 3),
         line,
         VIOLATED,
     );
     assert_eq!(rt; memory.counts(), [1, 2, 0, 0, 1, 0]);
+}
+
+#[test]
+fn the_last_window_is_drawn_or_stands_alone_as_a_trace(rt: HostRuntime) {
+    let traces = b"opacity-trace 2 1 0\n0 R 0\n0 V 7\n".as_slice();
+    for (flags, written) in [(WINDOW, READS_WINDOW), (TRACES, traces)] {
+        expect(
+            &rt,
+            &seven(),
+            READS,
+            flags,
+            settings(1 << 40, 1),
+            written,
+            VIOLATED,
+        );
+    }
 }
 
 #[test]
@@ -133,7 +172,7 @@ fn places_and_registers_that_there_are_not(rt: HostRuntime) {
         &rt,
         &memory,
         WRITE,
-        true,
+        LOG,
         settings(2, 1),
         SPENT_TRACE,
         OPAQUE,
@@ -146,7 +185,7 @@ fn places_and_registers_that_there_are_not(rt: HostRuntime) {
             b"{\"fault\":\"registers\"}\n".as_slice(),
         ),
     ] {
-        expect(&rt, &memory, text, true, settings(limit, 1), line, FAULT);
+        expect(&rt, &memory, text, LOG, settings(limit, 1), line, FAULT);
     }
 }
 

@@ -1,16 +1,22 @@
 -- What answers a text answers a source that has told it and has ended.
-use Rattle.std.proofs.Common.{◌≡◌, ℕ, List, Result, Ok, Err, length, refl, subst, sym}
+use Rattle.std.proofs.Common.{◌≡◌, ℕ, List, Result, Ok, Err, IsTrue, length, refl, subst, sym}
 use Rattle.std.proofs.lemmas.List.{length-map}
-use Rattle.tmw_bench.specs.Benched.{IsNoBench}
+use Rattle.tmw_bench.specs.Benched.{IsHunted, IsNoBench}
 use Rattle.tmw_bench.specs.declared.fault.BenchFault.{BenchFault}
+use Rattle.tmw_bench.specs.declared.hunted.Hunted.{Hunted}
 use Rattle.tmw_bench.specs.declared.settings.Settings.{Settings}
 use Rattle.tmw_report.specs.CommandRun.{failures_after_answer}
 use Rattle.tmw_report.specs.Putting.{failures_behind}
 use Rattle.tmw_report.specs.declared.fault.Fault.{Fault}
 use Rattle.tmw_report.specs.declared.fault.Fault.TheVariants.{Io, Json, Memory, Registers, Ring, Shape, Spawn}
-use Rattle.tmw_run_bench.specs.Running.{AnswersText, IsNoBenchFrom, IsRightFault, IsTextFault}
+use Rattle.tmw_events.specs.declared.registers.Registers.{Registers as Width}
+use Rattle.tmw_run_bench.specs.BenchRun.{hunted_of}
+use Rattle.tmw_run_bench.specs.Running.{AnswersText, IsHuntedFrom, IsNoBenchFrom, IsRightFault, IsTextFault}
+use Rattle.tmw_run_bench.specs.declared.hunt_run.HuntRun.{HuntRun}
 use Rattle.tmw_runs.specs.Scripts.{scripts_of, script_of}
+use Rattle.tmw_tm.specs.Answers.{Call, Answer}
 use Rattle.tmw_workloads.specs.Json.{IsWorkloadText}
+use Rattle.tmw_workloads.specs.Workload.{is_workload}
 use Rattle.tmw_workloads.specs.declared.workload.Workload.{Workload}
 
 module _ (bytes : List ℕ) where
@@ -62,4 +68,20 @@ no_bench_from workload settings bytes fault text none = record {
   registers = workload.registers;
   workload = record { scripts = scripts_of workload.scripts.items; order = workload.order.items; is = workload.is; text = text };
   none = subst (λ (count : ℕ). IsNoBench workload.registers.number count settings fault) (sym (length-map workload.scripts.items script_of)) none;
+}
+
+-- what threads have made of the text of a workload
+pub hunted-from : (gives : Call → Answer → Type 0) (workload : Workload) (settings : Settings) (bytes : List ℕ) (hunted : Hunted) (run : HuntRun)
+    → IsWorkloadText workload.registers.number (scripts_of workload.scripts.items) workload.order.items bytes
+    → run.shown.registers ≡ workload.registers → hunted_of run ≡ hunted
+    → IsHunted gives workload.registers (scripts_of workload.scripts.items) settings hunted → IsHuntedFrom gives settings bytes run
+hunted-from gives workload settings bytes hunted run text registers same made = record {
+  workload = record {
+    scripts = scripts_of workload.scripts.items;
+    order = workload.order.items;
+    is = subst (λ (r : Width). IsTrue (is_workload r.number (scripts_of workload.scripts.items) workload.order.items)) (sym registers) workload.is;
+    text = subst (λ (r : Width). IsWorkloadText r.number (scripts_of workload.scripts.items) workload.order.items bytes) (sym registers) text;
+  };
+  hunted = subst (λ (r : Width). IsHunted gives r (scripts_of workload.scripts.items) settings (hunted_of run)) (sym registers)
+      (subst (IsHunted gives workload.registers (scripts_of workload.scripts.items) settings) (sym same) made);
 }

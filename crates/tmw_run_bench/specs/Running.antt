@@ -1,9 +1,9 @@
 -- What `bench` promises: from the bytes that its source tells to what its sink takes and the exit status.
-use Rattle.std.specs.Prelude.{ℕ, Bool, true, false, List, Result, Ok, Err, length}
+use Rattle.std.specs.Prelude.{ℕ, List, Result, Ok, Err, length}
+use Rattle.std.specs.Bool.{MatchBool}
 use Rattle.tmw_bench.specs.Benched.{IsBenched, IsHunted, IsNoBench}
 use Rattle.tmw_bench.specs.declared.fault.BenchFault.{BenchFault}
 use Rattle.tmw_bench.specs.declared.fault.BenchFault.TheVariants.{Registers as LacksRegisters, Ring as HasNoRing, Spawn as LacksThreads}
-use Rattle.tmw_bench.specs.declared.hunted.Hunted.{Hunted}
 use Rattle.tmw_bench.specs.declared.settings.Settings.{Settings}
 use Rattle.tmw_events.specs.declared.registers.Registers.{Registers}
 use Rattle.tmw_report.specs.CommandRun.{IsCommandRun}
@@ -11,8 +11,10 @@ use Rattle.tmw_report.specs.Streams.{FromSource, ToSink}
 use Rattle.tmw_report.specs.declared.fault.Fault.{Fault}
 use Rattle.tmw_report.specs.declared.fault.Fault.TheVariants.{Io, Json, Memory, Registers as TooManyRegisters, Ring, Shape, Spawn}
 use Rattle.tmw_ring_defs.specs.declared.ring_fault.RingFault.{RingFault}
-use Rattle.tmw_run_bench.specs.BenchRun.{bench_status, bench_text, benched_of, hunt_status, hunt_text}
+use Rattle.tmw_run_bench.specs.BenchRun.{asks_for_log, bench_status, bench_text, benched_of, hunt_status, hunt_text, hunted_of}
 use Rattle.tmw_run_bench.specs.declared.bench_run.BenchRun.{BenchRun}
+use Rattle.tmw_run_bench.specs.declared.flags.Flags.{Flags}
+use Rattle.tmw_run_bench.specs.declared.hunt_run.HuntRun.{HuntRun}
 use Rattle.tmw_run_drive.specs.Driven.{IsHeaderOf}
 use Rattle.tmw_run_drive.specs.Running.{IsTextOver}
 use Rattle.tmw_tm.specs.Answers.{Call, Answer}
@@ -29,10 +31,9 @@ pub record IsBenchedFrom (gives : Call → Answer → Type 0) (settings : Settin
   pub benched : IsBenched gives registers workload.scripts settings (benched_of run)
 
 -- The bytes are the text of a workload, and this is what threads have made of it, of whose log the last window is told.
-pub record IsHuntedFrom (gives : Call → Answer → Type 0) (settings : Settings) (bytes : List ℕ) (run : Hunted) : Type 0 where
-  pub registers : Registers
-  pub workload : IsTextOver registers.number bytes
-  pub hunted : IsHunted gives registers workload.scripts settings run
+pub record IsHuntedFrom (gives : Call → Answer → Type 0) (settings : Settings) (bytes : List ℕ) (run : HuntRun) : Type 0 where
+  pub workload : IsTextOver run.shown.registers.number bytes
+  pub hunted : IsHunted gives run.shown.registers workload.scripts settings (hunted_of run)
 
 -- The bytes are the text of a workload, of which no run was judged to its end, by this fault.
 pub record IsNoBenchFrom (settings : Settings) (bytes : List ℕ) (fault : BenchFault) : Type 0 where
@@ -79,11 +80,13 @@ abbrev pub AnswersBench : (Call → Answer → Type 0) → Settings → Type 0 �
 AnswersBench gives settings = AnswersBy (IsBenchedFrom gives settings) settings
 
 -- What threads have made of it, with the last window of their log.
-abbrev pub AnswersHunt : (Call → Answer → Type 0) → Settings → Type 0 → List ℕ → Result Hunted Fault → Type 0
+abbrev pub AnswersHunt : (Call → Answer → Type 0) → Settings → Type 0 → List ℕ → Result HuntRun Fault → Type 0
 AnswersHunt gives settings = AnswersBy (IsHuntedFrom gives settings) settings
 
--- What a run of `bench` does: an answer to the bytes that its source tells in it, and the answer's text to its sink. With the trace
--- the answer has the log, and else its length, its verdict and its last window.
-abbrev pub BenchesBytes : {S K : Type 0} → FromSource S → ToSink K → (Call → Answer → Type 0) → Bool → Settings → S → S → K → K → ℕ → Type 0
-BenchesBytes From To gives true settings = IsCommandRun From To (AnswersBench gives settings) bench_text bench_status
-BenchesBytes From To gives false settings = IsCommandRun From To (AnswersHunt gives settings) hunt_text hunt_status
+-- What a run of `bench` does: an answer to the bytes that its source tells in it, and the answer's text to its sink. Where the log's
+-- trace is asked for the answer has the log, and else its length, its verdict and its last window.
+abbrev pub BenchesBytes : {S K : Type 0} → FromSource S → ToSink K → (Call → Answer → Type 0) → Flags → Settings → S → S → K → K → ℕ → Type 0
+BenchesBytes From To gives flags settings source source_after sink sink_after status =
+    MatchBool (asks_for_log flags)
+    (IsCommandRun From To (AnswersBench gives settings) bench_text bench_status source source_after sink sink_after status)
+    (IsCommandRun From To (AnswersHunt gives settings) (hunt_text flags) hunt_status source source_after sink sink_after status)

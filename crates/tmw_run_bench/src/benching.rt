@@ -1,11 +1,12 @@
 ghost use Rattle.std.specs.Prelude.{◌≡◌, ℕ, List};
 ghost use Rattle.tmw_report.specs.CommandRun.{failures_after_answer};
-ghost use Rattle.tmw_run_bench.specs.BenchRun.{benched_of};
+ghost use Rattle.tmw_run_bench.specs.BenchRun.{benched_of, hunted_of};
 ghost use Rattle.tmw_run_bench.specs.Running.{AnswersBench, AnswersHunt, AnswersText, IsNoBenchFrom, IsRightFault};
 ghost use Rattle.tmw_run_drive.specs.Driven.{IsHeaderOf};
 ghost use Rattle.tmw_streams.specs.Told.{Tells};
 
 use crate::bench_run::BenchRun;
+use crate::hunt_run::HuntRun;
 use std::alloc::Global;
 use std::sync::Wait;
 use std::thread::Threads;
@@ -13,6 +14,7 @@ use tmw_bench::{BenchFault, Benched, Hunted, Settings, hunt, run_bench};
 use tmw_events::Registers;
 use tmw_report::Fault;
 use tmw_run_drive::{Driven, header_of};
+use tmw_run_show::Shown;
 use tmw_streams::{ReadFault, Source, read_all};
 use tmw_tm::Tm;
 use tmw_workloads::{Workload, WorkloadFault, read_workload};
@@ -46,7 +48,7 @@ pub fn hunt_source<S: Source, R: Threads + Wait + Sync>(
     source: &mut S,
     memory: &(dyn Tm + Sync),
     settings: Settings,
-) -> Result<Hunted, Fault>
+) -> Result<HuntRun, Fault>
     ensures right { (bytes : List ℕ) × Tells S.told S.remaining source.old bytes source.new
         × AnswersHunt (gives memory.now) settings (S.ended source.new) bytes result }
     ensures failures { S.failures source.new ≡ failures_after_answer result (S.failures source.old) }
@@ -56,7 +58,7 @@ pub fn hunt_source<S: Source, R: Threads + Wait + Sync>(
         Err(fault) => return Err(fault),
     };
     match hunt(rt, alloc, memory, &workload, settings) {
-        Ok(hunted) => Ok(hunted),
+        Ok(hunted) => Ok(with_registers(workload.registers, hunted)),
         Err(fault) => Err(fault_of(fault)),
     }
 }
@@ -111,5 +113,20 @@ fn with_header(registers: Registers, benched: Benched) -> BenchRun
             outcome: benched.outcome,
         },
         rounds: benched.rounds,
+    }
+}
+
+/// What threads have made of a workload, with its registers.
+fn with_registers(registers: Registers, hunted: Hunted) -> HuntRun
+    ensures registers { result.shown.registers ≡ registers }
+    ensures same { hunted_of result ≡ hunted }
+{
+    HuntRun {
+        shown: Shown {
+            registers,
+            showing: hunted.showing,
+        },
+        ends: hunted.ends,
+        rounds: hunted.rounds,
     }
 }

@@ -1,5 +1,5 @@
 mod GivenFaults
 mod Rows
-mod Shows
+pub mod Shows
 mod StateHeaders
 mod TracesProof

@@ -12,6 +12,8 @@ use Rattle.tmw_defs.specs.Opaque.{State}
 use Rattle.tmw_defs.specs.Verdict.{Rules, IsVerdict}
 use Rattle.tmw_monitor.specs.declared.bounds.Bounds.{Bounds}
 use Rattle.tmw_show.specs.Shown.{shown_length, IsShown}
+use Rattle.tmw_show.specs.Showing.{IsShowing}
+use Rattle.tmw_show.specs.declared.showing.Showing.{Showing}
 use Rattle.tmw_run_show.specs.declared.shown.Shown.{Shown}
 use Rattle.tmw_run_show.specs.Running.{IsShownOf, IsVerdictBy}
 
@@ -31,6 +33,7 @@ pub shown-by : (c : Criterion) (bounds : Bounds) (bytes : List ℕ) (shown : Sho
 shown-by Opacity bounds bytes shown of = verdict-by Opacity _ of.history shown.showing.verdict refl of.tells.judged
 shown-by Strict bounds bytes shown of = verdict-by Strict _ of.history shown.showing.verdict refl of.tells.judged
 
+-- the window ends within the history
 numbered : (rules : Rules) (history : List Event) (v : Verdict) (from : ℕ) (states : List State) (events : List Event)
     → IsShown rules history v from states events → from + length events ≤ length history
 numbered rules history v from states events shown =
@@ -41,6 +44,12 @@ numbered rules history v from states events shown =
     let inside = shown.outcomes.last.is.0 in
     let begins = shown.begins in
     omega (arith, before, all, rest, inside, begins)
+
+pub shown-within : (rules : Rules) (history : List Event) (showing : Showing) → IsShowing rules history showing
+    → showing.from + length showing.events.items ≤ showing.fed
+shown-within rules history showing is =
+    let within = numbered rules history showing.verdict showing.from _ showing.events.items is.shown in
+    omega (arith, within, is.counted)
 
 pub shown-numbered : (c : Criterion) (bounds : Bounds) (bytes : List ℕ) (shown : Shown) → IsShownOf c bounds bytes shown
     → shown.showing.from + length shown.showing.events.items ≤ 2 ^ 40

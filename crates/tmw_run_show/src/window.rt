@@ -22,7 +22,7 @@ pub fn push_window(
     from: u64,
     events: &[Event],
 ) -> Result<(), AllocError>
-    requires { from + length events.now ≤ 2 ^ 40 }
+    requires { from + length events.now < 2 ^ 64 }
     ensures { OnOk result (text.new.items ≡ text.old.items ++ window_text criterion verdict from events.now) }
 {
     let heads = heads_of(last_thread(events));
@@ -61,7 +61,7 @@ fn push_rows(
     from: u64,
     events: &[Event],
 ) -> Result<(), AllocError>
-    requires { from + length events.now ≤ 2 ^ 40 }
+    requires { from + length events.now < 2 ^ 64 }
     ensures { OnOk result (text.new.items ≡ text.old.items ++ rows_text criterion verdict width (from + 1) events.now) }
 {
     let mut number = from;

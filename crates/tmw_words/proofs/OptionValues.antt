@@ -9,28 +9,28 @@ use Rattle.clap.specs.Values.{bool_text}
 use Rattle.clap.specs.Words.{Text, first_of, rows_of}
 use Rattle.clap.specs.declared.parser.matches.Found.{Found}
 use Rattle.clap.proofs.WalkLemmas.{first_value-rows, one_text-rows}
-use Rattle.tmw_words.specs.Words.{HasTrace}
+use Rattle.tmw_words.specs.Words.{HasFlag}
 
 is_bool_text : (b : Bool) (t : Text) → MatchBool b (t ≡ true_text) (t ≡ false_text) → t ≡ bool_text b
 is_bool_text true t is = is
 is_bool_text false t is = is
 
 -- a flag that was read is that of the words
-pub read-HasTrace : (f : Found) (b : Bool) → (one_text f (codes "trace") ≡ None → Some b ≡ None)
-    → ((t : Text) → one_text f (codes "trace") ≡ Some t → MatchBool b (t ≡ true_text) (t ≡ false_text)) → HasTrace (rows_of f) b
-read-HasTrace f b absent value = go (one_text f (codes "trace")) refl
+pub read-HasFlag : (f : Found) (flag : Text) (b : Bool) → (one_text f flag ≡ None → Some b ≡ None)
+    → ((t : Text) → one_text f flag ≡ Some t → MatchBool b (t ≡ true_text) (t ≡ false_text)) → HasFlag flag (rows_of f) b
+read-HasFlag f flag b absent value = go (one_text f flag) refl
   where
-    go : (o : Option Text) → one_text f (codes "trace") ≡ o → HasTrace (rows_of f) b
+    go : (o : Option Text) → one_text f flag ≡ o → HasFlag flag (rows_of f) b
     go None none =
         let bad = absent none in
         absurd (cc)
-    go (Some t) some = sym (one_text-rows f (codes "trace")) ∙ some ∙ ap Some (is_bool_text b t (value t some))
+    go (Some t) some = sym (one_text-rows f flag) ∙ some ∙ ap Some (is_bool_text b t (value t some))
 
 -- where none was read the words have none
-pub unread-HasTrace : (f : Found) (b : Bool) → ((t : Text) → one_text f (codes "trace") ≡ Some t → (t ≢ true_text) × (t ≢ false_text))
-    → HasTrace (rows_of f) b → ⊥
-unread-HasTrace f true unread has = (unread (codes "true") (one_text-rows f (codes "trace") ∙ has)).0 refl
-unread-HasTrace f false unread has = (unread (codes "false") (one_text-rows f (codes "trace") ∙ has)).1 refl
+pub unread-HasFlag : (f : Found) (flag : Text) (b : Bool) → ((t : Text) → one_text f flag ≡ Some t → (t ≢ true_text) × (t ≢ false_text))
+    → HasFlag flag (rows_of f) b → ⊥
+unread-HasFlag f flag true unread has = (unread (codes "true") (one_text-rows f flag ∙ has)).0 refl
+unread-HasFlag f flag false unread has = (unread (codes "false") (one_text-rows f flag ∙ has)).1 refl
 
 abbrev texts_of : Option (Bor Text) → Option Text
 texts_of = option_map (λ s. s.now)

@@ -73,17 +73,17 @@ with_bounds app = with_rule (with_rule app (value_rule (codes "window") (one_to 
 abbrev pub with_criterion : ValueParser → App → App
 with_criterion criteria app = with_rule app (value_rule (codes "criterion") criteria (asked_name Opacity))
 
--- `--trace`, which takes no value
-abbrev pub trace_rule : Rule
-trace_rule = record (new_rule (codes "trace")) { long = Some (codes "trace"); action = Some SetTrue }
+-- a flag of this name, which takes no value
+abbrev pub flag_rule : Text → Rule
+flag_rule name = record (new_rule name) { long = Some name; action = Some SetTrue }
 
--- with `--trace`
-abbrev pub with_trace : App → App
-with_trace app = with_rule app trace_rule
+-- with this flag
+abbrev pub with_flag : Text → App → App
+with_flag name app = with_rule app (flag_rule name)
 
 -- with a memory, one of these, and with `--trace`
 abbrev pub with_memory : ValueParser → App → App
-with_memory memories app = with_rule (with_rule app (value_rule (codes "memory") memories (memory_name NoRec))) trace_rule
+with_memory memories app = with_flag (codes "trace") (with_rule app (value_rule (codes "memory") memories (memory_name NoRec)))
 
 -- with the three counts of a bench
 abbrev pub with_counts : App → App
@@ -97,7 +97,7 @@ judge_among criteria = with_bounds (with_criterion criteria (new_app (codes "jud
 
 -- `show`, by one of these criteria
 abbrev pub show_among : ValueParser → App
-show_among criteria = with_bounds (with_trace (with_criterion criteria (new_app (codes "show"))))
+show_among criteria = with_bounds (with_flag (codes "trace") (with_criterion criteria (new_app (codes "show"))))
 
 -- `drive`, over one of these memories
 abbrev pub drive_among : ValueParser → App
@@ -105,7 +105,7 @@ drive_among memories = with_bounds (with_memory memories (new_app (codes "drive"
 
 -- `bench`, over one of these memories
 abbrev pub bench_among : ValueParser → App
-bench_among memories = with_bounds (with_counts (with_memory memories (new_app (codes "bench"))))
+bench_among memories = with_bounds (with_counts (with_flag (codes "show") (with_memory memories (new_app (codes "bench")))))
 
 -- `steps`, which has no option
 abbrev pub steps : App

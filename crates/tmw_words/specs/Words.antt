@@ -53,16 +53,21 @@ NamesCriterion rows criterion = first_of (codes "criterion") rows ≡ Some (crit
 abbrev pub NamesMemory : List Row → Which → Type 0
 NamesMemory rows memory = first_of (codes "memory") rows ≡ Some (memory_name memory)
 
--- The words have the flag `--trace`, or have it not: its text is `true` where they have it, and else its default, `false`.
-abbrev pub HasTrace : List Row → Bool → Type 0
-HasTrace rows trace = one_of (codes "trace") rows ≡ Some (bool_text trace)
+-- The words have this flag, or have it not: its text is `true` where they have it, and else its default, `false`.
+abbrev pub HasFlag : Text → List Row → Bool → Type 0
+HasFlag flag rows set = one_of flag rows ≡ Some (bool_text set)
 
--- The words give these numbers of cells, of tries and of rounds, and these bounds.
+-- The words have the flag `--trace`, or have it not.
+abbrev pub HasTrace : List Row → Bool → Type 0
+HasTrace = HasFlag (codes "trace")
+
+-- The words give these numbers of cells, of tries and of rounds, and these bounds, and have the flag `--show` or have it not.
 pub record HasOptions (rows : List Row) (options : BenchOptions) : Type 0 where
   pub cells : Gives (codes "ring") rows options.cells
   pub patience : Gives (codes "patience") rows options.patience
   pub rounds : Gives (codes "rounds") rows options.rounds
   pub bounds : HasBounds rows options.bounds
+  pub show : HasFlag (codes "show") rows options.show
 
 -- This is the order of a command and of what was found for its options.
 abbrev pub IsOrder : Option (Text × List Row) → Order → Type 0

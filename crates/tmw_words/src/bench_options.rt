@@ -2,7 +2,7 @@ ghost use Rattle.std.specs.Prelude.{◌≤◌};
 
 use tmw_monitor::Bounds;
 
-/// What the options of `bench` say: how threads record, how often they carry the workload out, and how the record is judged.
+/// What the options of `bench` say: how threads record, how often they carry the workload out, and how the record is judged and shown.
 #[derive(Clone, Copy, PartialEq, Eq, Debug)]
 pub struct BenchOptions {
     /// The ring's cells: 1 to 4,096.
@@ -12,6 +12,8 @@ pub struct BenchOptions {
     /// The workload is carried out so many times at most: 1 to 1,000,000,000.
     pub rounds: u64,
     pub bounds: Bounds,
+    /// Whether the record's last window is shown.
+    pub show: bool,
     pub ghost some_cell: { 1 ≤ cells },
     pub ghost few_cells: { cells ≤ 4096 },
     pub ghost some_try: { 1 ≤ patience },

@@ -26,7 +26,7 @@ pub enum Order {
         bounds: Bounds,
     },
     /// To carry the workload on standard input out by threads over this memory, as these options say, and to judge what they
-    /// record. Its trace is written before the report where that is asked for.
+    /// record. Where that is asked for its trace is written before the report, or its last window is shown, drawn or as traces.
     Bench {
         memory: Which,
         trace: bool,

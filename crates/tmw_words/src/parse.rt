@@ -3,7 +3,7 @@ ghost use Rattle.clap.specs.Walk.{texts};
 ghost use Rattle.clap.specs.Words.{Text, app_of, found_of, kind_of, rows_of, subcommand_rows_of};
 ghost use Rattle.tmw_words.specs.Program.{IsProgram};
 ghost use Rattle.tmw_words.specs.Reading.{FailsAs};
-ghost use Rattle.tmw_words.specs.Words.{Asks, Gives, HasBounds, HasOptions, HasTrace, IsOrder, NamesCriteria, NamesCriterion, NamesMemory, help_as_flag, names_help};
+ghost use Rattle.tmw_words.specs.Words.{Asks, Gives, HasBounds, HasFlag, HasOptions, HasTrace, IsOrder, NamesCriteria, NamesCriterion, NamesMemory, help_as_flag, names_help};
 ghost use Rattle.tmw_words.specs.declared.bench_options.BenchOptions.{BenchOptions};
 ghost use Rattle.tmw_words.specs.declared.order.Order.{Order};
 ghost use Rattle.tmw_words.specs.declared.which.Which.{Which};
@@ -153,7 +153,7 @@ fn criterion_and_trace_of(matches: &ArgMatches<'_>) -> Option<(Criterion, bool)>
     let Some(criterion) = criterion_named(name) else {
         return None;
     };
-    let Some(trace) = matches.get_one::<bool>("trace") else {
+    let Some(trace) = flag_of(matches, "trace") else {
         return None;
     };
     Some((criterion, trace))
@@ -207,13 +207,24 @@ fn memory_and_trace_of(matches: &ArgMatches<'_>) -> Option<(Which, bool)>
     let Some(memory) = Which::named(name) else {
         return None;
     };
-    let Some(trace) = matches.get_one::<bool>("trace") else {
+    let Some(trace) = flag_of(matches, "trace") else {
         return None;
     };
     Some((memory, trace))
 }
 
-/// The numbers and bounds that the matches of `bench` hold.
+/// Whether the matches of a command have this flag.
+fn flag_of(matches: &ArgMatches<'_>, name: &str) -> Option<bool>
+    ensures some { IfSome result (HasFlag name.now (rows_of (found_of matches.now))) }
+    ensures none { IfNone result ((set : Bool) → HasFlag name.now (rows_of (found_of matches.now)) set → ⊥) }
+{
+    let Some(set) = matches.get_one::<bool>(name) else {
+        return None;
+    };
+    Some(set)
+}
+
+/// The numbers, the bounds and the flag `--show` that the matches of `bench` hold.
 fn options_of(matches: &ArgMatches<'_>) -> Option<BenchOptions>
     ensures some { IfSome result (HasOptions (rows_of (found_of matches.now))) }
     ensures none { IfNone result ((options : BenchOptions) → HasOptions (rows_of (found_of matches.now)) options → ⊥) }
@@ -230,11 +241,15 @@ fn options_of(matches: &ArgMatches<'_>) -> Option<BenchOptions>
     let Some(bounds) = bounds_of(matches) else {
         return None;
     };
+    let Some(show) = flag_of(matches, "show") else {
+        return None;
+    };
     Some(BenchOptions {
         cells,
         patience,
         rounds,
         bounds,
+        show,
     })
 }
 

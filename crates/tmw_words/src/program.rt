@@ -1,7 +1,7 @@
 ghost use Rattle.std.specs.Prelude.{◌≡◌, IfOk, IsOkAnd, codes, false};
 ghost use Rattle.clap.specs.Words.{AddsSubcommand, app_of, new_app, rule_of};
 ghost use Rattle.clap.specs.declared.builder.value_parser.ValueParser.TheVariants.{Names};
-ghost use Rattle.tmw_words.specs.Program.{IsProgram, bench_among, count_to, drive_among, judge_among, one_to, show_among, steps, trace_rule, value_rule, wanting, with_bounds, with_counts, with_criterion, with_memory, with_trace};
+ghost use Rattle.tmw_words.specs.Program.{IsProgram, bench_among, count_to, drive_among, flag_rule, judge_among, one_to, show_among, steps, value_rule, wanting, with_bounds, with_counts, with_criterion, with_flag, with_memory};
 
 use clap::builder::ValueParser;
 use clap::{Arg, ArgAction, Command, value_parser};
@@ -25,6 +25,9 @@ const TRACE_HELP: &str = "Write the trace of the run before the report";
 
 const SHOW_TRACE_HELP: &str =
     "Write the last window as a trace of its own, one for each state from which it may begin, and nothing else";
+
+const BENCH_SHOW_HELP: &str =
+    "Write what `show` writes of the run: the last window, drawn, or as a trace of its own with --trace";
 
 const RING_HELP: &str =
     "The cells of the ring that the threads record in, 1 to 4096: no fewer than the workload has scripts";
@@ -110,8 +113,8 @@ fn new_show<'a>(alloc: Global, criteria: &'a [&'a str]) -> Result<Command<'a>, A
     let about =
         "Judge the trace on standard input, and show where it went wrong: its last window, drawn in a column for each thread";
     let show = described(alloc, "show", about, SHOW_HELP);
-    let traced = with_trace(alloc, with_criterion(alloc, show, criteria)?)?;
-    with_bounds(alloc, traced)
+    let judged = with_criterion(alloc, show, criteria)?;
+    with_bounds(alloc, with_flag(alloc, judged, "trace", SHOW_TRACE_HELP)?)
 }
 
 /// The command `drive`, over memories of these names.
@@ -130,8 +133,9 @@ fn new_bench<'a>(alloc: Global, memories: &'a [&'a str]) -> Result<Command<'a>, 
     let about =
         "Run the workload on standard input over a transactional memory, with a thread for each of its scripts, and judge what they record";
     let bench = described(alloc, "bench", about, BENCH_HELP);
-    let counted = with_counts(alloc, with_memory(alloc, bench, memories)?)?;
-    with_bounds(alloc, counted)
+    let remembered = with_memory(alloc, bench, memories)?;
+    let shown = with_flag(alloc, remembered, "show", BENCH_SHOW_HELP)?;
+    with_bounds(alloc, with_counts(alloc, shown)?)
 }
 
 /// The command `steps`.
@@ -171,11 +175,16 @@ fn with_criterion<'a>(
     command.arg(criterion)
 }
 
-/// The command with the flag `--trace` of a window as an option.
-fn with_trace<'a>(alloc: Global, command: Command<'a>) -> Result<Command<'a>, AllocError>
-    ensures { IfOk result (λ given. app_of given ≡ with_trace (app_of command.entry)) }
+/// The command with this flag as an option.
+fn with_flag<'a>(
+    alloc: Global,
+    command: Command<'a>,
+    name: &'a str,
+    help: &'a str,
+) -> Result<Command<'a>, AllocError>
+    ensures { IfOk result (λ given. app_of given ≡ with_flag name.entry.now (app_of command.entry)) }
 {
-    command.arg(trace_option(alloc, SHOW_TRACE_HELP))
+    command.arg(flag_option(alloc, name, help))
 }
 
 /// The command with a memory, one of these names, and with the flag `--trace` as options.
@@ -194,7 +203,7 @@ fn with_memory<'a>(
         "norec",
         MEMORY_HELP,
     );
-    command.arg(memory)?.arg(trace_option(alloc, TRACE_HELP))
+    with_flag(alloc, command.arg(memory)?, "trace", TRACE_HELP)
 }
 
 /// The command with the three counts of a bench as options.
@@ -216,13 +225,13 @@ fn with_bounds<'a>(alloc: Global, command: Command<'a>) -> Result<Command<'a>, A
         .arg(number_option(alloc, "states", 64, "64", STATES_HELP))
 }
 
-/// The flag `--trace`.
-fn trace_option<'a>(alloc: Global, help: &'a str) -> Arg<'a>
-    ensures rule { rule_of result ≡ trace_rule }
+/// A flag of this name.
+fn flag_option<'a>(alloc: Global, name: &'a str, help: &'a str) -> Arg<'a>
+    ensures rule { rule_of result ≡ flag_rule name.entry.now }
     ensures local { result.global ≡ false }
 {
-    Arg::new(alloc, "trace")
-        .long("trace")
+    Arg::new(alloc, name)
+        .long(name)
         .help(help)
         .action(ArgAction::SetTrue)
 }

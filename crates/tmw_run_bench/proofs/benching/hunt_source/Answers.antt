@@ -1,7 +1,6 @@
 -- The workload that was read was carried out, or it was not, by the fault that is answered.
 use Rattle.std.proofs.Common.{◌∙◌, sym}
-use Rattle.tmw_run_bench.proofs.Answering.{fault-ended, fault-well, no_bench_from}
-use Rattle.tmw_runs.specs.Scripts.{scripts_of}
+use Rattle.tmw_run_bench.proofs.Answering.{fault-ended, fault-well, hunted-from, no_bench_from}
 use Rattle.tmw_run_bench.proofs.benching.hunt_source.Goals as goal
 
 pub returns-in-Ok-hunt-clause-right : goal.returns-in-Ok-hunt-clause-right
@@ -12,11 +11,8 @@ returns-in-Ok-hunt-clause-right g c =
       told.1,
       (
         told.2.0,
-        record {
-          registers = workload.registers;
-          workload = record { scripts = scripts_of workload.scripts.items; order = workload.order.items; is = workload.is; text = told.2.1 };
-          hunted = c.in-Ok-hunt.ensures.ok;
-        },
+        hunted-from (λ call answer. (goal.Tm-dyn g c.args.memory.now).gives c.args.memory.now.1 call answer) workload c.args.settings told.0
+            c.in-Ok-hunt.hunted c.with_registers.result told.2.1 c.with_registers.ensures.registers c.with_registers.ensures.same c.in-Ok-hunt.ensures.ok,
       ),
     )
 

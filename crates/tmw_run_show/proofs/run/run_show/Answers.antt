@@ -2,7 +2,7 @@
 use Rattle.std.proofs.Common.{Ok, Err, inl, inr, refl}
 use Rattle.tmw_lines.specs.declared.text_fault.TextFault.TheVariants.{Memory as WantsMemory}
 use Rattle.tmw_report.specs.declared.fault.Fault.TheVariants.{Memory}
-use Rattle.tmw_run_show.proofs.Shows.{shown-by, shown-numbered, shown-soon}
+use Rattle.tmw_run_show.proofs.Shows.{shown-by, shown-soon, shown-within}
 use Rattle.tmw_run_show.proofs.run.run_show.Goals as goal
 
 pub answer_shown-requires : goal.answer_shown-requires
@@ -10,7 +10,7 @@ answer_shown-requires g c =
     let told = c.in-Ok.ensures.right in
     record {
       own = shown-by c.args.criterion c.args.bounds told.0 c.in-Ok.shown told.2.1;
-      few = shown-numbered c.args.criterion c.args.bounds told.0 c.in-Ok.shown told.2.1;
+      within = shown-within _ told.2.1.history c.in-Ok.shown.showing told.2.1.tells;
     }
 
 pub returns-in-Ok : goal.returns-in-Ok

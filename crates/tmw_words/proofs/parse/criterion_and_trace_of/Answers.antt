@@ -2,7 +2,7 @@
 use Rattle.std.proofs.Common.{codes}
 use Rattle.clap.specs.Words.{found_of}
 use Rattle.tmw_words.specs.Program.{criterion_name}
-use Rattle.tmw_words.proofs.OptionValues.{other-first, read-HasTrace, read-first, unread-HasTrace, unread-first}
+use Rattle.tmw_words.proofs.OptionValues.{other-first, read-first, unread-first}
 use Rattle.tmw_words.proofs.parse.criterion_and_trace_of.Goals as goal
 
 pub returns-in_default-clause-none : goal.returns-in_default-clause-none
@@ -16,13 +16,12 @@ returns-in_default-criterion_named-clause-none c =
     other-first (found_of c.args.matches.now) (codes "criterion") c.get_str.result c.in-Some.name (criterion_name criterion) c.get_str.ensures c.in-Some.is
     (c.in_default-criterion_named.ensures.none criterion) named
 
-pub returns-in_default-get_one-clause-none : goal.returns-in_default-get_one-clause-none
-returns-in_default-get_one-clause-none c =
-    λ criterion trace named traced. unread-HasTrace (found_of c.args.matches.now) trace (λ t e. (c.in_default-get_one.ensures.value t e).1) traced
+pub returns-in_default-flag_of-clause-none : goal.returns-in_default-flag_of-clause-none
+returns-in_default-flag_of-clause-none c = λ criterion trace named traced. c.in_default-flag_of.ensures.none trace traced
 
 pub returns-clause-some : goal.returns-clause-some
 returns-clause-some c = (
   read-first (found_of c.args.matches.now) (codes "criterion") c.get_str.result c.in-Some.name (criterion_name c.in-Some-criterion_named.criterion) c.get_str.ensures
       c.in-Some.is c.in-Some-criterion_named.ensures.some,
-  read-HasTrace (found_of c.args.matches.now) c.in-Some-get_one.trace c.in-Some-get_one.ensures.none (λ t e. c.in-Some-get_one.ensures.value t e),
+  c.in-Some-flag_of.ensures.some,
 )

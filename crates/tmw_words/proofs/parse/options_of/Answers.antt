@@ -1,5 +1,8 @@
--- Without bounds there are no options.
+-- Without bounds, or without the flag, there are no options.
 use Rattle.tmw_words.proofs.parse.options_of.Goals as goal
 
 pub returns-in_default-bounds_of-clause-none : goal.returns-in_default-bounds_of-clause-none
 returns-in_default-bounds_of-clause-none c = λ options has. c.in_default-bounds_of.ensures.none options.bounds has.bounds
+
+pub returns-in_default-flag_of-clause-none : goal.returns-in_default-flag_of-clause-none
+returns-in_default-flag_of-clause-none c = λ options has. c.in_default-flag_of.ensures.none options.show has.show

@@ -2,9 +2,9 @@
 use Rattle.std.proofs.Common.{◌∙◌, ap₂, refl}
 use Rattle.std.proofs.lemmas.Result.{IfOk-weaker}
 use Rattle.clap.specs.Words.{with_rule}
-use Rattle.tmw_words.proofs.program.with_trace.Goals as goal
+use Rattle.tmw_words.proofs.program.with_flag.Goals as goal
 
 pub returns : goal.returns
 returns c =
     IfOk-weaker c.arg.result _ _
-    (λ command added. added.shape c.trace_option.ensures.local ∙ ap₂ with_rule refl c.trace_option.ensures.rule) c.arg.ensures
+    (λ command added. added.shape c.flag_option.ensures.local ∙ ap₂ with_rule refl c.flag_option.ensures.rule) c.arg.ensures
