@@ -259,6 +259,15 @@ done
 expect_of "$write" 0 "$(printf '%s\n' '{"events":4,"verdict":"opaque so far"}' '{"ends":["done"]}')" bench --ring=1 --patience 1000000000
 expect_of '{"registers":1,"scripts":[[],[]],"order":[]}' 0 "$(printf '%s\n' '{"events":0,"verdict":"opaque so far"}' '{"ends":["done","done"]}')" bench
 expect_of '{"registers":1,"scripts":[[],[]],"order":[]}' 4 '{"fault":"ring"}' bench --ring 1
+# the window of a bench, from each of its states, is violated where the bench is
+run bench --memory torn --rounds 100000 --show --trace <"$top/examples/hunt.json"
+benched=$status
+mv "$folder/output" "$folder/windows"
+for place in $(seq "$(grep -c opacity-trace "$folder/windows")"); do
+    awk -v place="$place" '/^opacity-trace/ { n++ } n == place' "$folder/windows" >"$folder/window"
+    run judge <"$folder/window"
+    count "bench --memory torn --show --trace | judge of trace $place" "$benched" "$status"
+done
 expect_of '{' 4 '{"fault":"json"}' bench
 expect_of '[]' 4 '{"fault":"shape"}' bench --trace
 
@@ -300,6 +309,8 @@ expect_usage "error: invalid value '0' for '--patience <N>': 0 is not in 1..=100
 expect_usage "error: invalid value '0' for '--rounds <N>': 0 is not in 1..=1000000000" bench --rounds 0
 expect_usage "error: invalid value '1000000001' for '--rounds <N>': 1000000001 is not in 1..=1000000000" bench --rounds 1000000001
 expect_usage "error: the argument '--rounds <N>' cannot be used multiple times" bench --rounds 1 --rounds 2
+expect_usage "error: the argument '--show' cannot be used multiple times" bench --show --show
+expect_usage "error: unexpected argument '--show' found" drive --show
 expect_usage "error: unexpected argument '--rounds' found" drive --rounds 1
 expect_usage "error: unexpected argument '--trace' found" judge --trace
 expect_usage "error: unexpected argument 'further' found" judge further

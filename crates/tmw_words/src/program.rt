@@ -57,7 +57,7 @@ const DRIVE_HELP: &str =
     "In goes a workload in JSON: the number of registers, a script for each thread, and the order in which they make their calls. Out comes the verdict on the run, as one line of JSON, and before it the trace where it is asked for.\n\nExit status: 0 where the run is opaque so far, 1 violated, 2 undecided; 4 for a fault, which one line names.\n\nExample: tmwatch drive --memory torn --trace < workload.json";
 
 const BENCH_HELP: &str =
-    "In goes a workload in JSON, whose order is not used. Out comes the verdict on the run, as one line of JSON, then how each thread ended; before both the trace where it is asked for.\n\nExit status: 0 where the run is opaque so far, 1 violated, 2 undecided; 4 for a fault, which one line names.\n\nExample: tmwatch bench --memory norec --rounds 1000 < workload.json";
+    "In goes a workload in JSON, whose order is not used. Out comes the verdict on the run, as one line of JSON, then how each thread ended; before both the trace where it is asked for. With --show the last window stands between them, as `show` draws it; with --show and --trace that window alone comes out, as a trace that begins with one of its states, and one behind the other where there are several.\n\nExit status: 0 where the run is opaque so far, 1 violated, 2 undecided; 4 for a fault, which one line names.\n\nExample: tmwatch bench --memory norec --rounds 1000 < workload.json";
 
 const STEPS_HELP: &str =
     "In goes a first line `ring-steps 1 CELLS WRITERS LIMIT`, then a line a step. Out comes a line for the reply to each step, then how many places were claimed and how many events were taken.\n\nExit status: 0, or 4 for a fault, which one line names.\n\nExample: tmwatch steps < stopped_writer.steps";
