@@ -7,7 +7,7 @@ use Rattle.tmw_defs.specs.declared.verdict.Verdict.{Verdict}
 use Rattle.tmw_events.specs.declared.event.Event.{Event}
 use Rattle.tmw_monitor.specs.Fitting.{Fits}
 use Rattle.tmw_monitor.specs.declared.monitor.Monitor.{Monitor}
-use Rattle.tmw_pump.proofs.Turns.{fits-came, judged-none, judged-came}
+use Rattle.tmw_pump.proofs.Turns.{judged-none, judged-came}
 use Rattle.tmw_pump.specs.Fronts.{came, HasCome, HasJudged, KeepsFit}
 use Rattle.tmw_pump.specs.Held.{listed}
 use Rattle.tmw_pump.specs.Resting.{all_of}

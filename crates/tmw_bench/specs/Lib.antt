@@ -6,4 +6,5 @@ pub mod Lines
 pub mod Meeting
 pub mod Playing
 pub mod Rounds
+pub mod Unasked
 pub mod Workers

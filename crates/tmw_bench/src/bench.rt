@@ -7,10 +7,12 @@ use crate::benched::Benched;
 use crate::ends::ends_of;
 use crate::fault::BenchFault;
 use crate::hunted::Hunted;
+use crate::hunting::Hunting;
 use crate::judge::Judge;
 use crate::keep::{Keep, Log};
 use crate::orders::Orders;
 use crate::play::{Left, play_rounds};
+use crate::progress::Progress;
 use crate::rest::judge_rest;
 use crate::settings::Settings;
 use crate::stage::Stage;
@@ -24,7 +26,6 @@ use tmw_monitor::Monitor;
 use tmw_pump::{ForgettingPump, ForgettingRest};
 use tmw_recorded::Signals;
 use tmw_ring::{RingFault, ring};
-use tmw_show::KeptWindow;
 use tmw_tm::Tm;
 use tmw_workloads::Workload;
 
@@ -49,7 +50,7 @@ pub fn run_bench<R: Threads + Wait + Sync>(
     ensures ok { IfOk result (IsBenched (gives memory.now) workload.now.registers (scripts_of workload.now.scripts.items) settings) }
     ensures err { IfErr result (IsNoBench workload.now.registers.number (length workload.now.scripts.items) settings) }
 {
-    let carried = carry_out::<R, Log>(rt, alloc, memory, workload, settings)?;
+    let carried = carry_out::<R, Log>(rt, alloc, memory, workload, settings, ())?;
     Ok(Benched {
         outcome: Outcome {
             log: carried.kept.events,
@@ -61,20 +62,24 @@ pub fn run_bench<R: Threads + Wait + Sync>(
 }
 
 /// Does as `run_bench` does, but keeps no event except those of the last window. So its memory does not grow with the number of
-/// rounds.
-pub fn hunt<R: Threads + Wait + Sync>(
+/// rounds. Each hundred thousand rounds, it tells how far it has come, and at the end that it is over.
+pub fn hunt<R: Threads + Wait + Sync, P: Progress>(
     rt: &R,
     alloc: Global,
     memory: &(dyn Tm + Sync),
     workload: &Workload,
     settings: Settings,
+    progress: &P,
 ) -> Result<Hunted, BenchFault>
     ensures ok { IfOk result (IsHunted (gives memory.now) workload.now.registers (scripts_of workload.now.scripts.items) settings) }
     ensures err { IfErr result (IsNoBench workload.now.registers.number (length workload.now.scripts.items) settings) }
 {
-    let carried = carry_out::<R, KeptWindow>(rt, alloc, memory, workload, settings)?;
+    let over = carry_out::<R, Hunting<'_, P>>(rt, alloc, memory, workload, settings, progress);
+    progress.end();
+    let carried = over?;
+    let Hunting { window, .. } = carried.kept;
     Ok(Hunted {
-        showing: carried.kept.finish(carried.rest.monitor()),
+        showing: window.finish(carried.rest.monitor()),
         ends: carried.ends,
         rounds: carried.rounds,
     })
@@ -96,6 +101,7 @@ fn carry_out<R: Threads + Wait + Sync, K: Keep>(
     memory: &(dyn Tm + Sync),
     workload: &Workload,
     settings: Settings,
+    told: K::Told,
 ) -> Result<Carried<K>, BenchFault>
     ensures ok { IfOk result (IsCarriedOut K.keeps (gives memory.now) workload.now.registers
         (scripts_of workload.now.scripts.items) settings) }
@@ -114,7 +120,7 @@ fn carry_out<R: Threads + Wait + Sync, K: Keep>(
     let Ok(monitor) = Monitor::new(alloc, workload.registers, settings.bounds) else {
         return Err(BenchFault::Memory);
     };
-    let Ok(kept) = K::begin(alloc, &monitor) else {
+    let Ok(kept) = K::begin(alloc, &monitor, told) else {
         return Err(BenchFault::Memory);
     };
     let judge = Judge {

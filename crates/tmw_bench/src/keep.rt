@@ -1,10 +1,10 @@
-//! What is kept of the events that a bench judges: all of them, or the last window.
+//! What is kept of the events that a bench judges.
 ghost use Rattle.std.specs.Prelude.{◌≡◌, List, [], ◌∷◌, ◌++◌, IfOk, IsOk, OnOk, length, ◌<◌};
 
 use std::alloc::{AllocError, Global};
 use tmw_events::Event;
 use tmw_monitor::Monitor;
-use tmw_show::{KeptWindow, NextShown};
+use tmw_show::NextShown;
 
 /// What is kept of a history beside the monitor that judges it.
 pub trait Keep: Drop {
@@ -16,13 +16,16 @@ pub trait Keep: Drop {
     ghost use Rattle.tmw_monitor.specs.declared.monitor.Monitor.{Monitor};
     ghost use Rattle.tmw_show.specs.declared.next_shown.NextShown.{NextShown};
 
+    /// Who is told how far the bench has come.
+    type Told: Drop;
+
     /// By these rules, this is what is kept of a history with this verdict.
     ghost keeps: { Rules → List Event → Verdict → Self → Type 0 };
     /// There is room for the event that this monitor takes next, which does this with the window, where one is kept.
     ghost awaits: { Monitor → NextShown → Self → Type 0 };
 
     /// Before the first event that the monitor is fed.
-    fn begin(alloc: Global, monitor: &Monitor) -> Result<Self, AllocError>
+    fn begin(alloc: Global, monitor: &Monitor, told: Self::Told) -> Result<Self, AllocError>
         ensures { IfOk result (λ kept. (rules : Rules) → Fits rules [] monitor.now → keeps rules [] monitor.now.verdict kept) };
 
     /// Makes room for the event that the monitor takes next, and answers what that does with the window, where one is kept.
@@ -37,9 +40,12 @@ pub trait Keep: Drop {
         ensures { (rules : Rules) (history : List Event) (before : Monitor) (verdict : Verdict) → awaits before next self.old
             → Fits rules history before → IsVerdict rules (history ++ event ∷ []) verdict
             → keeps rules history before.verdict self.old → keeps rules (history ++ event ∷ []) verdict self.new };
+
+    /// So many rounds have ended, and so many events are judged.
+    fn tell(&self, rounds: u64, events: u64);
 }
 
-/// All events.
+/// All events. Nobody is told.
 #[derive(Drop)]
 pub struct Log {
     pub events: Vec<Event>,
@@ -48,11 +54,13 @@ pub struct Log {
 impl Keep for Log {
     ghost use Rattle.std.specs.Vec.{vec_capacity};
 
+    type Told = ();
+
     ghost keeps = { λ rules history verdict log. log.events.items ≡ history };
 
     ghost awaits = { λ monitor next log. length log.events.items < vec_capacity log.events };
 
-    fn begin(alloc: Global, _monitor: &Monitor) -> Result<Log, AllocError> {
+    fn begin(alloc: Global, _monitor: &Monitor, _told: ()) -> Result<Log, AllocError> {
         Ok(Log {
             events: Vec::new(alloc),
         })
@@ -66,24 +74,6 @@ impl Keep for Log {
     fn take(&mut self, _next: NextShown, event: Event) {
         self.events.push_reserved(event);
     }
-}
 
-impl Keep for KeptWindow {
-    ghost use Rattle.tmw_show.specs.Keeping.{HasPlaceFor, IsNext, KeepsShown};
-
-    ghost keeps = { KeepsShown };
-
-    ghost awaits = { λ monitor next kept. IsNext monitor next × HasPlaceFor next kept };
-
-    fn begin(alloc: Global, monitor: &Monitor) -> Result<KeptWindow, AllocError> {
-        KeptWindow::new(alloc, monitor)
-    }
-
-    fn make_room(&mut self, monitor: &Monitor) -> Result<NextShown, AllocError> {
-        KeptWindow::make_room(self, monitor)
-    }
-
-    fn take(&mut self, next: NextShown, event: Event) {
-        KeptWindow::take(self, next, event);
-    }
+    fn tell(&self, _rounds: u64, _events: u64) {}
 }

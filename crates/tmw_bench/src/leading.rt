@@ -48,6 +48,7 @@ pub fn lead<R: Wait, K: Keep>(
         if !is_opaque_so_far(judge.forgetting.verdict()) {
             return Ok(round);
         }
+        judge.kept.tell(round, judge.forgetting.fed());
         tell_all(rt, lines, tail);
         orders.told.rise(1);
     }

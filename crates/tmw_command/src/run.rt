@@ -1,4 +1,4 @@
-ghost use Rattle.std.specs.Prelude.{map, string_bytes};
+ghost use Rattle.std.specs.Prelude.{◌≡◌, MatchBool, None, Some, map, string_bytes};
 ghost use Rattle.std.specs.Result.{result_map_both};
 ghost use Rattle.tmw_report.specs.Putting.{IsPut, IsSent};
 ghost use Rattle.tmw_report.specs.Streams.{from_source, to_sink};
@@ -6,13 +6,13 @@ ghost use Rattle.tmw_command.specs.Running.{AnswersRefusal, RunsCommand, RunsOrd
 
 use crate::memories::Memories;
 use crate::settings::{bench_flags, bench_settings};
-use std::alloc::Global;
 use std::convert::AsStr;
 use std::sync::Wait;
 use std::thread::Threads;
+use tmw_bench::Progress;
 use tmw_judge::run_judge;
 use tmw_report::{FAULT_STATUS, Fault, answer_fault};
-use tmw_run_bench::run_bench_cmd;
+use tmw_run_bench::{Plan, run_bench_cmd};
 use tmw_run_drive::run_drive;
 use tmw_run_show::run_show;
 use tmw_steps::run_steps;
@@ -27,18 +27,24 @@ const VERSION_LINE: &str =
 /// Runs the command line of these words, of which the first is the program's name, from the source to the sink: the order that
 /// they ask for, the text of help, or the line of the version. For words that are no command line of the program the fault's line goes to the
 /// sink, and the text that tells what is wrong to the sink for errors; for words that can't be had, the fault's line alone. An
-/// order to drive, or to bench, takes the memory that it names of these, each of which should be fresh. The result is the exit
-/// status: that of the order, 0 for help and for the version, or 4 for any fault and for either of these that was cut short.
+/// order to drive, or to bench, takes the memory that it names of these, each of which should be fresh; an order to bench tells
+/// `progress` how far it has come, but where it is to be quiet. The result is the exit status: that of the order, 0 for help and for the version, or 4 for any fault and for either of these that was cut short.
 ///
 /// It waits in a bench alone, for the threads that this starts.
-pub fn run_command<S: Source, K: Sink, E: Sink, R: Threads + Wait + Sync>(
+pub fn run_command<
+    S: Source,
+    K: Sink,
+    E: Sink,
+    R: AllocGlobal + Threads + Wait + Sync,
+    P: Progress,
+>(
     rt: &R,
-    alloc: Global,
     words: Result<Vec<String>, Fault>,
     source: &mut S,
     sink: &mut K,
     errors: &mut E,
     memories: Memories<&(dyn Tm + Sync)>,
+    progress: &P,
 ) -> u8
     ensures { RunsCommand (from_source S.told S.remaining S.ended S.failures) (to_sink K.took K.holds K.failures)
         (to_sink E.took E.holds E.failures) (by_name (gives memories.entry.norec.now) (gives memories.entry.lock.now) (gives memories.entry.torn.now))
@@ -46,45 +52,53 @@ pub fn run_command<S: Source, K: Sink, E: Sink, R: Threads + Wait + Sync>(
         source.old source.new sink.old sink.new errors.old errors.new result }
 {
     match words {
-        Ok(words) => run_words(rt, alloc, &words, source, sink, errors, memories),
+        Ok(words) => run_words(rt, &words, source, sink, errors, memories, progress),
         Err(fault) => answer_fault(sink, fault),
     }
 }
 
 /// Reads the words, and runs their order or answers why there is none.
-fn run_words<W: AsStr, S: Source, K: Sink, E: Sink, R: Threads + Wait + Sync>(
+fn run_words<
+    W: AsStr,
+    S: Source,
+    K: Sink,
+    E: Sink,
+    R: AllocGlobal + Threads + Wait + Sync,
+    P: Progress,
+>(
     rt: &R,
-    alloc: Global,
     words: &[W],
     source: &mut S,
     sink: &mut K,
     errors: &mut E,
     memories: Memories<&(dyn Tm + Sync)>,
+    progress: &P,
 ) -> u8
     ensures { RunsWords (from_source S.told S.remaining S.ended S.failures) (to_sink K.took K.holds K.failures)
         (to_sink E.took E.holds E.failures) (by_name (gives memories.entry.norec.now) (gives memories.entry.lock.now) (gives memories.entry.torn.now))
         (map W.text words.now)
         source.old source.new sink.old sink.new errors.old errors.new result }
 {
-    match read_words(alloc, words) {
-        Ok(order) => run_order(rt, alloc, order, source, sink, memories),
+    match read_words(rt.alloc(), words) {
+        Ok(order) => run_order(rt, order, source, sink, memories, progress),
         Err(refusal) => answer_refusal(refusal, sink, errors),
     }
 }
 
 /// Runs an order's command, over the memory that it names.
-fn run_order<S: Source, K: Sink, R: Threads + Wait + Sync>(
+fn run_order<S: Source, K: Sink, R: AllocGlobal + Threads + Wait + Sync, P: Progress>(
     rt: &R,
-    alloc: Global,
     order: Order,
     source: &mut S,
     sink: &mut K,
     memories: Memories<&(dyn Tm + Sync)>,
+    progress: &P,
 ) -> u8
     ensures { RunsOrder (from_source S.told S.remaining S.ended S.failures) (to_sink K.took K.holds K.failures)
         (by_name (gives memories.entry.norec.now) (gives memories.entry.lock.now) (gives memories.entry.torn.now)) order
         source.old source.new sink.old sink.new result }
 {
+    let alloc = rt.alloc();
     match order {
         Order::Judge { bounds, asked } => run_judge(alloc, source, sink, bounds, asked),
         Order::Show {
@@ -106,18 +120,29 @@ fn run_order<S: Source, K: Sink, R: Threads + Wait + Sync>(
             options,
         } => {
             let picked = memories.named(memory);
+            let told = told_of(options.quiet, progress);
             run_bench_cmd(
                 rt,
                 alloc,
                 source,
                 sink,
                 picked,
-                bench_flags(trace, options),
-                bench_settings(options),
+                Plan {
+                    settings: bench_settings(options),
+                    flags: bench_flags(trace, options),
+                    progress: &told,
+                },
             )
         }
         Order::Steps => run_steps(alloc, source, sink),
     }
+}
+
+/// Who is told how far a bench has come: nobody where it is to be quiet.
+fn told_of<P: Progress>(quiet: bool, progress: &P) -> Option<&P>
+    ensures { MatchBool quiet (result ≡ None) (result ≡ Some progress.entry) }
+{
+    if quiet { None } else { Some(progress) }
 }
 
 /// Answers words that give no order.

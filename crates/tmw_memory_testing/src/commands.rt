@@ -6,12 +6,12 @@ use std::process::Abort;
 use std::sync::Wait;
 use std::test::Fail;
 use std::thread::Threads;
-use tmw_bench::Settings;
+use tmw_bench::{Settings, Silent};
 use tmw_drive::Ending;
 use tmw_events::Registers;
 use tmw_monitor::Bounds;
 use tmw_ring::Refused;
-use tmw_run_bench::{Flags, ends_text, run_bench_cmd};
+use tmw_run_bench::{Flags, Plan, ends_text, run_bench_cmd};
 use tmw_run_drive::run_drive;
 use tmw_streams::{MemorySink, MemorySource};
 use tmw_tm::Did;
@@ -125,8 +125,11 @@ fn expect<R: Abort + AllocGlobal + Threads + Wait + Sync>(
         &mut source,
         &mut sink,
         memory,
-        flags,
-        settings,
+        Plan {
+            settings,
+            flags,
+            progress: &Silent,
+        },
     );
     assert_eq!(rt; sink.bytes(), written, "of {text:?}");
     assert_eq!(rt; answered, status, "of {text:?}");

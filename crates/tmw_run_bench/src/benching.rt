@@ -10,7 +10,7 @@ use crate::hunt_run::HuntRun;
 use std::alloc::Global;
 use std::sync::Wait;
 use std::thread::Threads;
-use tmw_bench::{BenchFault, Benched, Hunted, Settings, hunt, run_bench};
+use tmw_bench::{BenchFault, Benched, Hunted, Progress, Settings, hunt, run_bench};
 use tmw_events::Registers;
 use tmw_report::Fault;
 use tmw_run_drive::{Driven, header_of};
@@ -42,12 +42,13 @@ pub fn bench_source<S: Source, R: Threads + Wait + Sync>(
 }
 
 /// Reads a workload up to the source's end, and carries it out by threads on the memory. Of the log the last window is kept.
-pub fn hunt_source<S: Source, R: Threads + Wait + Sync>(
+pub fn hunt_source<S: Source, R: Threads + Wait + Sync, P: Progress>(
     rt: &R,
     alloc: Global,
     source: &mut S,
     memory: &(dyn Tm + Sync),
     settings: Settings,
+    progress: &P,
 ) -> Result<HuntRun, Fault>
     ensures right { (bytes : List ℕ) × Tells S.told S.remaining source.old bytes source.new
         × AnswersHunt (gives memory.now) settings (S.ended source.new) bytes result }
@@ -57,7 +58,7 @@ pub fn hunt_source<S: Source, R: Threads + Wait + Sync>(
         Ok(workload) => workload,
         Err(fault) => return Err(fault),
     };
-    match hunt(rt, alloc, memory, &workload, settings) {
+    match hunt(rt, alloc, memory, &workload, settings, progress) {
         Ok(hunted) => Ok(with_registers(workload.registers, hunted)),
         Err(fault) => Err(fault_of(fault)),
     }

@@ -8,10 +8,12 @@ mod benching;
 mod ends;
 mod flags;
 mod hunt_run;
+mod plan;
 mod run;
 
 pub use bench_run::BenchRun;
 pub use ends::ends_text;
 pub use flags::Flags;
 pub use hunt_run::HuntRun;
+pub use plan::Plan;
 pub use run::run_bench_cmd;

@@ -159,7 +159,7 @@ states_of_drive : option_of (codes "states") (codes "--states=2" ∷ codes "--wi
 unfolding clap_on_literals
 states_of_drive = refl
 
--- `bench` has eight rows: those of `drive`, its own flag's, and those of its counts
+-- `bench` has nine rows: those of `drive`, its own flags', and those of its counts
 abbrev option_of_bench : Text → List Text → Option (Option Text)
 option_of_bench name words = option_map (λ p. one_of name p.1) (subcommand_of program (help_as_flag (said (codes "bench" ∷ words))))
 
@@ -194,6 +194,14 @@ shown_by_none = refl
 show_given : option_of_bench (codes "show") (codes "--rounds=3" ∷ codes "--show" ∷ codes "--trace" ∷ []) ≡ Some (Some (codes "true"))
 unfolding clap_on_literals
 show_given = refl
+
+quiet_by_none : option_of_bench (codes "quiet") (codes "--show" ∷ []) ≡ Some (Some (codes "false"))
+unfolding clap_on_literals
+quiet_by_none = refl
+
+quiet_given : option_of_bench (codes "quiet") (codes "--quiet" ∷ codes "--rounds=3" ∷ []) ≡ Some (Some (codes "true"))
+unfolding clap_on_literals
+quiet_given = refl
 
 show_of_drive : kinds_of (said (codes "drive" ∷ codes "--show" ∷ [])) ≡ UnknownArgument ∷ []
 unfolding clap_on_literals

@@ -105,7 +105,8 @@ drive_among memories = with_bounds (with_memory memories (new_app (codes "drive"
 
 -- `bench`, over one of these memories
 abbrev pub bench_among : ValueParser → App
-bench_among memories = with_bounds (with_counts (with_flag (codes "show") (with_memory memories (new_app (codes "bench")))))
+bench_among memories =
+    with_bounds (with_counts (with_flag (codes "quiet") (with_flag (codes "show") (with_memory memories (new_app (codes "bench"))))))
 
 -- `steps`, which has no option
 abbrev pub steps : App

@@ -61,13 +61,14 @@ HasFlag flag rows set = one_of flag rows ≡ Some (bool_text set)
 abbrev pub HasTrace : List Row → Bool → Type 0
 HasTrace = HasFlag (codes "trace")
 
--- The words give these numbers of cells, of tries and of rounds, and these bounds, and have the flag `--show` or have it not.
+-- The words give these numbers of cells, of tries and of rounds, and these bounds, and have each of two flags or have it not.
 pub record HasOptions (rows : List Row) (options : BenchOptions) : Type 0 where
   pub cells : Gives (codes "ring") rows options.cells
   pub patience : Gives (codes "patience") rows options.patience
   pub rounds : Gives (codes "rounds") rows options.rounds
   pub bounds : HasBounds rows options.bounds
   pub show : HasFlag (codes "show") rows options.show
+  pub quiet : HasFlag (codes "quiet") rows options.quiet
 
 -- This is the order of a command and of what was found for its options.
 abbrev pub IsOrder : Option (Text × List Row) → Order → Type 0

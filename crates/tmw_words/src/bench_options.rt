@@ -14,6 +14,8 @@ pub struct BenchOptions {
     pub bounds: Bounds,
     /// Whether the record's last window is shown.
     pub show: bool,
+    /// Whether nobody is told how far the bench has come.
+    pub quiet: bool,
     pub ghost some_cell: { 1 ≤ cells },
     pub ghost few_cells: { cells ≤ 4096 },
     pub ghost some_try: { 1 ≤ patience },

@@ -224,7 +224,7 @@ fn flag_of(matches: &ArgMatches<'_>, name: &str) -> Option<bool>
     Some(set)
 }
 
-/// The numbers, the bounds and the flag `--show` that the matches of `bench` hold.
+/// The numbers, the bounds and the flags `--show` and `--quiet` that the matches of `bench` hold.
 fn options_of(matches: &ArgMatches<'_>) -> Option<BenchOptions>
     ensures some { IfSome result (HasOptions (rows_of (found_of matches.now))) }
     ensures none { IfNone result ((options : BenchOptions) → HasOptions (rows_of (found_of matches.now)) options → ⊥) }
@@ -244,12 +244,16 @@ fn options_of(matches: &ArgMatches<'_>) -> Option<BenchOptions>
     let Some(show) = flag_of(matches, "show") else {
         return None;
     };
+    let Some(quiet) = flag_of(matches, "quiet") else {
+        return None;
+    };
     Some(BenchOptions {
         cells,
         patience,
         rounds,
         bounds,
         show,
+        quiet,
     })
 }
 

@@ -29,6 +29,9 @@ const SHOW_TRACE_HELP: &str =
 const BENCH_SHOW_HELP: &str =
     "Write what `show` writes of the run: the last window, drawn, or as a trace of its own with --trace";
 
+const QUIET_HELP: &str =
+    "Do not tell on standard error how far the run has come, as is done each 100000 rounds where it is a terminal";
+
 const RING_HELP: &str =
     "The cells of the ring that the threads record in, 1 to 4096: no fewer than the workload has scripts";
 
@@ -135,7 +138,8 @@ fn new_bench<'a>(alloc: Global, memories: &'a [&'a str]) -> Result<Command<'a>, 
     let bench = described(alloc, "bench", about, BENCH_HELP);
     let remembered = with_memory(alloc, bench, memories)?;
     let shown = with_flag(alloc, remembered, "show", BENCH_SHOW_HELP)?;
-    with_bounds(alloc, with_counts(alloc, shown)?)
+    let quiet = with_flag(alloc, shown, "quiet", QUIET_HELP)?;
+    with_bounds(alloc, with_counts(alloc, quiet)?)
 }
 
 /// The command `steps`.

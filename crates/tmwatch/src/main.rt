@@ -5,12 +5,16 @@
 //! `tmwatch steps`: reads a list of a ring's steps, and writes what each of them answers.
 #![tactic(auto)]
 
+mod terminal;
+
 use std::alloc::AllocError;
-use std::io::ErrorKind;
+use std::io::{ErrorKind, IsTerminal};
 use std::process::ExitCode;
 use std::sync::Wait;
 use std::thread::Threads;
 use std::{env, io};
+use terminal::Terminal;
+use tmw_bench::Progress;
 use tmw_command::{Memories, run_command};
 use tmw_events::Registers;
 use tmw_memories::{GlobalLock, NoRec, Torn};
@@ -26,7 +30,15 @@ fn main(rt: HostRuntime) -> ExitCode {
     let mut sink = StdSink::new(rt.stdout());
     let mut errors = StdSink::new(rt.stderr());
     let words = words_of(&rt);
-    let status = match run(&rt, words, &mut source, &mut sink, &mut errors) {
+    let terminal = Terminal {
+        errors: rt.stderr(),
+    };
+    let told = if rt.stderr().is_terminal() {
+        Some(&terminal)
+    } else {
+        None
+    };
+    let status = match run(&rt, words, &mut source, &mut sink, &mut errors, &told) {
         Ok(status) => status,
         Err(_) => answer_fault(&mut sink, Fault::Memory),
     };
@@ -34,12 +46,13 @@ fn main(rt: HostRuntime) -> ExitCode {
 }
 
 /// Makes the memories, and runs the command line with them.
-fn run<R: AllocGlobal + Threads + Wait + Sync, S: Source, K: Sink, E: Sink>(
+fn run<R: AllocGlobal + Threads + Wait + Sync, S: Source, K: Sink, E: Sink, P: Progress>(
     rt: &R,
     words: Result<Vec<String>, Fault>,
     source: &mut S,
     sink: &mut K,
     errors: &mut E,
+    progress: &P,
 ) -> Result<u8, AllocError> {
     let norec: Box<dyn Tm + Sync> = Box::new(rt.alloc(), NoRec::new(REGISTERS))?;
     let lock: Box<dyn Tm + Sync> = Box::new(rt.alloc(), GlobalLock::new(REGISTERS))?;
@@ -49,7 +62,7 @@ fn run<R: AllocGlobal + Threads + Wait + Sync, S: Source, K: Sink, E: Sink>(
         lock: &*lock,
         torn: &*torn,
     };
-    Ok(run_command(rt, rt.alloc(), words, source, sink, errors, memories))
+    Ok(run_command(rt, words, source, sink, errors, memories, progress))
 }
 
 /// The words of the command line. The first is the program's name: `tmwatch`, however it was started.

@@ -6,9 +6,12 @@ const BOTH_READ: &str =
 
 const ROUNDS: u64 = 100;
 
-/// So many of the rounds are to overlap. Where the workers wait for one another nearly all do, and where they do not, hardly any do
-/// on processors that are free.
-const OVERLAPS: u64 = 75;
+/// So many of the rounds are to overlap, in one bench of several. Where the workers wait for one another nearly all do on processors
+/// that are free.
+const OVERLAPS: u64 = 90;
+
+/// On a busy machine so many benches are tried.
+const BENCHES: u64 = 50;
 
 /// Two threads make this transaction twice each.
 fn twice_by_two(alloc: Global, transaction: &str) -> Result<Workload, Fail> {
@@ -81,10 +84,16 @@ fn the_log_has_the_order_of_calls_and_answers(rt: HostRuntime) -> Result<(), Fai
 #[test]
 fn the_workers_of_a_round_begin_together(rt: HostRuntime) -> Result<(), Fail> {
     let workload = told(rt.alloc(), BOTH_READ)?;
-    let memory = Overlapping::new();
-    let settings = settings(8, 10_000, PATIENT, ROUNDS);
-    run_bench(&rt, rt.alloc(), &memory, &workload, settings)?;
-    let overlaps = memory.overlaps();
-    assert!(rt; overlaps >= OVERLAPS, "{overlaps} of {ROUNDS} rounds");
+    let mut most = 0;
+    for _ in 0..BENCHES {
+        let memory = Overlapping::new();
+        let settings = settings(8, 10_000, PATIENT, ROUNDS);
+        run_bench(&rt, rt.alloc(), &memory, &workload, settings)?;
+        most = most.max(memory.overlaps());
+        if most >= OVERLAPS {
+            break;
+        }
+    }
+    assert!(rt; most >= OVERLAPS, "at most {most} of {ROUNDS} rounds");
     Ok(())
 }

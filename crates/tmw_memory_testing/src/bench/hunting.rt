@@ -1,13 +1,13 @@
 //! What a bench that keeps no log tells of it.
 use super::*;
-use tmw_bench::hunt;
+use tmw_bench::{Silent, hunt};
 
 #[test]
 fn a_violation_is_shown_by_the_last_window(rt: HostRuntime) -> Result<(), Fail> {
     let workload = told(rt.alloc(), READS)?;
     let memory = Counting::new(ONE, Did::Done, 7);
     let settings = settings(8, 1_000, PATIENT, 3);
-    let hunted = hunt(&rt, rt.alloc(), &memory, &workload, settings)?;
+    let hunted = hunt(&rt, rt.alloc(), &memory, &workload, settings, &Silent)?;
     let window = [one(Kind::R(FIRST)), one(Kind::V(7))];
     assert_eq!(rt;
         (hunted.showing.fed, hunted.showing.verdict),
@@ -24,7 +24,7 @@ fn of_many_rounds_the_last_transaction_is_kept(rt: HostRuntime) -> Result<(), Fa
     let workload = told(rt.alloc(), WRITES)?;
     let memory = Counting::new(ONE, Did::Done, 7);
     let settings = settings(8, 10_000, PATIENT, 1_000);
-    let hunted = hunt(&rt, rt.alloc(), &memory, &workload, settings)?;
+    let hunted = hunt(&rt, rt.alloc(), &memory, &workload, settings, &Silent)?;
     let window = [
         one(Kind::W(FIRST, 5)),
         one(Kind::K),

@@ -21,7 +21,7 @@ returns-clause-ok g c =
     let log = carried.rest.front.judged.items in
     let same = sym c.monitor.ensures in
     let shown = c.finish.ensures rules log (subst (λ (m : Monitor). Fits rules log m) same done.kept.fits)
-    (subst (λ (m : Monitor). KeepsShown rules log m.verdict carried.kept) same done.kept.keeps_it) in
+    (subst (λ (m : Monitor). KeepsShown rules log m.verdict carried.kept.window) same done.kept.keeps_it.0) in
     let verdict : carried.rest.front.monitor.verdict ≡ c.finish.result.verdict =
     verdict-one rules log carried.rest.front.monitor.verdict c.finish.result.verdict done.kept.fits.judged shown.judged in record {
       log = log;

@@ -1,6 +1,6 @@
-use Rattle.std.proofs.Common.{◌≡◌, ◌<◌, arith, IsTrue, get_or, length, subst}
+use Rattle.std.proofs.Common.{◌≡◌, ◌<◌, arith, IsTrue, get_or, length, refl, subst}
 use Rattle.std.proofs.lemmas.List.{get_or_default}
-use Rattle.tmw_bench.proofs.Leads.{gone_on-then, heard-next, some_stop-here, some_stop-later}
+use Rattle.tmw_bench.proofs.Leads.{gone_on-none, gone_on-then, heard-next, some_stop-here, some_stop-later}
 use Rattle.tmw_bench.specs.declared.line.Line.{Line}
 use Rattle.tmw_bench.proofs.line.hear_all.Goals as goal
 use Rattle.tmw_bench.proofs.line.hear_all.Goals.{then-is_stopped, else-is_stopped}
@@ -24,3 +24,11 @@ loop-line-preserved g c =
             (at.invariant.3 (subst IsTrue w.stopped-is told))
       ],
     )
+
+pub loop-line-init : goal.loop-line-init
+loop-line-init g c = (
+  c.requires.reader,
+  gone_on-none g.K.Keep.keeps c.args.judge.now,
+  record { counted = refl; each = λ place fallback low. absurd (omega (arith, low)); rest = λ place fallback from. refl },
+  λ none. absurd (cc),
+)

@@ -1,0 +1,42 @@
+use std::io::Write;
+use tmw_bench::Progress;
+use tmw_streams::{BoundedSink, IoFault, StdSink, put_all, put_with_number};
+
+/// Clears the terminal's line, and goes back to its start.
+const CLEAR: &[u8] = b"\r\x1b[K";
+
+/// Tells on a terminal how far a bench has come, in one line that is written over each time, and cleared at the end.
+#[derive(Clone, Copy)]
+pub struct Terminal<W> {
+    pub errors: W,
+}
+
+impl<W: Write + Copy> Progress for Terminal<W> {
+    fn tell(&self, rounds: u64, events: u64, unasked: u64) {
+        let mut line = BoundedSink::new();
+        if put_line(&mut line, rounds, events, unasked).is_ok() {
+            self.show(line.bytes());
+        }
+    }
+
+    fn end(&self) {
+        self.show(CLEAR);
+    }
+}
+
+impl<W: Write + Copy> Terminal<W> {
+    /// Shows these bytes, as far as the terminal takes them.
+    fn show(&self, bytes: &[u8]) {
+        let mut errors = StdSink::new(self.errors);
+        let _shown = put_all(&mut errors, bytes);
+    }
+}
+
+/// The line, in place of the one before.
+fn put_line(line: &mut BoundedSink, rounds: u64, events: u64, unasked: u64) -> Result<(), IoFault> {
+    put_all(line, CLEAR)?;
+    put_with_number(line, b"", rounds)?;
+    put_with_number(line, b" rounds, ", events)?;
+    put_with_number(line, b" events, ", unasked)?;
+    put_all(line, b" unasked aborts")
+}
