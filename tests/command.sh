@@ -259,6 +259,21 @@ done
 expect_of "$write" 0 "$(printf '%s\n' '{"events":4,"verdict":"opaque so far"}' '{"ends":["done"]}')" bench --ring=1 --patience 1000000000
 expect_of '{"registers":1,"scripts":[[],[]],"order":[]}' 0 "$(printf '%s\n' '{"events":0,"verdict":"opaque so far"}' '{"ends":["done","done"]}')" bench
 expect_of '{"registers":1,"scripts":[[],[]],"order":[]}' 4 '{"fault":"ring"}' bench --ring 1
+# on a terminal, and there alone, a bench tells each 100,000 rounds how far it has come, and clears that at the end
+told_on_terminal() {
+    script -qec "'$top/crates/tmwatch/out/tmwatch' bench --rounds 200001 $* <'$folder/made' >'$folder/output'" /dev/null </dev/null |
+        sed 's/\r\x1b\[K/|/g'
+}
+if [ -z "${CASES:-}" ]; then
+    echo "$write" >"$folder/made"
+    report='{"events":800004,"verdict":"opaque so far"} {"ends":["done"]}'
+    count 'bench on a terminal' '|100000 rounds, 400000 events, 0 unasked aborts|200000 rounds, 800000 events, 0 unasked aborts|' "$(told_on_terminal)"
+    count 'its report' "$report" "$(paste -s -d ' ' "$folder/output")"
+    count 'bench --quiet on a terminal' '' "$(told_on_terminal --quiet)"
+    count 'its report' "$report" "$(paste -s -d ' ' "$folder/output")"
+    run bench --rounds 200001 <"$folder/made"
+    count 'bench on no terminal' '' "$(cat "$folder/errors")"
+fi
 # the window of a bench, from each of its states, is violated where the bench is
 run bench --memory torn --rounds 100000 --show --trace <"$top/examples/hunt.json"
 benched=$status
