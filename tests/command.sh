@@ -259,30 +259,35 @@ done
 expect_of "$write" 0 "$(printf '%s\n' '{"events":4,"verdict":"opaque so far"}' '{"ends":["done"]}')" bench --ring=1 --patience 1000000000
 expect_of '{"registers":1,"scripts":[[],[]],"order":[]}' 0 "$(printf '%s\n' '{"events":0,"verdict":"opaque so far"}' '{"ends":["done","done"]}')" bench
 expect_of '{"registers":1,"scripts":[[],[]],"order":[]}' 4 '{"fault":"ring"}' bench --ring 1
-# on a terminal, and there alone, a bench tells each 100,000 rounds how far it has come, and clears that at the end
+# on a terminal, and there alone, a bench tells after each 100,000 rounds how far it has come, and clears that at the end
 told_on_terminal() {
-    script -qec "'$top/crates/tmwatch/out/tmwatch' bench --rounds 200001 $* <'$folder/made' >'$folder/output'" /dev/null </dev/null |
-        sed 's/\r\x1b\[K/|/g'
+    script -qec "'$top/crates/tmwatch/out/tmwatch' bench $* <'$folder/made' >'$folder/output'" /dev/null </dev/null | sed 's/\r\x1b\[K/|/g'
 }
 if [ -z "${CASES:-}" ]; then
+    printf '{"registers":1,"scripts":[[[%s"T"]]],"order":[]}' "$(yes '"W 0 5",' | head -n 17 | tr -d '\n')" >"$folder/made"
+    count 'a bench that aborts unasked, on a terminal' \
+        '|100000 rounds, 3400000 events, 100000 unasked aborts|200000 rounds, 6800000 events, 200000 unasked aborts|' \
+        "$(told_on_terminal --rounds 200001)"
+    count 'its report' '{"events":6800034,"verdict":"opaque so far"} {"ends":["done"]}' "$(paste -s -d ' ' "$folder/output")"
     echo "$write" >"$folder/made"
-    report='{"events":800004,"verdict":"opaque so far"} {"ends":["done"]}'
-    count 'bench on a terminal' '|100000 rounds, 400000 events, 0 unasked aborts|200000 rounds, 800000 events, 0 unasked aborts|' "$(told_on_terminal)"
-    count 'its report' "$report" "$(paste -s -d ' ' "$folder/output")"
-    count 'bench --quiet on a terminal' '' "$(told_on_terminal --quiet)"
-    count 'its report' "$report" "$(paste -s -d ' ' "$folder/output")"
-    run bench --rounds 200001 <"$folder/made"
+    line='|100000 rounds, 400000 events, 0 unasked aborts|'
+    for row in ":$line" "--show:$line" "--show --trace:$line" '--trace:' '--quiet:' '--quiet --show:'; do
+        count "bench ${row%%:*} on a terminal" "${row#*:}" "$(told_on_terminal --rounds 100001 ${row%%:*})"
+    done
+    count 'bench of one round on a terminal' '' "$(told_on_terminal)"
+    run bench --rounds 100001 <"$folder/made"
     count 'bench on no terminal' '' "$(cat "$folder/errors")"
+    # the window of a violated bench is violated, from each of its states
+    run bench --memory torn --rounds 100000 --show --trace <"$top/examples/hunt.json"
+    mv "$folder/output" "$folder/windows"
+    traces=$(grep -c opacity-trace "$folder/windows" || true)
+    count 'bench --memory torn --show --trace, with a trace' '1 1' "$status $((traces > 0))"
+    for place in $(seq "$traces"); do
+        awk -v place="$place" '/^opacity-trace/ { n++ } n == place' "$folder/windows" >"$folder/window"
+        run judge <"$folder/window"
+        count "bench --memory torn --show --trace | judge of trace $place" 1 "$status"
+    done
 fi
-# the window of a bench, from each of its states, is violated where the bench is
-run bench --memory torn --rounds 100000 --show --trace <"$top/examples/hunt.json"
-benched=$status
-mv "$folder/output" "$folder/windows"
-for place in $(seq "$(grep -c opacity-trace "$folder/windows")"); do
-    awk -v place="$place" '/^opacity-trace/ { n++ } n == place' "$folder/windows" >"$folder/window"
-    run judge <"$folder/window"
-    count "bench --memory torn --show --trace | judge of trace $place" "$benched" "$status"
-done
 expect_of '{' 4 '{"fault":"json"}' bench
 expect_of '[]' 4 '{"fault":"shape"}' bench --trace
 

@@ -62,7 +62,8 @@ pub fn run_bench<R: Threads + Wait + Sync>(
 }
 
 /// Does as `run_bench` does, but keeps no event except those of the last window. So its memory does not grow with the number of
-/// rounds. Each hundred thousand rounds, it tells how far it has come, and at the end that it is over.
+/// rounds. After each hundred thousand rounds behind which another follows it tells how far it has come, and at last that it is
+/// over.
 pub fn hunt<R: Threads + Wait + Sync, P: Progress>(
     rt: &R,
     alloc: Global,

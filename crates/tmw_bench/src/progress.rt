@@ -1,4 +1,5 @@
-/// Who is told how far a bench has come. What becomes of it no contract says.
+/// Who is told how far a bench has come, by the thread that judges, between two rounds: all workers wait meanwhile. What becomes of
+/// it no contract says.
 pub trait Progress {
     /// So many rounds have ended. The log has so many events by then, of which so many are aborts that answer no abort request.
     fn tell(&self, rounds: u64, events: u64, unasked: u64);

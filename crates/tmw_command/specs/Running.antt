@@ -53,7 +53,8 @@ AnswersRefusal To Errors (Usage text) sink sink_after errors errors_after status
 AnswersRefusal To Errors Memory sink sink_after errors errors_after status =
     IsPut To sink sink_after (fault_line WantsMemory) 4 status × (errors_after ≡ errors)
 
--- What words do that were read so. Without an order nothing is read from the source.
+-- What words do that were read so. Without an order nothing is read from the source. An order sends nothing to the sink for errors:
+-- what a bench tells of how far it has come goes elsewhere, and is in no clause.
 abbrev pub RunsReading : {S K E : Type 0} → FromSource S → ToSink K → ToSink E → MemoryAnswers → Result Order Refusal → S → S → K → K → E → E
     → ℕ → Type 0
 RunsReading From To Errors memories (Ok order) source source_after sink sink_after errors errors_after status =

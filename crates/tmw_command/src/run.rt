@@ -25,10 +25,11 @@ const VERSION_LINE: &str =
     "tmwatch 0.1.0, by opacity (Guerraoui and Kapalka 2008) and by strict serializability\n";
 
 /// Runs the command line of these words, of which the first is the program's name, from the source to the sink: the order that
-/// they ask for, the text of help, or the line of the version. For words that are no command line of the program the fault's line goes to the
-/// sink, and the text that tells what is wrong to the sink for errors; for words that can't be had, the fault's line alone. An
-/// order to drive, or to bench, takes the memory that it names of these, each of which should be fresh; an order to bench tells
-/// `progress` how far it has come, but where it is to be quiet. The result is the exit status: that of the order, 0 for help and for the version, or 4 for any fault and for either of these that was cut short.
+/// they ask for, the text of help, or the line of the version. For words that are no command line of the program the fault's line
+/// goes to the sink, and the text that tells what is wrong to the sink for errors; for words that can't be had, the fault's line
+/// alone. An order to drive, or to bench, takes the memory that it names of these, each of which should be fresh. An order to bench
+/// that isn't to be quiet, and keeps no log, tells `progress` how far it has come. The result is the exit status: that of the order,
+/// 0 for help and for the version, or 4 for any fault and for either of these that was cut short.
 ///
 /// It waits in a bench alone, for the threads that this starts.
 pub fn run_command<

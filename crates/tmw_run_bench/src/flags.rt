@@ -1,7 +1,7 @@
 ghost use Rattle.std.specs.Prelude.{◌≡◌};
 ghost use Rattle.tmw_run_bench.specs.BenchRun.{asks_for_log};
 
-/// What `bench` writes of a run beside its verdict and its ends.
+/// What `bench` is asked to write of a run.
 #[derive(Clone, Copy, PartialEq, Eq, Debug)]
 pub struct Flags {
     /// The log's trace, and with `show` the last window's traces in place of all else.

@@ -16,10 +16,10 @@ use tmw_tm::Tm;
 /// and writes what the flags ask for: the line that reports the verdict, and the line that tells how each thread has ended; the
 /// log's trace before them, by `trace`; in the report's place what `show` draws of the log, by `show`; or no more than the traces of
 /// the last window, as `show --trace` writes them, by both. Only for the log's trace more of the log is kept than its last window;
-/// else `progress` is told how far the run has come. The memory should be fresh. The result is the exit status: 0 for a log that is opaque so far, 1 for one that is violated, 2 for one that is undecided, 4 for any fault,
-/// whose line alone is written.
+/// else `progress` is told how far the run has come. The memory should be fresh. The result is the exit status: 0 for a log that is
+/// opaque so far, 1 for one that is violated, 2 for one that is undecided, 4 for any fault, whose line alone is written.
 ///
-/// It returns if each call of the memory, of the source and of the sink does.
+/// It returns if each call of the memory, of the source, of the sink and of `progress` does.
 pub fn run_bench_cmd<S: Source, K: Sink, R: Threads + Wait + Sync, P: Progress>(
     rt: &R,
     alloc: Global,

@@ -30,9 +30,7 @@ fn main(rt: HostRuntime) -> ExitCode {
     let mut sink = StdSink::new(rt.stdout());
     let mut errors = StdSink::new(rt.stderr());
     let words = words_of(&rt);
-    let terminal = Terminal {
-        errors: rt.stderr(),
-    };
+    let terminal = Terminal::new(rt.stderr());
     let told = if rt.stderr().is_terminal() {
         Some(&terminal)
     } else {

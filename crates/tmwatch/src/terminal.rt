@@ -1,4 +1,5 @@
 use std::io::Write;
+use std::sync::atomic::{AtomicBool, Ordering};
 use tmw_bench::Progress;
 use tmw_streams::{BoundedSink, IoFault, StdSink, put_all, put_with_number};
 
@@ -6,25 +7,38 @@ use tmw_streams::{BoundedSink, IoFault, StdSink, put_all, put_with_number};
 const CLEAR: &[u8] = b"\r\x1b[K";
 
 /// Tells on a terminal how far a bench has come, in one line that is written over each time, and cleared at the end.
-#[derive(Clone, Copy)]
+#[derive(Drop)]
 pub struct Terminal<W> {
-    pub errors: W,
+    errors: W,
+    /// The line is shown.
+    shown: AtomicBool,
 }
 
 impl<W: Write + Copy> Progress for Terminal<W> {
     fn tell(&self, rounds: u64, events: u64, unasked: u64) {
         let mut line = BoundedSink::new();
         if put_line(&mut line, rounds, events, unasked).is_ok() {
+            self.shown.store(true, Ordering::Relaxed);
             self.show(line.bytes());
         }
     }
 
     fn end(&self) {
-        self.show(CLEAR);
+        if self.shown.load(Ordering::Relaxed) {
+            self.show(CLEAR);
+        }
     }
 }
 
 impl<W: Write + Copy> Terminal<W> {
+    /// Nothing is shown yet.
+    pub fn new(errors: W) -> Terminal<W> {
+        Terminal {
+            errors,
+            shown: AtomicBool::new(false),
+        }
+    }
+
     /// Shows these bytes, as far as the terminal takes them.
     fn show(&self, bytes: &[u8]) {
         let mut errors = StdSink::new(self.errors);

@@ -3,7 +3,7 @@ use super::*;
 use std::sync::atomic::{AtomicU64, Ordering};
 use tmw_bench::{Progress, hunt};
 
-/// Remembers what it was told last, how often it was told something, and how often that it is over.
+/// Adds up what it is told, and counts how often it is told something, and how often that it is over.
 #[derive(Drop)]
 struct Remembering {
     rounds: AtomicU64,
@@ -24,7 +24,8 @@ impl Remembering {
         }
     }
 
-    /// The rounds, the events and the unasked aborts that it was told last, how often it was told, and how often that it is over.
+    /// The sums of the rounds, of the events and of the unasked aborts that it was told, how often it was told, and how often that it
+    /// is over.
     fn remembered(&self) -> [u64; 5] {
         [
             self.rounds.load(Ordering::SeqCst),
@@ -38,9 +39,9 @@ impl Remembering {
 
 impl Progress for Remembering {
     fn tell(&self, rounds: u64, events: u64, unasked: u64) {
-        self.rounds.store(rounds, Ordering::SeqCst);
-        self.events.store(events, Ordering::SeqCst);
-        self.unasked.store(unasked, Ordering::SeqCst);
+        self.rounds.fetch_add(rounds, Ordering::SeqCst);
+        self.events.fetch_add(events, Ordering::SeqCst);
+        self.unasked.fetch_add(unasked, Ordering::SeqCst);
         self.times.fetch_add(1, Ordering::SeqCst);
     }
 
@@ -49,15 +50,16 @@ impl Progress for Remembering {
     }
 }
 
-/// In each round a commit is aborted, and another transaction asks for its abort.
-const ABORTS: &str = r#"{"order": [], "registers": 1, "scripts": [[["T"], ["W 0 5", "X"]]]}"#;
+/// In each round two commits are aborted, and another transaction asks for its abort.
+const ABORTS: &str =
+    r#"{"order": [], "registers": 1, "scripts": [[["T"], ["T"], ["W 0 5", "X"]]]}"#;
 
 #[test]
 fn it_is_told_how_far_a_bench_has_come(rt: HostRuntime) -> Result<(), Fail> {
     let workload = told(rt.alloc(), ABORTS)?;
     for (rounds, remembered) in [
         (100_000, [0, 0, 0, 0, 1]),
-        (200_001, [200_000, 1_200_000, 200_000, 2, 1]),
+        (200_001, [300_000, 2_400_000, 600_000, 2, 1]),
     ] {
         let memory = Counting::aborting(ONE);
         let progress = Remembering::new();
