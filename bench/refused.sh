@@ -329,8 +329,8 @@ for crate in "${crates[@]}"; do
     tests_of "$crate"
     for test in $("$tests" --list | sed -n 's/^\(.*refused_growth.*\): test$/\1/p'); do test_row "$crate" "$test" allows; done
 done
-tests_of tmw_ring_testing
-test_row tmw_ring_testing pump::calls::a_dirty_read_is_judged_as_it_comes strict
+tests_of test_ring
+test_row test_ring pump::calls::a_dirty_read_is_judged_as_it_comes strict
 
 echo "$passed passed, $failed failed"
 [ "$failed" -eq 0 ]

@@ -11,15 +11,15 @@
 set -eu
 top=$(cd "$(dirname "${BASH_SOURCE[0]}")/.." && pwd)
 events=${1:-2000000}
-crate=$top/crates/tmw_ring_bench
-program=$crate/out/tmw_ring_bench
+crate=$top/crates/time_ring
+program=$crate/out/time_ring
 folder=$(mktemp -d)
 trap 'rm -rf "$folder"' EXIT
 
 # rt has no command that builds a program and doesn't run it, so it runs on few events.
 is_stale() {
     [ ! -x "$program" ] ||
-        [ -n "$(find "$top"/crates.txt "$top"/crates/{tmw_events,tmw_ring_defs,tmw_ring,tmw_ring_bench}/{src,specs,proofs} -newer "$program" -print -quit)" ]
+        [ -n "$(find "$top"/crates.txt "$top"/crates/{tmw_events,tmw_ring_defs,tmw_ring,time_ring}/{src,specs,proofs} -newer "$program" -print -quit)" ]
 }
 if is_stale; then
     echo "ring.sh: proving and building the program" >&2

@@ -4,7 +4,7 @@
 #
 #   bench/stops.sh
 #
-# The runs are those of the test `writers_stop_anywhere` of tmw_ring_testing, which says what each has to end with; in a copy of the
+# The runs are those of the test `writers_stop_anywhere` of test_ring, which says what each has to end with; in a copy of the
 # repository it makes 10,000 of them. bench/chance.c is loaded with it, and refuses one growth in 50, in 20, in 10 and in 5. Runs
 # that could not be made or judged anew, since memory for that was refused, are counted as unmade. A line for each 10,000 tells what
 # came of them. The last line is `N passed, M failed`, of these lines, and the exit status is 1 where M is above 0.
@@ -17,11 +17,11 @@ trap 'rm -rf "$folder"' EXIT
 "${CC:-cc}" -O2 -shared -fPIC -o "$folder/chance.so" "$top/bench/chance.c"
 mkdir "$folder/copy" "$folder/copy/.git"
 tar -C "$top" --exclude=incremental -cf - crates crates.txt HANDLES | tar -C "$folder/copy" -xf -
-text=$folder/copy/crates/tmw_ring_testing/src/pump/stopping.rt
+text=$folder/copy/crates/test_ring/src/pump/stopping.rt
 sed -i 's/^const RUNS: u64 = .*;$/const RUNS: u64 = 10_000;/; s/^const UNMADE: u64 = .*;$/const UNMADE: u64 = 10_000;/' "$text"
 [ "$(grep -c '^const .*: u64 = 10_000;$' "$text")" -eq 2 ] || { echo "the numbers of runs were not found" >&2 && exit 1; }
-tests=$folder/copy/crates/tmw_ring_testing/out/tmw_ring_testing_tests
-(cd "$folder/copy/crates/tmw_ring_testing" && rt test) >"$folder/build" 2>&1 || { tail -n 40 "$folder/build" >&2 && exit 1; }
+tests=$folder/copy/crates/test_ring/out/tmw_ring_testing_tests
+(cd "$folder/copy/crates/test_ring" && rt test) >"$folder/build" 2>&1 || { tail -n 40 "$folder/build" >&2 && exit 1; }
 passed=0 failed=0
 for one_in in 0 50 20 10 5; do
     status=0

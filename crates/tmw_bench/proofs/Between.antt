@@ -15,7 +15,7 @@ use Rattle.tmw_ring.specs.Meeting.{FindsTail}
 use Rattle.tmw_ring.specs.declared.refused.Refused.{Refused}
 use Rattle.tmw_bench.specs.Meeting.{HasMet}
 use Rattle.tmw_tm.specs.Answers.{Call, Answer}
-use Rattle.tmw_work.specs.Working.{HasWorked}
+use Rattle.tmw_bench.specs.Working.{HasWorked}
 
 module _ {T A P : Type 0} where
   pub up-then : (a b c : Producer T A P) → SameProducer a b → SameProducer b c → SameProducer a c

@@ -12,7 +12,7 @@ use Rattle.tmw_bench.specs.Benched.{EndsRound, IsInRounds}
 use Rattle.tmw_bench.specs.Rounds.{last_bound, ending_of, AllOpaque, AreEndings, HasPlayed, HasPlayedLast, HaveAllPlayedLast, IsLogOfAll}
 use Rattle.tmw_defs.specs.Texts.{kinds_of}
 use Rattle.tmw_defs.specs.Verdict.{Rules}
-use Rattle.tmw_drive.proofs.Driven.{no_kinds}
+use Rattle.tmw_drive.proofs.Drives.{no_kinds}
 use Rattle.tmw_drive.specs.Driving.{script_at}
 use Rattle.tmw_drive.specs.declared.ending.Ending.{Ending}
 use Rattle.tmw_events.specs.declared.event.Event.{Event}
@@ -24,7 +24,7 @@ use Rattle.tmw_ring.specs.declared.refused.Refused.{Refused}
 use Rattle.tmw_ring.specs.declared.refused.Refused.TheVariants.{Full, Spent}
 use Rattle.tmw_runs.specs.Standing.{AllStand}
 use Rattle.tmw_tm.specs.Answers.{Call, Answer}
-use Rattle.tmw_work.specs.Working.{EndsWork, FindsFrom}
+use Rattle.tmw_bench.specs.Working.{EndsWork, FindsFrom}
 
 -- the log of a settled ring
 pub log_of_all-settled : (scripts : List (List (List Kind))) (reader : ReaderIs) (writers : List WriterIs) (left log : List Event)

@@ -1,10 +1,14 @@
+mod Answering
 pub mod Between
+mod Claims
 pub mod Closing
 pub mod Cutting
+mod EndsLines
 pub mod Gathered
 pub mod InRounds
 pub mod Keeps
 pub mod Leads
+mod Left
 pub mod MadeFrom
 pub mod NeverMalformed
 pub mod OpaqueRounds
@@ -16,3 +20,4 @@ pub mod Starts
 pub mod UnaskedMore
 pub mod Whole
 pub mod WholeRounds
+mod Works

@@ -11,7 +11,7 @@ use Rattle.tmw_defs.specs.Texts.{kinds_of}
 use Rattle.tmw_defs.specs.Verdict.{Rules, IsFirst, IsMalformed}
 use Rattle.tmw_defs.specs.declared.verdict.Verdict.{Verdict}
 use Rattle.tmw_defs.specs.declared.verdict.Verdict.TheVariants.{Malformed}
-use Rattle.tmw_drive.proofs.Driven.{no_kinds}
+use Rattle.tmw_drive.proofs.Drives.{no_kinds}
 use Rattle.tmw_drive.specs.Driving.{script_at}
 use Rattle.tmw_drive.specs.declared.ending.Ending.{Ending}
 use Rattle.tmw_drive.specs.declared.ending.Ending.TheVariants.{Done, Left, Stopped}

@@ -10,7 +10,7 @@ use Rattle.tmw_ring.specs.declared.part.Made.{Made}
 use Rattle.tmw_ring.specs.declared.refused.Refused.{Refused}
 use Rattle.tmw_bench.specs.Meeting.{HasMet}
 use Rattle.tmw_tm.specs.Answers.{Call, Answer}
-use Rattle.tmw_work.specs.Working.{EndsWork, FindsFrom, HasWorked}
+use Rattle.tmw_bench.specs.Working.{EndsWork, FindsFrom, HasWorked}
 
 -- a new writer is ready for the first round
 pub ready-new : (gives : Call → Answer → Type 0) (script : List (List Kind)) (writer : WriterIs) → writer.made ≡ [] → IsReady gives script [] writer

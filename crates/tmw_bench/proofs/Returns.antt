@@ -9,7 +9,7 @@ use Rattle.tmw_recorded.specs.Recording.{kinds_made}
 use Rattle.tmw_ring.specs.Ends.{WriterIs}
 use Rattle.tmw_ring.specs.declared.refused.Refused.{Refused}
 use Rattle.tmw_tm.specs.Answers.{Call, Answer}
-use Rattle.tmw_work.specs.Working.{HasWorked}
+use Rattle.tmw_bench.specs.Working.{HasWorked}
 
 -- What was carried out with answers that the memory gives was so with answers of which there may be more.
 pub worked-more : (gives more : Call → Answer → Type 0) (script : List (List Kind)) (before writer : WriterIs) (stop : Option Refused)

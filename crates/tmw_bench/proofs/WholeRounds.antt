@@ -11,7 +11,7 @@ use Rattle.tmw_bench.specs.Benched.{AreWholeRounds, IsWholeRound}
 use Rattle.tmw_bench.specs.Rounds.{last_bound, AllOpaque, HasPlayed}
 use Rattle.tmw_defs.specs.Texts.{kinds_of}
 use Rattle.tmw_defs.specs.Verdict.{Rules}
-use Rattle.tmw_drive.proofs.Driven.{no_kinds}
+use Rattle.tmw_drive.proofs.Drives.{no_kinds}
 use Rattle.tmw_drive.specs.Driving.{script_at}
 use Rattle.tmw_events.specs.declared.event.Event.{Event}
 use Rattle.tmw_events.specs.declared.event.Kind.{Kind}

@@ -28,7 +28,7 @@ use Rattle.tmw_runs.specs.Runs.{IsWholeRun}
 use Rattle.tmw_runs.specs.Standing.{AllStand}
 use Rattle.tmw_show.specs.Showing.{IsShowing}
 use Rattle.tmw_tm.specs.Answers.{Call, Answer}
-use Rattle.tmw_work.specs.Working.{tail_of, StopsBefore}
+use Rattle.tmw_bench.specs.Working.{tail_of, StopsBefore}
 
 -- A round to its end: each thread has recorded a whole run of its script, and each answer there is one that the memory gives.
 pub record IsWholeRound (gives : Call → Answer → Type 0) (scripts : List (List (List Kind))) (round : List Event) : Type 0 where

@@ -1,10 +1,16 @@
 pub mod Begun
+pub mod BenchRun
 pub mod Benched
+pub mod Calling
+pub mod Ends
+pub mod EndsObject
 pub mod Keeping
 pub mod Leading
 pub mod Lines
 pub mod Meeting
 pub mod Playing
 pub mod Rounds
+pub mod Running
 pub mod Unasked
 pub mod Workers
+pub mod Working

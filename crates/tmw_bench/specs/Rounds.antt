@@ -15,7 +15,7 @@ use Rattle.tmw_ring.specs.declared.refused.Refused.{Refused}
 use Rattle.tmw_runs.specs.Runs.{IsWholeRun}
 use Rattle.tmw_runs.specs.Standing.{AllStand}
 use Rattle.tmw_tm.specs.Answers.{Call, Answer}
-use Rattle.tmw_work.specs.Working.{EndsWork, FindsFrom}
+use Rattle.tmw_bench.specs.Working.{EndsWork, FindsFrom}
 
 -- A bound is the length of the log when a round has ended. Bounds are listed with the last round's first.
 

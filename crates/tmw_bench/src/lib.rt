@@ -4,6 +4,7 @@
 mod bench;
 mod benched;
 mod close;
+mod command;
 mod count;
 mod ended;
 mod ends;
@@ -27,10 +28,13 @@ mod tally;
 mod threads;
 mod waits;
 mod worker;
+mod working;
 
 pub use bench::{hunt, run_bench};
 pub use benched::Benched;
+pub use command::{BenchRun, Flags, HuntRun, Plan, ends_text, run_bench_cmd};
 pub use fault::BenchFault;
 pub use hunted::Hunted;
 pub use progress::{Progress, Silent};
 pub use settings::Settings;
+pub use working::work;

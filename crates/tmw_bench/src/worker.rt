@@ -11,12 +11,12 @@ use crate::ended::Ended;
 use crate::giving::Giving;
 use crate::stage::Stage;
 use crate::waits::{next_bound, see, tell, wait_for_all};
+use crate::work;
 use rtrb::{Consumer, Producer};
 use std::sync::Wait;
 use tmw_events::Kind;
 use tmw_ring::{Refused, Writer};
 use tmw_tm::Tm;
-use tmw_work::work;
 
 /// What a worker has to record by and to be led by.
 #[derive(Drop)]

@@ -1,7 +1,7 @@
 -- The settings of a bench that a command line asks for, and what it writes.
 use Rattle.std.specs.Prelude.{◌^◌, Bool}
 use Rattle.tmw_bench.specs.declared.settings.Settings.{Settings}
-use Rattle.tmw_run_bench.specs.declared.flags.Flags.{Flags}
+use Rattle.tmw_bench.specs.declared.command.flags.Flags.{Flags}
 use Rattle.tmw_words.specs.declared.bench_options.BenchOptions.{BenchOptions}
 
 -- Its options, and the most events that any record has.

@@ -8,9 +8,9 @@ use Rattle.tmw_report.specs.Streams.{FromSource, ToSink}
 use Rattle.tmw_report.specs.declared.fault.Fault.{Fault}
 use Rattle.tmw_report.specs.declared.fault.Fault.TheVariants.{Memory as WantsMemory, Usage as IsUsage}
 use Rattle.tmw_judge.specs.Judging.{JudgesBytes}
-use Rattle.tmw_run_bench.specs.Running.{BenchesBytes}
-use Rattle.tmw_run_drive.specs.Running.{DrivesBytes}
-use Rattle.tmw_run_show.specs.Running.{ShowsBytes}
+use Rattle.tmw_bench.specs.Running.{BenchesBytes}
+use Rattle.tmw_drive.specs.Running.{DrivesBytes}
+use Rattle.tmw_show.specs.Running.{ShowsBytes}
 use Rattle.tmw_steps.specs.Running.{RunsSteps}
 use Rattle.tmw_tm.specs.Answers.{Call, Answer}
 use Rattle.tmw_command.specs.Options.{flags_of, settings_of}

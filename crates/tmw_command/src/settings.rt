@@ -1,8 +1,7 @@
 ghost use Rattle.std.specs.Prelude.{◌≡◌};
 ghost use Rattle.tmw_command.specs.Options.{flags_of, settings_of};
 
-use tmw_bench::Settings;
-use tmw_run_bench::Flags;
+use tmw_bench::{Flags, Settings};
 use tmw_words::BenchOptions;
 
 /// The most events that are recorded in all.

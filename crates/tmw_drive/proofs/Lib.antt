@@ -1,7 +1,9 @@
 mod AllPlaying
-pub mod Driven
+mod Answering
+pub mod Drives
 mod Entries
 pub mod Going
 pub mod Players
 mod Positions
 pub mod Workloads
+mod Zeros

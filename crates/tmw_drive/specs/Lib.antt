@@ -1,3 +1,5 @@
+pub mod Driven
 pub mod Driving
 pub mod Fresh
 pub mod Playing
+pub mod Running

@@ -2,6 +2,7 @@
 #![tactic(auto)]
 
 mod asking;
+mod command;
 mod driving;
 mod ending;
 mod fault;
@@ -10,6 +11,7 @@ mod player;
 mod playing;
 
 pub use asking::ends;
+pub use command::{Driven, header_of, put_driven, run_drive};
 pub use driving::drive;
 pub use ending::Ending;
 pub use fault::DriveFault;

@@ -1,7 +1,11 @@
+pub mod Drawing
 pub mod Feeding
 pub mod Keeping
+pub mod Running
 pub mod Showing
 pub mod Shown
 pub mod StatesLaw
+pub mod TracesLaw
+pub mod TracesText
 pub mod Watching
 pub mod WindowLaw

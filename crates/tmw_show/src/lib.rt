@@ -1,6 +1,7 @@
 //! The place where a run went wrong: its last window, and the states from which that begins.
 #![tactic(auto)]
 
+mod command;
 mod feeding;
 mod kept_window;
 mod last_window;
@@ -8,6 +9,7 @@ mod law;
 mod next_shown;
 mod showing;
 
+pub use command::{Shown, law_traces, run_show, shown_text};
 pub use kept_window::KeptWindow;
 pub use last_window::LastWindow;
 pub use law::{law_states, law_window};

@@ -1,6 +1,6 @@
 -- Each order's command does what its own contract says, over the memory that was picked by its name.
-use Rattle.tmw_run_drive.specs.Running.{DrivesBytes}
-use Rattle.tmw_run_bench.specs.Running.{BenchesBytes}
+use Rattle.tmw_drive.specs.Running.{DrivesBytes}
+use Rattle.tmw_bench.specs.Running.{BenchesBytes}
 use Rattle.tmw_report.specs.Streams.{from_source, to_sink}
 use Rattle.tmw_command.specs.Options.{flags_of, settings_of}
 use Rattle.tmw_command.proofs.Picked.{by_name-memory_named}

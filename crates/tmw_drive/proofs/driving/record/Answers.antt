@@ -1,7 +1,7 @@
 use Rattle.std.proofs.Common.{◌≡◌, ℕ, List, [], length, drop, sym, ap, subst, ◌∙◌}
 use Rattle.std.proofs.lemmas.List.{length-map, take_at}
 use Rattle.tmw_drive.proofs.AllPlaying.{all_play-new}
-use Rattle.tmw_drive.proofs.Driven.{is_driven}
+use Rattle.tmw_drive.proofs.Drives.{is_driven}
 use Rattle.tmw_drive.proofs.Workloads.{are_transactions-workload}
 use Rattle.tmw_drive.specs.Driving.{Drives}
 use Rattle.tmw_drive.specs.Playing.{AllEnd, AllNew, AllPlay}

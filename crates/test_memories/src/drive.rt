@@ -1,0 +1,137 @@
+//! What the contract leaves open: that there is memory, which calls the memory gets, and that workloads are driven as their
+//! readers expect.
+use std::test::Fail;
+use tmw_defs::Verdict;
+use tmw_drive::{DriveFault, Ending, drive};
+use tmw_events::{Kind, Registers};
+use tmw_monitor::Bounds;
+use test_support::{FIRST, one};
+use tmw_tm::Did;
+use tmw_workloads::Workload;
+
+mod memories;
+
+use crate::counting::Counting;
+use memories::Marking;
+
+const ONE: Registers = Registers { number: 1 };
+
+const TWO: Registers = Registers { number: 2 };
+
+const WIDEST: Bounds = Bounds {
+    window: 8,
+    states: 64,
+};
+
+#[test]
+fn each_call_is_made_once(rt: HostRuntime) -> Result<(), Fail> {
+    let alloc = rt.alloc();
+    let calls = vec![in alloc; Kind::R(FIRST), Kind::R(FIRST), Kind::T]?;
+    let workload = Workload {
+        registers: ONE,
+        scripts: vec![in alloc; vec![in alloc; calls]?]?,
+        order: vec![in alloc; 0, 0, 0]?,
+    };
+    let memory = Counting::new(ONE, Did::Done, 7);
+    let outcome = drive(alloc, &memory, &workload, WIDEST)?;
+    let log = [
+        one(Kind::R(FIRST)),
+        one(Kind::V(7)),
+        one(Kind::R(FIRST)),
+        one(Kind::V(7)),
+        one(Kind::T),
+        one(Kind::C),
+    ];
+    assert_eq!(rt; outcome.log.as_slice(), log.as_slice());
+    assert_eq!(rt; outcome.verdict, Verdict::Violated(2));
+    assert_eq!(rt; outcome.ends.as_slice(), [Ending::Done].as_slice());
+    assert_eq!(rt; memory.counts(), [1, 2, 0, 0, 1, 0]);
+    Ok(())
+}
+
+#[test]
+fn an_order_that_runs_out_leaves_a_transaction_open(rt: HostRuntime) -> Result<(), Fail> {
+    let alloc = rt.alloc();
+    let calls = vec![in alloc; Kind::R(FIRST), Kind::T]?;
+    let workload = Workload {
+        registers: ONE,
+        scripts: vec![in alloc; vec![in alloc; calls]?]?,
+        order: vec![in alloc; 0]?,
+    };
+    let memory = Counting::new(ONE, Did::Done, 7);
+    let outcome = drive(alloc, &memory, &workload, WIDEST)?;
+    let log = [one(Kind::R(FIRST)), one(Kind::V(7))];
+    assert_eq!(rt; outcome.log.as_slice(), log.as_slice());
+    assert_eq!(rt; outcome.ends.as_slice(), [Ending::Left].as_slice());
+    assert_eq!(rt; memory.counts(), [1, 1, 0, 0, 0, 0]);
+    Ok(())
+}
+
+#[test]
+fn no_call_is_made_in_a_transaction_that_did_not_begin(rt: HostRuntime) -> Result<(), Fail> {
+    let alloc = rt.alloc();
+    let reading = vec![in alloc; Kind::R(FIRST), Kind::T]?;
+    let aborting = vec![in alloc; Kind::X]?;
+    let workload = Workload {
+        registers: ONE,
+        scripts: vec![in alloc; vec![in alloc; reading, aborting]?]?,
+        order: vec![in alloc; 0, 0, 0]?,
+    };
+    let memory = Counting::new(ONE, Did::Abort, 7);
+    let outcome = drive(alloc, &memory, &workload, WIDEST)?;
+    let log = [
+        one(Kind::R(FIRST)),
+        one(Kind::A),
+        one(Kind::X),
+        one(Kind::A),
+    ];
+    assert_eq!(rt; outcome.log.as_slice(), log.as_slice());
+    assert_eq!(rt; outcome.verdict, Verdict::OpaqueSoFar);
+    assert_eq!(rt; outcome.ends.as_slice(), [Ending::Done].as_slice());
+    assert_eq!(rt; memory.counts(), [2, 0, 0, 0, 0, 0]);
+    Ok(())
+}
+
+#[test]
+fn each_transaction_has_a_new_tx(rt: HostRuntime) -> Result<(), Fail> {
+    let alloc = rt.alloc();
+    let reading = vec![in alloc; Kind::R(FIRST), Kind::T]?;
+    let writing = vec![in alloc; Kind::W(FIRST, 1), Kind::T]?;
+    let aborting = vec![in alloc; Kind::W(FIRST, 1), Kind::X]?;
+    let workload = Workload {
+        registers: ONE,
+        scripts: vec![in alloc; vec![in alloc; reading, writing, aborting]?]?,
+        order: vec![in alloc; 0, 0, 0, 0]?,
+    };
+    let outcome = drive(alloc, &Marking { registers: ONE }, &workload, WIDEST)?;
+    let log = [
+        one(Kind::R(FIRST)),
+        one(Kind::A),
+        one(Kind::W(FIRST, 1)),
+        one(Kind::K),
+        one(Kind::T),
+        one(Kind::C),
+        one(Kind::W(FIRST, 1)),
+        one(Kind::K),
+    ];
+    assert_eq!(rt; outcome.log.as_slice(), log.as_slice());
+    assert_eq!(rt; outcome.verdict, Verdict::OpaqueSoFar);
+    assert_eq!(rt; outcome.ends.as_slice(), [Ending::Left].as_slice());
+    Ok(())
+}
+
+#[test]
+fn a_memory_may_lack_registers(rt: HostRuntime) -> Result<(), Fail> {
+    let alloc = rt.alloc();
+    let calls = vec![in alloc; Kind::R(FIRST), Kind::T]?;
+    let workload = Workload {
+        registers: TWO,
+        scripts: vec![in alloc; vec![in alloc; calls]?]?,
+        order: vec![in alloc; 0]?,
+    };
+    let memory = Counting::new(ONE, Did::Done, 7);
+    let fault = drive(alloc, &memory, &workload, WIDEST).err();
+    assert_eq!(rt; fault, Some(DriveFault::Registers));
+    assert_eq!(rt; memory.counts(), [0, 0, 0, 0, 0, 0]);
+    Ok(())
+}

@@ -1,0 +1,116 @@
+-- Places that a writer claims, call after call.
+use Rattle.std.proofs.Common.{◌≡◌, ◌++◌, ◌≤◌, ◌<◌, ℕ, List, [], ◌∷◌, Ok, Err, IsTrue, inl, inr, refl, sym, ap, ◌∙◌, append_assoc, arith}
+use Rattle.std.proofs.lemmas.List.{append-nil}
+use Rattle.std.proofs.lemmas.List.Elements.{All-append, All-cons, All-nil}
+use Rattle.tmw_defs.specs.History.{answers}
+use Rattle.tmw_events.specs.declared.event.Kind.{Kind}
+use Rattle.tmw_recorded.proofs.KindsMade.{kinds_made-append}
+use Rattle.tmw_recorded.proofs.Tries.{has_looked-refused, was_refused-tried}
+use Rattle.tmw_recorded.specs.Recording.{kinds_made, HasTried}
+use Rattle.tmw_ring.specs.Ends.{RingIs, WriterIs, WriterOf}
+use Rattle.tmw_ring.specs.Recording.{made_at}
+use Rattle.tmw_ring.specs.declared.part.Made.{Made}
+use Rattle.tmw_ring.specs.declared.refused.Refused.{Refused}
+use Rattle.tmw_ring.specs.declared.refused.Refused.TheVariants.{Full, Spent}
+use Rattle.tmw_bench.specs.Calling.{HasClaimed, StopsAt}
+use Rattle.tmw_bench.specs.Working.{tail_of}
+
+-- nothing was claimed
+pub claimed-none : (writer : WriterIs) → HasClaimed [] writer writer
+claimed-none writer =
+    record {
+      fresh = [];
+      is = refl;
+      made = sym (append-nil writer.made);
+      later = All-nil (λ made. writer.seen ≤ made.place);
+      earlier = All-nil (λ made. made.place < writer.seen);
+      seen = omega arith;
+    }
+
+-- places were claimed, and then more
+pub claimed-more : (first then : List Kind) (old middle new : WriterIs) → HasClaimed first old middle → HasClaimed then middle new
+    → HasClaimed (first ++ then) old new
+claimed-more first then old middle new one two =
+    let seen_one = one.seen in
+    let seen_two = two.seen in
+    record {
+      fresh = one.fresh ++ two.fresh;
+      is = kinds_made-append one.fresh two.fresh ∙ ap (λ (l : List Kind). l ++ kinds_made two.fresh) one.is
+          ∙ ap (λ (l : List Kind). first ++ l) two.is;
+      made = two.made ∙ ap (λ (l : List Made). l ++ two.fresh) one.made ∙ append_assoc old.made one.fresh two.fresh;
+      later = All-append (λ made. old.seen ≤ made.place) one.fresh two.fresh one.later
+          (λ place fallback low. let later = two.later place fallback low in omega (arith, later, seen_one));
+      earlier = All-append (λ made. made.place < new.seen) one.fresh two.fresh
+          (λ place fallback low. let earlier = one.earlier place fallback low in omega (arith, earlier, seen_two)) two.earlier;
+      seen = omega (arith, seen_one, seen_two);
+    }
+
+-- one record was made
+pub claimed-tried : (kind : Kind) (old : WriterIs) (place : ℕ) (new : WriterIs) → HasTried kind old (Ok place) new
+    → HasClaimed (kind ∷ []) old new
+claimed-tried kind old place new (before, waited, recorded) =
+    let one = made_at before.number kind place in
+    let waited_seen = waited.seen in
+    let later = recorded.later in
+    let seen = recorded.seen in
+    record {
+      fresh = one ∷ [];
+      is = refl;
+      made = recorded.made ∙ ap (λ (l : List Made). l ++ one ∷ []) waited.made;
+      later = All-cons (λ made. old.seen ≤ made.place) one [] (omega (arith, waited_seen, later)) (All-nil (λ made. old.seen ≤ made.place));
+      earlier = All-cons (λ made. made.place < new.seen) one [] seen (All-nil (λ made. made.place < new.seen));
+      seen = omega (arith, waited_seen, later, seen);
+    }
+
+-- a record was refused
+pub claimed-refused : (kind : Kind) (old : WriterIs) (refused : Refused) (new : WriterIs) → HasTried kind old (Err refused) new
+    → HasClaimed [] old new
+claimed-refused kind old refused new (before, waited, is) =
+    let looked = (has_looked-refused kind before refused new is).1 in
+    let waited_seen = waited.seen in
+    let later = looked.later in
+    let seen = looked.seen in
+    record {
+      fresh = [];
+      is = refl;
+      made = looked.made ∙ waited.made ∙ sym (append-nil old.made);
+      later = All-nil (λ made. old.seen ≤ made.place);
+      earlier = All-nil (λ made. made.place < new.seen);
+      seen = omega (arith, waited_seen, later, seen);
+    }
+
+-- a refusal finds no fewer places claimed than the writer had seen
+later-refused : (kind : Kind) (old : WriterIs) (refused : Refused) (new : WriterIs) → HasTried kind old (Err refused) new
+    → old.seen ≤ tail_of refused
+later-refused kind old (Full front tail) new (before, waited, is) = omega (arith, waited.seen, is.0.later)
+later-refused kind old (Spent tail) new (before, waited, is) = omega (arith, waited.seen, is.1.later)
+
+-- the record of the call was refused
+pub stops_at-call : (ring : RingIs) (call : Kind) (refused : Refused) (before after : WriterIs) → WriterOf ring before → WriterOf ring after
+    → after.number ≡ before.number → HasTried call before (Err refused) after → StopsAt call refused before after
+stops_at-call ring call refused before after before_of after_of number tried = (
+  later-refused call before refused after tried,
+  inl (claimed-refused call before refused after tried, was_refused-tried ring call before refused after before_of after_of number tried),
+)
+
+-- the call was recorded, and the record of its answer was refused
+pub stops_at-answer : (ring : RingIs) (call answer : Kind) (place : ℕ) (refused : Refused) (before middle after : WriterIs) → WriterOf ring middle
+    → WriterOf ring after → after.number ≡ middle.number → HasTried call before (Ok place) middle → IsTrue (answers call answer)
+    → HasTried answer middle (Err refused) after → StopsAt call refused before after
+stops_at-answer ring call answer place refused before middle after middle_of after_of number called fits tried =
+    let first = claimed-tried call before place middle called in (
+      omega (arith, first.seen, later-refused answer middle refused after tried),
+      inr (
+        answer,
+        fits,
+        claimed-more (call ∷ []) [] before middle after first (claimed-refused answer middle refused after tried),
+        was_refused-tried ring answer middle refused after middle_of after_of number tried,
+      ),
+    )
+
+-- both were recorded
+pub claimed-pair : (call answer : Kind) (place answer_place : ℕ) (before middle after : WriterIs) → HasTried call before (Ok place) middle
+    → HasTried answer middle (Ok answer_place) after → HasClaimed (call ∷ answer ∷ []) before after
+claimed-pair call answer place answer_place before middle after called answered =
+    claimed-more (call ∷ []) (answer ∷ []) before middle after (claimed-tried call before place middle called)
+    (claimed-tried answer middle answer_place after answered)

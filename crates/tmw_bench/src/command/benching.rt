@@ -1,0 +1,133 @@
+ghost use Rattle.std.specs.Prelude.{◌≡◌, ℕ, List};
+ghost use Rattle.tmw_report.specs.CommandRun.{failures_after_answer};
+ghost use Rattle.tmw_bench.specs.BenchRun.{benched_of, hunted_of};
+ghost use Rattle.tmw_bench.specs.Running.{AnswersBench, AnswersHunt, AnswersText, IsNoBenchFrom, IsRightFault};
+ghost use Rattle.tmw_drive.specs.Driven.{IsHeaderOf};
+ghost use Rattle.tmw_streams.specs.Told.{Tells};
+
+use crate::command::bench_run::BenchRun;
+use crate::command::hunt_run::HuntRun;
+use crate::{BenchFault, Benched, Hunted, Progress, Settings, hunt, run_bench};
+use std::alloc::Global;
+use std::sync::Wait;
+use std::thread::Threads;
+use tmw_drive::{Driven, header_of};
+use tmw_events::Registers;
+use tmw_report::Fault;
+use tmw_show::Shown;
+use tmw_streams::{ReadFault, Source, read_all};
+use tmw_tm::Tm;
+use tmw_workloads::{Workload, WorkloadFault, read_workload};
+
+/// Reads a workload up to the source's end, and carries it out by threads on the memory. The log is kept.
+pub fn bench_source<S: Source, R: Threads + Wait + Sync>(
+    rt: &R,
+    alloc: Global,
+    source: &mut S,
+    memory: &(dyn Tm + Sync),
+    settings: Settings,
+) -> Result<BenchRun, Fault>
+    ensures right { (bytes : List ℕ) × Tells S.told S.remaining source.old bytes source.new
+        × AnswersBench (gives memory.now) settings (S.ended source.new) bytes result }
+    ensures failures { S.failures source.new ≡ failures_after_answer result (S.failures source.old) }
+{
+    let workload = match read_source(alloc, source) {
+        Ok(workload) => workload,
+        Err(fault) => return Err(fault),
+    };
+    match run_bench(rt, alloc, memory, &workload, settings) {
+        Ok(benched) => Ok(with_header(workload.registers, benched)),
+        Err(fault) => Err(fault_of(fault)),
+    }
+}
+
+/// Reads a workload up to the source's end, and carries it out by threads on the memory. Of the log the last window is kept.
+pub fn hunt_source<S: Source, R: Threads + Wait + Sync, P: Progress>(
+    rt: &R,
+    alloc: Global,
+    source: &mut S,
+    memory: &(dyn Tm + Sync),
+    settings: Settings,
+    progress: &P,
+) -> Result<HuntRun, Fault>
+    ensures right { (bytes : List ℕ) × Tells S.told S.remaining source.old bytes source.new
+        × AnswersHunt (gives memory.now) settings (S.ended source.new) bytes result }
+    ensures failures { S.failures source.new ≡ failures_after_answer result (S.failures source.old) }
+{
+    let workload = match read_source(alloc, source) {
+        Ok(workload) => workload,
+        Err(fault) => return Err(fault),
+    };
+    match hunt(rt, alloc, memory, &workload, settings, progress) {
+        Ok(hunted) => Ok(with_registers(workload.registers, hunted)),
+        Err(fault) => Err(fault_of(fault)),
+    }
+}
+
+/// Reads a workload up to the source's end.
+fn read_source<S: Source>(alloc: Global, source: &mut S) -> Result<Workload, Fault>
+    ensures right { (bytes : List ℕ) × Tells S.told S.remaining source.old bytes source.new
+        × AnswersText (S.ended source.new) bytes result }
+    ensures failures { S.failures source.new ≡ failures_after_answer result (S.failures source.old) }
+{
+    let mut bytes = Vec::new(alloc);
+    match read_all(source, &mut bytes) {
+        Ok(()) => read_bytes(alloc, &bytes),
+        Err(ReadFault::Io) => Err(Fault::Io),
+        Err(ReadFault::Memory) => Err(Fault::Memory),
+    }
+}
+
+/// The workload that these bytes are the text of. Never `Io`.
+fn read_bytes(alloc: Global, bytes: &[u8]) -> Result<Workload, Fault>
+    ensures { AnswersText (Unit {0}) bytes.now result }
+{
+    match read_workload(alloc, bytes) {
+        Ok(workload) => Ok(workload),
+        Err(WorkloadFault::Json) => Err(Fault::Json),
+        Err(WorkloadFault::Shape) => Err(Fault::Shape),
+        Err(WorkloadFault::Memory) => Err(Fault::Memory),
+    }
+}
+
+/// The fault by which a workload was not carried out.
+fn fault_of(fault: BenchFault) -> Fault
+    ensures { (settings : Settings) (bytes : List ℕ) → IsNoBenchFrom settings bytes fault
+        → IsRightFault (Unit {0}) settings bytes result }
+{
+    match fault {
+        BenchFault::Registers => Fault::Registers,
+        BenchFault::Ring(_) => Fault::Ring,
+        BenchFault::Memory => Fault::Memory,
+        BenchFault::Spawn => Fault::Spawn,
+    }
+}
+
+/// What threads have made of a workload over so many registers, with the header of its log.
+fn with_header(registers: Registers, benched: Benched) -> BenchRun
+    ensures header { IsHeaderOf registers result.driven.outcome.log.items result.driven.header }
+    ensures same { benched_of result ≡ benched }
+{
+    BenchRun {
+        driven: Driven {
+            header: header_of(registers, &benched.outcome.log),
+            outcome: benched.outcome,
+        },
+        rounds: benched.rounds,
+    }
+}
+
+/// What threads have made of a workload, with its registers.
+fn with_registers(registers: Registers, hunted: Hunted) -> HuntRun
+    ensures registers { result.shown.registers ≡ registers }
+    ensures same { hunted_of result ≡ hunted }
+{
+    HuntRun {
+        shown: Shown {
+            registers,
+            showing: hunted.showing,
+        },
+        ends: hunted.ends,
+        rounds: hunted.rounds,
+    }
+}

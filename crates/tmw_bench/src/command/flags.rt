@@ -1,0 +1,20 @@
+ghost use Rattle.std.specs.Prelude.{◌≡◌};
+ghost use Rattle.tmw_bench.specs.BenchRun.{asks_for_log};
+
+/// What `bench` is asked to write of a run.
+#[derive(Clone, Copy, PartialEq, Eq, Debug)]
+pub struct Flags {
+    /// The log's trace, and with `show` the last window's traces in place of all else.
+    pub trace: bool,
+    /// The last window.
+    pub show: bool,
+}
+
+impl Flags {
+    /// Whether the log's trace is asked for, and so the log is kept.
+    pub const fn asks_for_log(self) -> bool
+        ensures { result ≡ asks_for_log self }
+    {
+        self.trace && !self.show
+    }
+}

@@ -1,0 +1,13 @@
+use tmw_drive::Ending;
+use tmw_show::Shown;
+
+/// What threads have made of a workload, with no event kept but those of the last window.
+#[derive(Debug, Drop)]
+pub struct HuntRun {
+    /// The workload's registers, how many events the log has, the verdict on it, and its last window.
+    pub shown: Shown,
+    /// For each script, by its thread's number, how far it has come in the last round.
+    pub ends: Vec<Ending>,
+    /// So many rounds were begun.
+    pub rounds: u64,
+}

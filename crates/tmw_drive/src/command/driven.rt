@@ -1,0 +1,23 @@
+ghost use Rattle.tmw_drive.specs.Driven.{IsHeaderOf};
+
+use crate::Outcome;
+use tmw_events::{Event, Registers};
+use tmw_trace::{Header, version_of};
+
+/// What a memory made of a workload, and the header under which its log is written.
+#[derive(Debug, Drop)]
+pub struct Driven {
+    pub header: Header,
+    pub outcome: Outcome,
+}
+
+/// The header of a log that begins with 0 in all registers: version two where it holds an add call.
+pub fn header_of(registers: Registers, log: &[Event]) -> Header
+    ensures { IsHeaderOf registers log.now result }
+{
+    Header {
+        version: version_of(log),
+        registers,
+        initial: [0; 8],
+    }
+}

@@ -1,5 +1,0 @@
-use Rattle.tmw_ring_bench.specs.Counts.{HasMade}
-use Rattle.tmw_ring_bench.proofs.record.record_all.Given as goal
-
-abbrev pub invariant-loop-value : goal.invariant-loop-value
-invariant-loop-value g l = HasMade l.ring l.value l.fn.writer l.writer

@@ -1,6 +1,0 @@
-use Rattle.std.proofs.Common.{◌<◌}
-use Rattle.tmw_ring_bench.specs.Counts.{HasMade}
-use Rattle.tmw_ring_bench.proofs.record.record_one.Given as goal
-
-abbrev pub invariant-loop : goal.invariant-loop
-invariant-loop g l = HasMade l.ring 0 l.fn.writer l.writer × (l.tries < 64)

@@ -1,6 +1,0 @@
-use Rattle.std.proofs.Common.{◌<◌}
-use Rattle.tmw_ring_bench.specs.Counts.{HasTakenMore}
-use Rattle.tmw_ring_bench.proofs.take.take_one.Given as goal
-
-abbrev pub invariant-loop : goal.invariant-loop
-invariant-loop g l = HasTakenMore l.ring 0 l.fn.reader l.reader × (l.tries < 64)

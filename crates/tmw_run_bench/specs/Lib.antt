@@ -1,4 +1,0 @@
-pub mod BenchRun
-pub mod Ends
-pub mod EndsObject
-pub mod Running

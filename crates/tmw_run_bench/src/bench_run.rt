@@ -1,9 +1,0 @@
-use tmw_run_drive::Driven;
-
-/// What threads have made of a workload, with the header under which their log is written.
-#[derive(Debug, Drop)]
-pub struct BenchRun {
-    pub driven: Driven,
-    /// So many rounds were begun.
-    pub rounds: u64,
-}

@@ -1,5 +1,0 @@
-mod GivenFaults
-mod Rows
-pub mod Shows
-mod StateHeaders
-mod TracesProof

@@ -1,6 +1,0 @@
-use Rattle.std.proofs.Common.{◌≡◌, ◌++◌}
-use Rattle.tmw_run_show.specs.Drawing.{blanks}
-use Rattle.tmw_run_show.proofs.numbers.push_blanks.Given as goal
-
-abbrev pub invariant-loop-place : goal.invariant-loop-place
-invariant-loop-place l = l.text.items ≡ l.fn.text.items ++ blanks l._place

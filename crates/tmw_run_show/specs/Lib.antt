@@ -1,4 +1,0 @@
-pub mod Drawing
-pub mod Running
-pub mod TracesLaw
-pub mod TracesText

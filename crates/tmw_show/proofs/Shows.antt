@@ -1,0 +1,67 @@
+-- What is shown of a trace has a verdict of its own criterion, and its events are numbered up to the trace's length.
+use Rattle.std.proofs.Common.{◌≡◌, ◌+◌, ◌-◌, ◌≤◌, ◌^◌, ℕ, List, [], length, ap, sym, refl, subst, ◌∙◌, append-nil, arith}
+use Rattle.std.specs.Prelude.{take}
+use Rattle.std.proofs.lemmas.List.{length-take, length-drop}
+use Rattle.tmw_lines.specs.TextFault.{EndsSoon}
+use Rattle.tmw_trace.specs.Text.{trace_grammar}
+use Rattle.tmw_events.specs.declared.event.Event.{Event}
+use Rattle.tmw_defs.specs.declared.criterion.Criterion.{Criterion}
+use Rattle.tmw_defs.specs.declared.criterion.Criterion.TheVariants.{Opacity, Strict}
+use Rattle.tmw_defs.specs.declared.verdict.Verdict.{Verdict}
+use Rattle.tmw_defs.specs.Opaque.{State}
+use Rattle.tmw_defs.specs.Verdict.{Rules, IsVerdict}
+use Rattle.tmw_monitor.specs.declared.bounds.Bounds.{Bounds}
+use Rattle.tmw_show.specs.Shown.{shown_length, IsShown}
+use Rattle.tmw_show.specs.Showing.{IsShowing}
+use Rattle.tmw_show.specs.declared.showing.Showing.{Showing}
+use Rattle.tmw_show.specs.declared.command.shown.Shown.{Shown}
+use Rattle.tmw_show.specs.Running.{IsShownOf, IsVerdictBy}
+
+verdict-by : (c : Criterion) (rules : Rules) (history : List Event) (v : Verdict) → rules.criterion ≡ c → IsVerdict rules history v
+    → IsVerdictBy c v
+verdict-by Opacity rules history v by is = λ other.
+    let told = subst (IsVerdict rules history) other is in
+    let bad : Opacity ≡ Strict = sym by ∙ told.0 in
+    absurd (cc)
+verdict-by Strict rules history v by is = λ other.
+    let told = subst (IsVerdict rules history) other is in
+    let bad : Strict ≡ Opacity = sym by ∙ told.0 in
+    absurd (cc)
+
+pub shown-by : (c : Criterion) (bounds : Bounds) (bytes : List ℕ) (shown : Shown) → IsShownOf c bounds bytes shown
+    → IsVerdictBy c shown.showing.verdict
+shown-by Opacity bounds bytes shown of = verdict-by Opacity _ of.history shown.showing.verdict refl of.tells.judged
+shown-by Strict bounds bytes shown of = verdict-by Strict _ of.history shown.showing.verdict refl of.tells.judged
+
+-- the window ends within the history
+numbered : (rules : Rules) (history : List Event) (v : Verdict) (from : ℕ) (states : List State) (events : List Event)
+    → IsShown rules history v from states events → from + length events ≤ length history
+numbered rules history v from states events shown =
+    let m = shown_length (length history) v in
+    let before = length-take (m - 1) history in
+    let all = length-take m history in
+    let rest = ap length shown.window ∙ length-drop from (take m history) in
+    let inside = shown.outcomes.last.is.0 in
+    let begins = shown.begins in
+    omega (arith, before, all, rest, inside, begins)
+
+pub shown-within : (rules : Rules) (history : List Event) (showing : Showing) → IsShowing rules history showing
+    → showing.from + length showing.events.items ≤ showing.fed
+shown-within rules history showing is =
+    let within = numbered rules history showing.verdict showing.from _ showing.events.items is.shown in
+    omega (arith, within, is.counted)
+
+pub shown-numbered : (c : Criterion) (bounds : Bounds) (bytes : List ℕ) (shown : Shown) → IsShownOf c bounds bytes shown
+    → shown.showing.from + length shown.showing.events.items ≤ 2 ^ 40
+shown-numbered c bounds bytes shown of =
+    let within = numbered _ of.history shown.showing.verdict shown.showing.from _ shown.showing.events.items of.tells.shown in
+    let few = of.are_events.few in
+    omega (arith, within, few)
+
+-- the text of a trace ends soon behind whole lines
+pub shown-soon : (c : Criterion) (bounds : Bounds) (bytes : List ℕ) (shown : Shown) → IsShownOf c bounds bytes shown
+    → EndsSoon trace_grammar bytes
+shown-soon c bounds bytes shown of = record {
+  begun = record { header = of.header; items = of.history; are_lines = of.are_events; rest = []; split = of.text ∙ sym (append-nil _) };
+  soon = omega arith;
+}

@@ -1,0 +1,122 @@
+-- The traces that are written of what is shown are judged as the run is.
+use Rattle.std.proofs.Common.{◌≡◌, ◌≤◌, ◌^◌, ◌==◌, ℕ, true, List, [], ◌∷◌, length, map, All, sym, ap, subst, ◌∙◌, take-append-drop, arith}
+use Rattle.std.specs.Prelude.{take, drop, get_or}
+use Rattle.std.specs.List.{Contains, AllByRecursion, list_all}
+use Rattle.std.proofs.lemmas.Bool.{and_parts}
+use Rattle.std.proofs.lemmas.List.Elements.{All-contains, All-drop, All-from_recursion, All-take, Contains-get_or, recursion_from_All}
+use Rattle.std.proofs.lemmas.List.Folds.{list_all-append}
+use Rattle.tmw_events.specs.Text.{FitsKind}
+use Rattle.tmw_events.specs.declared.event.Event.{Event}
+use Rattle.tmw_events.specs.declared.registers.Registers.{Registers}
+use Rattle.tmw_trace.specs.Start.{is_start}
+use Rattle.tmw_trace.specs.declared.header.Header.{Header}
+use Rattle.tmw_trace.specs.declared.version.Version.{Version}
+use Rattle.tmw_trace.specs.declared.version.Version.TheVariants.{One, Two}
+use Rattle.tmw_defs.specs.declared.criterion.Criterion.{Criterion}
+use Rattle.tmw_defs.specs.declared.verdict.Verdict.{Verdict}
+use Rattle.tmw_defs.specs.declared.verdict.Verdict.TheVariants.{Violated}
+use Rattle.tmw_defs.specs.Opaque.{State}
+use Rattle.tmw_defs.specs.Verdict.{IsViolated, IsVerdict}
+use Rattle.tmw_cuts.specs.Members.{members}
+use Rattle.tmw_monitor.specs.declared.bounds.Bounds.{Bounds}
+use Rattle.tmw_monitor.specs.Fitting.{rules_for}
+use Rattle.tmw_show.specs.Showing.{IsShowing}
+use Rattle.tmw_show.specs.Shown.{shown_length}
+use Rattle.tmw_show.specs.StatesLaw.{FitsRegisters, StatesLaw}
+use Rattle.tmw_show.specs.WindowLaw.{IsJudgedAlike, WindowLaw, at_end}
+use Rattle.tmw_show.specs.TracesLaw.{IsHeaderFor, AreJudgedLike, TracesLaw, rules_from}
+use Rattle.tmw_show.proofs.Shows.{shown-numbered}
+use Rattle.tmw_show.proofs.StateHeaders.{header_of, headers_of, initials-headers_of, each-headers_of, headers_of-each, heads-header_of, text-headers_of}
+
+-- a header's state is one of the run
+start-zeros : (version : Version) (registers : ℕ) (initial : List ℕ) → is_start version registers initial ≡ true
+    → list_all (λ value. value == 0) (drop registers initial) ≡ true
+start-zeros One registers initial starts =
+    let p : ℕ → _ = λ value. value == 0 in
+    (and_parts (list_all p (take registers initial)) _
+    (sym (list_all-append p (take registers initial) (drop registers initial))
+    ∙ (ap (list_all p) (take-append-drop registers initial) ∙ starts))).1
+start-zeros Two registers initial starts = starts
+
+-- what holds of each member holds of each by recursion, and the other way round
+each-member : {A : Type 0} (P : A → Type 0) (xs : List A) → ((x : A) → Contains xs x → P x) → AllByRecursion P xs
+each-member P xs each = recursion_from_All P xs (λ k d within. each (get_or xs k d) (Contains-get_or xs k d within))
+
+each_member : {A : Type 0} (P : A → Type 0) (xs : List A) → AllByRecursion P xs → (x : A) → Contains xs x → P x
+each_member P xs all x is = All-contains P xs x (All-from_recursion P xs all) is
+
+no-item : {A : Type 0} (x : A) → Contains {X = A} [] x → ⊥
+no-item x (k, within, is) = absurd (omega (arith, within))
+
+-- the headers of the states are judged like the run
+module _ (c : Criterion) (bounds : Bounds) (registers : Registers) (start : State) (v : Verdict) (states : List State) (events : List Event)
+    (fit : AllByRecursion (FitsRegisters registers.number) states)
+    (alike : IsJudgedAlike (rules_for c registers start bounds) v states events) where
+  sole-header : All (IsHeaderFor registers events) (headers_of registers states fit) → (header : Header)
+      → headers_of registers states fit ≡ header ∷ [] → IsVerdict (rules_from c bounds header) events (at_end (length events) v)
+  sole-header heads header one =
+      let own : IsHeaderFor registers events header = (subst (λ (hs : List Header). All (IsHeaderFor registers events) hs) one heads) 0 header (omega arith) in
+      let state : states ≡ header.initial ∷ [] =
+      sym (initials-headers_of registers states fit) ∙ ap (map (λ (h : Header). h.initial)) one in
+      subst (λ r. IsVerdict (rules_for c r header.initial bounds) events (at_end (length events) v)) (sym own.same_registers)
+      (alike.single header.initial state)
+
+  judged : All (IsHeaderFor registers events) (headers_of registers states fit) → AreJudgedLike c bounds v events (headers_of registers states fit)
+  judged heads =
+      let Wrong : Header → Type 0 = λ header. IsViolated (rules_from c bounds header) events in
+      let Answered : Header → Type 0 = λ header. (answer : Verdict) → IsVerdict (rules_from c bounds header) events answer
+      → (k : ℕ) × (answer ≡ Violated k) × (k ≤ length events) in
+      let At : State → Type 0 = λ s. IsViolated (rules_for c registers s bounds) events in
+      record {
+        some = λ none.
+            let empty : states ≡ [] = sym (initials-headers_of registers states fit) ∙ ap (map (λ (h : Header). h.initial)) none in
+            let (s, among) = alike.some in
+            absurd (no-item s (subst (λ (items : List State). Contains items s) empty among));
+        violated = (
+          λ is. All-from_recursion Wrong (headers_of registers states fit) (each-headers_of registers Wrong states fit
+              (each-member (λ s. (f : FitsRegisters registers.number s) → Wrong (header_of registers s f)) states
+              (λ s among f. alike.violated.0 is s among))),
+          λ all. alike.violated.1 (each_member At states (headers_of-each registers Wrong At (λ s f violated. violated) states fit
+              (recursion_from_All Wrong (headers_of registers states fit) all))),
+        );
+        answered = λ at is. All-from_recursion Answered (headers_of registers states fit) (each-headers_of registers Answered states fit
+            (each-member (λ s. (f : FitsRegisters registers.number s) → Answered (header_of registers s f)) states
+            (λ s among f answer given. alike.answered at is s among answer given)));
+        single = sole-header heads;
+      }
+
+pub traces_law : WindowLaw → StatesLaw → TracesLaw
+traces_law window states_law c bounds bytes shown of =
+    let registers = shown.registers in
+    let events = shown.showing.events.items in
+    let states = members shown.showing.states in
+    let start = of.header.initial in
+    let tells : IsShowing (rules_for c registers start bounds) of.history shown.showing =
+    subst (λ r. IsShowing (rules_for c r start bounds) of.history shown.showing) (sym of.registers) of.tells in
+    let kinds : All (λ event. FitsKind event.kind) of.history = λ k d within. (of.are_events.fit.items_fit k d within).0 in
+    let begins : FitsRegisters registers.number start = subst (λ r. FitsRegisters r.number start) (sym of.registers) (record {
+      eight = of.are_events.fit.header_fits.0;
+      values = of.are_events.fit.header_fits.1;
+      zeros = start-zeros of.header.version of.header.registers.number start of.header.starts;
+    }) in
+    let fit : AllByRecursion (FitsRegisters registers.number) states = each-member (FitsRegisters registers.number) states
+    (states_law (rules_for c registers start bounds) of.history shown.showing.verdict shown.showing.from states events tells.judged tells.shown
+    begins kinds) in
+    let alike = window (rules_for c registers start bounds) of.history shown.showing.verdict shown.showing.from states events bounds.some_states
+    tells.judged tells.shown in
+    let last = shown_length (length of.history) shown.showing.verdict in
+    let own : All (λ event. FitsKind event.kind) events = subst (All (λ event. FitsKind event.kind)) (sym tells.shown.window)
+    (All-drop (λ event. FitsKind event.kind) shown.showing.from (take last of.history)
+    (All-take (λ event. FitsKind event.kind) last of.history kinds)) in
+    let few : length events ≤ 2 ^ 40 = (let numbered = shown-numbered c bounds bytes shown of in omega (arith, numbered)) in
+    let heads : All (IsHeaderFor registers events) (headers_of registers states fit) =
+    All-from_recursion _ (headers_of registers states fit) (each-headers_of registers (IsHeaderFor registers events) states fit
+    (each-member (λ s. (f : FitsRegisters registers.number s) → IsHeaderFor registers events (header_of registers s f)) states
+    (λ s at f. heads-header_of registers events own few s f))) in
+    record {
+      headers = headers_of registers states fit;
+      states = initials-headers_of registers states fit;
+      each = heads;
+      text = text-headers_of registers events states fit;
+      judged = judged c bounds registers start shown.showing.verdict states events fit alike heads;
+    }

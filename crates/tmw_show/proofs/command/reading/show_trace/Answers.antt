@@ -1,0 +1,53 @@
+-- What was told is the first line and what was read behind it.
+use Rattle.std.proofs.Common.{[], ◌++◌, refl}
+use Rattle.tmw_lines.specs.declared.text_fault.TextFault.TheVariants.{Memory}
+use Rattle.tmw_lines.proofs.TextsRead.{soon-behind}
+use Rattle.tmw_streams.proofs.ToldBytes.{Tells-more}
+use Rattle.tmw_trace.specs.Text.{trace_grammar}
+use Rattle.tmw_monitor.specs.Fitting.{rules_for}
+use Rattle.tmw_show.specs.Feeding.{TakeEvents, LackAnEvent}
+use Rattle.tmw_show.specs.declared.last_window.LastWindow.{LastWindow}
+use Rattle.tmw_show.proofs.GivenFaults.{given-fault}
+use Rattle.tmw_show.proofs.command.reading.show_trace.Goals as goal
+
+pub returns-in_default-clause-right : goal.returns-in_default-clause-right
+returns-in_default-clause-right g c =
+    let first = c.in-Ok.ensures.header in
+    (first.0, first.1, (Memory, refl, soon-behind trace_grammar c.header.new.self c.in-Ok.header [] first.0 first.2))
+
+pub returns-in-Ok-give_items-clause-right : goal.returns-in-Ok-give_items-clause-right
+returns-in-Ok-give_items-clause-right g c =
+    let first = c.in-Ok.ensures.header in
+    let all = c.in-Ok-give_items.ensures.gives in
+    let header = c.in-Ok.header in
+    let end = all.given.0 header [] first.0 first.2 in
+    let judged_by = rules_for c.args.criterion header.registers header.initial c.args.bounds in
+    let watches = all.given.1 judged_by [] c.in-Ok-new.ensures in (
+      first.0 ++ all.bytes,
+      Tells-more g.S.Source.told g.S.Source.remaining c.args.source.now c.header.new.source c.give_items.new.source first.0 all.bytes first.1 all.told,
+      (
+        end.ended,
+        record {
+          header = header;
+          history = all.items;
+          are_events = end.are_lines;
+          text = end.text;
+          registers = refl;
+          tells = c.finish.ensures judged_by all.items watches;
+        },
+      ),
+    )
+
+pub returns-in-Err-give_items-clause-right : goal.returns-in-Err-give_items-clause-right
+returns-in-Err-give_items-clause-right g c =
+    let first = c.in-Ok.ensures.header in
+    let all = c.in-Err-give_items.ensures.gives in (
+      first.0 ++ all.bytes,
+      Tells-more g.S.Source.told g.S.Source.remaining c.args.source.now c.header.new.source c.give_items.new.source first.0 all.bytes first.1 all.told,
+      (
+        c.in-Err-give_items.fault,
+        c.fault_of-in-Err-give_items.ensures,
+        given-fault (Unit {0}) LastWindow TakeEvents LackAnEvent (g.S.Source.ended c.give_items.new.source) c.header.new.self c.give_items.new.lines
+            c.in-Ok-new.window c.give_items.new.taker c.in-Ok.header first.0 all.bytes all.items first.2 c.in-Err-give_items.fault all.given,
+      ),
+    )

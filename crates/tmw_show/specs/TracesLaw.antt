@@ -1,0 +1,54 @@
+-- The law of the traces that `show --trace` writes: `judge` reads each of them as a trace, and what it may say of them tells whether
+-- the run is violated.
+use Rattle.std.specs.Prelude.{◌≡◌, ◌≢◌, ◌↔◌, ◌≤◌, ℕ, true, List, [], ◌∷◌, length, map, All}
+use Rattle.std.specs.List.{flat_map}
+use Rattle.tmw_events.specs.declared.event.Event.{Event}
+use Rattle.tmw_events.specs.declared.registers.Registers.{Registers}
+use Rattle.tmw_trace.specs.Text.{trace_text, AreEvents}
+use Rattle.tmw_trace.specs.declared.header.Header.{Header}
+use Rattle.tmw_trace.specs.declared.version.Version.TheVariants.{Two}
+use Rattle.tmw_defs.specs.declared.criterion.Criterion.{Criterion}
+use Rattle.tmw_defs.specs.declared.verdict.Verdict.{Verdict}
+use Rattle.tmw_defs.specs.declared.verdict.Verdict.TheVariants.{Violated}
+use Rattle.tmw_defs.specs.Verdict.{Rules, IsViolated, IsVerdict}
+use Rattle.tmw_cuts.specs.Members.{members}
+use Rattle.tmw_monitor.specs.declared.bounds.Bounds.{Bounds}
+use Rattle.tmw_monitor.specs.Fitting.{rules_for}
+use Rattle.tmw_show.specs.WindowLaw.{at_end}
+use Rattle.tmw_show.specs.declared.command.shown.Shown.{Shown}
+use Rattle.tmw_show.specs.Running.{IsShownOf, shown_text}
+
+-- The header is of version two and of these registers, and these are events of a trace with it.
+pub record IsHeaderFor (registers : Registers) (events : List Event) (header : Header) : Type 0 where
+  pub version : header.version ≡ Two
+  pub same_registers : header.registers ≡ registers
+  pub are_events : AreEvents header events
+
+-- What `judge` judges a trace with this header by, as `trace_rules` of `tmw_judge` says.
+abbrev pub rules_from : Criterion → Bounds → Header → Rules
+rules_from criterion bounds header = rules_for criterion header.registers header.initial bounds
+
+-- There is a trace with one of these headers, and each with these events is judged like a run with this verdict: the run is violated
+-- exactly when each of them is violated at its end. Then each verdict on one of them is that it is violated, at its end or before. A
+-- single trace has the run's own verdict, whichever it is, at its end.
+pub record AreJudgedLike (criterion : Criterion) (bounds : Bounds) (verdict : Verdict) (events : List Event) (headers : List Header) : Type 0 where
+  pub some : headers ≢ []
+  pub violated : ((at : ℕ) × (verdict ≡ Violated at)) ↔ All (λ header. IsViolated (rules_from criterion bounds header) events) headers
+  pub answered : (at : ℕ) → verdict ≡ Violated at → All (λ header. (answer : Verdict)
+      → IsVerdict (rules_from criterion bounds header) events answer → (k : ℕ) × (answer ≡ Violated k) × (k ≤ length events)) headers
+  pub single : (header : Header) → headers ≡ header ∷ []
+      → IsVerdict (rules_from criterion bounds header) events (at_end (length events) verdict)
+
+-- With `--trace` the texts of traces are written, one behind the other: one trace for each state that is shown, in order, which begins
+-- with just that state and has just the events that are shown. How they are judged tells of the run.
+pub record AreTracesOf (criterion : Criterion) (bounds : Bounds) (shown : Shown) : Type 0 where
+  pub headers : List Header
+  pub states : map (λ header. header.initial) headers ≡ members shown.showing.states
+  pub each : All (IsHeaderFor shown.registers shown.showing.events.items) headers
+  pub text : shown_text criterion true shown ≡ flat_map (λ header. trace_text header shown.showing.events.items) headers
+  pub judged : AreJudgedLike criterion bounds shown.showing.verdict shown.showing.events.items headers
+
+-- So it is of whatever trace's bytes, by each criterion and within all bounds.
+abbrev pub TracesLaw : Type 0
+TracesLaw = (criterion : Criterion) (bounds : Bounds) (bytes : List ℕ) (shown : Shown) → IsShownOf criterion bounds bytes shown
+    → AreTracesOf criterion bounds shown

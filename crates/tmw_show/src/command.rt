@@ -1,0 +1,20 @@
+//! The command `show`: a trace, read and judged event by event, and the place where it went wrong: its last window, drawn in columns,
+//! or as traces of its own.
+
+mod answer;
+mod kind_text;
+mod law;
+mod numbers;
+mod reading;
+mod run;
+mod shown;
+mod states;
+mod text;
+mod told;
+mod traces;
+mod window;
+
+pub use law::law_traces;
+pub use run::run_show;
+pub use shown::Shown;
+pub use text::shown_text;

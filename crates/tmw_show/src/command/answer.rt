@@ -1,0 +1,36 @@
+ghost use Rattle.std.specs.Prelude.{◌+◌, ◌≤◌, ◌⊎◌, length};
+ghost use Rattle.tmw_report.specs.Lines.{fault_line};
+ghost use Rattle.tmw_report.specs.Putting.{IsPut};
+ghost use Rattle.tmw_report.specs.Streams.{to_sink};
+ghost use Rattle.tmw_report.specs.declared.fault.Fault.TheVariants.{Memory};
+ghost use Rattle.tmw_show.specs.Running.{IsVerdictBy, shown_status, shown_text};
+
+use crate::command::shown::Shown;
+use crate::command::text::shown_text;
+use std::alloc::Global;
+use tmw_defs::Criterion;
+use tmw_report::{FAULT_STATUS, Fault, answer_fault, status_of};
+use tmw_streams::{Sink, put_all};
+
+/// Writes what is shown, or the window's traces alone, where these are asked for, and answers the exit status. The text is made
+/// before any of it goes out: where memory for it is refused, that fault stands in the place of all.
+pub fn answer_shown<K: Sink>(
+    alloc: Global,
+    sink: &mut K,
+    criterion: Criterion,
+    trace: bool,
+    shown: &Shown,
+) -> u8
+    requires own { IsVerdictBy criterion shown.now.showing.verdict }
+    requires within { shown.now.showing.from + length shown.now.showing.events.items ≤ shown.now.showing.fed }
+    ensures { IsPut (to_sink K.took K.holds K.failures) sink.old sink.new (shown_text criterion trace shown.now) (shown_status shown.now) result
+        ⊎ IsPut (to_sink K.took K.holds K.failures) sink.old sink.new (fault_line Memory) 4 result }
+{
+    let Ok(text) = shown_text(alloc, criterion, trace, shown) else {
+        return answer_fault(sink, Fault::Memory);
+    };
+    match put_all(sink, &text) {
+        Ok(()) => status_of(&shown.showing.verdict),
+        Err(_) => FAULT_STATUS,
+    }
+}

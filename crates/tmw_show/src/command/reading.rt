@@ -1,0 +1,44 @@
+ghost use Rattle.std.specs.Prelude.{◌≡◌, ℕ, List};
+ghost use Rattle.tmw_streams.specs.Told.{Tells};
+ghost use Rattle.tmw_report.specs.CommandRun.{failures_after_answer};
+ghost use Rattle.tmw_show.specs.Running.{AnswersShow};
+
+use crate::LastWindow;
+use crate::command::shown::Shown;
+use std::alloc::Global;
+use tmw_defs::Criterion;
+use tmw_lines::give_items;
+use tmw_monitor::Bounds;
+use tmw_report::{Fault, fault_of};
+use tmw_streams::Source;
+use tmw_trace::TraceLines;
+
+/// Reads a trace up to the source's end, and judges each event as its line is read, by this criterion. No event is kept that stands
+/// before the last window. Where memory is refused, nothing is read after it.
+pub fn show_trace<S: Source>(
+    alloc: Global,
+    source: &mut S,
+    criterion: Criterion,
+    bounds: Bounds,
+) -> Result<Shown, Fault>
+    ensures right { (bytes : List ℕ) × Tells S.told S.remaining source.old bytes source.new
+        × AnswersShow criterion bounds (S.ended source.new) bytes result }
+    ensures failures { S.failures source.new ≡ failures_after_answer result (S.failures source.old) }
+{
+    let mut lines = TraceLines::new();
+    let header = match lines.header(source) {
+        Ok(header) => header,
+        Err(fault) => return Err(fault_of(fault)),
+    };
+    let Ok(mut window) = LastWindow::new(alloc, criterion, header.registers, header.initial, bounds)
+    else {
+        return Err(Fault::Memory);
+    };
+    match give_items(&mut lines, source, &mut window) {
+        Ok(()) => Ok(Shown {
+            registers: header.registers,
+            showing: window.finish(),
+        }),
+        Err(fault) => Err(fault_of(fault)),
+    }
+}

@@ -1,0 +1,9 @@
+use crate::Showing;
+use tmw_events::Registers;
+
+/// What is shown of a trace whose run has so many registers.
+#[derive(Debug, Drop)]
+pub struct Shown {
+    pub registers: Registers,
+    pub showing: Showing,
+}

@@ -1,0 +1,78 @@
+ghost use Rattle.std.specs.Prelude.{◌≡◌, ◌+◌, ◌≤◌, ◌++◌, IfOk, OnOk, length, string_bytes};
+ghost use Rattle.tmw_show.specs.Running.{IsVerdictBy, drawn_text, line_by, shown_text};
+
+use crate::command::shown::Shown;
+use crate::command::states::push_states;
+use crate::command::traces::push_traces;
+use crate::command::window::push_window;
+use std::alloc::{AllocError, Global};
+use tmw_defs::{Criterion, Verdict};
+use tmw_report::{report_strict, report_text};
+
+/// The text of what is shown by this criterion, or of the window's traces, where these are asked for. It fails only where memory is
+/// refused.
+pub fn shown_text(
+    alloc: Global,
+    criterion: Criterion,
+    trace: bool,
+    shown: &Shown,
+) -> Result<Vec<u8>, AllocError>
+    requires own { IsVerdictBy criterion shown.now.showing.verdict }
+    requires within { shown.now.showing.from + length shown.now.showing.events.items ≤ shown.now.showing.fed }
+    ensures { IfOk result (λ text. text.items ≡ shown_text criterion trace shown.now) }
+{
+    let mut text = Vec::new(alloc);
+    if trace {
+        let showing = &shown.showing;
+        push_traces(
+            &mut text,
+            shown.registers,
+            &showing.events,
+            showing.states.states(),
+        )?;
+    } else {
+        push_drawn(alloc, &mut text, criterion, shown)?;
+    }
+    Ok(text)
+}
+
+/// Adds the report's line, the states from which the last window begins, and its events.
+fn push_drawn(
+    alloc: Global,
+    text: &mut Vec<u8>,
+    criterion: Criterion,
+    shown: &Shown,
+) -> Result<(), AllocError>
+    requires own { IsVerdictBy criterion shown.now.showing.verdict }
+    requires within { shown.now.showing.from + length shown.now.showing.events.items ≤ shown.now.showing.fed }
+    ensures { OnOk result (text.new.items ≡ text.old.items ++ drawn_text criterion shown.now) }
+{
+    let showing = &shown.showing;
+    let line = line_by(alloc, criterion, showing.fed, &showing.verdict)?;
+    text.extend_from_slice(line.as_bytes())?;
+    push_states(text, shown.registers, showing.states.states())?;
+    push_window(
+        text,
+        criterion,
+        showing.verdict,
+        showing.from,
+        &showing.events,
+    )?;
+    Ok(())
+}
+
+/// The line that `judge` writes, by the same criterion.
+fn line_by(
+    alloc: Global,
+    criterion: Criterion,
+    events: u64,
+    verdict: &Verdict,
+) -> Result<String, AllocError>
+    requires { IsVerdictBy criterion verdict.now }
+    ensures { IfOk result (λ line. string_bytes line ≡ line_by criterion events verdict.now) }
+{
+    match criterion {
+        Criterion::Opacity => report_text(alloc, events, verdict),
+        Criterion::Strict => report_strict(alloc, events, verdict),
+    }
+}

@@ -1,0 +1,123 @@
+ghost use Rattle.std.specs.Prelude.{◌≡◌, ◌+◌, ◌<◌, ◌≤◌, ◌^◌, ◌++◌, OnOk, length};
+ghost use Rattle.tmw_lines.specs.Text.{line};
+ghost use Rattle.tmw_show.specs.Drawing.{beside, event_row, heads_text, last_thread, rows_text, told_row, window_text};
+
+use crate::command::kind_text::push_kind;
+use crate::command::numbers::push_blanks;
+use crate::command::told::told_of;
+use itoa::Buffer;
+use std::alloc::AllocError;
+use tmw_defs::{Criterion, Verdict};
+use tmw_events::Event;
+
+/// The heads of eight columns.
+const ALL_HEADS: &[u8] =
+    b"    event  thread 0    thread 1    thread 2    thread 3    thread 4    thread 5    thread 6    thread 7";
+
+/// Adds the line of the heads, and a line for each event, in a column for each thread: the first has the number that follows `from`.
+pub fn push_window(
+    text: &mut Vec<u8>,
+    criterion: Criterion,
+    verdict: Verdict,
+    from: u64,
+    events: &[Event],
+) -> Result<(), AllocError>
+    requires { from + length events.now < 2 ^ 64 }
+    ensures { OnOk result (text.new.items ≡ text.old.items ++ window_text criterion verdict from events.now) }
+{
+    let heads = heads_of(last_thread(events));
+    text.extend_from_slice(heads)?;
+    text.push(b'\n')?;
+    push_rows(text, criterion, verdict, heads.len(), from, events)?;
+    Ok(())
+}
+
+/// The heads of the columns up to this thread's.
+fn heads_of(last: u8) -> &'static [u8]
+    requires { last < 8 }
+    ensures { result.now ≡ heads_text last }
+{
+    &ALL_HEADS[..19 + 12 * last as usize]
+}
+
+/// The greatest number of a thread that has one of these events, or 0.
+fn last_thread(events: &[Event]) -> u8
+    ensures last { result ≡ last_thread events.now }
+    ensures below { result < 8 }
+{
+    let mut last = 0;
+    for event in events {
+        last = last.max(event.thread.get());
+    }
+    last
+}
+
+/// Adds a line for each event: the first has the number that follows `from`.
+fn push_rows(
+    text: &mut Vec<u8>,
+    criterion: Criterion,
+    verdict: Verdict,
+    width: usize,
+    from: u64,
+    events: &[Event],
+) -> Result<(), AllocError>
+    requires { from + length events.now < 2 ^ 64 }
+    ensures { OnOk result (text.new.items ≡ text.old.items ++ rows_text criterion verdict width (from + 1) events.now) }
+{
+    let mut number = from;
+    for event in events {
+        number += 1;
+        push_line(
+            text,
+            width,
+            number,
+            *event,
+            told_of(criterion, verdict, number),
+        )?;
+    }
+    Ok(())
+}
+
+/// Adds the line of an event, with what is told of it.
+fn push_line(
+    text: &mut Vec<u8>,
+    width: usize,
+    number: u64,
+    event: Event,
+    told: &str,
+) -> Result<(), AllocError>
+    ensures { OnOk result (text.new.items ≡ text.old.items ++ line (told_row width (event_row number event) told.now)) }
+{
+    let before = text.len();
+    push_row(text, number, event)?;
+    let gap = width.saturating_sub(text.len() - before);
+    push_beside(text, gap, told)?;
+    text.push(b'\n')?;
+    Ok(())
+}
+
+/// Adds an event with its number, in its thread's column.
+fn push_row(text: &mut Vec<u8>, number: u64, event: Event) -> Result<(), AllocError>
+    ensures { OnOk result (text.new.items ≡ text.old.items ++ event_row number event) }
+{
+    let mut buffer = Buffer::new();
+    let digits = buffer.format(number).as_bytes();
+    push_blanks(text, 9usize.saturating_sub(digits.len()))?;
+    text.extend_from_slice(digits)?;
+    push_blanks(text, 2 + 12 * event.thread.get() as usize)?;
+    push_kind(text, event.kind)?;
+    Ok(())
+}
+
+/// Adds what is told of an event, behind so many blanks and two more.
+fn push_beside(text: &mut Vec<u8>, gap: usize, told: &str) -> Result<(), AllocError>
+    ensures { OnOk result (text.new.items ≡ text.old.items ++ beside gap told.now) }
+{
+    if told.is_empty() {
+        return Ok(());
+    }
+    push_blanks(text, gap)?;
+    text.extend_from_slice(b"  ")?;
+    text.extend_from_slice(told.as_bytes())?;
+    Ok(())
+}

@@ -1,3 +1,0 @@
-mod Claims
-mod Left
-mod Works
