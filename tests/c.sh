@@ -8,14 +8,13 @@
 # Environment: CC (cc), CXX (c++), BUILT (a folder that ./tmwatch-c has filled; it is made where there is none), FLAGS (further flags of the
 # compiler), RUN (a command that runs each program), ROUNDS (2000, of the example).
 set -eu
-top=$(cd "$(dirname "${BASH_SOURCE[0]}")/.." && pwd)
+# shellcheck source=tests/common.sh
+. "$(dirname "${BASH_SOURCE[0]}")/common.sh"
 cc=${CC:-cc} cxx=${CXX:-c++}
 if ! command -v "$cc" >/dev/null; then
     echo 'tests/c.sh: skipped, since there is no C compiler: nothing of the library for C was tested'
     exit 0
 fi
-folder=$(mktemp -d)
-trap 'rm -rf "$folder"' EXIT
 built=${BUILT:-$folder/built}
 [ -n "${BUILT:-}" ] || "$top/tmwatch-c" "$built"
 read -r -a flags <<<"${FLAGS:-}"
@@ -24,7 +23,6 @@ strict=(-Wall -Wextra -pedantic -Werror -g -O2 -pthread "-I$built/include" "${fl
 wrapped=(-Wl,--wrap=malloc -Wl,--wrap=realloc -Wl,--wrap=free)
 static=("$built/lib/libtmwatch.a")
 shared=("-L$built/lib" -ltmwatch "-Wl,-rpath,$(cd "$built/lib" && pwd)")
-passed=0 failed=0
 
 # Runs these words, which have to end with this status.
 ends() {
@@ -69,5 +67,4 @@ program bank_broken "$top/examples/c/bank.c" 1 "${ROUNDS:-2000} broken" "${stati
 if command -v pkg-config >/dev/null; then
     ends 'the package' 0 env PKG_CONFIG_PATH="$built/lib/pkgconfig" sh -c "$cc -std=c11 ${FLAGS:-} -o '$folder/package' '$top/tests/c/misuse.c' \$(pkg-config --cflags --libs tmwatch)"
 fi
-echo "$passed passed, $failed failed"
-[ "$failed" -eq 0 ]
+end_rows

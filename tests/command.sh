@@ -18,11 +18,9 @@
 # Environment: CASES, a folder, for tests/quick.sh: rows are not run, but written there as cases of `rt try --cases`; when the answers
 # to these are there, rows are compared with them.
 set -eu
-top=$(cd "$(dirname "${BASH_SOURCE[0]}")/.." && pwd)
-folder=$(mktemp -d)
-trap 'rm -rf "$folder"' EXIT
-passed=0 failed=0
-[ -n "${CASES:-}" ] || [ -x "$top/crates/tmwatch/out/tmwatch" ] || "$top/build"
+# shellcheck source=tests/common.sh
+. "$(dirname "${BASH_SOURCE[0]}")/common.sh"
+[ -n "${CASES:-}" ] || [ -x "$program" ] || "$top/build"
 
 # Counts a command line by whether what it did is what was wanted.
 count() {
@@ -41,7 +39,7 @@ run() {
         run_case "$@"
         return
     fi
-    "$top/crates/tmwatch/out/tmwatch" "$@" >"$folder/output" 2>"$folder/errors" || status=$?
+    "$program" "$@" >"$folder/output" 2>"$folder/errors" || status=$?
 }
 
 # Writes a case of these words and of standard input, or takes its answer.
@@ -456,7 +454,7 @@ least_time() {
 if [ -z "${CASES:-}" ]; then
     { echo 'opacity-trace 1 1' && serial_events 3000000; } >"$folder/made"
     counting=$(least_time wc -l)
-    judging=$(least_time "$top/crates/tmwatch/out/tmwatch" judge)
+    judging=$(least_time "$program" judge)
     echo "judge of 3,000,000 events: $((judging / counting)) times wc -l, $judging and $counting microseconds"
     count 'judge of 3,000,000 events, within 40 times wc -l' '1 {"events":3000000,"verdict":"opaque so far"}' \
         "$((judging <= 40 * counting)) $(cat "$folder/output")"
@@ -494,7 +492,7 @@ mkfifo "$folder/open"
 for text in 'opacity-trace 1 1\n0 R 01\n:{"fault":"bad line","line":2}' '~\n:{"fault":"bad header"}'; do
     { printf %b "${text%%:*}" && sleep 5; } >"$folder/open" &
     status=0
-    timeout 4 "$top/crates/tmwatch/out/tmwatch" judge <"$folder/open" >"$folder/output" || status=$?
+    timeout 4 "$program" judge <"$folder/open" >"$folder/output" || status=$?
     count "judge of an open '${text%%:*}'" "4 ${text#*:}" "$status $(cat "$folder/output")"
     kill $! 2>/dev/null || true
 done
@@ -509,5 +507,4 @@ status=0
 "$top/tmwatch" replay </dev/null >"$folder/output" 2>/dev/full || status=$?
 count 'replay 2> /dev/full' "4 '{\"fault\":\"usage\"}'" "$status '$(cat "$folder/output")'"
 
-echo "$passed passed, $failed failed"
-[ "$failed" -eq 0 ]
+end_rows

@@ -7,10 +7,8 @@
 # when one failed.
 # Environment: SECONDS_EACH (300), the seconds that a test or a row may take.
 set -eu
-top=$(cd "$(dirname "${BASH_SOURCE[0]}")/.." && pwd)
-folder=$(mktemp -d)
-trap 'rm -rf "$folder"' EXIT
-passed=0 failed=0
+# shellcheck source=tests/common.sh
+. "$(dirname "${BASH_SOURCE[0]}")/common.sh"
 
 # The tests of a crate, in the background.
 begin_tests() {

@@ -9,9 +9,8 @@
 # a name is gone or a limit of the prover's is met; what the prover said of each stands in edits/log. The last line is 'N refused, M by
 # a name or limit alone, K not refused'; the exit status is 1 when K is above 0.
 set -eu
-top=$(cd "$(dirname "${BASH_SOURCE[0]}")/../.." && pwd)
-folder=$(mktemp -d)
-trap 'rm -rf "$folder"' EXIT
+# shellcheck source=tests/common.sh
+. "$(dirname "${BASH_SOURCE[0]}")/../common.sh"
 [ $# -gt 0 ] || set -- $(ls "$top/edits" | grep -v '^log$')
 mkdir "$folder/.git" "$folder/crates"
 cp "$top/HANDLES" "$folder/"

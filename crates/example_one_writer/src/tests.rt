@@ -4,8 +4,8 @@ use std::process::Abort;
 use std::sync::Wait;
 use std::thread;
 use std::thread::Threads;
-use tmw_events::{Ix, Registers};
 use test_support::{FIRST, SECOND};
+use tmw_events::{Ix, Registers};
 use tmw_tm::{Did, Got, Tm, Tx};
 
 const TWO: Registers = Registers { number: 2 };

@@ -2,10 +2,10 @@
 use crate::monitor::{WIDEST, verdicts};
 use std::alloc::{AllocError, Global};
 use std::test::Fail;
+use test_support::{FIRST, SECOND, Seed};
 use tmw_events::{Event, Kind, Registers};
 use tmw_monitor::{Criterion, Verdict};
 use tmw_plain_check::{Whole, WholeFault, judge_whole};
-use test_support::{FIRST, SECOND, Seed};
 use tmw_wellformed::Tracker;
 
 pub(crate) const TWO: Registers = Registers { number: 2 };

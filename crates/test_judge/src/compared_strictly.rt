@@ -2,9 +2,9 @@
 use crate::compared::{Met, TWO, draw_events, plain};
 use crate::monitor::{WIDEST, verdicts};
 use std::test::Fail;
+use test_support::Seed;
 use tmw_monitor::{Criterion, Verdict};
 use tmw_plain_check::{judge_whole, judge_whole_for};
-use test_support::Seed;
 
 /// How often the criteria part: where opacity alone is violated, and where strict serializability is violated later.
 #[derive(Clone, Copy, Debug)]

@@ -1,10 +1,10 @@
 //! The monitor beside the plain check, on 2,000 seeded histories from seeded start values, within each bound on windows.
 use crate::compared::{Met, TWO, draw_events, plain};
 use std::test::Fail;
+use test_support::Seed;
 use tmw_events::Event;
 use tmw_monitor::{Bounds, Verdict, Why, judge_from};
 use tmw_plain_check::judge_whole_from;
-use test_support::Seed;
 use tmw_wellformed::Tracker;
 
 /// The length of the shortest prefix whose last window has more transactions than this, where it has no event that fits no run.

@@ -1,9 +1,9 @@
 //! What the contracts leave open: that there is memory for the calls, and that their answers are those which users expect.
 use std::alloc::{AllocError, Global};
 use std::test::Fail;
+use test_support::{FIRST, dirty_read, one, other};
 use tmw_events::{Event, Kind, Registers};
 use tmw_monitor::{BadBounds, Bounds, Criterion, Monitor, Verdict, Why, judge, judge_from};
-use test_support::{FIRST, dirty_read, one, other};
 
 pub(crate) const ONE: Registers = Registers { number: 1 };
 

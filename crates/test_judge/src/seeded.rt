@@ -4,6 +4,7 @@ use crate::compared::{TWO, plain};
 use std::alloc::{AllocError, Global};
 use std::process::Abort;
 use std::test::Fail;
+use test_support::{FIRST, SECOND, Seed};
 use tmw_defs::{Asked, Criterion, Verdict};
 use tmw_events::{Event, Kind};
 use tmw_judge::run_judge;
@@ -11,7 +12,6 @@ use tmw_monitor::Bounds;
 use tmw_plain_check::judge_whole_for;
 use tmw_report::{report_strict, report_text, status_of};
 use tmw_streams::{MemorySink, MemorySource};
-use test_support::{FIRST, SECOND, Seed};
 use tmw_trace::{Header, Version, write_trace};
 use tmw_wellformed::Tracker;
 

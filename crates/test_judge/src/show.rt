@@ -1,11 +1,11 @@
 //! Which window is shown of a run, for each verdict.
 use std::alloc::{AllocError, Global};
 use std::test::Fail;
+use test_support::{FIRST, dirty_read, one, other};
 use tmw_defs::{Criterion, Verdict, Why};
 use tmw_events::{Event, Kind, Registers};
 use tmw_monitor::Bounds;
 use tmw_show::LastWindow;
-use test_support::{FIRST, dirty_read, one, other};
 
 const ONE: Registers = Registers { number: 1 };
 

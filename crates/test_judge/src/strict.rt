@@ -1,10 +1,10 @@
 //! Histories that tell strict serializability from opacity, and those on which both end alike.
 use crate::monitor::{ONE, WIDEST, verdicts, writers};
 use std::test::Fail;
+use test_support::{FIRST, SECOND, dirty_read, one, other};
 use tmw_cuts::State;
 use tmw_events::{Event, Kind, Registers};
 use tmw_monitor::{Bounds, Criterion, Monitor, Verdict, Why, judge_for};
-use test_support::{FIRST, SECOND, dirty_read, one, other};
 
 const TWO: Registers = Registers { number: 2 };
 

@@ -1,9 +1,9 @@
 //! What the contracts leave open: that an order stays known where one can be had, and is forgotten where none is found.
 use std::alloc::{AllocError, Global};
 use std::test::Fail;
+use test_support::{FIRST, SECOND, dirty_read, one, other};
 use tmw_cuts::{State, States, Window};
 use tmw_events::{Event, Kind, Registers};
-use test_support::{FIRST, SECOND, dirty_read, one, other};
 use tmw_wellformed::Note;
 use tmw_witness::Witness;
 

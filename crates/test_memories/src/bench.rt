@@ -4,13 +4,13 @@ ghost use Rattle.std.specs.Prelude.{◌≡◌, ◌≤◌};
 
 use std::alloc::Global;
 use std::test::Fail;
+use test_support::{FIRST, one};
 use tmw_bench::{BenchFault, Settings, run_bench};
 use tmw_defs::Verdict;
 use tmw_drive::Ending;
 use tmw_events::{Event, Kind, Registers};
 use tmw_monitor::Bounds;
 use tmw_ring::{Refused, RingFault};
-use test_support::{FIRST, one};
 use tmw_tm::Did;
 use tmw_workloads::{Workload, read_workload};
 

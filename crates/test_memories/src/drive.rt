@@ -1,11 +1,11 @@
 //! What the contract leaves open: that there is memory, which calls the memory gets, and that workloads are driven as their
 //! readers expect.
 use std::test::Fail;
+use test_support::{FIRST, one};
 use tmw_defs::Verdict;
 use tmw_drive::{DriveFault, Ending, drive};
 use tmw_events::{Kind, Registers};
 use tmw_monitor::Bounds;
-use test_support::{FIRST, one};
 use tmw_tm::Did;
 use tmw_workloads::Workload;
 

@@ -1,8 +1,8 @@
 //! What the contracts leave open, and no command line reaches: when a lock is free again, and what two threads at once have counted.
 use std::process::Abort;
+use test_support::{FIRST, SECOND};
 use tmw_events::{Ix, Registers};
 use tmw_memories::{GlobalLock, NoRec, Torn};
-use test_support::{FIRST, SECOND};
 use tmw_tm::{Did, Got, Tm, Tx};
 
 mod aborts;

@@ -2,12 +2,12 @@
 use crate::counting::Counting;
 use std::alloc::Global;
 use std::test::Fail;
+use test_support::{FIRST, one};
+use tmw_bench::work;
 use tmw_events::{Event, Kind, Registers};
 use tmw_recorded::Signals;
 use tmw_ring::{Refused, ring};
-use test_support::{FIRST, one};
 use tmw_tm::Did;
-use tmw_bench::work;
 
 const ONE: Registers = Registers { number: 1 };
 

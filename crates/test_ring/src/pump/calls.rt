@@ -8,11 +8,11 @@ use super::seen::Seen;
 use super::*;
 use std::alloc::{AllocError, Global};
 use std::test::Fail;
+use test_support::{FIRST, dirty_read};
 use tmw_defs::{Verdict, Why};
 use tmw_events::{Kind, Registers};
 use tmw_monitor::{Bounds, Monitor};
 use tmw_ring::{Reader, Refused, Ring, Writer, ring};
-use test_support::{FIRST, dirty_read};
 
 pub const ONE: Registers = Registers { number: 1 };
 
@@ -203,7 +203,7 @@ fn judge_rest(rest: &mut Rest) -> bool {
     rest.judged().len() == 4
 }
 
-/// Also where any one growth of memory in it is refused, as bench/refused.sh does.
+/// Also where any one growth of memory in it is refused, as tests/refused.sh does.
 #[test]
 fn a_refused_growth_loses_no_event(rt: HostRuntime) -> Result<(), Fail> {
     let (ring, mut writers, reader) = ring(rt.alloc(), 8, 2, 100)?;

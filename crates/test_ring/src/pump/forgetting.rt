@@ -7,13 +7,13 @@ use super::calls::{ONE, WIDEST, done, record_by, record_dirty_read};
 use super::*;
 use std::alloc::{AllocError, Global};
 use std::test::Fail;
+use test_support::FIRST;
 use tmw_defs::Verdict;
 use tmw_events::Kind;
 use tmw_monitor::Monitor;
 use tmw_ring::{Reader, Ring, Writer, ring};
-use test_support::FIRST;
 
-/// So many rounds of eight events are judged; `bench/forgets.sh` judges more, in a copy.
+/// So many rounds of eight events are judged; `measure/forgets.sh` judges more, in a copy.
 const ROUNDS: u64 = 1_000;
 
 /// A pump that forgets, over a run of one register.
@@ -103,7 +103,7 @@ fn pump_all(ring: &Ring, pump: &mut ForgettingPump) -> bool
     pump.fed() == 4
 }
 
-/// Also where any one growth of memory in it is refused, as bench/refused.sh does.
+/// Also where any one growth of memory in it is refused, as tests/refused.sh does.
 #[test]
 fn a_refused_growth_loses_no_event_that_is_forgotten(rt: HostRuntime) -> Result<(), Fail> {
     let (ring, mut writers, reader) = ring(rt.alloc(), 8, 2, 100)?;
@@ -157,7 +157,7 @@ fn judge_rounds(
     true
 }
 
-/// Its peak memory is what `bench/forgets.sh` measures.
+/// Its peak memory is what `measure/forgets.sh` measures.
 #[test]
 fn many_events_are_judged_and_forgotten(rt: HostRuntime) -> Result<(), Fail> {
     let (ring, mut writers, reader) = ring(rt.alloc(), 16, 2, 1 << 40)?;

@@ -13,11 +13,11 @@ use std::sync::Wait;
 use std::test::Fail;
 use std::thread;
 use std::thread::{Scope, Threads};
+use test_support::Seed;
 use tmw_defs::Verdict;
 use tmw_events::{Event, Kind};
 use tmw_monitor::{Monitor, judge};
 use tmw_ring::{Refused, Ring, Writer, ring};
-use test_support::Seed;
 
 mod sums;
 mod told;
@@ -27,10 +27,10 @@ use sums::Sums;
 use told::Told;
 use trial::Trial;
 
-/// So many runs are made; `bench/stops.sh` makes more, in a copy.
+/// So many runs are made; `tests/long/stops.sh` makes more, in a copy.
 const RUNS: u64 = 300;
 
-/// So many of them may lack memory to be made: one, where one growth is refused; all, in the copy of `bench/stops.sh`.
+/// So many of them may lack memory to be made: one, where one growth is refused; all, in the copy of `tests/long/stops.sh`.
 const UNMADE: u64 = 1;
 
 /// So often the pump is called for what is left of a run: more often than there are events.

@@ -6,11 +6,11 @@ use std::sync::Wait;
 use std::test::Fail;
 use std::thread;
 use std::thread::Threads;
+use test_support::FIRST;
 use tmw_events::Kind;
 use tmw_pump::Pump;
 use tmw_recorded::{Signals, pump_running, record_soon};
 use tmw_ring::{Ring, Writer, ring};
-use test_support::FIRST;
 
 /// So many transactions the thread makes, of four events each.
 const EACH: usize = 1_000;
@@ -93,7 +93,7 @@ fn judges_as_it_says<R: Wait>(rt: &R, ring: &Ring, pump: &mut Pump, signals: &Si
     }
 }
 
-/// Also where any one growth of memory in it is refused, as bench/refused.sh does.
+/// Also where any one growth of memory in it is refused, as tests/refused.sh does.
 #[test]
 fn a_refused_growth_stops_the_pump_and_loses_no_event(rt: HostRuntime) -> Result<(), Fail> {
     let alloc = rt.alloc();

@@ -2,12 +2,12 @@
 use crate::pump::calls::{ONE, WIDEST};
 use std::alloc::{AllocError, Global};
 use std::test::Fail;
+use test_support::{FIRST, one};
 use tmw_defs::Verdict;
 use tmw_events::{Event, Kind};
 use tmw_monitor::judge;
 use tmw_recorded::{Plan, RecordFault, record_and_judge};
 use tmw_ring::{Refused, RingFault};
-use test_support::{FIRST, one};
 
 /// So many transactions each thread makes.
 const EACH: usize = 100;

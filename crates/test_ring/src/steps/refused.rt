@@ -2,8 +2,8 @@
 use super::*;
 use std::process::Abort;
 use std::test::Fail;
-use tmw_events::{Event, Kind};
 use test_support::{FIRST, SECOND, one, other};
+use tmw_events::{Event, Kind};
 
 const VALUE: Kind = Kind::V(5);
 

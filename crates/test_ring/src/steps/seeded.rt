@@ -2,8 +2,8 @@
 use super::*;
 use std::alloc::{AllocError, Global};
 use std::test::Fail;
-use tmw_events::{Event, Ix, Kind};
 use test_support::Seed;
+use tmw_events::{Event, Ix, Kind};
 
 fn draw_kind(seed: &mut Seed, register: Ix) -> Kind {
     let value = seed.draw();

@@ -6,12 +6,12 @@ ghost use Rattle.tmw_watch.specs.Opening.{AreOf};
 use super::*;
 use std::alloc::{AllocError, Global};
 use std::test::Fail;
+use test_support::FIRST;
 use tmw_defs::Verdict;
 use tmw_events::{Kind, Registers};
 use tmw_monitor::Bounds;
 use tmw_pump::Pumped;
 use tmw_ring::{Refused, RingFault};
-use test_support::FIRST;
 
 pub const ONE: Registers = Registers { number: 1 };
 
@@ -272,7 +272,7 @@ fn close_again(watch: Watch, recorders: Vec<Recorder>) -> Option<Report>
     }
 }
 
-/// Also where any one growth of memory in it is refused, as bench/refused.sh does.
+/// Also where any one growth of memory in it is refused, as tests/refused.sh does.
 #[test]
 #[tactic(auto, using(crate::proofs::Pairs::of_ring_two))]
 fn a_refused_growth_loses_no_event_of_a_watch(rt: HostRuntime) -> Result<(), Fail> {

@@ -1,7 +1,7 @@
 //! What the writers of a run do, drawn by chance.
+use test_support::{FIRST, SECOND, Seed};
 use tmw_events::{Event, Ix, Kind, Registers};
 use tmw_monitor::Bounds;
-use test_support::{FIRST, SECOND, Seed};
 
 /// A run of one to four writers that make transactions, one after another.
 #[derive(Clone, Copy, Debug)]

@@ -2,22 +2,20 @@
 # Times `tmwatch judge` on five kinds of run, beside `cat` and `wc -l` of the same trace, and beside another program of the same bytes
 # where there is one, whose lines and statuses are compared with ours.
 #
-#   [PEER=PROGRAM] bench/judge.sh [EVENTS]
+#   [PEER=PROGRAM] measure/judge.sh [EVENTS]
 #
-# The traces are made by bench/traces.c, whatever stands beside. PEER is a program that is called like ours. A line a profile comes out:
+# The traces are made by measure/traces.c, whatever stands beside. PEER is a program that is called like ours. A line a profile comes out:
 # its events, the seconds of each program (the best of RUNS runs), our events a second, the ratio of our seconds to those of each, the
 # peak memory in KiB, and whether PEER's line and status are ours. The exit status is 1 where they differ.
-# Environment: PEER, PROFILES, SEED (1), RUNS (3), CC (cc), TRACES (a program that is called as bench/traces.c says, in its place).
+# Environment: PEER, PROFILES, SEED (1), RUNS (3), CC (cc), TRACES (a program that is called as measure/traces.c says, in its place).
 set -eu
-top=$(cd "$(dirname "${BASH_SOURCE[0]}")/.." && pwd)
+# shellcheck source=tests/common.sh
+. "$(dirname "${BASH_SOURCE[0]}")/../tests/common.sh"
 peer=${PEER:-}
 events=${1:-1000000}
-folder=$(mktemp -d)
-trap 'rm -rf "$folder"' EXIT
 "$top/build"
-program=$top/crates/tmwatch/out/tmwatch
 traces=${TRACES:-$folder/traces}
-[ -n "${TRACES:-}" ] || "${CC:-cc}" -O2 "$top/bench/traces.c" -o "$traces"
+[ -n "${TRACES:-}" ] || "${CC:-cc}" -O2 "$top/measure/traces.c" -o "$traces"
 
 # The least seconds and the peak memory of these words' runs on the trace, and their line and status.
 measure() {

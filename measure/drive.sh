@@ -1,7 +1,7 @@
 #!/usr/bin/env bash
 # Times `tmwatch drive` on a workload of eight scripts, with the trace and without it.
 #
-#   bench/drive.sh
+#   measure/drive.sh
 #
 # Each script has 1,000 transactions of 13 calls: reads, writes and a commit. The order has 100,000 entries, in which two
 # threads at a time run a transaction each, call by call in turn, over registers of their own, so that none aborts and no
@@ -11,12 +11,10 @@
 # ours, and the exit status is 1 where the bytes differ.
 # Environment: PEER, RUNS (5), MEMORY (norec).
 set -eu
-top=$(cd "$(dirname "${BASH_SOURCE[0]}")/.." && pwd)
-folder=$(mktemp -d)
-trap 'rm -rf "$folder"' EXIT
+# shellcheck source=tests/common.sh
+. "$(dirname "${BASH_SOURCE[0]}")/../tests/common.sh"
 memory=${MEMORY:-norec}
 "$top/build"
-program=$top/crates/tmwatch/out/tmwatch
 
 # A workload whose order has this many entries.
 workload() {

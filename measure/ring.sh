@@ -1,7 +1,7 @@
 #!/usr/bin/env bash
 # Times the running ring: so many writers in threads of their own record events, and one thread takes them all.
 #
-#   [PEER=PROGRAM] bench/ring.sh [EVENTS]
+#   [PEER=PROGRAM] measure/ring.sh [EVENTS]
 #
 # A line comes out for each number of cells N and of writers M: the seconds of the whole program (the best and the slowest of
 # RUNS runs), and events a second in the best. Where PEER is set, `PEER ring N M EVENTS` prints the events a second of four plain Rust programs, which come
@@ -9,12 +9,11 @@
 # a queue under a lock. The ratio is that of the first of them to ours.
 # Environment: PEER, RUNS (3), CELLS (16 256 4096), WRITERS (1 3 7).
 set -eu
-top=$(cd "$(dirname "${BASH_SOURCE[0]}")/.." && pwd)
+# shellcheck source=tests/common.sh
+. "$(dirname "${BASH_SOURCE[0]}")/../tests/common.sh"
 events=${1:-2000000}
 crate=$top/crates/time_ring
 program=$crate/out/time_ring
-folder=$(mktemp -d)
-trap 'rm -rf "$folder"' EXIT
 
 # rt has no command that builds a program and doesn't run it, so it runs on few events.
 is_stale() {

@@ -3,19 +3,16 @@
 # little memory, closed streams, hostile workloads. Each row has a line and an exit status that have to come out, and a bound of its
 # memory.
 #
-#   bench/extremes.sh [lines] [length] [reads] [cuts] [aborts] [slow] [limits] [streams] [workloads]
+#   tests/long/extremes.sh [lines] [length] [reads] [cuts] [aborts] [slow] [limits] [streams] [workloads]
 #
 # Without words all groups run. A row tells its seconds, its peak memory in KiB and its answer. The last line is
 # 'N passed, M failed', and the exit status is 1 where a row failed.
 # Environment: BYTES of a line (1000000000), EVENTS of a trace (2^24; 2147483648 takes minutes), READS of a transaction (10000000),
 # CUTS (10000; 1000000 takes minutes), SLOW reads and windows that are slow (5), LIMIT in seconds of a run (3600; of a slow one 20).
 set -eu
-top=$(cd "$(dirname "${BASH_SOURCE[0]}")/.." && pwd)
-folder=$(mktemp -d)
-trap 'rm -rf "$folder"' EXIT
-passed=0 failed=0
+# shellcheck source=tests/common.sh
+. "$(dirname "${BASH_SOURCE[0]}")/../common.sh"
 "$top/build"
-program=$top/crates/tmwatch/out/tmwatch
 # More than the program takes where nothing grows; one that does nothing takes some 1,000 KiB.
 little=4000
 
@@ -332,5 +329,4 @@ for group in ${*:-lines length reads cuts aborts slow limits streams workloads};
         *) echo "extremes.sh: no group $group" >&2 && exit 1 ;;
     esac
 done
-echo "$passed passed, $failed failed"
-[ "$failed" -eq 0 ]
+end_rows

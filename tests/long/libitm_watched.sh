@@ -2,21 +2,19 @@
 # Watches transactions of GCC's libitm in their own process, by the recorder of examples/c: its methods, and the little memory in its place,
 # whole and with a part left out.
 #
-#   bench/libitm_watched.sh
+#   tests/long/libitm_watched.sh
 #
 # A row tells how often each verdict came, of RUNS runs. The last line is 'N passed, M failed', and the exit status is 1 where a row's
 # verdict wasn't the one that is wanted, 2 where there is no gcc that compiles and links transactions.
 # Environment: RUNS (5), ROUNDS (1000), CC (gcc), BUILT (a folder that ./tmwatch-c has filled). The little memory needs x86-64.
 set -eu
-top=$(cd "$(dirname "${BASH_SOURCE[0]}")/.." && pwd)
+# shellcheck source=tests/common.sh
+. "$(dirname "${BASH_SOURCE[0]}")/../common.sh"
 runs=${RUNS:-5} rounds=${ROUNDS:-1000}
-folder=$(mktemp -d)
-trap 'rm -rf "$folder"' EXIT
 built=${BUILT:-$folder/built}
 [ -n "${BUILT:-}" ] || "$top/tmwatch-c" "$built"
 source=$top/examples/libitm
 compile=("${CC:-gcc}" -std=gnu11 -O2 -Wall -Wextra -pthread "-I$built/include" -include "$top/examples/c/recorder.h")
-passed=0 failed=0
 
 if ! echo 'int main(void) { __transaction_atomic { } }' | "${CC:-gcc}" -fgnu-tm -x c -o "$folder/try" - -litm 2>"$folder/told"; then
     echo "libitm_watched.sh: ${CC:-gcc} builds no transactions: $(tail -n 1 "$folder/told")" >&2
@@ -55,5 +53,4 @@ row 'little memory' 'opaque so far' '' NONE right
 row 'no validation of reads' violated '' READS right
 row 'no validation at commit' violated '' COMMIT right
 row 'writes in place' violated '' PLACE right
-echo "$passed passed, $failed failed"
-[ "$failed" -eq 0 ]
+end_rows

@@ -1,7 +1,7 @@
 #!/usr/bin/env python3
 """Looks for the window that costs `tmwatch judge` the most, by climbing from random ones, and writes its trace to a file.
 
-    bench/slowest.py SECONDS FILE [SEED]
+    measure/slowest.py SECONDS FILE [SEED]
 
 A window has eight transactions that overlap, over eight registers. Each writes some of them, may read some first, and is
 committed, aborted, left commit-pending or left live at the end, or reads at the end what nobody has written. Before it come windows

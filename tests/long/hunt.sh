@@ -1,18 +1,18 @@
 #!/usr/bin/env bash
 # Hunts for violations: `tmwatch bench` runs examples/hunt.json on each of the three memories, so many rounds a run.
 #
-#   bench/hunt.sh
+#   tests/long/hunt.sh
 #
 # A line for each memory comes out: how many of its runs were violated, opaque so far, or anything else, the least and the most
 # events up to a violation, and the seconds of all runs. The exit status is 0 where `torn` was violated in each run, and `norec` and
 # `lock` were opaque so far in each; else 1.
 # Environment: RUNS (20), ROUNDS (100000), WORKLOAD (examples/hunt.json).
 set -eu
-top=$(cd "$(dirname "${BASH_SOURCE[0]}")/.." && pwd)
+# shellcheck source=tests/common.sh
+. "$(dirname "${BASH_SOURCE[0]}")/../common.sh"
 workload=${WORKLOAD:-$top/examples/hunt.json}
 runs=${RUNS:-20}
 "$top/build"
-program=$top/crates/tmwatch/out/tmwatch
 failed=0
 printf '%-8s %5s %9s %7s %6s %10s %10s %8s\n' memory runs violated opaque other least most seconds
 for memory in torn norec lock; do

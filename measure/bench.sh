@@ -1,8 +1,8 @@
 #!/usr/bin/env bash
-# Times `tmwatch bench` on NOrec beside bench/rounds.c, whose threads make the same rounds by barriers while nobody judges: first on the
+# Times `tmwatch bench` on NOrec beside measure/rounds.c, whose threads make the same rounds by barriers while nobody judges: first on the
 # machine as it is, then beside busy loops.
 #
-#   bench/bench.sh
+#   measure/bench.sh
 #
 # Three workers carry examples/hunt.json out. One, two and four carry scripts of its kind out, of two transactions over two registers,
 # and eight the eight transactions of the four, one each, so that a round has eight transactions at most. For each number of workers
@@ -15,12 +15,12 @@
 # - of `tmwatch`, its rounds a second over those of `barriers`.
 #
 # The exit status is 0 where each run of `tmwatch` was opaque so far with all workers done, and `judge` says so of TRACED rounds of
-# bench/rounds.c on each workload, each time; else 1.
+# measure/rounds.c on each workload, each time; else 1.
 # Environment: RUNS (3), LEAST (1), ROUNDS (1000000), the most rounds of a run, TRACED (20000), the most of one with a trace,
 # BUSY (4), how many busy loops run at once, WORKERS (1 2 3 4 8), CC (cc).
 set -eu
-top=$(cd "$(dirname "${BASH_SOURCE[0]}")/.." && pwd)
-folder=$(mktemp -d)
+# shellcheck source=tests/common.sh
+. "$(dirname "${BASH_SOURCE[0]}")/../tests/common.sh"
 loops=() failed=0
 trap 'end_loops; rm -rf "$folder"' EXIT
 runs=${RUNS:-3} most=${ROUNDS:-1000000} most_traced=${TRACED:-20000}
@@ -126,15 +126,14 @@ measure() {
 }
 
 "$top/build"
-program=$top/crates/tmwatch/out/tmwatch
-"${CC:-cc}" -std=c11 -O2 -Wall -Wextra -Wpedantic -pthread -o "$folder/rounds" "$top/bench/rounds.c"
+"${CC:-cc}" -std=c11 -O2 -Wall -Wextra -Wpedantic -pthread -o "$folder/rounds" "$top/measure/rounds.c"
 printf '%-5s %7s %-8s %8s %7s %9s %9s %9s %9s %12s %13s %6s\n' load workers program rounds seconds rounds/s events/s aborts/s changes/s \
     aborts/round changes/event ratio
 for load in quiet busy; do
     [ $load = quiet ] || begin_loops "${BUSY:-4}"
     for workers in ${WORKERS:-1 2 3 4 8}; do
         workload "$workers" >"$folder/workload"
-        "$folder/rounds" "$most_traced" trace <"$folder/workload" | sed '$d' | "$program" judge >"$folder/output" || fail bench/rounds.c
+        "$folder/rounds" "$most_traced" trace <"$folder/workload" | sed '$d' | "$program" judge >"$folder/output" || fail measure/rounds.c
         measure barriers ''
         measure tmwatch "$rate"
     done

@@ -1,15 +1,14 @@
 #!/usr/bin/env bash
 # Runs tests/c.sh under AddressSanitizer with UndefinedBehaviorSanitizer, under ThreadSanitizer, and under valgrind.
 #
-#   bench/sanitizers.sh
+#   tests/long/sanitizers.sh
 #
 # The sanitizers see the programs and what the library gets of the heap, and not into the library, which they did not compile; valgrind sees
 # all. The exit status is 1 where a run failed. What is not there is said to be skipped.
 # Environment: CC (cc), BUILT (a folder that ./tmwatch-c has filled; it is made where there is none).
 set -eu
-top=$(cd "$(dirname "${BASH_SOURCE[0]}")/.." && pwd)
-folder=$(mktemp -d)
-trap 'rm -rf "$folder"' EXIT
+# shellcheck source=tests/common.sh
+. "$(dirname "${BASH_SOURCE[0]}")/../common.sh"
 [ -n "${BUILT:-}" ] || "$top/tmwatch-c" "$folder/built"
 export BUILT=${BUILT:-$folder/built}
 status=0

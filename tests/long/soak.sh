@@ -1,19 +1,17 @@
 #!/usr/bin/env bash
 # Soaks `tmwatch bench`: many runs of short workloads in small rings, from as many cells as there are scripts to 8.
 #
-#   bench/soak.sh [RUNS]
+#   tests/long/soak.sh [RUNS]
 #
 # Each run has to end within LIMIT seconds, with no fault and no malformed run; its trace has to be judged as its report says, and
 # has to have each thread's whole script where its end is "done": as many calls that begin a transaction as the script has
 # transactions, and as many answers as calls. The last line is `N passed, M failed`, and the exit status is 1 where any failed.
 # Environment: LIMIT (20).
 set -eu
-top=$(cd "$(dirname "${BASH_SOURCE[0]}")/.." && pwd)
+# shellcheck source=tests/common.sh
+. "$(dirname "${BASH_SOURCE[0]}")/../common.sh"
 runs=${1:-10000}
 "$top/build"
-program=$top/crates/tmwatch/out/tmwatch
-folder=$(mktemp -d)
-trap 'rm -rf "$folder"' EXIT
 
 # A workload of so many scripts, from a seed: one to three transactions each, of one to three operations and a request.
 workload() {
@@ -53,7 +51,6 @@ is_whole() {
         }' "$folder/trace"
 }
 
-passed=0 failed=0
 fail() {
     failed=$((failed + 1))
     echo "soak.sh: run $run: $1 (memory $memory, $scripts scripts, $cells cells)" >&2
@@ -79,5 +76,4 @@ for run in $(seq "$runs"); do
     if ! is_whole "$ends" "$counts"; then fail "events are missing: ends $ends, transactions $counts" && continue; fi
     passed=$((passed + 1))
 done
-echo "$passed passed, $failed failed"
-[ "$failed" -eq 0 ]
+end_rows

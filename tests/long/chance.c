@@ -1,5 +1,5 @@
 /*
-Refuses growths of memory by chance, for bench/stops.sh, which loads it with a program (LD_PRELOAD): one in ONE_IN, drawn from SEED.
+Refuses growths of memory by chance, for tests/long/stops.sh, which loads it with a program (LD_PRELOAD): one in ONE_IN, drawn from SEED.
 A program that Rattle builds takes all of its memory by malloc and realloc of the C library.
 */
 #include <errno.h>

@@ -1,5 +1,5 @@
 /*
-Makes the rounds of `tmwatch bench --memory norec` by plain threads that meet at a barrier, for bench/bench.sh. Nobody judges.
+Makes the rounds of `tmwatch bench --memory norec` by plain threads that meet at a barrier, for measure/bench.sh. Nobody judges.
 
     rounds ROUNDS [trace] < WORKLOAD
 

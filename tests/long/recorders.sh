@@ -2,7 +2,7 @@
 # Compiles the recorders of examples/recorders and runs them on little memories: correct ones, ones of which a part was left out, and
 # with events recorded in wrong places.
 #
-#   bench/recorders.sh
+#   tests/long/recorders.sh
 #
 # A row for each comes out: how many of its runs were opaque so far, violated, undecided and malformed, and then the same by strict
 # serializability; the least and the most events up to the verdict; all events; the seconds of the runs and of judging them. A row
@@ -10,9 +10,10 @@
 # Then what recording an event costs, which is not judged. The last line is 'N passed, M failed', and the exit status is 1 where one failed.
 # Environment: RUNS (10), ROUNDS (5000), CC (gcc), RUSTC (rustc).
 set -eu
-top=$(cd "$(dirname "${BASH_SOURCE[0]}")/.." && pwd)
+# shellcheck source=tests/common.sh
+. "$(dirname "${BASH_SOURCE[0]}")/../common.sh"
 runs=${RUNS:-10} rounds=${ROUNDS:-5000}
-. "$top/bench/recorded.sh"
+. "$top/tests/long/recorded.sh"
 source=$top/examples/recorders
 
 compile=("${CC:-gcc}" -std=gnu11 -O2 -Wall -Wextra -pthread)
@@ -22,9 +23,9 @@ compile=("${CC:-gcc}" -std=gnu11 -O2 -Wall -Wextra -pthread)
 "${compile[@]}" -DEARLY_RELEASE=true -o "$folder/early" "$source/locks.c"
 "${compile[@]}" -DPAUSES=true -o "$folder/versions" "$source/versions.c"
 "${compile[@]}" -DPAUSES=true -DONE_LOOK=true -o "$folder/one_look" "$source/versions.c"
-"${compile[@]}" -o "$folder/cost" "$top/bench/recorder_cost.c"
+"${compile[@]}" -o "$folder/cost" "$top/measure/recorder_cost.c"
 "${RUSTC:-rustc}" --edition 2021 -O -o "$folder/little_rs" "$source/little.rs"
-"${RUSTC:-rustc}" --edition 2021 -O -o "$folder/cost_rs" "$top/bench/recorder_cost.rs"
+"${RUSTC:-rustc}" --edition 2021 -O -o "$folder/cost_rs" "$top/measure/recorder_cost.rs"
 
 # A run whose threads have a list of events each, one list behind another.
 by_thread() {
@@ -57,4 +58,4 @@ row 'correct, 100 rounds a pause' undecided undecided "$folder/seldom" none righ
 printf '\n%-5s %s %8s %s\n' in threads ns/event bytes
 "$folder/cost"
 "$folder/cost_rs"
-finish
+end_rows

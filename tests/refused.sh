@@ -2,9 +2,9 @@
 # Refuses each growth of memory in turn, and fails each read, each write and each start of a thread, of the built program; and
 # refuses each growth of the tests that allow it.
 #
-#   bench/refused.sh
+#   tests/refused.sh
 #
-# bench/refused.c is loaded with the program, and refuses the call of one number: the first, then the second, up to a run that has
+# tests/refused.c is loaded with the program, and refuses the call of one number: the first, then the second, up to a run that has
 # no such call. Reads and writes move few bytes each, so that there are many. (`rt try --fail-alloc` refuses the same growths, but
 # builds the program anew for each run.) Of a command line
 # - a run that was refused a growth, that one alone or all from it on, has to write the line of the fault `memory` alone, with
@@ -23,12 +23,10 @@
 # Environment: CC (cc), LIMIT (20), the seconds that a run may take.
 set -eu
 ulimit -c 0
-top=$(cd "$(dirname "${BASH_SOURCE[0]}")/.." && pwd)
-folder=$(mktemp -d)
-trap 'rm -rf "$folder"' EXIT
-"${CC:-cc}" -O2 -shared -fPIC -o "$folder/refused.so" "$top/bench/refused.c" -ldl
+# shellcheck source=tests/common.sh
+. "$(dirname "${BASH_SOURCE[0]}")/common.sh"
+"${CC:-cc}" -O2 -shared -fPIC -o "$folder/refused.so" "$top/tests/refused.c" -ldl
 for fault in memory io spawn; do echo "{\"fault\":\"$fault\"}" >"$folder/$fault"; done
-passed=0 failed=0
 # Calls are counted behind so many bytes that were read, and growths of so many bytes.
 after=0 least=0
 
@@ -233,8 +231,7 @@ test_row() {
     echo "$name: $refused growth, with $allowed of which it passed"
 }
 
-[ -x "$top/crates/tmwatch/out/tmwatch" ] || "$top/build"
-program=$top/crates/tmwatch/out/tmwatch
+[ -x "$program" ] || "$top/build"
 many_windows 20 >"$folder/windows"
 { many_writes && printf '%s\n' {0..6}' T' {0..6}' C'; } >"$folder/outcomes"
 { cat "$folder/outcomes" && reader 1 6; } >"$folder/narrowed"
@@ -332,5 +329,4 @@ done
 tests_of test_ring
 test_row test_ring pump::calls::a_dirty_read_is_judged_as_it_comes strict
 
-echo "$passed passed, $failed failed"
-[ "$failed" -eq 0 ]
+end_rows

@@ -2,15 +2,16 @@
 # Builds examples/libitm and judges its runs: transactions of GCC's libitm by each of its methods, and the same transactions over a
 # little memory in its place, whole and with a part left out.
 #
-#   bench/libitm.sh
+#   tests/long/libitm.sh
 #
-# Rows as of bench/recorders.sh, and after each method's how many attempts were rolled back. The last line is 'N passed, M failed', and
+# Rows as of tests/long/recorders.sh, and after each method's how many attempts were rolled back. The last line is 'N passed, M failed', and
 # the exit status is 1 where one failed, 2 where there is no gcc that compiles and links transactions.
 # Environment: RUNS (5), ROUNDS (1000), CC (gcc). The little memory needs x86-64.
 set -eu
-top=$(cd "$(dirname "${BASH_SOURCE[0]}")/.." && pwd)
+# shellcheck source=tests/common.sh
+. "$(dirname "${BASH_SOURCE[0]}")/../common.sh"
 runs=${RUNS:-5} rounds=${ROUNDS:-1000}
-. "$top/bench/recorded.sh"
+. "$top/tests/long/recorded.sh"
 source=$top/examples/libitm
 compile=("${CC:-gcc}" -std=gnu11 -O2 -Wall -Wextra -pthread)
 
@@ -52,4 +53,4 @@ row 'little memory' opaque opaque "$folder/NONE" right
 row 'no validation of reads' violated opaque "$folder/READS" right
 row 'no validation at commit' violated violated "$folder/COMMIT" right
 row 'writes in place' violated violated "$folder/PLACE" right
-finish
+end_rows

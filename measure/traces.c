@@ -1,4 +1,4 @@
-/* Writes a trace of a run that is opaque, for bench/judge.sh.
+/* Writes a trace of a run that is opaque, for measure/judge.sh.
  *
  *   traces PROFILE SEED EVENTS
  *

@@ -3,15 +3,15 @@
 # Then it draws each trace that docs/GALLERY.md shows, with these lines, and compares that with what stands in the page; and looks for
 # the lines of the window that `show` draws of it among them.
 #
-#   bench/gallery.sh
-#   bench/gallery.sh draw NAME
+#   tests/gallery.sh
+#   tests/gallery.sh draw NAME
 #
 # `draw` writes one trace as the page shows it, and compares nothing.
 # Each row that fails is told. The last line is 'N passed, M failed', and the exit status is 1 where one failed.
 set -eu
-top=$(cd "$(dirname "${BASH_SOURCE[0]}")/.." && pwd)
+# shellcheck source=tests/common.sh
+. "$(dirname "${BASH_SOURCE[0]}")/common.sh"
 verdicts=$top/examples/verdicts.txt
-passed=0 failed=0
 
 # Judges a trace by a criterion, and keeps what is written and the exit status.
 judge() {
@@ -65,7 +65,7 @@ page=$(<"$top/docs/GALLERY.md")
 for name in $(sed -n 's/^    \$ .* examples\/\(.*\)\.trace$/\1/p' "$top/docs/GALLERY.md"); do
     case "$page" in
     *$'\n\n'"$(draw "$name")"$'\n\n'*) count "$name in the page" right ;;
-    *) count "$name in the page" "is not as 'bench/gallery.sh draw $name' writes it" ;;
+    *) count "$name in the page" "is not as 'tests/gallery.sh draw $name' writes it" ;;
     esac
 done
 
@@ -79,5 +79,4 @@ for name in $(sed -n 's/^    \$ .* examples\/\(.*\)\.trace$/\1/p' "$top/docs/GAL
     count "show of $name" "$how"
 done
 
-echo "$passed passed, $failed failed"
-[ "$failed" -eq 0 ]
+end_rows

@@ -1,12 +1,9 @@
 # shellcheck shell=bash disable=SC2154
-# What bench/recorders.sh and bench/libitm.sh have in common: rows of recorded runs that are judged. They read it, and set top, the
+# What tests/long/recorders.sh and tests/long/libitm.sh have in common: rows of recorded runs that are judged. They read it, and set top, the
 # repository's folder, and runs and rounds, how many runs a row has and how many rounds a run.
 
-folder=$(mktemp -d)
-trap 'rm -rf "$folder"' EXIT
-passed=0 failed=0
 "$top/build"
-judge=$top/crates/tmwatch/out/tmwatch
+judge=$program
 
 write_head() {
     printf '%-30s %-11s %-11s %7s %7s %9s %7s %7s  %s\n' row opacity strict least most events run judged passed
@@ -67,9 +64,4 @@ row() {
     if [ $passes = yes ]; then passed=$((passed + 1)); else failed=$((failed + 1)); fi
     printf '%-30s %-11s %-11s %7d %7d %9d %7s %7s  %s\n' "$name" "${opacity[*]}" "${strict[*]}" \
         "$least" "$most" "$events" "$run" "$judged" $passes
-}
-
-finish() {
-    echo "$passed passed, $failed failed"
-    [ "$failed" -eq 0 ]
 }

@@ -1,5 +1,5 @@
 /*
-Refuses what a program asks for, for bench/refused.sh, which loads it with the program (LD_PRELOAD): a growth of memory, a read of
+Refuses what a program asks for, for tests/refused.sh, which loads it with the program (LD_PRELOAD): a growth of memory, a read of
 standard input, a write to standard output, or the start of a thread. A program that Rattle builds takes all of its memory by malloc
 and realloc of the C library, and reads and writes by read and write.
 
