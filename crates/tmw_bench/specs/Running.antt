@@ -7,7 +7,7 @@ use Rattle.tmw_bench.specs.declared.fault.BenchFault.TheVariants.{Registers as L
 use Rattle.tmw_bench.specs.declared.settings.Settings.{Settings}
 use Rattle.tmw_events.specs.declared.registers.Registers.{Registers}
 use Rattle.tmw_report.specs.CommandRun.{IsCommandRun}
-use Rattle.tmw_report.specs.Streams.{FromSource, ToSink}
+use Rattle.tmw_streams.specs.Streams.{FromSource, ToSink}
 use Rattle.tmw_report.specs.declared.fault.Fault.{Fault}
 use Rattle.tmw_report.specs.declared.fault.Fault.TheVariants.{Io, Json, Memory, Registers as TooManyRegisters, Ring, Shape, Spawn}
 use Rattle.tmw_ring_defs.specs.declared.ring_fault.RingFault.{RingFault}

@@ -1,7 +1,6 @@
 ghost use Rattle.std.specs.Prelude.{◌≡◌, MatchBool, None, Some, map, string_bytes};
 ghost use Rattle.std.specs.Result.{result_map_both};
 ghost use Rattle.tmw_report.specs.Putting.{IsPut, IsSent};
-ghost use Rattle.tmw_report.specs.Streams.{from_source, to_sink};
 ghost use Rattle.tmw_command.specs.Running.{AnswersRefusal, RunsCommand, RunsOrder, RunsWords, by_name};
 
 use crate::memories::Memories;
@@ -46,8 +45,8 @@ pub fn run_command<
     memories: Memories<&(dyn Tm + Sync)>,
     progress: &P,
 ) -> u8
-    ensures { RunsCommand (from_source S.told S.remaining S.ended S.failures) (to_sink K.took K.holds K.failures)
-        (to_sink E.took E.holds E.failures) (by_name (gives memories.entry.norec.now) (gives memories.entry.lock.now) (gives memories.entry.torn.now))
+    ensures { RunsCommand S.from K.to
+        E.to (by_name (gives memories.entry.norec.now) (gives memories.entry.lock.now) (gives memories.entry.torn.now))
         (result_map_both (λ given. map string_bytes given.items) (λ fault. fault) words)
         source.old source.new sink.old sink.new errors.old errors.new result }
 {
@@ -74,8 +73,8 @@ fn run_words<
     memories: Memories<&(dyn Tm + Sync)>,
     progress: &P,
 ) -> u8
-    ensures { RunsWords (from_source S.told S.remaining S.ended S.failures) (to_sink K.took K.holds K.failures)
-        (to_sink E.took E.holds E.failures) (by_name (gives memories.entry.norec.now) (gives memories.entry.lock.now) (gives memories.entry.torn.now))
+    ensures { RunsWords S.from K.to
+        E.to (by_name (gives memories.entry.norec.now) (gives memories.entry.lock.now) (gives memories.entry.torn.now))
         (map W.text words.now)
         source.old source.new sink.old sink.new errors.old errors.new result }
 {
@@ -94,7 +93,7 @@ fn run_order<S: Source, K: Sink, R: AllocGlobal + Threads + Wait + Sync, P: Prog
     memories: Memories<&(dyn Tm + Sync)>,
     progress: &P,
 ) -> u8
-    ensures { RunsOrder (from_source S.told S.remaining S.ended S.failures) (to_sink K.took K.holds K.failures)
+    ensures { RunsOrder S.from K.to
         (by_name (gives memories.entry.norec.now) (gives memories.entry.lock.now) (gives memories.entry.torn.now)) order
         source.old source.new sink.old sink.new result }
 {
@@ -147,7 +146,7 @@ fn told_of<P: Progress>(quiet: bool, progress: &P) -> Option<&P>
 
 /// Answers words that give no order.
 fn answer_refusal<K: Sink, E: Sink>(refusal: Refusal, sink: &mut K, errors: &mut E) -> u8
-    ensures { AnswersRefusal (to_sink K.took K.holds K.failures) (to_sink E.took E.holds E.failures) refusal
+    ensures { AnswersRefusal K.to E.to refusal
         sink.old sink.new errors.old errors.new result }
 {
     match refusal {
@@ -163,7 +162,7 @@ fn answer_refusal<K: Sink, E: Sink>(refusal: Refusal, sink: &mut K, errors: &mut
 
 /// Writes a text that was asked for, with exit status 0.
 fn answer_text<K: Sink>(sink: &mut K, text: &str) -> u8
-    ensures { IsPut (to_sink K.took K.holds K.failures) sink.old sink.new text.now 0 result }
+    ensures { IsPut K.to sink.old sink.new text.now 0 result }
 {
     match put_all(sink, text.as_bytes()) {
         Ok(()) => 0,
@@ -173,7 +172,7 @@ fn answer_text<K: Sink>(sink: &mut K, text: &str) -> u8
 
 /// Sends a text as far as the sink takes it.
 fn send<E: Sink>(errors: &mut E, text: &str)
-    ensures { IsSent (to_sink E.took E.holds E.failures) errors.old errors.new text.now }
+    ensures { IsSent E.to errors.old errors.new text.now }
 {
     let _sent = put_all(errors, text.as_bytes());
 }

@@ -9,7 +9,7 @@ use Rattle.tmw_events.specs.declared.registers.Registers.{Registers}
 use Rattle.tmw_monitor.specs.Fitting.{rules_of}
 use Rattle.tmw_monitor.specs.declared.bounds.Bounds.{Bounds}
 use Rattle.tmw_report.specs.CommandRun.{IsCommandRun}
-use Rattle.tmw_report.specs.Streams.{FromSource, ToSink}
+use Rattle.tmw_streams.specs.Streams.{FromSource, ToSink}
 use Rattle.tmw_report.specs.declared.fault.Fault.{Fault}
 use Rattle.tmw_report.specs.declared.fault.Fault.TheVariants.{Io, Json, Memory, Registers as TooManyRegisters, Shape}
 use Rattle.tmw_drive.specs.Driven.{IsHeaderOf, driven_text, driven_status}

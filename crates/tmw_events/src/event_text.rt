@@ -1,18 +1,26 @@
-ghost use Rattle.std.specs.Prelude.{◌≡◌, OnOk, OnErr};
+ghost use Rattle.std.specs.Prelude.{◌≡◌};
 ghost use Rattle.tmw_events.specs.Text.{digit, kind_text, event_text};
-ghost use Rattle.tmw_streams.specs.Told.{Takes, TakesBeginning, one_more};
+ghost use Rattle.tmw_streams.specs.Told.{Puts};
 
 use crate::event::{Event, Kind};
 use crate::ix::Ix;
-use tmw_streams::{IoFault, Sink, put_all, put_with_number};
+use tmw_streams::{IoFault, Sink, Texts, put_all, put_with_number};
+
+/// The texts of events, as a trace's lines have them.
+pub struct EventTexts;
+
+impl Texts<Event> for EventTexts {
+    ghost text = { event_text };
+
+    fn put_text<K: Sink>(sink: &mut K, event: &Event) -> Result<(), IoFault> {
+        put_event(sink, event)
+    }
+}
 
 /// Writes the event's text, without a line feed. It takes no memory. After a failed write a beginning of the text went
 /// out, and not all of it.
 pub fn put_event<K: Sink>(sink: &mut K, event: &Event) -> Result<(), IoFault>
-    ensures takes { OnOk result (Takes K.took K.holds sink.old (event_text event.now) sink.new) }
-    ensures well { OnOk result (K.failures sink.new ≡ K.failures sink.old) }
-    ensures begun { OnErr result (TakesBeginning K.took K.holds sink.old (event_text event.now) sink.new) }
-    ensures failed { OnErr result (K.failures sink.new ≡ one_more (K.failures sink.old)) }
+    ensures { Puts K.to sink.old (event_text event.now) sink.new result }
 {
     put_all(sink, &[digit_of(event.thread), b' '])?;
     put_kind(sink, event.kind)
@@ -20,10 +28,7 @@ pub fn put_event<K: Sink>(sink: &mut K, event: &Event) -> Result<(), IoFault>
 
 /// Writes the kind's text.
 fn put_kind<K: Sink>(sink: &mut K, kind: Kind) -> Result<(), IoFault>
-    ensures takes { OnOk result (Takes K.took K.holds sink.old (kind_text kind) sink.new) }
-    ensures well { OnOk result (K.failures sink.new ≡ K.failures sink.old) }
-    ensures begun { OnErr result (TakesBeginning K.took K.holds sink.old (kind_text kind) sink.new) }
-    ensures failed { OnErr result (K.failures sink.new ≡ one_more (K.failures sink.old)) }
+    ensures { Puts K.to sink.old (kind_text kind) sink.new result }
 {
     match kind {
         Kind::R(register) => put_all(sink, &[b'R', b' ', digit_of(register)]),

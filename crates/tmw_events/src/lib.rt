@@ -10,7 +10,7 @@ mod packing;
 mod registers;
 
 pub use event::{Event, Kind};
-pub use event_text::put_event;
+pub use event_text::{EventTexts, put_event};
 pub use ix::Ix;
 pub use kind_line::{ix_of, kind_of};
 pub use number::number_of;

@@ -9,6 +9,7 @@ use Rattle.tmw_trace.specs.declared.version.Version.{Version}
 use Rattle.tmw_monitor.specs.declared.monitor.Monitor.{Monitor}
 use Rattle.tmw_judge.specs.declared.by_criterion.ByCriterion.{ByCriterion}
 use Rattle.tmw_judge.specs.Feeding.{AreFedAllRead, AreFedSoMany, FeedsEvents, TakeEvents, LackAnEvent}
+use Rattle.tmw_streams.specs.Streams.{FromSource}
 
 -- the monitors have been fed as many events as lines were read behind the header's
 pub fed-so_many : (lines : Lines Version) (monitors : ByCriterion Monitor) → AreFedAllRead lines monitors
@@ -22,12 +23,12 @@ fed-so_many lines monitors fed = record {
   counted = sym fed.read.counted;
 }
 
-module _ {S Done : Type 0} (Told : S → List ℕ → Type 0) (remaining : S → Option (List ℕ)) (Ended : Type 0) (a b : S)
+module _ {S Done : Type 0} (From : FromSource S) (Ended : Type 0) (a b : S)
     (lines after : Lines Version) (monitors fed : ByCriterion Monitor) where
   -- a fault was read behind them, or memory was refused for the last
   feeds-fault : (fault : TextFault)
-      → (g : GivesAll {Done = Done} trace_grammar Told remaining Ended TakeEvents LackAnEvent a b lines after monitors fed (Err fault))
-      → FeedsEvents {Done = Done} Told remaining Ended a b lines after monitors fed (Err fault)
+      → (g : GivesAll {Done = Done} trace_grammar From Ended TakeEvents LackAnEvent a b lines after monitors fed (Err fault))
+      → FeedsEvents {Done = Done} From Ended a b lines after monitors fed (Err fault)
   feeds-fault BadHeader g = record {
     bytes = g.bytes;
     events = g.items;
@@ -70,8 +71,8 @@ module _ {S Done : Type 0} (Told : S → List ℕ → Type 0) (remaining : S →
 
   -- what the monitors took, they have been fed
   pub feeds-given : (result : Result Done TextFault)
-      → GivesAll trace_grammar Told remaining Ended TakeEvents LackAnEvent a b lines after monitors fed result
-      → FeedsEvents Told remaining Ended a b lines after monitors fed result
+      → GivesAll trace_grammar From Ended TakeEvents LackAnEvent a b lines after monitors fed result
+      → FeedsEvents From Ended a b lines after monitors fed result
   feeds-given (Ok done) g = record {
     bytes = g.bytes;
     events = g.items;

@@ -6,6 +6,7 @@ use Rattle.tmw_lines.specs.declared.lines.Lines.{Lines}
 use Rattle.tmw_lines.specs.declared.text_fault.TextFault.{TextFault}
 use Rattle.tmw_lines.specs.declared.text_fault.TextFault.TheVariants.{BadHeader, BadLine, Cut, Memory, Io, TooLong}
 use Rattle.tmw_lines.proofs.TextsRead.{soon-behind, text_fault-first, text_fault-read}
+use Rattle.tmw_streams.specs.Streams.{FromSource}
 use Rattle.tmw_streams.specs.Told.{Tells}
 use Rattle.tmw_streams.proofs.ToldBytes.{Tells-more}
 use Rattle.tmw_events.specs.declared.event.Event.{Event}
@@ -46,18 +47,18 @@ read-of-fed Done Ended lines header bounds asked history bytes monitors Io is = 
 read-of-fed Done Ended lines header bounds asked history bytes monitors TooLong is = is.0
 
 -- no trace was begun
-pub answers-first : {S : Type 0} (Told : S → List ℕ → Type 0) (remaining : S → Option (List ℕ)) (Ended : Type 0) (a b : S)
+pub answers-first : {S : Type 0} (From : FromSource S) (Ended : Type 0) (a b : S)
     (lines : Lines Version) (bounds : Bounds) (asked : Asked) (told : TextFault) (fault : Fault)
-    → ReadsBeginning Told remaining Ended a b lines bounds asked (Err told) → fault ≡ fault_of told
-    → (bytes : List ℕ) × Tells Told remaining a bytes b × AnswersTrace bounds asked Ended bytes (Err fault)
-answers-first Told remaining Ended a b lines bounds asked told fault reads is =
+    → ReadsBeginning From Ended a b lines bounds asked (Err told) → fault ≡ fault_of told
+    → (bytes : List ℕ) × Tells From a bytes b × AnswersTrace bounds asked Ended bytes (Err fault)
+answers-first From Ended a b lines bounds asked told fault reads is =
     (reads.bytes, reads.told, (told, is, first-fault Ended lines bounds asked reads.bytes told reads.is))
 
 -- a trace was begun
-pub begun-fed : {S : Type 0} (Told : S → List ℕ → Type 0) (remaining : S → Option (List ℕ)) (Ended : Type 0) (a b : S)
+pub begun-fed : {S : Type 0} (From : FromSource S) (Ended : Type 0) (a b : S)
     (lines : Lines Version) (bounds : Bounds) (asked : Asked) (monitors : ByCriterion Monitor)
-    → ReadsBeginning Told remaining Ended a b lines bounds asked (Ok monitors) → AreFedAllRead lines monitors
-begun-fed Told remaining Ended a b lines bounds asked monitors reads = record {
+    → ReadsBeginning From Ended a b lines bounds asked (Ok monitors) → AreFedAllRead lines monitors
+begun-fed From Ended a b lines bounds asked monitors reads = record {
   header = reads.is.0;
   bounds = bounds;
   asked = asked;
@@ -67,19 +68,19 @@ begun-fed Told remaining Ended a b lines bounds asked monitors reads = record {
   fed = reads.is.2;
 }
 
-module _ {S : Type 0} (Told : S → List ℕ → Type 0) (remaining : S → Option (List ℕ)) (First Ended : Type 0) (a b c : S)
+module _ {S : Type 0} (From : FromSource S) (First Ended : Type 0) (a b c : S)
     (lines after : Lines Version) (bounds : Bounds) (asked : Asked) (monitors fed : ByCriterion Monitor)
-    (begins : ReadsBeginning Told remaining First a b lines bounds asked (Ok monitors)) where
+    (begins : ReadsBeginning From First a b lines bounds asked (Ok monitors)) where
   -- and all its events were fed
   pub answers-end : {Done : Type 0} (done : Done) (reports : ByCriterion Report)
-      → FeedsEvents Told remaining Ended b c lines after monitors fed (Ok done)
+      → FeedsEvents From Ended b c lines after monitors fed (Ok done)
       → ((header : Header) (within : Bounds) (wanted : Asked) (history : List Event) → AreFed header within wanted history fed
       → AreReports header within wanted history reports)
-      → (all : List ℕ) × Tells Told remaining a all c × AnswersTrace bounds asked Ended all (Ok reports)
+      → (all : List ℕ) × Tells From a all c × AnswersTrace bounds asked Ended all (Ok reports)
   answers-end done reports feeds report =
       let end = feeds.fed begins.is.0 bounds asked [] begins.bytes begins.is.1 begins.is.2 in (
         begins.bytes ++ feeds.bytes,
-        Tells-more Told remaining a b c begins.bytes feeds.bytes begins.told feeds.told,
+        Tells-more From a b c begins.bytes feeds.bytes begins.told feeds.told,
         (
           end.0.ended,
           record {
@@ -94,12 +95,12 @@ module _ {S : Type 0} (Told : S → List ℕ → Type 0) (remaining : S → Opti
 
   -- and then came a fault
   pub answers-fault : (Done : Type 0) (told : TextFault) (fault : Fault)
-      → FeedsEvents {Done = Done} Told remaining Ended b c lines after monitors fed (Err told) → fault ≡ fault_of told
-      → (all : List ℕ) × Tells Told remaining a all c × AnswersTrace bounds asked Ended all (Err fault)
+      → FeedsEvents {Done = Done} From Ended b c lines after monitors fed (Err told) → fault ≡ fault_of told
+      → (all : List ℕ) × Tells From a all c × AnswersTrace bounds asked Ended all (Err fault)
   answers-fault Done told fault feeds is =
       let stop = feeds.fed begins.is.0 bounds asked [] begins.bytes begins.is.1 begins.is.2 in (
         begins.bytes ++ feeds.bytes,
-        Tells-more Told remaining a b c begins.bytes feeds.bytes begins.told feeds.told,
+        Tells-more From a b c begins.bytes feeds.bytes begins.told feeds.told,
         (
           told,
           is,

@@ -6,6 +6,7 @@ use Rattle.tmw_lines.specs.TextFault.{HasFirstLineFault}
 use Rattle.tmw_lines.specs.declared.lines.Lines.{Lines}
 use Rattle.tmw_lines.specs.declared.text_fault.TextFault.{TextFault}
 use Rattle.tmw_lines.specs.declared.text_fault.TextFault.TheVariants.{Memory}
+use Rattle.tmw_streams.specs.Streams.{FromSource}
 use Rattle.tmw_streams.specs.Told.{Tells}
 use Rattle.tmw_events.specs.declared.event.Event.{Event}
 use Rattle.tmw_trace.specs.Text.{trace_grammar}
@@ -62,10 +63,10 @@ IsBeginning Ended lines bounds asked bytes (Err Memory) = (header : Header) × H
 IsBeginning Ended lines bounds asked bytes (Err fault) = HasFirstLineFault trace_grammar Ended bytes fault
 
 -- What the source told is what was read so.
-pub record ReadsBeginning {S : Type 0} (Told : S → List ℕ → Type 0) (remaining : S → Option (List ℕ)) (Ended : Type 0) (old new : S)
+pub record ReadsBeginning {S : Type 0} (From : FromSource S) (Ended : Type 0) (old new : S)
     (lines : Lines Version) (bounds : Bounds) (asked : Asked) (result : Result (ByCriterion Monitor) TextFault) : Type 0 where
   pub bytes : List ℕ
-  pub told : Tells Told remaining old bytes new
+  pub told : Tells From old bytes new
   pub is : IsBeginning Ended lines bounds asked bytes result
 
 -- The monitors have been fed the events of all lines that were read behind the header's.
@@ -90,11 +91,11 @@ AreReadAndFed Ended lines header bounds asked history bytes monitors (Err fault)
     FailsBehind trace_grammar Ended header history bytes fault × AreFed header bounds asked history monitors
 
 -- What the source told makes, behind whatever had been read and fed before, lines of events that were fed.
-pub record FeedsEvents {S Done : Type 0} (Told : S → List ℕ → Type 0) (remaining : S → Option (List ℕ)) (Ended : Type 0) (old new : S)
+pub record FeedsEvents {S Done : Type 0} (From : FromSource S) (Ended : Type 0) (old new : S)
     (lines lines_after : Lines Version) (monitors monitors_after : ByCriterion Monitor) (result : Result Done TextFault) : Type 0 where
   pub bytes : List ℕ
   pub events : List Event
-  pub told : Tells Told remaining old bytes new
+  pub told : Tells From old bytes new
   pub fed : (header : Header) (bounds : Bounds) (asked : Asked) (given : List Event) (before : List ℕ)
       → HasRead trace_grammar lines header given before → AreFed header bounds asked given monitors
       → AreReadAndFed Ended lines_after header bounds asked (given ++ events) (before ++ bytes) monitors_after result

@@ -15,7 +15,7 @@ use Rattle.tmw_monitor.specs.Fitting.{Fits, rules_for}
 use Rattle.tmw_report.specs.declared.fault.Fault.{Fault}
 use Rattle.tmw_report.specs.Lines.{report_text, strict_text, verdict_status, both_status}
 use Rattle.tmw_report.specs.CommandRun.{AnswersTextFault, IsCommandRun}
-use Rattle.tmw_report.specs.Streams.{FromSource, ToSink}
+use Rattle.tmw_streams.specs.Streams.{FromSource, ToSink}
 use Rattle.tmw_judge.specs.declared.by_criterion.ByCriterion.{ByCriterion}
 use Rattle.tmw_judge.specs.declared.by_criterion.ByCriterion.TheVariants.{Opacity, Strict, Both}
 use Rattle.tmw_judge.specs.declared.report.Report.{Report}

@@ -27,9 +27,9 @@ pub fn judge<S: Source>(
     bounds: Bounds,
     asked: Asked,
 ) -> Result<ByCriterion<Report>, Fault>
-    ensures right { (bytes : List ℕ) × Tells S.told S.remaining source.old bytes source.new
-        × AnswersTrace bounds asked (S.ended source.new) bytes result }
-    ensures failures { S.failures source.new ≡ failures_after_answer result (S.failures source.old) }
+    ensures right { (bytes : List ℕ) × Tells S.from source.old bytes source.new
+        × AnswersTrace bounds asked (S.from.ended source.new) bytes result }
+    ensures failures { S.from.failures source.new ≡ failures_after_answer result (S.from.failures source.old) }
 {
     let mut lines = TraceLines::new();
     let mut monitors = match begin(alloc, &mut lines, source, bounds, asked) {
@@ -52,9 +52,9 @@ fn begin<S: Source>(
     asked: Asked,
 ) -> Result<ByCriterion<Monitor>, TextFault>
     requires { IsNew lines.old }
-    ensures begins { ReadsBeginning S.told S.remaining (S.ended source.new) source.old source.new lines.new bounds asked result }
-    ensures well { OnOk result (S.failures source.new ≡ S.failures source.old) }
-    ensures failed { IfErr result (λ fault. S.failures source.new ≡ failures_after fault (S.failures source.old)) }
+    ensures begins { ReadsBeginning S.from (S.from.ended source.new) source.old source.new lines.new bounds asked result }
+    ensures well { OnOk result (S.from.failures source.new ≡ S.from.failures source.old) }
+    ensures failed { IfErr result (λ fault. S.from.failures source.new ≡ failures_after fault (S.from.failures source.old)) }
 {
     let header = match lines.header(source) {
         Ok(header) => header,

@@ -2,7 +2,6 @@ ghost use Rattle.std.specs.Prelude.{◌⊎◌};
 ghost use Rattle.tmw_report.specs.declared.fault.Fault.TheVariants.{Memory};
 ghost use Rattle.tmw_report.specs.Lines.{fault_line};
 ghost use Rattle.tmw_report.specs.Putting.{IsPut};
-ghost use Rattle.tmw_report.specs.Streams.{from_source, to_sink};
 ghost use Rattle.tmw_judge.specs.ByCriterion.{Each};
 ghost use Rattle.tmw_judge.specs.Judging.{IsOwnVerdict, JudgesBytes, report_lines, report_status};
 
@@ -27,7 +26,7 @@ pub fn run_judge<S: Source, K: Sink>(
     bounds: Bounds,
     asked: Asked,
 ) -> u8
-    ensures { JudgesBytes (from_source S.told S.remaining S.ended S.failures) (to_sink K.took K.holds K.failures) bounds asked
+    ensures { JudgesBytes S.from K.to bounds asked
         source.old source.new sink.old sink.new result }
 {
     match judge(alloc, source, bounds, asked) {
@@ -40,8 +39,8 @@ pub fn run_judge<S: Source, K: Sink>(
 /// refused, that fault stands in the place of all.
 fn answer_reports<K: Sink>(alloc: Global, sink: &mut K, reports: ByCriterion<Report>) -> u8
     requires { Each IsOwnVerdict reports }
-    ensures { IsPut (to_sink K.took K.holds K.failures) sink.old sink.new (report_lines reports) (report_status reports) result
-        ⊎ IsPut (to_sink K.took K.holds K.failures) sink.old sink.new (fault_line Memory) 4 result }
+    ensures { IsPut K.to sink.old sink.new (report_lines reports) (report_status reports) result
+        ⊎ IsPut K.to sink.old sink.new (fault_line Memory) 4 result }
 {
     let Ok(lines) = report_lines(alloc, &reports) else {
         return answer_fault(sink, Fault::Memory);

@@ -1,11 +1,11 @@
 -- The first line of a text: held whole, or longer than can be held.
 use Rattle.std.proofs.Common.{◌≡◌, ℕ, ◌+◌, ◌<◌, ◌≤◌, Option, Some, None, IfSome, IfNone, Err, Ok, List, ◌∷◌, ◌++◌, length, take, drop, refl, sym, ap, ◌∙◌, inl, inr, length-append, arith}
 use Rattle.std.proofs.lemmas.List.{nil_from_length}
+use Rattle.tmw_streams.specs.Told.{Reads}
 use Rattle.tmw_lines.specs.Grammar.{Grammar, IsNoHeader}
 use Rattle.tmw_lines.specs.LineRead.{ReadsHeader}
 use Rattle.tmw_lines.specs.LongLine.{Skips}
 use Rattle.tmw_lines.specs.Parts.{IsFree}
-use Rattle.tmw_lines.specs.Piece.{Reads}
 use Rattle.tmw_lines.specs.Text.{line}
 use Rattle.tmw_lines.specs.TextFault.{HasBadHeader}
 use Rattle.tmw_lines.specs.declared.long_line.LineEnd.TheVariants.{Feed, End, Failed}
@@ -14,6 +14,7 @@ use Rattle.tmw_lines.proofs.HeldLines.{line-split, bytes-joined}
 use Rattle.tmw_lines.proofs.LongLines.{long-bad}
 use Rattle.tmw_lines.proofs.Splits.{free-append}
 use Rattle.tmw_streams.proofs.ToldBytes.{Tells-more}
+use Rattle.tmw_streams.specs.Streams.{FromSource}
 
 pub take_header-some : {F H E : Type 0} (grammar : Grammar F H E) (bytes left : List ℕ) (count : ℕ) (found : Option H)
     → drop count bytes ≡ 10 ∷ drop (count + 1) bytes → left ≡ drop (count + 1) bytes
@@ -36,16 +37,16 @@ take_header-none grammar bytes count None free feed bad = record {
 take_header-none grammar bytes count (Some header) free feed bad = tt
 
 -- a line that is held whole, or that ends before its line feed
-module _ {F H E S : Type 0} (grammar : Grammar F H E) (Told : S → List ℕ → Type 0) (remaining : S → Option (List ℕ))
-    (Ended : Type 0) (a b : S) (before held left : List ℕ) (r : Reads Told remaining a b before held) where
+module _ {F H E S : Type 0} (grammar : Grammar F H E) (From : FromSource S)
+    (Ended : Type 0) (a b : S) (before held left : List ℕ) (r : Reads From a b before held) where
   pub first-header : (header : H) → held ≡ line (grammar.header_text header) ++ left → grammar.FitsHeader header
-      → ReadsHeader grammar Told remaining Ended a b before left (Ok header)
+      → ReadsHeader grammar From Ended a b before left (Ok header)
   first-header header split fits = record { bytes = r.bytes; told = r.told; is = (sym r.is ∙ split, fits) }
 
-  pub first-bad : HasBadHeader grammar held → ReadsHeader grammar Told remaining Ended a b before left (Err BadHeader)
+  pub first-bad : HasBadHeader grammar held → ReadsHeader grammar From Ended a b before left (Err BadHeader)
   first-bad bad = record { bytes = r.bytes; told = r.told; is = inr (rw r.is at bad) }
 
-  pub first-end : Ended → length held ≡ 0 → ReadsHeader grammar Told remaining Ended a b before left (Err BadHeader)
+  pub first-end : Ended → length held ≡ 0 → ReadsHeader grammar From Ended a b before left (Err BadHeader)
   first-end ended none = record {
     bytes = r.bytes;
     told = r.told;
@@ -53,35 +54,35 @@ module _ {F H E S : Type 0} (grammar : Grammar F H E) (Told : S → List ℕ →
   }
 
   pub first-cut : Ended → 0 < length held → IsFree 10 held
-      → ReadsHeader grammar Told remaining Ended a b before left (Err (Cut 1))
+      → ReadsHeader grammar From Ended a b before left (Err (Cut 1))
   first-cut ended some free = record {
     bytes = r.bytes;
     told = r.told;
     is = (ended, refl, λ empty. absurd (omega (arith, some, ap length (r.is ∙ empty))), rw r.is at free);
   }
 
-  pub first-failed : (Ended → ⊥) → IsFree 10 held → ReadsHeader grammar Told remaining Ended a b before left (Err Io)
+  pub first-failed : (Ended → ⊥) → IsFree 10 held → ReadsHeader grammar From Ended a b before left (Err Io)
   first-failed no_end free = record { bytes = r.bytes; told = r.told; is = (no_end, rw r.is at free) }
 
 -- a line longer than can be held
-module _ {F H E S : Type 0} (grammar : Grammar F H E) (Told : S → List ℕ → Type 0) (remaining : S → Option (List ℕ))
+module _ {F H E S : Type 0} (grammar : Grammar F H E) (From : FromSource S)
     (Ended : Type 0) (a b c : S) (before held left : List ℕ) where
-  pub long_first-feed : ((text : List ℕ) → 4096 ≤ length text → IsNoHeader grammar text) → Reads Told remaining a b before held
-      → length held ≡ 4096 → IsFree 10 held → Skips Told remaining Ended b c left Feed
-      → ReadsHeader grammar Told remaining Ended a c before left (Err BadHeader)
+  pub long_first-feed : ((text : List ℕ) → 4096 ≤ length text → IsNoHeader grammar text) → Reads From a b before held
+      → length held ≡ 4096 → IsFree 10 held → Skips From Ended b c left Feed
+      → ReadsHeader grammar From Ended a c before left (Err BadHeader)
   long_first-feed long_header r long free s = record {
     bytes = r.bytes ++ s.bytes;
-    told = Tells-more Told remaining a b c r.bytes s.bytes r.told s.told;
-    is = rw (bytes-joined Told remaining a b before held r s.bytes)
+    told = Tells-more From a b c r.bytes s.bytes r.told s.told;
+    is = rw (bytes-joined From a b before held r s.bytes)
         (inr (long-bad (IsNoHeader grammar) held s.bytes left long_header long free s.is));
   }
 
-  pub long_first-end : Reads Told remaining a b before held → length held ≡ 4096 → IsFree 10 held
-      → Skips Told remaining Ended b c left End → ReadsHeader grammar Told remaining Ended a c before left (Err (Cut 1))
+  pub long_first-end : Reads From a b before held → length held ≡ 4096 → IsFree 10 held
+      → Skips From Ended b c left End → ReadsHeader grammar From Ended a c before left (Err (Cut 1))
   long_first-end r long free s = record {
     bytes = r.bytes ++ s.bytes;
-    told = Tells-more Told remaining a b c r.bytes s.bytes r.told s.told;
-    is = rw (bytes-joined Told remaining a b before held r s.bytes) (
+    told = Tells-more From a b c r.bytes s.bytes r.told s.told;
+    is = rw (bytes-joined From a b before held r s.bytes) (
       s.is.0,
       refl,
       λ empty. absurd (omega (arith, long, ap length empty, length-append held s.bytes)),
@@ -89,10 +90,10 @@ module _ {F H E S : Type 0} (grammar : Grammar F H E) (Told : S → List ℕ →
     );
   }
 
-  pub long_first-failed : Reads Told remaining a b before held → IsFree 10 held → Skips Told remaining Ended b c left Failed
-      → ReadsHeader grammar Told remaining Ended a c before left (Err Io)
+  pub long_first-failed : Reads From a b before held → IsFree 10 held → Skips From Ended b c left Failed
+      → ReadsHeader grammar From Ended a c before left (Err Io)
   long_first-failed r free s = record {
     bytes = r.bytes ++ s.bytes;
-    told = Tells-more Told remaining a b c r.bytes s.bytes r.told s.told;
-    is = rw (bytes-joined Told remaining a b before held r s.bytes) (s.is.0, free-append 10 held s.bytes free s.is.1);
+    told = Tells-more From a b c r.bytes s.bytes r.told s.told;
+    is = rw (bytes-joined From a b before held r s.bytes) (s.is.0, free-append 10 held s.bytes free s.is.1);
   }

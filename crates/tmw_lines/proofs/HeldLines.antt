@@ -1,7 +1,8 @@
 -- A line that is held whole, and the bytes read for one that is not.
 use Rattle.std.proofs.Common.{◌≡◌, ℕ, ◌+◌, ◌<◌, Option, List, [], ◌∷◌, ◌++◌, length, take, drop, sym, ap, ◌∙◌, length-drop, append_assoc, take-append-drop, arith}
-use Rattle.tmw_lines.specs.Piece.{Reads}
+use Rattle.tmw_streams.specs.Told.{Reads}
 use Rattle.tmw_lines.specs.Text.{line}
+use Rattle.tmw_streams.specs.Streams.{FromSource}
 
 -- the bytes up to a line feed, and those after it
 pub line-split : (bytes text : List ℕ) (count : ℕ) → drop count bytes ≡ 10 ∷ drop (count + 1) bytes → take count bytes ≡ text
@@ -16,7 +17,7 @@ length-left bytes left count feed is =
     omega (arith, ap length is, ap length feed, length-drop count bytes, length-drop (count + 1) bytes)
 
 -- the bytes read for a line, and then more, behind those held before
-pub bytes-joined : {S : Type 0} (Told : S → List ℕ → Type 0) (remaining : S → Option (List ℕ)) (a b : S)
-    (before held : List ℕ) (r : Reads Told remaining a b before held) (more : List ℕ)
+pub bytes-joined : {S : Type 0} (From : FromSource S) (a b : S)
+    (before held : List ℕ) (r : Reads From a b before held) (more : List ℕ)
     → before ++ (r.bytes ++ more) ≡ held ++ more
-bytes-joined Told remaining a b before held r more = sym (append_assoc before r.bytes more) ∙ ap (λ xs. xs ++ more) (sym r.is)
+bytes-joined From a b before held r more = sym (append_assoc before r.bytes more) ∙ ap (λ xs. xs ++ more) (sym r.is)

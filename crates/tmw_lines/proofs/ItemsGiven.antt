@@ -9,32 +9,32 @@ use Rattle.tmw_lines.specs.declared.lines.Lines.{Lines}
 use Rattle.tmw_lines.specs.declared.text_fault.TextFault.{TextFault}
 use Rattle.tmw_lines.specs.declared.text_fault.TextFault.TheVariants.{BadHeader, BadLine, Cut, Memory, Io, TooLong}
 use Rattle.tmw_lines.proofs.LinesRead.{fails-behind}
+use Rattle.tmw_streams.specs.Streams.{FromSource}
 use Rattle.tmw_streams.specs.Told.{Tells}
 use Rattle.tmw_streams.proofs.ToldBytes.{Tells-none, Tells-more}
 
 -- the items of all lines read since were taken
-pub record HasGiven {F H E S T : Type 0} (grammar : Grammar F H E) (Told : S → List ℕ → Type 0)
-    (remaining : S → Option (List ℕ)) (Takes : T → List E → T → Type 0) (old new : S) (lines lines_after : Lines F)
+pub record HasGiven {F H E S T : Type 0} (grammar : Grammar F H E) (From : FromSource S) (Takes : T → List E → T → Type 0) (old new : S) (lines lines_after : Lines F)
     (before after : T) : Type 0 where
   pub bytes : List ℕ
   pub items : List E
-  pub told : Tells Told remaining old bytes new
+  pub told : Tells From old bytes new
   pub taken : Takes before items after
   pub read : (header : H) (given : List E) (earlier : List ℕ) → HasRead grammar lines header given earlier
       → HasRead grammar lines_after header (given ++ items) (earlier ++ bytes)
 
-module _ {F H E S T : Type 0} (grammar : Grammar F H E) (Told : S → List ℕ → Type 0) (remaining : S → Option (List ℕ))
+module _ {F H E S T : Type 0} (grammar : Grammar F H E) (From : FromSource S)
     (Takes : T → List E → T → Type 0) (a : S) (lines : Lines F) (before : T) where
-  pub HasGiven-none : Takes before [] before → HasGiven grammar Told remaining Takes a a lines lines before before
+  pub HasGiven-none : Takes before [] before → HasGiven grammar From Takes a a lines lines before before
   HasGiven-none none = record {
     bytes = [];
     items = [];
-    told = Tells-none Told remaining a;
+    told = Tells-none From a;
     taken = none;
     read = λ header given earlier r. rw (append-nil given, append-nil earlier) r;
   }
 
-  module _ (b : S) (now : Lines F) (between : T) (h : HasGiven grammar Told remaining Takes a b lines now before between) where
+  module _ (b : S) (now : Lines F) (between : T) (h : HasGiven grammar From Takes a b lines now before between) where
     -- no fault was answered yet, and not the end
     pub reads_on : HasBegunToRead grammar lines → IsReading now
     reads_on begun = (h.read begun.header begun.items begun.bytes begun.read).reading
@@ -49,7 +49,7 @@ module _ {F H E S T : Type 0} (grammar : Grammar F H E) (Told : S → List ℕ �
 
     pub HasGiven-held : (more : (x y z : T) (xs ys : List E) → Takes x xs y → Takes y ys z → Takes x (xs ++ ys) z)
         → (next : Lines F) (after : T) → GivesItems grammar Takes now next between after
-        → HasGiven grammar Told remaining Takes a b lines next before after
+        → HasGiven grammar From Takes a b lines next before after
     HasGiven-held more next after gives = record {
       bytes = h.bytes;
       items = h.items ++ gives.items;
@@ -62,7 +62,7 @@ module _ {F H E S T : Type 0} (grammar : Grammar F H E) (Told : S → List ℕ �
     pub lacks-held-last : (Done : Type 0) (Ended : Type 0) (Lacks : T → E → T → Type 0)
         (more : (x y z : T) (xs ys : List E) → Takes x xs y → Takes y ys z → Takes x (xs ++ ys) z) (next : Lines F) (after : T)
         → LacksLast grammar Takes Lacks now next between after
-        → GivesAll {Done = Done} grammar Told remaining Ended Takes Lacks a b lines next before after (Err Memory)
+        → GivesAll {Done = Done} grammar From Ended Takes Lacks a b lines next before after (Err Memory)
     lacks-held-last Done Ended Lacks more next after l = record {
       bytes = h.bytes;
       items = h.items ++ l.items;
@@ -97,13 +97,13 @@ module _ {F H E S T : Type 0} (grammar : Grammar F H E) (Told : S → List ℕ �
 
     -- and its item was taken
     pub HasGiven-push : (more : (x y z : T) (xs ys : List E) → Takes x xs y → Takes y ys z → Takes x (xs ++ ys) z)
-        → (c : S) (next : Lines F) (after : T) (bytes : List ℕ) (item : E) → Tells Told remaining b bytes c
+        → (c : S) (next : Lines F) (after : T) (bytes : List ℕ) (item : E) → Tells From b bytes c
         → GivesItem grammar now next bytes item → Takes between (item ∷ []) after
-        → HasGiven grammar Told remaining Takes a c lines next before after
+        → HasGiven grammar From Takes a c lines next before after
     HasGiven-push more c next after bytes item told gives taken = record {
       bytes = h.bytes ++ bytes;
       items = h.items ++ item ∷ [];
-      told = Tells-more Told remaining a b c h.bytes bytes h.told told;
+      told = Tells-more From a b c h.bytes bytes h.told told;
       taken = more before between after h.items (item ∷ []) h.taken taken;
       read = λ header given earlier r. rw (← append_assoc given h.items (item ∷ []))
           (read-one next bytes item gives header given earlier r);
@@ -111,13 +111,13 @@ module _ {F H E S T : Type 0} (grammar : Grammar F H E) (Told : S → List ℕ �
 
     -- and memory was refused for its item
     pub lacks-next : (Done : Type 0) (Ended : Type 0) (Lacks : T → E → T → Type 0) (c : S) (next : Lines F) (after : T)
-        (bytes : List ℕ) (item : E) → Tells Told remaining b bytes c → GivesItem grammar now next bytes item
+        (bytes : List ℕ) (item : E) → Tells From b bytes c → GivesItem grammar now next bytes item
         → Lacks between item after
-        → GivesAll {Done = Done} grammar Told remaining Ended Takes Lacks a c lines next before after (Err Memory)
+        → GivesAll {Done = Done} grammar From Ended Takes Lacks a c lines next before after (Err Memory)
     lacks-next Done Ended Lacks c next after bytes item told gives lacks = record {
       bytes = h.bytes ++ bytes;
       items = h.items;
-      told = Tells-more Told remaining a b c h.bytes bytes h.told told;
+      told = Tells-more From a b c h.bytes bytes h.told told;
       given = record {
         last = item;
         between = between;
@@ -129,12 +129,12 @@ module _ {F H E S T : Type 0} (grammar : Grammar F H E) (Told : S → List ℕ �
 
     -- the end was read
     pub gives-end : {Done : Type 0} (done : Done) (Ended : Type 0) (Lacks : T → E → T → Type 0) (c : S) (next : Lines F)
-        (bytes : List ℕ) → Tells Told remaining b bytes c → GivesEnd grammar Ended now bytes
-        → GivesAll grammar Told remaining Ended Takes Lacks a c lines next before between (Ok done)
+        (bytes : List ℕ) → Tells From b bytes c → GivesEnd grammar Ended now bytes
+        → GivesAll grammar From Ended Takes Lacks a c lines next before between (Ok done)
     gives-end done Ended Lacks c next bytes told ends = record {
       bytes = h.bytes ++ bytes;
       items = h.items;
-      told = Tells-more Told remaining a b c h.bytes bytes h.told told;
+      told = Tells-more From a b c h.bytes bytes h.told told;
       given = (
         λ header given earlier r.
             let read = h.read header given earlier r in
@@ -168,12 +168,12 @@ module _ {F H E S T : Type 0} (grammar : Grammar F H E) (Told : S → List ℕ �
 
     -- a fault was read
     pub gives-fault : (Done : Type 0) (Ended : Type 0) (Lacks : T → E → T → Type 0) (c : S) (next : Lines F) (bytes : List ℕ)
-        (fault : TextFault) → HasBegunToRead grammar lines → Tells Told remaining b bytes c
+        (fault : TextFault) → HasBegunToRead grammar lines → Tells From b bytes c
         → FailsAtLine grammar Ended now bytes fault
-        → GivesAll {Done = Done} grammar Told remaining Ended Takes Lacks a c lines next before between (Err fault)
+        → GivesAll {Done = Done} grammar From Ended Takes Lacks a c lines next before between (Err fault)
     gives-fault Done Ended Lacks c next bytes fault begun told fails = record {
       bytes = h.bytes ++ bytes;
       items = h.items;
-      told = Tells-more Told remaining a b c h.bytes bytes h.told told;
+      told = Tells-more From a b c h.bytes bytes h.told told;
       given = given-fault Done Ended Lacks next bytes fault begun fails;
     }

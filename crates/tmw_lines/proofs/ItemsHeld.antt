@@ -6,15 +6,16 @@ use Rattle.tmw_lines.specs.ItemsRead.{ReadsItems}
 use Rattle.tmw_lines.specs.declared.lines.Lines.{Lines}
 use Rattle.tmw_lines.specs.declared.text_fault.TextFault.{TextFault}
 use Rattle.tmw_lines.specs.declared.text_fault.TextFault.TheVariants.{BadHeader, BadLine, Cut, Memory, Io, TooLong}
+use Rattle.tmw_streams.specs.Streams.{FromSource}
 
-module _ {F H E S T Done : Type 0} (grammar : Grammar F H E) (Told : S → List ℕ → Type 0) (remaining : S → Option (List ℕ))
+module _ {F H E S T Done : Type 0} (grammar : Grammar F H E) (From : FromSource S)
     (Ended : Type 0) (Takes : T → List E → T → Type 0) (Lacks : T → E → T → Type 0) (held : T → List E)
     (takes : (x : T) (items : List E) (y : T) → Takes x items y → held y ≡ held x ++ items)
     (lacks : (x : T) (item : E) (y : T) → Lacks x item y → held y ≡ held x) (a b : S) (lines after : Lines F) (x y : T) where
   -- the line that has the fault is behind those whose items are held
   reads-fault : (fault : TextFault)
-      → (g : GivesAll {Done = Done} grammar Told remaining Ended Takes Lacks a b lines after x y (Err fault))
-      → ReadsItems {Done = Done} grammar Told remaining Ended a b lines after (held x) (held y) (Err fault)
+      → (g : GivesAll {Done = Done} grammar From Ended Takes Lacks a b lines after x y (Err fault))
+      → ReadsItems {Done = Done} grammar From Ended a b lines after (held x) (held y) (Err fault)
   reads-fault BadHeader g = record { bytes = g.bytes; items = g.items; told = g.told; is = takes x g.items y g.given.1; read = g.given.0 }
   reads-fault (BadLine number) g =
       record { bytes = g.bytes; items = g.items; told = g.told; is = takes x g.items y g.given.1; read = g.given.0 }
@@ -32,8 +33,8 @@ module _ {F H E S T Done : Type 0} (grammar : Grammar F H E) (Told : S → List 
       record { bytes = g.bytes; items = g.items; told = g.told; is = takes x g.items y g.given.1; read = g.given.0 }
 
   pub reads-given : (result : Result Done TextFault)
-      → GivesAll grammar Told remaining Ended Takes Lacks a b lines after x y result
-      → ReadsItems grammar Told remaining Ended a b lines after (held x) (held y) result
+      → GivesAll grammar From Ended Takes Lacks a b lines after x y result
+      → ReadsItems grammar From Ended a b lines after (held x) (held y) result
   reads-given (Ok done) g =
       record { bytes = g.bytes; items = g.items; told = g.told; is = takes x g.items y g.given.1; read = g.given.0 }
   reads-given (Err fault) g = reads-fault fault g

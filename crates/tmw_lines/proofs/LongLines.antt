@@ -6,6 +6,7 @@ use Rattle.tmw_lines.specs.LongLine.{HasFeed, HoldsFeed, Skips}
 use Rattle.tmw_lines.specs.Parts.{IsFree}
 use Rattle.tmw_lines.specs.TextFault.{BeginsWithBad}
 use Rattle.tmw_lines.specs.declared.long_line.LineEnd.TheVariants.{Feed, End, Failed}
+use Rattle.tmw_streams.specs.Streams.{FromSource}
 use Rattle.tmw_streams.specs.Told.{Tells}
 use Rattle.tmw_lines.proofs.Splits.{free-append, free-before, drop-before}
 use Rattle.tmw_streams.proofs.ToldBytes.{Tells-none, Tells-more}
@@ -22,45 +23,45 @@ free-all : (bytes : List ℕ) → length bytes ≤ position_or_len (λ byte. byt
 free-all bytes all = rw (take_all (position_or_len (λ byte. byte == 10) bytes) bytes all) at (free-before 10 bytes)
 
 -- what the source told so far holds no line feed
-pub record HasSkipped {S : Type 0} (Told : S → List ℕ → Type 0) (remaining : S → Option (List ℕ)) (old new : S) : Type 0 where
+pub record HasSkipped {S : Type 0} (From : FromSource S) (old new : S) : Type 0 where
   pub bytes : List ℕ
-  pub told : Tells Told remaining old bytes new
+  pub told : Tells From old bytes new
   pub free : IsFree 10 bytes
 
 -- reading on from one state to the next, which tells these bytes and holds them
-module _ {S : Type 0} (Told : S → List ℕ → Type 0) (remaining : S → Option (List ℕ)) (a : S) where
-  pub HasSkipped-none : HasSkipped Told remaining a a
-  HasSkipped-none = record { bytes = []; told = Tells-none Told remaining a; free = refl }
+module _ {S : Type 0} (From : FromSource S) (a : S) where
+  pub HasSkipped-none : HasSkipped From a a
+  HasSkipped-none = record { bytes = []; told = Tells-none From a; free = refl }
 
-  pub HasSkipped-more : (b c : S) (bytes : List ℕ) → HasSkipped Told remaining a b → Tells Told remaining b bytes c
-      → length bytes ≤ position_or_len (λ byte. byte == 10) bytes → HasSkipped Told remaining a c
+  pub HasSkipped-more : (b c : S) (bytes : List ℕ) → HasSkipped From a b → Tells From b bytes c
+      → length bytes ≤ position_or_len (λ byte. byte == 10) bytes → HasSkipped From a c
   HasSkipped-more b c bytes before told all = record {
     bytes = before.bytes ++ bytes;
-    told = Tells-more Told remaining a b c before.bytes bytes before.told told;
+    told = Tells-more From a b c before.bytes bytes before.told told;
     free = free-append 10 before.bytes bytes before.free (free-all bytes all);
   }
 
-  pub Skips-feed : (Ended : Type 0) (b c : S) (bytes : List ℕ) → HasSkipped Told remaining a b → Tells Told remaining b bytes c
-      → position_or_len (λ byte. byte == 10) bytes < length bytes → Skips Told remaining Ended a c bytes Feed
+  pub Skips-feed : (Ended : Type 0) (b c : S) (bytes : List ℕ) → HasSkipped From a b → Tells From b bytes c
+      → position_or_len (λ byte. byte == 10) bytes < length bytes → Skips From Ended a c bytes Feed
   Skips-feed Ended b c bytes before told within = record {
     bytes = before.bytes ++ bytes;
-    told = Tells-more Told remaining a b c before.bytes bytes before.told told;
+    told = Tells-more From a b c before.bytes bytes before.told told;
     is = record { gone = before.bytes; split = refl; free = before.free; feed = has-feed bytes within };
   }
 
-  pub Skips-end : (Ended : Type 0) (b c : S) → HasSkipped Told remaining a b → Tells Told remaining b [] c → Ended
-      → Skips Told remaining Ended a c [] End
+  pub Skips-end : (Ended : Type 0) (b c : S) → HasSkipped From a b → Tells From b [] c → Ended
+      → Skips From Ended a c [] End
   Skips-end Ended b c before told ended = record {
     bytes = before.bytes ++ [];
-    told = Tells-more Told remaining a b c before.bytes [] before.told told;
+    told = Tells-more From a b c before.bytes [] before.told told;
     is = (ended, rw append-nil before.free, refl);
   }
 
-  pub Skips-failed : (Ended : Type 0) (b c : S) → HasSkipped Told remaining a b → Tells Told remaining b [] c → (Ended → ⊥)
-      → Skips Told remaining Ended a c [] Failed
+  pub Skips-failed : (Ended : Type 0) (b c : S) → HasSkipped From a b → Tells From b [] c → (Ended → ⊥)
+      → Skips From Ended a c [] Failed
   Skips-failed Ended b c before told no_end = record {
     bytes = before.bytes ++ [];
-    told = Tells-more Told remaining a b c before.bytes [] before.told told;
+    told = Tells-more From a b c before.bytes [] before.told told;
     is = (no_end, rw append-nil before.free, refl);
   }
 

@@ -6,13 +6,13 @@ use Rattle.tmw_lines.specs.LineRead.{IsItemLine, ReadsLine}
 use Rattle.tmw_lines.specs.TextFault.{IsBadLine}
 use Rattle.tmw_lines.specs.LongLine.{Skips}
 use Rattle.tmw_lines.specs.Parts.{IsFree}
-use Rattle.tmw_lines.specs.Piece.{Reads}
 use Rattle.tmw_lines.specs.declared.long_line.LineEnd.TheVariants.{Feed, End, Failed}
 use Rattle.tmw_lines.specs.declared.text_fault.TextFault.TheVariants.{BadLine, Cut, Io, TooLong}
 use Rattle.tmw_lines.proofs.HeldLines.{line-split, bytes-joined}
 use Rattle.tmw_lines.proofs.LongLines.{long-bad}
 use Rattle.tmw_lines.proofs.Splits.{free-append}
-use Rattle.tmw_streams.specs.Told.{Tells}
+use Rattle.tmw_streams.specs.Streams.{FromSource}
+use Rattle.tmw_streams.specs.Told.{Tells, Reads}
 use Rattle.tmw_streams.proofs.ToldBytes.{Tells-none, Tells-more}
 
 pub take_item-some : {F H E : Type 0} (grammar : Grammar F H E) (format : F) (bytes left : List ℕ) (count : ℕ)
@@ -38,29 +38,29 @@ take_item-none grammar format bytes count None free feed bad = record {
 take_item-none grammar format bytes count (Some item) free feed bad = tt
 
 -- a line that is held whole, or that ends before its line feed
-module _ {F H E S : Type 0} (grammar : Grammar F H E) (Told : S → List ℕ → Type 0) (remaining : S → Option (List ℕ))
+module _ {F H E S : Type 0} (grammar : Grammar F H E) (From : FromSource S)
     (Ended : Type 0) (a b : S) (format : F) (count : ℕ) (before held left : List ℕ) (few : count < 2 ^ 40)
-    (r : Reads Told remaining a b before held) where
+    (r : Reads From a b before held) where
   pub next-item : (item : E) → IsItemLine grammar format item held left
-      → ReadsLine grammar Told remaining Ended a b format count before left (Ok (Some item))
+      → ReadsLine grammar From Ended a b format count before left (Ok (Some item))
   next-item item given = record { bytes = r.bytes; told = r.told; is = (few, rw r.is at given) }
 
   pub next-bad : IsBadLine grammar format held
-      → ReadsLine grammar Told remaining Ended a b format count before left (Err (BadLine (count + 2)))
+      → ReadsLine grammar From Ended a b format count before left (Err (BadLine (count + 2)))
   next-bad bad = record { bytes = r.bytes; told = r.told; is = (few, refl, rw r.is at bad) }
 
-  pub next-end : Ended → length held ≡ 0 → ReadsLine grammar Told remaining Ended a b format count before left (Ok None)
+  pub next-end : Ended → length held ≡ 0 → ReadsLine grammar From Ended a b format count before left (Ok None)
   next-end ended none = record { bytes = r.bytes; told = r.told; is = (ended, sym r.is ∙ nil_from_length held none) }
 
   pub next-cut : Ended → 0 < length held → IsFree 10 held
-      → ReadsLine grammar Told remaining Ended a b format count before left (Err (Cut (count + 2)))
+      → ReadsLine grammar From Ended a b format count before left (Err (Cut (count + 2)))
   next-cut ended some free = record {
     bytes = r.bytes;
     told = r.told;
     is = (few, refl, ended, rw r.is at free, λ empty. absurd (omega (arith, some, ap length (r.is ∙ empty))));
   }
 
-  pub next-failed : (Ended → ⊥) → IsFree 10 held → ReadsLine grammar Told remaining Ended a b format count before left (Err Io)
+  pub next-failed : (Ended → ⊥) → IsFree 10 held → ReadsLine grammar From Ended a b format count before left (Err Io)
   next-failed no_end free = record {
     bytes = r.bytes;
     told = r.told;
@@ -68,27 +68,27 @@ module _ {F H E S : Type 0} (grammar : Grammar F H E) (Told : S → List ℕ →
   }
 
 -- a line longer than can be held
-module _ {F H E S : Type 0} (grammar : Grammar F H E) (Told : S → List ℕ → Type 0) (remaining : S → Option (List ℕ))
+module _ {F H E S : Type 0} (grammar : Grammar F H E) (From : FromSource S)
     (Ended : Type 0) (a b c : S) (format : F) (count : ℕ) (before held left : List ℕ) where
-  pub long-feed : ((text : List ℕ) → 4096 ≤ length text → IsNoItem grammar format text) → Reads Told remaining a b before held
-      → length held ≡ 4096 → IsFree 10 held → Skips Told remaining Ended b c left Feed → count < 2 ^ 40
-      → ReadsLine grammar Told remaining Ended a c format count before left (Err (BadLine (count + 2)))
+  pub long-feed : ((text : List ℕ) → 4096 ≤ length text → IsNoItem grammar format text) → Reads From a b before held
+      → length held ≡ 4096 → IsFree 10 held → Skips From Ended b c left Feed → count < 2 ^ 40
+      → ReadsLine grammar From Ended a c format count before left (Err (BadLine (count + 2)))
   long-feed long_item r long free s few = record {
     bytes = r.bytes ++ s.bytes;
-    told = Tells-more Told remaining a b c r.bytes s.bytes r.told s.told;
-    is = rw (bytes-joined Told remaining a b before held r s.bytes) (
+    told = Tells-more From a b c r.bytes s.bytes r.told s.told;
+    is = rw (bytes-joined From a b before held r s.bytes) (
       few,
       refl,
       long-bad (IsNoItem grammar format) held s.bytes left long_item long free s.is,
     );
   }
 
-  pub long-end : Reads Told remaining a b before held → length held ≡ 4096 → IsFree 10 held
-      → Skips Told remaining Ended b c left End → count < 2 ^ 40 → ReadsLine grammar Told remaining Ended a c format count before left (Err (Cut (count + 2)))
+  pub long-end : Reads From a b before held → length held ≡ 4096 → IsFree 10 held
+      → Skips From Ended b c left End → count < 2 ^ 40 → ReadsLine grammar From Ended a c format count before left (Err (Cut (count + 2)))
   long-end r long free s few = record {
     bytes = r.bytes ++ s.bytes;
-    told = Tells-more Told remaining a b c r.bytes s.bytes r.told s.told;
-    is = rw (bytes-joined Told remaining a b before held r s.bytes) (
+    told = Tells-more From a b c r.bytes s.bytes r.told s.told;
+    is = rw (bytes-joined From a b before held r s.bytes) (
       few,
       refl,
       s.is.0,
@@ -97,12 +97,12 @@ module _ {F H E S : Type 0} (grammar : Grammar F H E) (Told : S → List ℕ →
     );
   }
 
-  pub long-failed : Reads Told remaining a b before held → IsFree 10 held → Skips Told remaining Ended b c left Failed
-      → count < 2 ^ 40 → ReadsLine grammar Told remaining Ended a c format count before left (Err Io)
+  pub long-failed : Reads From a b before held → IsFree 10 held → Skips From Ended b c left Failed
+      → count < 2 ^ 40 → ReadsLine grammar From Ended a c format count before left (Err Io)
   long-failed r free s few = record {
     bytes = r.bytes ++ s.bytes;
-    told = Tells-more Told remaining a b c r.bytes s.bytes r.told s.told;
-    is = rw (bytes-joined Told remaining a b before held r s.bytes) (
+    told = Tells-more From a b c r.bytes s.bytes r.told s.told;
+    is = rw (bytes-joined From a b before held r s.bytes) (
       s.is.0,
       free-append 10 held s.bytes free s.is.1,
       λ last. absurd (omega (arith, last)),
@@ -110,33 +110,33 @@ module _ {F H E S : Type 0} (grammar : Grammar F H E) (Told : S → List ℕ →
   }
 
 -- what follows the greatest number of items' lines
-module _ {F H E S : Type 0} (grammar : Grammar F H E) (Told : S → List ℕ → Type 0) (remaining : S → Option (List ℕ))
+module _ {F H E S : Type 0} (grammar : Grammar F H E) (From : FromSource S)
     (Ended : Type 0) (a : S) (format : F) (before left : List ℕ) where
-  pub past-held : 0 < length before → ReadsLine grammar Told remaining Ended a a format (2 ^ 40) before left (Err TooLong)
+  pub past-held : 0 < length before → ReadsLine grammar From Ended a a format (2 ^ 40) before left (Err TooLong)
   past-held some = record {
     bytes = [];
-    told = Tells-none Told remaining a;
+    told = Tells-none From a;
     is = (refl, λ empty. absurd (omega (arith, some, ap length (sym (append-nil before) ∙ empty))));
   }
 
-  pub past-read : (b : S) (bytes : List ℕ) → Tells Told remaining a bytes b → 0 < length bytes
-      → ReadsLine grammar Told remaining Ended a b format (2 ^ 40) before left (Err TooLong)
+  pub past-read : (b : S) (bytes : List ℕ) → Tells From a bytes b → 0 < length bytes
+      → ReadsLine grammar From Ended a b format (2 ^ 40) before left (Err TooLong)
   past-read b bytes told some = record {
     bytes = bytes;
     told = told;
     is = (refl, λ empty. absurd (omega (arith, some, ap length empty, length-append before bytes)));
   }
 
-  pub past-end : (b : S) (bytes : List ℕ) → length before ≡ 0 → Tells Told remaining a bytes b → length bytes ≡ 0 → Ended
-      → ReadsLine grammar Told remaining Ended a b format (2 ^ 40) before left (Ok None)
+  pub past-end : (b : S) (bytes : List ℕ) → length before ≡ 0 → Tells From a bytes b → length bytes ≡ 0 → Ended
+      → ReadsLine grammar From Ended a b format (2 ^ 40) before left (Ok None)
   past-end b bytes none told nothing ended = record {
     bytes = bytes;
     told = told;
     is = (ended, nil_from_length (before ++ bytes) (omega (arith, none, nothing, length-append before bytes)));
   }
 
-  pub past-failed : (b : S) → length before ≡ 0 → Tells Told remaining a [] b → (Ended → ⊥)
-      → ReadsLine grammar Told remaining Ended a b format (2 ^ 40) before left (Err Io)
+  pub past-failed : (b : S) → length before ≡ 0 → Tells From a [] b → (Ended → ⊥)
+      → ReadsLine grammar From Ended a b format (2 ^ 40) before left (Err Io)
   past-failed b none told no_end =
       let empty : before ++ [] ≡ [] = append-nil before ∙ nil_from_length before none in
       record { bytes = []; told = told; is = (no_end, rw empty refl, λ last. empty) }

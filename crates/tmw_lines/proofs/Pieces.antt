@@ -5,9 +5,10 @@ use Rattle.std.proofs.Math.Seq.{take-add}
 use Rattle.std.proofs.lemmas.List.{drop-drop, take-append-le, take_all}
 use Rattle.std.proofs.lemmas.List.Sums.{prefix_len-le-length}
 use Rattle.tmw_lines.specs.Parts.{IsFree}
-use Rattle.tmw_lines.specs.Piece.{Reads, IsSeen}
+use Rattle.tmw_lines.specs.Piece.{IsSeen}
 use Rattle.tmw_lines.proofs.Splits.{free-append, free-before, drop-before}
-use Rattle.tmw_streams.specs.Told.{Tells}
+use Rattle.tmw_streams.specs.Streams.{FromSource}
+use Rattle.tmw_streams.specs.Told.{Tells, Reads}
 use Rattle.tmw_streams.proofs.ToldBytes.{Tells-none, Tells-more}
 
 -- the part of the bytes after those seen, up to its first line feed, is seen too
@@ -40,15 +41,15 @@ IsSeen-append bytes rest seen s = record {
 pub free-seen : (bytes : List ℕ) (seen : ℕ) → length bytes ≤ seen → IsSeen seen bytes → IsFree 10 bytes
 free-seen bytes seen all s = rw (take_all seen bytes all) at s.free
 
-module _ {S : Type 0} (Told : S → List ℕ → Type 0) (remaining : S → Option (List ℕ)) (a : S) (xs : List ℕ) where
-  pub Reads-none : Reads Told remaining a a xs xs
-  Reads-none = record { bytes = []; told = Tells-none Told remaining a; is = sym (append-nil xs) }
+module _ {S : Type 0} (From : FromSource S) (a : S) (xs : List ℕ) where
+  pub Reads-none : Reads From a a xs xs
+  Reads-none = record { bytes = []; told = Tells-none From a; is = sym (append-nil xs) }
 
   -- what one more read told came behind the bytes held
-  pub Reads-more : (b c : S) (ys bytes zs : List ℕ) → Reads Told remaining a b xs ys → Tells Told remaining b bytes c
-      → zs ≡ ys ++ bytes → Reads Told remaining a c xs zs
+  pub Reads-more : (b c : S) (ys bytes zs : List ℕ) → Reads From a b xs ys → Tells From b bytes c
+      → zs ≡ ys ++ bytes → Reads From a c xs zs
   Reads-more b c ys bytes zs r told is = record {
     bytes = r.bytes ++ bytes;
-    told = Tells-more Told remaining a b c r.bytes bytes r.told told;
+    told = Tells-more From a b c r.bytes bytes r.told told;
     is = is ∙ ap (λ z. z ++ bytes) r.is ∙ append_assoc xs r.bytes bytes;
   }

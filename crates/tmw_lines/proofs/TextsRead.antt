@@ -9,6 +9,7 @@ use Rattle.tmw_lines.specs.declared.lines.Lines.{Lines}
 use Rattle.tmw_lines.specs.declared.text_fault.TextFault.{TextFault}
 use Rattle.tmw_lines.specs.declared.text_fault.TextFault.TheVariants.{BadHeader, BadLine, Cut, Memory, Io, TooLong}
 use Rattle.tmw_lines.proofs.LinesRead.{text_fault-behind}
+use Rattle.tmw_streams.specs.Streams.{FromSource}
 use Rattle.tmw_streams.specs.Told.{Tells}
 use Rattle.tmw_streams.proofs.ToldBytes.{Tells-more}
 
@@ -49,27 +50,27 @@ text_fault-read Done grammar Ended lines header items bytes Io f = text_fault-be
 text_fault-read Done grammar Ended lines header items bytes TooLong f = text_fault-behind grammar Ended header items bytes TooLong f
 
 -- a whole text: the header was read, and then the items of all other lines
-module _ {F H E S : Type 0} (grammar : Grammar F H E) (Told : S → List ℕ → Type 0) (remaining : S → Option (List ℕ))
+module _ {F H E S : Type 0} (grammar : Grammar F H E) (From : FromSource S)
     (Ended : Type 0) (a b c : S) (lines after : Lines F) (header : H) (first : List ℕ) (held items : List E)
-    (told : Tells Told remaining a first b) (read : HasRead grammar lines header [] first) where
+    (told : Tells From a first b) (read : HasRead grammar lines header [] first) where
   pub all-ends : {Done : Type 0} (done : Done) → held ≡ []
-      → ReadsItems grammar Told remaining Ended b c lines after held items (Ok done)
-      → Tells Told remaining a (lines_text grammar header items) c × Ended × AreLines grammar header items
+      → ReadsItems grammar From Ended b c lines after held items (Ok done)
+      → Tells From a (lines_text grammar header items) c × Ended × AreLines grammar header items
   all-ends done none reads =
       let all : items ≡ reads.items = reads.is ∙ ap (λ xs. xs ++ reads.items) none in
       let end = reads.read header [] first read in
       rw all (
-        subst (λ bytes. Tells Told remaining a bytes c) end.text
-            (Tells-more Told remaining a b c first reads.bytes told reads.told),
+        subst (λ bytes. Tells From a bytes c) end.text
+            (Tells-more From a b c first reads.bytes told reads.told),
         end.ended,
         end.are_lines,
       )
 
   pub all-fails : (Done : Type 0) (fault : TextFault)
-      → ReadsItems {Done = Done} grammar Told remaining Ended b c lines after held items (Err fault)
-      → (bytes : List ℕ) × Tells Told remaining a bytes c × HasTextFault grammar Ended bytes fault
+      → ReadsItems {Done = Done} grammar From Ended b c lines after held items (Err fault)
+      → (bytes : List ℕ) × Tells From a bytes c × HasTextFault grammar Ended bytes fault
   all-fails Done fault reads = (
     first ++ reads.bytes,
-    Tells-more Told remaining a b c first reads.bytes told reads.told,
+    Tells-more From a b c first reads.bytes told reads.told,
     text_fault-read Done grammar Ended after header reads.items (first ++ reads.bytes) fault (reads.read header [] first read),
   )

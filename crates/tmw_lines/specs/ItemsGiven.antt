@@ -6,6 +6,7 @@ use Rattle.tmw_lines.specs.Lines.{HasRead}
 use Rattle.tmw_lines.specs.declared.lines.Lines.{Lines}
 use Rattle.tmw_lines.specs.declared.text_fault.TextFault.{TextFault}
 use Rattle.tmw_lines.specs.declared.text_fault.TextFault.TheVariants.{Memory}
+use Rattle.tmw_streams.specs.Streams.{FromSource}
 use Rattle.tmw_streams.specs.Told.{Tells}
 
 -- whatever had been read before, the bytes up to the end are its text and that of these items
@@ -40,10 +41,9 @@ AreGiven grammar Ended Takes Lacks old new before after items bytes (Err fault) 
     ReadsToFault grammar Ended old items bytes fault × Takes before items after
 
 -- what the source told makes, behind whatever the reader had read before, lines whose items the taker was given
-pub record GivesAll {F H E S T Done : Type 0} (grammar : Grammar F H E) (Told : S → List ℕ → Type 0)
-    (remaining : S → Option (List ℕ)) (Ended : Type 0) (Takes : T → List E → T → Type 0) (Lacks : T → E → T → Type 0)
+pub record GivesAll {F H E S T Done : Type 0} (grammar : Grammar F H E) (From : FromSource S) (Ended : Type 0) (Takes : T → List E → T → Type 0) (Lacks : T → E → T → Type 0)
     (old new : S) (lines lines_after : Lines F) (before after : T) (result : Result Done TextFault) : Type 0 where
   pub bytes : List ℕ
   pub items : List E
-  pub told : Tells Told remaining old bytes new
+  pub told : Tells From old bytes new
   pub given : AreGiven grammar Ended Takes Lacks lines lines_after before after items bytes result

@@ -6,6 +6,7 @@ use Rattle.tmw_lines.specs.Lines.{HasRead}
 use Rattle.tmw_lines.specs.declared.lines.Lines.{Lines}
 use Rattle.tmw_lines.specs.declared.text_fault.TextFault.{TextFault}
 use Rattle.tmw_lines.specs.declared.text_fault.TextFault.TheVariants.{Memory}
+use Rattle.tmw_streams.specs.Streams.{FromSource}
 use Rattle.tmw_streams.specs.Told.{Tells}
 
 -- it has given a header and perhaps items, and answered no fault and not the end
@@ -45,12 +46,11 @@ AreReadFor grammar Ended lines header items bytes (Err Memory) = StopsBehind gra
 AreReadFor grammar Ended lines header items bytes (Err fault) = FailsBehind grammar Ended header items bytes fault
 
 -- what the source told makes, behind whatever the reader had read before, lines whose items came behind the items held
-pub record ReadsItems {F H E S Done : Type 0} (grammar : Grammar F H E) (Told : S → List ℕ → Type 0)
-    (remaining : S → Option (List ℕ)) (Ended : Type 0) (old new : S) (lines lines_after : Lines F) (held held_after : List E)
+pub record ReadsItems {F H E S Done : Type 0} (grammar : Grammar F H E) (From : FromSource S) (Ended : Type 0) (old new : S) (lines lines_after : Lines F) (held held_after : List E)
     (result : Result Done TextFault) : Type 0 where
   pub bytes : List ℕ
   pub items : List E
-  pub told : Tells Told remaining old bytes new
+  pub told : Tells From old bytes new
   pub is : held_after ≡ held ++ items
   pub read : (header : H) (given : List E) (before : List ℕ) → HasRead grammar lines header given before
       → AreReadFor grammar Ended lines_after header (given ++ items) (before ++ bytes) result

@@ -5,6 +5,7 @@ use Rattle.tmw_lines.specs.Text.{line}
 use Rattle.tmw_lines.specs.TextFault.{IsUnbroken, IsBadLine, HasFirstLineFault}
 use Rattle.tmw_lines.specs.declared.text_fault.TextFault.{TextFault}
 use Rattle.tmw_lines.specs.declared.text_fault.TextFault.TheVariants.{BadHeader, BadLine, Cut, Memory, Io, TooLong}
+use Rattle.tmw_streams.specs.Streams.{FromSource}
 use Rattle.tmw_streams.specs.Told.{Tells}
 
 -- the bytes begin with this item's line, and these are left
@@ -33,11 +34,10 @@ IsLineRead grammar Ended format count bytes left (Ok None) = Ended × (bytes ≡
 IsLineRead grammar Ended format count bytes left (Err fault) = HasLineFault grammar Ended format count bytes fault
 
 -- what the source told makes, behind the bytes held before, a line that was read
-pub record ReadsLine {F H E S : Type 0} (grammar : Grammar F H E) (Told : S → List ℕ → Type 0)
-    (remaining : S → Option (List ℕ)) (Ended : Type 0) (old new : S) (format : F) (count : ℕ) (before left : List ℕ)
+pub record ReadsLine {F H E S : Type 0} (grammar : Grammar F H E) (From : FromSource S) (Ended : Type 0) (old new : S) (format : F) (count : ℕ) (before left : List ℕ)
     (result : Result (Option E) TextFault) : Type 0 where
   pub bytes : List ℕ
-  pub told : Tells Told remaining old bytes new
+  pub told : Tells From old bytes new
   pub is : IsLineRead grammar Ended format count (before ++ bytes) left result
 
 -- what was read of the first bytes: a header's line and what is left, or a fault
@@ -47,9 +47,8 @@ IsHeaderRead grammar Ended bytes left (Ok header) =
 IsHeaderRead grammar Ended bytes left (Err fault) = HasFirstLineFault grammar Ended bytes fault
 
 -- what the source told makes, behind the bytes held before, a header's line that was read
-pub record ReadsHeader {F H E S : Type 0} (grammar : Grammar F H E) (Told : S → List ℕ → Type 0)
-    (remaining : S → Option (List ℕ)) (Ended : Type 0) (old new : S) (before left : List ℕ)
+pub record ReadsHeader {F H E S : Type 0} (grammar : Grammar F H E) (From : FromSource S) (Ended : Type 0) (old new : S) (before left : List ℕ)
     (result : Result H TextFault) : Type 0 where
   pub bytes : List ℕ
-  pub told : Tells Told remaining old bytes new
+  pub told : Tells From old bytes new
   pub is : IsHeaderRead grammar Ended (before ++ bytes) left result

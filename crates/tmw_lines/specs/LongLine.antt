@@ -1,6 +1,7 @@
 -- The rest of a line that is longer than can be held.
 use Rattle.std.specs.Prelude.{◌≡◌, ℕ, Option, List, [], ◌∷◌, ◌++◌}
 use Rattle.tmw_lines.specs.Parts.{IsFree}
+use Rattle.tmw_streams.specs.Streams.{FromSource}
 use Rattle.tmw_streams.specs.Told.{Tells, one_more}
 use Rattle.tmw_lines.specs.declared.long_line.LineEnd.{LineEnd}
 use Rattle.tmw_lines.specs.declared.long_line.LineEnd.TheVariants.{Feed, End, Failed}
@@ -26,10 +27,10 @@ IsLineRest End Ended bytes held = Ended × IsFree 10 bytes × (held ≡ [])
 IsLineRest Failed Ended bytes held = (Ended → ⊥) × IsFree 10 bytes × (held ≡ [])
 
 -- what the source told is the line's rest
-pub record Skips {S : Type 0} (Told : S → List ℕ → Type 0) (remaining : S → Option (List ℕ)) (Ended : Type 0) (old new : S)
+pub record Skips {S : Type 0} (From : FromSource S) (Ended : Type 0) (old new : S)
     (held : List ℕ) (end : LineEnd) : Type 0 where
   pub bytes : List ℕ
-  pub told : Tells Told remaining old bytes new
+  pub told : Tells From old bytes new
   pub is : IsLineRest end Ended bytes held
 
 -- a source's count of failures after this end

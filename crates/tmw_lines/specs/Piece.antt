@@ -1,16 +1,9 @@
 -- What is read of a line, and what then stands at the front.
 use Rattle.std.specs.Prelude.{◌≡◌, ℕ, ◌+◌, ◌≤◌, Option, List, ◌∷◌, ◌++◌, length, take, drop}
 use Rattle.tmw_lines.specs.Parts.{IsFree}
-use Rattle.tmw_streams.specs.Told.{Tells, one_more}
+use Rattle.tmw_streams.specs.Told.{one_more}
 use Rattle.tmw_lines.specs.declared.piece.Piece.{Piece}
 use Rattle.tmw_lines.specs.declared.piece.Piece.TheVariants.{Line, End, Long, Failed}
-
--- what the source told came behind the bytes that were held
-pub record Reads {S : Type 0} (Told : S → List ℕ → Type 0) (remaining : S → Option (List ℕ)) (old new : S)
-    (before after : List ℕ) : Type 0 where
-  pub bytes : List ℕ
-  pub told : Tells Told remaining old bytes new
-  pub is : after ≡ before ++ bytes
 
 -- so many bytes at the front hold no line feed
 pub record IsSeen (seen : ℕ) (bytes : List ℕ) : Type 0 where

@@ -16,10 +16,10 @@ pub fn first_line<F: LineFormat, S: Source>(
     held: &mut Held,
     source: &mut S,
 ) -> Result<F::Header, TextFault>
-    ensures reads { ReadsHeader F.grammar S.told S.remaining (S.ended source.new) source.old source.new
+    ensures reads { ReadsHeader F.grammar S.from (S.from.ended source.new) source.old source.new
         (bytes_of held.old) (bytes_of held.new) result }
-    ensures well { OnOk result (S.failures source.new ≡ S.failures source.old) }
-    ensures failed { IfErr result (λ fault. S.failures source.new ≡ failures_after fault (S.failures source.old)) }
+    ensures well { OnOk result (S.from.failures source.new ≡ S.from.failures source.old) }
+    ensures failed { IfErr result (λ fault. S.from.failures source.new ≡ failures_after fault (S.from.failures source.old)) }
 {
     match next_piece(held, source) {
         Piece::Line(length) => match take_header::<F>(held, length) {

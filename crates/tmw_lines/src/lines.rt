@@ -58,14 +58,14 @@ impl<F: LineFormat> Lines<F> {
     pub fn header<S: Source>(&mut self, source: &mut S) -> Result<F::Header, TextFault>
         requires { IsNew self.old }
         ensures header { IfOk result (λ header. (bytes : List ℕ)
-            × Tells S.told S.remaining source.old bytes source.new
+            × Tells S.from source.old bytes source.new
             × HasRead F.grammar self.new header [] bytes) }
         ensures fault { IfErr result (λ fault. (bytes : List ℕ)
-            × Tells S.told S.remaining source.old bytes source.new
-            × HasFirstLineFault F.grammar (S.ended source.new) bytes fault) }
+            × Tells S.from source.old bytes source.new
+            × HasFirstLineFault F.grammar (S.from.ended source.new) bytes fault) }
         ensures stays { IfErr result (HasFailed self.new) }
-        ensures well { OnOk result (S.failures source.new ≡ S.failures source.old) }
-        ensures failed { IfErr result (λ fault. S.failures source.new ≡ failures_after fault (S.failures source.old)) }
+        ensures well { OnOk result (S.from.failures source.new ≡ S.from.failures source.old) }
+        ensures failed { IfErr result (λ fault. S.from.failures source.new ≡ failures_after fault (S.from.failures source.old)) }
     {
         match first_line::<F, S>(&mut self.held, source) {
             Ok(header) => {
@@ -110,22 +110,22 @@ impl<F: LineFormat> Lines<F> {
     /// nothing, and the header can then be asked for no more.
     pub fn next<S: Source>(&mut self, source: &mut S) -> Result<Option<F::Item>, TextFault>
         ensures item { IfOk result (λ found. IfSome found (λ item. (bytes : List ℕ)
-            × Tells S.told S.remaining source.old bytes source.new
+            × Tells S.from source.old bytes source.new
             × GivesItem F.grammar self.old self.new bytes item)) }
         ensures end { IfOk result (λ found. IfNone found ((bytes : List ℕ)
-            × Tells S.told S.remaining source.old bytes source.new
-            × GivesEnd F.grammar (S.ended source.new) self.old bytes)) }
+            × Tells S.from source.old bytes source.new
+            × GivesEnd F.grammar (S.from.ended source.new) self.old bytes)) }
         ensures fault { IfErr result (λ fault. (bytes : List ℕ)
-            × Tells S.told S.remaining source.old bytes source.new
-            × GivesFault F.grammar (S.ended source.new) self.old bytes fault) }
+            × Tells S.from source.old bytes source.new
+            × GivesFault F.grammar (S.from.ended source.new) self.old bytes fault) }
         ensures at_line { IfErr result (λ fault. (bytes : List ℕ)
-            × Tells S.told S.remaining source.old bytes source.new
-            × FailsAtLine F.grammar (S.ended source.new) self.old bytes fault) }
+            × Tells S.from source.old bytes source.new
+            × FailsAtLine F.grammar (S.from.ended source.new) self.old bytes fault) }
         ensures falls { IfOk result (λ found. OnSome found
-            (S.left source.new + unread self.new < S.left source.old + unread self.old)) }
-        ensures well { OnOk result (S.failures source.new ≡ S.failures source.old) }
+            (S.from.left source.new + unread self.new < S.from.left source.old + unread self.old)) }
+        ensures well { OnOk result (S.from.failures source.new ≡ S.from.failures source.old) }
         ensures failed { IfErr result (λ fault. IsReading self.old
-            → S.failures source.new ≡ failures_after fault (S.failures source.old)) }
+            → S.from.failures source.new ≡ failures_after fault (S.from.failures source.old)) }
         ensures before_header { IsNew self.old → (result ≡ Ok None) × (source.new ≡ source.old) }
         ensures over { IfOk result (λ found. IfNone found (IsOver self.new)) }
         ensures over_again { IsOver self.old → (result ≡ Ok None) × (source.new ≡ source.old) }

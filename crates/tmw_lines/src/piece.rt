@@ -1,6 +1,7 @@
 ghost use Rattle.std.specs.Prelude.{◌≡◌, ◌+◌, ◌<◌, ◌≤◌, ◌∷◌, length, drop};
 ghost use Rattle.tmw_lines.specs.Held.{bytes_of};
-ghost use Rattle.tmw_lines.specs.Piece.{Reads, IsSeen, IsPiece, UnlessFailed, piece_failures};
+ghost use Rattle.tmw_streams.specs.Told.{Reads};
+ghost use Rattle.tmw_lines.specs.Piece.{IsSeen, IsPiece, UnlessFailed, piece_failures};
 
 use crate::held::{Held, MOST_HELD};
 use crate::splitting::length_before;
@@ -22,11 +23,11 @@ pub enum Piece {
 /// Reads on until the bytes held begin with a whole line, or no more can be held or read. A line that is held already
 /// is found before any read.
 pub fn next_piece<S: Source>(held: &mut Held, source: &mut S) -> Piece
-    ensures reads { Reads S.told S.remaining source.old source.new (bytes_of held.old) (bytes_of held.new) }
-    ensures piece { IsPiece result (S.ended source.new) (bytes_of held.new) }
-    ensures falls { UnlessFailed result (S.left source.new + length (bytes_of held.new)
-        ≤ S.left source.old + length (bytes_of held.old)) }
-    ensures failures { S.failures source.new ≡ piece_failures result (S.failures source.old) }
+    ensures reads { Reads S.from source.old source.new (bytes_of held.old) (bytes_of held.new) }
+    ensures piece { IsPiece result (S.from.ended source.new) (bytes_of held.new) }
+    ensures falls { UnlessFailed result (S.from.left source.new + length (bytes_of held.new)
+        ≤ S.from.left source.old + length (bytes_of held.old)) }
+    ensures failures { S.from.failures source.new ≡ piece_failures result (S.from.failures source.old) }
 {
     let mut seen = 0;
     loop {

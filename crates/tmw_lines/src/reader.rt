@@ -20,15 +20,15 @@ pub fn read_lines<F: LineFormat, S: Source>(
 ) -> Result<(F::Header, Vec<F::Item>), TextFault>
     // The bytes told, up to the end, are exactly the text of the header and the items.
     ensures text { IfOk result (λ read.
-        Tells S.told S.remaining source.old (lines_text F.grammar read.0 read.1.items) source.new) }
-    ensures ended { OnOk result (S.ended source.new) }
+        Tells S.from source.old (lines_text F.grammar read.0 read.1.items) source.new) }
+    ensures ended { OnOk result (S.from.ended source.new) }
     ensures lines { IfOk result (λ read. AreLines F.grammar read.0 read.1.items) }
     // The bytes told have the fault.
     ensures fault { IfErr result (λ fault. (bytes : List ℕ)
-        × Tells S.told S.remaining source.old bytes source.new
-        × HasTextFault F.grammar (S.ended source.new) bytes fault) }
-    ensures well { OnOk result (S.failures source.new ≡ S.failures source.old) }
-    ensures failed { IfErr result (λ fault. S.failures source.new ≡ failures_after fault (S.failures source.old)) }
+        × Tells S.from source.old bytes source.new
+        × HasTextFault F.grammar (S.from.ended source.new) bytes fault) }
+    ensures well { OnOk result (S.from.failures source.new ≡ S.from.failures source.old) }
+    ensures failed { IfErr result (λ fault. S.from.failures source.new ≡ failures_after fault (S.from.failures source.old)) }
 {
     let mut lines = Lines::<F>::new();
     let header = match lines.header(source) {

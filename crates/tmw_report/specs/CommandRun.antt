@@ -4,7 +4,7 @@ use Rattle.tmw_streams.specs.Told.{Tells}
 use Rattle.tmw_lines.specs.declared.text_fault.TextFault.{TextFault}
 use Rattle.tmw_report.specs.Lines.{fault_line}
 use Rattle.tmw_report.specs.Putting.{IsPut, fault_of, failures_behind}
-use Rattle.tmw_report.specs.Streams.{FromSource, ToSink}
+use Rattle.tmw_streams.specs.Streams.{FromSource, ToSink}
 use Rattle.tmw_report.specs.declared.fault.Fault.{Fault}
 
 -- This answers a text by a fault that the text has.
@@ -34,7 +34,7 @@ pub record IsCommandRun {S K Found : Type 0} (From : FromSource S) (To : ToSink 
     (source source_after : S) (sink sink_after : K) (status : ℕ) : Type 0 where
   pub bytes : List ℕ
   pub answer : Result Found Fault
-  pub told : Tells From.told From.remaining source bytes source_after
+  pub told : Tells From source bytes source_after
   pub right : IsRight (From.ended source_after) bytes answer
   pub failures : From.failures source_after ≡ failures_after_answer answer (From.failures source)
   pub put : IsPut To sink sink_after (answer_text text answer) (answer_status exit answer) status

@@ -1,7 +1,6 @@
 ghost use Rattle.std.specs.Prelude.{◌≡◌};
 ghost use Rattle.tmw_report.specs.Lines.{fault_line};
 ghost use Rattle.tmw_report.specs.Putting.{IsPut, fault_of};
-ghost use Rattle.tmw_report.specs.Streams.{to_sink};
 
 use crate::fault::Fault;
 use crate::fault_line::write_fault;
@@ -11,7 +10,7 @@ use tmw_streams::Sink;
 
 /// Writes the fault's line and answers its exit status. It takes no memory.
 pub fn answer_fault<K: Sink>(sink: &mut K, fault: Fault) -> u8
-    ensures { IsPut (to_sink K.took K.holds K.failures) sink.old sink.new (fault_line fault) 4 result }
+    ensures { IsPut K.to sink.old sink.new (fault_line fault) 4 result }
 {
     let _written = write_fault(sink, &fault);
     FAULT_STATUS

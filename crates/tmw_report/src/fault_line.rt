@@ -1,5 +1,5 @@
-ghost use Rattle.std.specs.Prelude.{◌≡◌, ◌++◌, OnOk, OnErr, decimal};
-ghost use Rattle.tmw_streams.specs.Told.{Takes, TakesBeginning, one_more};
+ghost use Rattle.std.specs.Prelude.{◌++◌, decimal};
+ghost use Rattle.tmw_streams.specs.Told.{Puts};
 ghost use Rattle.tmw_report.specs.Lines.{fault_line, line_end};
 
 use crate::fault::Fault;
@@ -8,10 +8,7 @@ use tmw_streams::{IoFault, Sink, put_all, put_with_number};
 /// Writes the fault's line, with its line feed. It takes no memory. After a failed write a beginning of the line went out,
 /// and not all of it.
 pub fn write_fault<K: Sink>(sink: &mut K, fault: &Fault) -> Result<(), IoFault>
-    ensures takes { OnOk result (Takes K.took K.holds sink.old (fault_line fault.now) sink.new) }
-    ensures well { OnOk result (K.failures sink.new ≡ K.failures sink.old) }
-    ensures begun { OnErr result (TakesBeginning K.took K.holds sink.old (fault_line fault.now) sink.new) }
-    ensures failed { OnErr result (K.failures sink.new ≡ one_more (K.failures sink.old)) }
+    ensures { Puts K.to sink.old (fault_line fault.now) sink.new result }
 {
     match *fault {
         Fault::BadHeader => put_all(sink, b"{\"fault\":\"bad header\"}\n"),
@@ -33,10 +30,7 @@ pub fn write_fault<K: Sink>(sink: &mut K, fault: &Fault) -> Result<(), IoFault>
 
 /// Writes a text, a number, and the end of an object's line.
 fn put_numbered<K: Sink>(sink: &mut K, before: &[u8], number: u64) -> Result<(), IoFault>
-    ensures takes { OnOk result (Takes K.took K.holds sink.old ((before.now ++ decimal number) ++ line_end) sink.new) }
-    ensures well { OnOk result (K.failures sink.new ≡ K.failures sink.old) }
-    ensures begun { OnErr result (TakesBeginning K.took K.holds sink.old ((before.now ++ decimal number) ++ line_end) sink.new) }
-    ensures failed { OnErr result (K.failures sink.new ≡ one_more (K.failures sink.old)) }
+    ensures { Puts K.to sink.old ((before.now ++ decimal number) ++ line_end) sink.new result }
 {
     put_with_number(sink, before, number)?;
     put_all(sink, b"}\n")

@@ -14,7 +14,7 @@ use Rattle.tmw_monitor.specs.Fitting.{rules_for}
 use Rattle.tmw_report.specs.declared.fault.Fault.{Fault}
 use Rattle.tmw_report.specs.Lines.{report_text, strict_text, verdict_status}
 use Rattle.tmw_report.specs.CommandRun.{AnswersTextFault, IsCommandRun}
-use Rattle.tmw_report.specs.Streams.{FromSource, ToSink}
+use Rattle.tmw_streams.specs.Streams.{FromSource, ToSink}
 use Rattle.tmw_show.specs.Showing.{IsShowing}
 use Rattle.tmw_show.specs.declared.command.shown.Shown.{Shown}
 use Rattle.tmw_show.specs.Drawing.{states_text, window_text}

@@ -1,5 +1,4 @@
 mod Answering
 mod ListTexts
-mod ReplyLines
 mod SizeNumbers
 mod StepNames

@@ -6,7 +6,7 @@ use Rattle.tmw_ring_defs.specs.Sizes.{HasRoom, HasLimit, HasNumbers}
 use Rattle.tmw_ring_defs.specs.declared.ring_size.RingSize.{RingSize}
 use Rattle.tmw_ring_defs.specs.declared.ring_step.Step.{Step}
 use Rattle.tmw_report.specs.CommandRun.{AnswersTextFault, IsCommandRun}
-use Rattle.tmw_report.specs.Streams.{FromSource, ToSink}
+use Rattle.tmw_streams.specs.Streams.{FromSource, ToSink}
 use Rattle.tmw_report.specs.declared.fault.Fault.{Fault}
 use Rattle.tmw_report.specs.declared.fault.Fault.TheVariants.{Size, Limit, Memory}
 use Rattle.tmw_steps.specs.ReplyText.{replies_text}

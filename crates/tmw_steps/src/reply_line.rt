@@ -1,14 +1,23 @@
-ghost use Rattle.std.specs.Prelude.{◌≡◌, ◌++◌, OnOk, OnErr, decimal};
+ghost use Rattle.std.specs.Prelude.{◌++◌, decimal};
 ghost use Rattle.tmw_lines.specs.Text.{line};
-ghost use Rattle.tmw_streams.specs.Bounded.{bounded_bytes};
-ghost use Rattle.tmw_streams.specs.PassedOn.{PassesOn};
-ghost use Rattle.tmw_streams.specs.Told.{Takes, TakesBeginning, one_more};
+ghost use Rattle.tmw_streams.specs.Told.{Puts};
 ghost use Rattle.tmw_ring_defs.specs.declared.ring_step.Reply.TheVariants.{Taken};
 ghost use Rattle.tmw_steps.specs.ReplyText.{reply_text, counts_text, replies_text};
 
 use tmw_events::{Event, put_event};
 use tmw_ring_defs::Reply;
-use tmw_streams::{BoundedSink, IoFault, Sink, put_all, put_with_number};
+use tmw_streams::{IoFault, Sink, Texts, put_all, put_lines, put_with_number};
+
+/// The texts of replies.
+struct ReplyTexts;
+
+impl Texts<Reply> for ReplyTexts {
+    ghost text = { reply_text };
+
+    fn put_text<K: Sink>(sink: &mut K, reply: &Reply) -> Result<(), IoFault> {
+        put_reply(sink, *reply)
+    }
+}
 
 /// Writes a line for each reply, and then the line that counts the places that were claimed, `log`, and the events that
 /// were taken. It takes no memory. After a failed write a beginning of the lines went out, and not all of them.
@@ -18,57 +27,15 @@ pub fn put_replies<K: Sink>(
     log: u64,
     taken: u64,
 ) -> Result<(), IoFault>
-    ensures takes { OnOk result (Takes K.took K.holds sink.old (replies_text replies.now log taken) sink.new) }
-    ensures well { OnOk result (K.failures sink.new ≡ K.failures sink.old) }
-    ensures begun { OnErr result (TakesBeginning K.took K.holds sink.old (replies_text replies.now log taken) sink.new) }
-    ensures failed { OnErr result (K.failures sink.new ≡ one_more (K.failures sink.old)) }
+    ensures { Puts K.to sink.old (replies_text replies.now log taken) sink.new result }
 {
-    let mut held = BoundedSink::new();
-    for reply in replies {
-        pass_line(&mut held, sink, *reply)?;
-    }
-    put_all(sink, held.bytes())?;
+    put_lines::<ReplyTexts, Reply, K>(sink, replies)?;
     put_counts(sink, log, taken)
-}
-
-/// Holds the reply's line behind the bytes held. Where it doesn't fit, these and the line go out.
-fn pass_line<K: Sink>(held: &mut BoundedSink, sink: &mut K, reply: Reply) -> Result<(), IoFault>
-    ensures passes { OnOk result (PassesOn K.took K.holds sink.old
-        (bounded_bytes held.old ++ line (reply_text reply)) (bounded_bytes held.new) sink.new) }
-    ensures well { OnOk result (K.failures sink.new ≡ K.failures sink.old) }
-    ensures begun { OnErr result (TakesBeginning K.took K.holds sink.old
-        (bounded_bytes held.old ++ line (reply_text reply)) sink.new) }
-    ensures failed { OnErr result (K.failures sink.new ≡ one_more (K.failures sink.old)) }
-{
-    let count = held.len();
-    match put_line(held, reply) {
-        Ok(()) => Ok(()),
-        Err(_) => {
-            held.truncate(count);
-            put_all(sink, held.bytes())?;
-            held.clear();
-            put_line(sink, reply)
-        }
-    }
-}
-
-/// Writes the reply's line, with its line feed.
-fn put_line<K: Sink>(sink: &mut K, reply: Reply) -> Result<(), IoFault>
-    ensures takes { OnOk result (Takes K.took K.holds sink.old (line (reply_text reply)) sink.new) }
-    ensures well { OnOk result (K.failures sink.new ≡ K.failures sink.old) }
-    ensures begun { OnErr result (TakesBeginning K.took K.holds sink.old (line (reply_text reply)) sink.new) }
-    ensures failed { OnErr result (K.failures sink.new ≡ one_more (K.failures sink.old)) }
-{
-    put_reply(sink, reply)?;
-    put_all(sink, b"\n")
 }
 
 /// Writes the line of the two counts, with its line feed.
 fn put_counts<K: Sink>(sink: &mut K, log: u64, taken: u64) -> Result<(), IoFault>
-    ensures takes { OnOk result (Takes K.took K.holds sink.old (line (counts_text log taken)) sink.new) }
-    ensures well { OnOk result (K.failures sink.new ≡ K.failures sink.old) }
-    ensures begun { OnErr result (TakesBeginning K.took K.holds sink.old (line (counts_text log taken)) sink.new) }
-    ensures failed { OnErr result (K.failures sink.new ≡ one_more (K.failures sink.old)) }
+    ensures { Puts K.to sink.old (line (counts_text log taken)) sink.new result }
 {
     put_numbers(sink, b"log ", log, b" taken ", taken)?;
     put_all(sink, b"\n")
@@ -76,10 +43,7 @@ fn put_counts<K: Sink>(sink: &mut K, log: u64, taken: u64) -> Result<(), IoFault
 
 /// Writes the reply's text.
 fn put_reply<K: Sink>(sink: &mut K, reply: Reply) -> Result<(), IoFault>
-    ensures takes { OnOk result (Takes K.took K.holds sink.old (reply_text reply) sink.new) }
-    ensures well { OnOk result (K.failures sink.new ≡ K.failures sink.old) }
-    ensures begun { OnErr result (TakesBeginning K.took K.holds sink.old (reply_text reply) sink.new) }
-    ensures failed { OnErr result (K.failures sink.new ≡ one_more (K.failures sink.old)) }
+    ensures { Puts K.to sink.old (reply_text reply) sink.new result }
 {
     match reply {
         Reply::Saw(front) => put_with_number(sink, b"saw ", front),
@@ -100,10 +64,7 @@ fn put_reply<K: Sink>(sink: &mut K, reply: Reply) -> Result<(), IoFault>
 
 /// Writes the text of an event that was taken.
 fn put_taken<K: Sink>(sink: &mut K, event: Event) -> Result<(), IoFault>
-    ensures takes { OnOk result (Takes K.took K.holds sink.old (reply_text (Taken event)) sink.new) }
-    ensures well { OnOk result (K.failures sink.new ≡ K.failures sink.old) }
-    ensures begun { OnErr result (TakesBeginning K.took K.holds sink.old (reply_text (Taken event)) sink.new) }
-    ensures failed { OnErr result (K.failures sink.new ≡ one_more (K.failures sink.old)) }
+    ensures { Puts K.to sink.old (reply_text (Taken event)) sink.new result }
 {
     put_all(sink, b"event ")?;
     put_event(sink, &event)
@@ -117,12 +78,7 @@ fn put_numbers<K: Sink>(
     between: &[u8],
     second: u64,
 ) -> Result<(), IoFault>
-    ensures takes { OnOk result (Takes K.took K.holds sink.old
-        ((before.now ++ decimal first) ++ (between.now ++ decimal second)) sink.new) }
-    ensures well { OnOk result (K.failures sink.new ≡ K.failures sink.old) }
-    ensures begun { OnErr result (TakesBeginning K.took K.holds sink.old
-        ((before.now ++ decimal first) ++ (between.now ++ decimal second)) sink.new) }
-    ensures failed { OnErr result (K.failures sink.new ≡ one_more (K.failures sink.old)) }
+    ensures { Puts K.to sink.old ((before.now ++ decimal first) ++ (between.now ++ decimal second)) sink.new result }
 {
     put_with_number(sink, before, first)?;
     put_with_number(sink, between, second)

@@ -1,7 +1,6 @@
 ghost use Rattle.std.specs.Prelude.{◌≡◌, ℕ, List};
 ghost use Rattle.tmw_streams.specs.Told.{Tells};
 ghost use Rattle.tmw_report.specs.CommandRun.{failures_after_answer};
-ghost use Rattle.tmw_report.specs.Streams.{from_source, to_sink};
 ghost use Rattle.tmw_steps.specs.Running.{AnswersSteps, IsMade, RunsSteps};
 
 use crate::reader::read_steps;
@@ -24,7 +23,7 @@ pub struct Run {
 /// `log L taken K`. The whole text is read first. For a fault its line alone is written. The result is the exit status: 0, or 4
 /// for any fault.
 pub fn run_steps<S: Source, K: Sink>(alloc: Global, source: &mut S, sink: &mut K) -> u8
-    ensures { RunsSteps (from_source S.told S.remaining S.ended S.failures) (to_sink K.took K.holds K.failures)
+    ensures { RunsSteps S.from K.to
         source.old source.new sink.old sink.new result }
 {
     match run_of(alloc, source) {
@@ -38,9 +37,9 @@ pub fn run_steps<S: Source, K: Sink>(alloc: Global, source: &mut S, sink: &mut K
 
 /// Reads steps up to the source's end, and makes them.
 fn run_of<S: Source>(alloc: Global, source: &mut S) -> Result<Run, Fault>
-    ensures right { (bytes : List ℕ) × Tells S.told S.remaining source.old bytes source.new
-        × AnswersSteps (S.ended source.new) bytes result }
-    ensures failures { S.failures source.new ≡ failures_after_answer result (S.failures source.old) }
+    ensures right { (bytes : List ℕ) × Tells S.from source.old bytes source.new
+        × AnswersSteps (S.from.ended source.new) bytes result }
+    ensures failures { S.from.failures source.new ≡ failures_after_answer result (S.from.failures source.old) }
 {
     match read_steps(alloc, source) {
         Ok(list) => made_of(alloc, &list),

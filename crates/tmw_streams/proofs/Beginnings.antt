@@ -1,23 +1,24 @@
 -- Bytes that were taken in parts, of which the last may be a beginning of what was to be taken.
-use Rattle.std.proofs.Common.{◌+◌, ◌≤◌, length, take, ◌++◌, ℕ, Option, List, arith}
+use Rattle.std.proofs.Common.{◌+◌, ◌≤◌, length, take, ◌++◌, ℕ, List, arith}
 use Rattle.std.proofs.lemmas.List.{length-append, take-append-le}
 use Rattle.std.proofs.Math.Seq.{take-append-add}
 use Rattle.tmw_streams.proofs.ToldBytes.{Takes-more}
+use Rattle.tmw_streams.specs.Streams.{ToSink}
 use Rattle.tmw_streams.specs.Told.{Takes, TakesBeginning}
 
-module _ {S : Type 0} (Took : S → List ℕ → Type 0) (holds : S → Option (List ℕ)) (a : S) where
+module _ {K : Type 0} (To : ToSink K) (a : K) where
   -- all of the first part, and a beginning of the second
-  pub TakesBeginning-more : (b c : S) (xs ys : List ℕ) → Takes Took holds a xs b → TakesBeginning Took holds b ys c
-      → TakesBeginning Took holds a (xs ++ ys) c
+  pub TakesBeginning-more : (b c : K) (xs ys : List ℕ) → Takes To a xs b → TakesBeginning To b ys c
+      → TakesBeginning To a (xs ++ ys) c
   TakesBeginning-more b c xs ys first (count, short, then) = (
     length xs + count,
     omega (arith, length-append xs ys),
-    rw take-append-add (Takes-more Took holds a b c xs (take count ys) first then),
+    rw take-append-add (Takes-more To a b c xs (take count ys) first then),
   )
 
   -- a beginning of the first part alone
-  pub TakesBeginning-front : (b : S) (xs ys : List ℕ) → TakesBeginning Took holds a xs b
-      → TakesBeginning Took holds a (xs ++ ys) b
+  pub TakesBeginning-front : (b : K) (xs ys : List ℕ) → TakesBeginning To a xs b
+      → TakesBeginning To a (xs ++ ys) b
   TakesBeginning-front b xs ys (count, short, begun) =
       let within : count ≤ length xs = omega arith in
       (count, omega (arith, length-append xs ys), rw take-append-le begun)

@@ -1,4 +1,5 @@
 pub mod Beginnings
 pub mod FlatMaps
 pub mod PassedOn
+pub mod Putting
 pub mod ToldBytes

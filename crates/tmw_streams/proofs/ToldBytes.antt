@@ -1,6 +1,7 @@
 -- What was told, and taken, in no step and in two steps, one after the other.
-use Rattle.std.proofs.Common.{◌≡◌, ℕ, Option, List, [], ◌++◌, sym, ap, ◌∙◌, subst, append_assoc, append-nil}
+use Rattle.std.proofs.Common.{◌≡◌, ℕ, List, [], ◌++◌, sym, ap, ◌∙◌, subst, append_assoc, append-nil}
 use Rattle.std.proofs.KnownBytes.{Consumes-nil, Consumes-trans, Appends-nil, Appends-trans}
+use Rattle.tmw_streams.specs.Streams.{FromSource, ToSink}
 use Rattle.tmw_streams.specs.Told.{Adds, Tells, Takes, Reads}
 
 module _ {S : Type 0} (Told : S → List ℕ → Type 0) (a : S) where
@@ -10,22 +11,25 @@ module _ {S : Type 0} (Told : S → List ℕ → Type 0) (a : S) where
   Adds-more : (b c : S) (xs ys : List ℕ) → Adds Told a xs b → Adds Told b ys c → Adds Told a (xs ++ ys) c
   Adds-more b c xs ys f g before h = rw (← append_assoc before xs ys) (g (before ++ xs) (f before h))
 
-module _ {S : Type 0} (Told : S → List ℕ → Type 0) (known : S → Option (List ℕ)) (a : S) where
-  pub Tells-none : Tells Told known a [] a
-  Tells-none = (Adds-none Told a, Consumes-nil (known a))
+module _ {S : Type 0} (From : FromSource S) (a : S) where
+  pub Tells-none : Tells From a [] a
+  Tells-none = (Adds-none From.told a, Consumes-nil (From.remaining a))
 
-  pub Tells-more : (b c : S) (xs ys : List ℕ) → Tells Told known a xs b → Tells Told known b ys c → Tells Told known a (xs ++ ys) c
+  pub Tells-more : (b c : S) (xs ys : List ℕ) → Tells From a xs b → Tells From b ys c → Tells From a (xs ++ ys) c
   Tells-more b c xs ys f g =
-      (Adds-more Told a b c xs ys f.0 g.0, Consumes-trans (known a) (known b) (known c) xs ys f.1 g.1)
+      let left = From.remaining in
+      (Adds-more From.told a b c xs ys f.0 g.0, Consumes-trans (left a) (left b) (left c) xs ys f.1 g.1)
 
   -- all that is held behind nothing was told
-  pub Tells-held : (b : S) (before after : List ℕ) → before ≡ [] → Reads Told known a b before after → Tells Told known a after b
+  pub Tells-held : (b : S) (before after : List ℕ) → before ≡ [] → Reads From a b before after → Tells From a after b
   Tells-held b before after none reads =
-      subst (λ xs. Tells Told known a xs b) (sym (reads.is ∙ ap (λ xs. xs ++ reads.bytes) none)) reads.told
+      subst (λ xs. Tells From a xs b) (sym (reads.is ∙ ap (λ xs. xs ++ reads.bytes) none)) reads.told
 
-  pub Takes-none : Takes Told known a [] a
-  Takes-none = (Adds-none Told a, Appends-nil (known a))
+module _ {K : Type 0} (To : ToSink K) (a : K) where
+  pub Takes-none : Takes To a [] a
+  Takes-none = (Adds-none To.took a, Appends-nil (To.holds a))
 
-  pub Takes-more : (b c : S) (xs ys : List ℕ) → Takes Told known a xs b → Takes Told known b ys c → Takes Told known a (xs ++ ys) c
+  pub Takes-more : (b c : K) (xs ys : List ℕ) → Takes To a xs b → Takes To b ys c → Takes To a (xs ++ ys) c
   Takes-more b c xs ys f g =
-      (Adds-more Told a b c xs ys f.0 g.0, Appends-trans (known a) (known b) (known c) xs ys f.1 g.1)
+      let held = To.holds in
+      (Adds-more To.took a b c xs ys f.0 g.0, Appends-trans (held a) (held b) (held c) xs ys f.1 g.1)

@@ -1,5 +1,6 @@
 -- What sources and sinks over memory hold.
-use Rattle.std.specs.Prelude.{◌≡◌, ℕ, List, Option, Some, take, drop}
+use Rattle.std.specs.Prelude.{◌≡◌, ℕ, ◌-◌, IsTrue, List, Some, length, take, drop}
+use Rattle.tmw_streams.specs.Streams.{FromSource, ToSink}
 use Rattle.tmw_streams.specs.declared.memory_sink.MemorySink.{MemorySink}
 use Rattle.tmw_streams.specs.declared.memory_source.MemorySource.{MemorySource}
 use Rattle.tmw_streams.specs.Told.{one_more}
@@ -12,25 +13,27 @@ source_bytes source = source.content.now
 abbrev pub told_bytes : MemorySource → List ℕ
 told_bytes source = take source.at source.content.now
 
--- the bytes that the source has told may be these: just those that it has told
-abbrev pub source_told : MemorySource → List ℕ → Type 0
-source_told source bytes = bytes ≡ told_bytes source
-
--- the bytes that the source has still to tell, which are known
-abbrev pub source_remaining : MemorySource → Option (List ℕ)
-source_remaining source = Some (drop source.at source.content.now)
+-- of a source over memory the bytes that it has told are known, and so are those that it has still to tell
+abbrev pub from_memory : FromSource MemorySource
+from_memory = record {
+  told = λ source bytes. bytes ≡ told_bytes source;
+  remaining = λ source. Some (drop source.at (source_bytes source));
+  ended = λ source. IsTrue source.over;
+  left = λ source. length (source_bytes source) - source.at;
+  failures = λ source. source.failures;
+}
 
 -- the bytes that the sink has taken
 abbrev pub held_bytes : MemorySink → List ℕ
 held_bytes sink = sink.bytes.items
 
--- the bytes that the sink has taken may be these: just those that it has taken
-abbrev pub sink_took : MemorySink → List ℕ → Type 0
-sink_took sink bytes = bytes ≡ sink.bytes.items
-
--- all the bytes that the sink holds, which are known
-abbrev pub sink_holds : MemorySink → Option (List ℕ)
-sink_holds sink = Some sink.bytes.items
+-- just the bytes that a sink over memory holds are those that it has taken
+abbrev pub to_memory : ToSink MemorySink
+to_memory = record {
+  took = λ sink bytes. bytes ≡ held_bytes sink;
+  holds = λ sink. Some (held_bytes sink);
+  failures = λ sink. sink.failures;
+}
 
 -- The source's next call, counted from 1, is the one at which it was to fail.
 abbrev pub SourceFails : MemorySource → Type 0

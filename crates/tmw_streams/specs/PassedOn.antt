@@ -1,10 +1,16 @@
 -- Bytes on their way to a sink: some went out, and the rest is held.
-use Rattle.std.specs.Prelude.{◌≡◌, ℕ, Option, List, ◌++◌}
-use Rattle.tmw_streams.specs.Told.{Takes}
+use Rattle.std.specs.Prelude.{◌≡◌, ℕ, Result, Ok, Err, List, ◌++◌}
+use Rattle.tmw_streams.specs.Streams.{ToSink}
+use Rattle.tmw_streams.specs.Told.{Takes, TakesBeginning, one_more}
 
 -- of these bytes the sink took the first, and the others are held
-pub record PassesOn {S : Type 0} (Took : S → List ℕ → Type 0) (holds : S → Option (List ℕ)) (old : S) (bytes held : List ℕ)
-    (new : S) : Type 0 where
+pub record PassesOn {K : Type 0} (To : ToSink K) (old : K) (bytes held : List ℕ) (new : K) : Type 0 where
   pub gone : List ℕ
-  pub takes : Takes Took holds old gone new
+  pub takes : Takes To old gone new
   pub split : bytes ≡ gone ++ held
+
+-- These bytes were to be passed on: they were and no write failed, or one write failed, which the sink counts, and it took a
+-- beginning of them.
+abbrev pub PutsOn : {K A E : Type 0} → ToSink K → K → List ℕ → List ℕ → K → Result A E → Type 0
+PutsOn To old bytes held new (Ok _) = PassesOn To old bytes held new × (To.failures new ≡ To.failures old)
+PutsOn To old bytes held new (Err _) = TakesBeginning To old bytes new × (To.failures new ≡ one_more (To.failures old))

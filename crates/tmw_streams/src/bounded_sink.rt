@@ -61,21 +61,17 @@ impl BoundedSink {
 }
 
 impl Sink for BoundedSink {
-    ghost use Rattle.tmw_streams.specs.Bounded.{bounded_took, bounded_holds};
+    ghost use Rattle.tmw_streams.specs.Bounded.{to_bounded};
 
-    ghost took = { bounded_took };
-
-    ghost holds = { bounded_holds };
-
-    ghost failures = { λ sink. sink.failures };
+    ghost to = { to_bounded };
 
     fn put(&mut self, bytes: &[u8]) -> Result<usize, IoFault>
         ensures within { IfOk result (λ count. count ≤ length bytes.now) }
         ensures some { IfOk result (λ count. 0 < length bytes.now → 0 < count) }
-        ensures takes { IfOk result (λ count. Takes bounded_took bounded_holds self.old (take count bytes.now) self.new) }
+        ensures takes { IfOk result (λ count. Takes to_bounded self.old (take count bytes.now) self.new) }
         ensures well { OnOk result (self.new.failures ≡ self.old.failures) }
         ensures failed { OnErr result (self.new.failures ≡ one_more self.old.failures) }
-        ensures kept { OnErr result (Takes bounded_took bounded_holds self.old [] self.new) }
+        ensures kept { OnErr result (Takes to_bounded self.old [] self.new) }
 
         // It takes all bytes where they fit, and fails only where they don't.
         ensures whole { IfOk result (λ count. count ≡ length bytes.now) }

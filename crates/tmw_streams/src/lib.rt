@@ -3,6 +3,7 @@
 
 mod bounded_sink;
 mod io_fault;
+mod lines;
 mod memory_sink;
 mod memory_source;
 mod read_fault;
@@ -15,6 +16,7 @@ mod writing;
 
 pub use bounded_sink::BoundedSink;
 pub use io_fault::IoFault;
+pub use lines::{Texts, put_lines};
 pub use memory_sink::MemorySink;
 pub use memory_source::MemorySource;
 pub use read_fault::ReadFault;

@@ -60,21 +60,17 @@ impl MemorySink {
 }
 
 impl Sink for MemorySink {
-    ghost use Rattle.tmw_streams.specs.Memory.{sink_took, sink_holds, SinkFails, SinkCalled};
+    ghost use Rattle.tmw_streams.specs.Memory.{to_memory, SinkFails, SinkCalled};
 
-    ghost took = { sink_took };
-
-    ghost holds = { sink_holds };
-
-    ghost failures = { λ sink. sink.failures };
+    ghost to = { to_memory };
 
     fn put(&mut self, bytes: &[u8]) -> Result<usize, IoFault>
         ensures within { IfOk result (λ count. count ≤ length bytes.now) }
         ensures some { IfOk result (λ count. 0 < length bytes.now → 0 < count) }
-        ensures takes { IfOk result (λ count. Takes sink_took sink_holds self.old (take count bytes.now) self.new) }
+        ensures takes { IfOk result (λ count. Takes to_memory self.old (take count bytes.now) self.new) }
         ensures well { OnOk result (self.new.failures ≡ self.old.failures) }
         ensures failed { OnErr result (self.new.failures ≡ one_more self.old.failures) }
-        ensures kept { OnErr result (Takes sink_took sink_holds self.old [] self.new) }
+        ensures kept { OnErr result (Takes to_memory self.old [] self.new) }
 
         // It fails at the chosen call, and else takes as many bytes as there are and as it may.
         ensures called { SinkCalled self.old self.new }

@@ -84,28 +84,20 @@ impl<'a> MemorySource<'a> {
 }
 
 impl Source for MemorySource<'_> {
-    ghost use Rattle.tmw_streams.specs.Memory.{source_told, source_remaining, SourceFails, SourceCalled};
+    ghost use Rattle.tmw_streams.specs.Memory.{from_memory, SourceFails, SourceCalled};
 
-    ghost told = { source_told };
-
-    ghost remaining = { source_remaining };
-
-    ghost ended = { λ source. IsTrue source.over };
-
-    ghost left = { λ source. length source.content.now - source.at };
-
-    ghost failures = { λ source. source.failures };
+    ghost from = { from_memory };
 
     fn read(&mut self, buffer: &mut [u8]) -> Result<usize, IoFault>
         ensures within { IfOk result (λ count. count ≤ length buffer.old) }
-        ensures tells { IfOk result (λ count. Tells source_told source_remaining self.old (take count buffer.new) self.new) }
+        ensures tells { IfOk result (λ count. Tells from_memory self.old (take count buffer.new) self.new) }
         ensures falls { IfOk result (λ count. (length self.new.content.now - self.new.at) + count
             ≤ length self.old.content.now - self.old.at) }
         ensures end { IfOk result (λ count. 0 < length buffer.old → count ≡ 0 → IsTrue self.new.over) }
         ensures end_again { IsTrue self.old.over → (result ≡ Ok 0) × (self.new ≡ self.old) }
         ensures well { OnOk result (self.new.failures ≡ self.old.failures) }
         ensures failed { OnErr result (self.new.failures ≡ one_more self.old.failures) }
-        ensures kept { OnErr result (Tells source_told source_remaining self.old [] self.new) }
+        ensures kept { OnErr result (Tells from_memory self.old [] self.new) }
         ensures no_end { OnErr result (IsTrue self.new.over → ⊥) }
 
         // Each call is counted until the end was answered. It fails at the chosen call alone, and tells as many bytes as there

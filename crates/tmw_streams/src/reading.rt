@@ -14,12 +14,12 @@ const MOST_READ: usize = 4096;
 /// want of memory, which comes only where `bytes` is full; only tests show that a growth was refused. Nothing is read after either.
 pub fn read_all<S: Source>(source: &mut S, bytes: &mut Vec<u8>) -> Result<(), ReadFault>
     // Each byte told is held, so that no read was made for which there was no memory.
-    ensures held { Reads S.told S.remaining source.old source.new bytes.old.items bytes.new.items }
-    ensures ended { OnOk result (S.ended source.new) }
-    ensures no_end { IfErr result (NoEndAfter (S.ended source.new)) }
+    ensures held { Reads S.from source.old source.new bytes.old.items bytes.new.items }
+    ensures ended { OnOk result (S.from.ended source.new) }
+    ensures no_end { IfErr result (NoEndAfter (S.from.ended source.new)) }
     ensures full { IfErr result (IsFullAfter bytes.new) }
-    ensures well { OnOk result (S.failures source.new ≡ S.failures source.old) }
-    ensures failed { IfErr result (λ fault. S.failures source.new ≡ failures_behind_read fault (S.failures source.old)) }
+    ensures well { OnOk result (S.from.failures source.new ≡ S.from.failures source.old) }
+    ensures failed { IfErr result (λ fault. S.from.failures source.new ≡ failures_behind_read fault (S.from.failures source.old)) }
 {
     let mut buffer = [0; MOST_READ];
     'reads: loop {

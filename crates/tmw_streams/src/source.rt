@@ -1,37 +1,32 @@
-ghost use Rattle.std.specs.Prelude.{◌≡◌, ℕ, ◌+◌, ◌<◌, ◌≤◌, Option, List, [], length, take, IfOk, OnOk, OnErr, Ok};
+ghost use Rattle.std.specs.Prelude.{◌≡◌, ℕ, ◌+◌, ◌<◌, ◌≤◌, List, [], length, take, IfOk, OnOk, OnErr, Ok};
 ghost use Rattle.std.specs.Io.KnownBytes.{IsAtEnd};
+ghost use Rattle.tmw_streams.specs.Streams.{FromSource};
 ghost use Rattle.tmw_streams.specs.Told.{Tells, one_more};
 
 use crate::io_fault::IoFault;
 
 /// Where bytes are read from. It has finitely many bytes, tells them in order, and counts its failures.
 pub trait Source {
-    /// The bytes that it has told since it was made may be these.
-    ghost told: { Self → List ℕ → Type 0 };
-    /// The bytes that it has still to tell, where they are known.
-    ghost remaining: { Self → Option (List ℕ) };
-    /// It has answered its end.
-    ghost ended: { Self → Type 0 };
-    /// No fewer than the bytes still to come.
-    ghost left: { Self → ℕ };
-    /// How many reads failed, up to 2^64 - 1, where the count stays.
-    ghost failures: { Self → ℕ };
+    /// The bytes that it may have told since it was made, those that it has still to tell where they are known, that it has
+    /// answered its end, a number no smaller than the bytes still to come, and how many reads failed, up to 2^64 - 1, where the
+    /// count stays.
+    ghost from: { FromSource Self };
 
     /// Reads bytes to the front of `buffer` and tells how many. `Ok(0)` into a buffer that isn't empty is the end, and each
     /// later read answers `Ok(0)` and changes nothing. A read that fails tells nothing, is counted, and is no end.
     fn read(&mut self, buffer: &mut [u8]) -> Result<usize, IoFault>
         ensures within { IfOk result (λ count. count ≤ length buffer.old) }
-        ensures tells { IfOk result (λ count. Tells told remaining self.old (take count buffer.new) self.new) }
-        ensures falls { IfOk result (λ count. left self.new + count ≤ left self.old) }
-        ensures end { IfOk result (λ count. 0 < length buffer.old → count ≡ 0 → ended self.new) }
-        ensures end_again { ended self.old → (result ≡ Ok 0) × (self.new ≡ self.old) }
-        ensures well { OnOk result (failures self.new ≡ failures self.old) }
-        ensures failed { OnErr result (failures self.new ≡ one_more (failures self.old)) }
-        ensures kept { OnErr result (Tells told remaining self.old [] self.new) }
-        ensures no_end { OnErr result (ended self.new → ⊥) };
+        ensures tells { IfOk result (λ count. Tells from self.old (take count buffer.new) self.new) }
+        ensures falls { IfOk result (λ count. from.left self.new + count ≤ from.left self.old) }
+        ensures end { IfOk result (λ count. 0 < length buffer.old → count ≡ 0 → from.ended self.new) }
+        ensures end_again { from.ended self.old → (result ≡ Ok 0) × (self.new ≡ self.old) }
+        ensures well { OnOk result (from.failures self.new ≡ from.failures self.old) }
+        ensures failed { OnErr result (from.failures self.new ≡ one_more (from.failures self.old)) }
+        ensures kept { OnErr result (Tells from self.old [] self.new) }
+        ensures no_end { OnErr result (from.ended self.new → ⊥) };
 
     /// In each state there are bytes that it has told, so that a promise on them says something.
-    ghost tells_some: { (s : Self) → (bytes : List ℕ) × told s bytes };
+    ghost tells_some: { (s : Self) → (bytes : List ℕ) × from.told s bytes };
     /// Where it has answered its end, no byte that is known is left.
-    ghost none_left: { (s : Self) → ended s → IsAtEnd (remaining s) };
+    ghost none_left: { (s : Self) → from.ended s → IsAtEnd (from.remaining s) };
 }

@@ -33,11 +33,11 @@ impl<W: Write> StdSink<W> {
 }
 
 impl<W: Write> Sink for StdSink<W> {
-    ghost took = { λ sink bytes. sink.taken ≡ min (length bytes) (2 ^ 64 - 1) };
-
-    ghost holds = { λ sink. W.contents sink.writer };
-
-    ghost failures = { λ sink. sink.failures };
+    ghost to = { record {
+      took = λ sink bytes. sink.taken ≡ min (length bytes) (2 ^ 64 - 1);
+      holds = λ sink. W.contents sink.writer;
+      failures = λ sink. sink.failures;
+    } };
 
     fn put(&mut self, bytes: &[u8]) -> Result<usize, IoFault> {
         let written = write_again(&mut self.writer, bytes);

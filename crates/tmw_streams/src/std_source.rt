@@ -55,15 +55,13 @@ impl<R: Read> StdSource<R> {
 }
 
 impl<R: Read> Source for StdSource<R> {
-    ghost told = { λ source bytes. length bytes ≡ source.told };
-
-    ghost remaining = { λ source. R.remaining source.reader };
-
-    ghost ended = { λ source. IsTrue source.over };
-
-    ghost left = { λ source. 2 ^ 60 - source.told };
-
-    ghost failures = { λ source. source.failures };
+    ghost from = { record {
+      told = λ source bytes. length bytes ≡ source.told;
+      remaining = λ source. R.remaining source.reader;
+      ended = λ source. IsTrue source.over;
+      left = λ source. 2 ^ 60 - source.told;
+      failures = λ source. source.failures;
+    } };
 
     fn read(&mut self, buffer: &mut [u8]) -> Result<usize, IoFault> {
         if self.over {

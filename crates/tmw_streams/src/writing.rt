@@ -1,5 +1,5 @@
-ghost use Rattle.std.specs.Prelude.{◌≡◌, ◌++◌, OnOk, OnErr, decimal};
-ghost use Rattle.tmw_streams.specs.Told.{Takes, TakesBeginning, one_more};
+ghost use Rattle.std.specs.Prelude.{◌++◌, decimal};
+ghost use Rattle.tmw_streams.specs.Told.{Puts};
 
 use crate::io_fault::IoFault;
 use crate::sink::Sink;
@@ -8,10 +8,7 @@ use itoa::Buffer;
 /// Writes all of the bytes, by as many calls of `put` as it takes. After a failed write a beginning of them went out, and
 /// not all. It takes no memory.
 pub fn put_all<K: Sink>(sink: &mut K, bytes: &[u8]) -> Result<(), IoFault>
-    ensures takes { OnOk result (Takes K.took K.holds sink.old bytes.now sink.new) }
-    ensures well { OnOk result (K.failures sink.new ≡ K.failures sink.old) }
-    ensures begun { OnErr result (TakesBeginning K.took K.holds sink.old bytes.now sink.new) }
-    ensures failed { OnErr result (K.failures sink.new ≡ one_more (K.failures sink.old)) }
+    ensures { Puts K.to sink.old bytes.now sink.new result }
 {
     let mut at = 0;
     while at < bytes.len() {
@@ -23,10 +20,7 @@ pub fn put_all<K: Sink>(sink: &mut K, bytes: &[u8]) -> Result<(), IoFault>
 /// Writes all of the bytes and then a number, in decimal digits. After a failed write a beginning of them went out, and not
 /// all. It takes no memory.
 pub fn put_with_number<K: Sink>(sink: &mut K, before: &[u8], number: u64) -> Result<(), IoFault>
-    ensures takes { OnOk result (Takes K.took K.holds sink.old (before.now ++ decimal number) sink.new) }
-    ensures well { OnOk result (K.failures sink.new ≡ K.failures sink.old) }
-    ensures begun { OnErr result (TakesBeginning K.took K.holds sink.old (before.now ++ decimal number) sink.new) }
-    ensures failed { OnErr result (K.failures sink.new ≡ one_more (K.failures sink.old)) }
+    ensures { Puts K.to sink.old (before.now ++ decimal number) sink.new result }
 {
     put_all(sink, before)?;
     put_all(sink, Buffer::new().format(number).as_bytes())

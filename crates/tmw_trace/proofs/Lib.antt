@@ -4,4 +4,3 @@ mod FirstNumbers
 mod HeaderLines
 mod Spoken
 pub mod ValueParts
-mod WrittenLines

@@ -15,15 +15,15 @@ use tmw_streams::Source;
 pub fn read_trace<S: Source>(alloc: Global, source: &mut S) -> Result<Trace, TextFault>
     // The bytes told, up to the end, are exactly the trace's text.
     ensures text { IfOk result (λ trace.
-        Tells S.told S.remaining source.old (trace_text trace.header trace.events.items) source.new) }
-    ensures ended { OnOk result (S.ended source.new) }
+        Tells S.from source.old (trace_text trace.header trace.events.items) source.new) }
+    ensures ended { OnOk result (S.from.ended source.new) }
     ensures events { IfOk result (λ trace. AreEvents trace.header trace.events.items) }
     // The bytes told have the fault.
     ensures fault { IfErr result (λ fault. (bytes : List ℕ)
-        × Tells S.told S.remaining source.old bytes source.new
-        × HasTextFault trace_grammar (S.ended source.new) bytes fault) }
-    ensures well { OnOk result (S.failures source.new ≡ S.failures source.old) }
-    ensures failed { IfErr result (λ fault. S.failures source.new ≡ failures_after fault (S.failures source.old)) }
+        × Tells S.from source.old bytes source.new
+        × HasTextFault trace_grammar (S.from.ended source.new) bytes fault) }
+    ensures well { OnOk result (S.from.failures source.new ≡ S.from.failures source.old) }
+    ensures failed { IfErr result (λ fault. S.from.failures source.new ≡ failures_after fault (S.from.failures source.old)) }
 {
     match read_lines::<Version, S>(alloc, source) {
         Ok((header, events)) => Ok(Trace { header, events }),

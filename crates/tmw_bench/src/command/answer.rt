@@ -2,7 +2,6 @@ ghost use Rattle.std.specs.Prelude.{◌≡◌, ◌≢◌, ◌+◌, ◌≤◌, �
 ghost use Rattle.tmw_defs.specs.declared.verdict.Verdict.TheVariants.{StrictSoFar};
 ghost use Rattle.tmw_report.specs.Lines.{fault_line, report_text};
 ghost use Rattle.tmw_report.specs.Putting.{IsPut};
-ghost use Rattle.tmw_report.specs.Streams.{to_sink};
 ghost use Rattle.tmw_report.specs.declared.fault.Fault.TheVariants.{Memory};
 ghost use Rattle.tmw_bench.specs.BenchRun.{bench_status, bench_text, hunt_status, hunt_text};
 ghost use Rattle.tmw_bench.specs.Ends.{ends_line};
@@ -22,8 +21,8 @@ use tmw_streams::{Sink, put_all};
 /// anything is written: where memory for them is refused, that fault stands in place of all.
 pub fn answer_run<K: Sink>(alloc: Global, sink: &mut K, run: &BenchRun) -> u8
     requires { run.now.driven.outcome.verdict ≢ StrictSoFar }
-    ensures { IsPut (to_sink K.took K.holds K.failures) sink.old sink.new (bench_text run.now) (bench_status run.now) result
-        ⊎ IsPut (to_sink K.took K.holds K.failures) sink.old sink.new (fault_line Memory) 4 result }
+    ensures { IsPut K.to sink.old sink.new (bench_text run.now) (bench_status run.now) result
+        ⊎ IsPut K.to sink.old sink.new (fault_line Memory) 4 result }
 {
     let outcome = &run.driven.outcome;
     let Ok(lines) = lines_of(
@@ -46,8 +45,8 @@ pub fn answer_run<K: Sink>(alloc: Global, sink: &mut K, run: &BenchRun) -> u8
 pub fn answer_hunt<K: Sink>(alloc: Global, sink: &mut K, flags: Flags, run: &HuntRun) -> u8
     requires own { run.now.shown.showing.verdict ≢ StrictSoFar }
     requires within { run.now.shown.showing.from + length run.now.shown.showing.events.items ≤ run.now.shown.showing.fed }
-    ensures { IsPut (to_sink K.took K.holds K.failures) sink.old sink.new (hunt_text flags run.now) (hunt_status run.now) result
-        ⊎ IsPut (to_sink K.took K.holds K.failures) sink.old sink.new (fault_line Memory) 4 result }
+    ensures { IsPut K.to sink.old sink.new (hunt_text flags run.now) (hunt_status run.now) result
+        ⊎ IsPut K.to sink.old sink.new (fault_line Memory) 4 result }
 {
     let Ok(text) = text_of(alloc, flags, run) else {
         return answer_fault(sink, Fault::Memory);

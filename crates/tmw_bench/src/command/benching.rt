@@ -27,9 +27,9 @@ pub fn bench_source<S: Source, R: Threads + Wait + Sync>(
     memory: &(dyn Tm + Sync),
     settings: Settings,
 ) -> Result<BenchRun, Fault>
-    ensures right { (bytes : List ℕ) × Tells S.told S.remaining source.old bytes source.new
-        × AnswersBench (gives memory.now) settings (S.ended source.new) bytes result }
-    ensures failures { S.failures source.new ≡ failures_after_answer result (S.failures source.old) }
+    ensures right { (bytes : List ℕ) × Tells S.from source.old bytes source.new
+        × AnswersBench (gives memory.now) settings (S.from.ended source.new) bytes result }
+    ensures failures { S.from.failures source.new ≡ failures_after_answer result (S.from.failures source.old) }
 {
     let workload = match read_source(alloc, source) {
         Ok(workload) => workload,
@@ -50,9 +50,9 @@ pub fn hunt_source<S: Source, R: Threads + Wait + Sync, P: Progress>(
     settings: Settings,
     progress: &P,
 ) -> Result<HuntRun, Fault>
-    ensures right { (bytes : List ℕ) × Tells S.told S.remaining source.old bytes source.new
-        × AnswersHunt (gives memory.now) settings (S.ended source.new) bytes result }
-    ensures failures { S.failures source.new ≡ failures_after_answer result (S.failures source.old) }
+    ensures right { (bytes : List ℕ) × Tells S.from source.old bytes source.new
+        × AnswersHunt (gives memory.now) settings (S.from.ended source.new) bytes result }
+    ensures failures { S.from.failures source.new ≡ failures_after_answer result (S.from.failures source.old) }
 {
     let workload = match read_source(alloc, source) {
         Ok(workload) => workload,
@@ -66,9 +66,9 @@ pub fn hunt_source<S: Source, R: Threads + Wait + Sync, P: Progress>(
 
 /// Reads a workload up to the source's end.
 fn read_source<S: Source>(alloc: Global, source: &mut S) -> Result<Workload, Fault>
-    ensures right { (bytes : List ℕ) × Tells S.told S.remaining source.old bytes source.new
-        × AnswersText (S.ended source.new) bytes result }
-    ensures failures { S.failures source.new ≡ failures_after_answer result (S.failures source.old) }
+    ensures right { (bytes : List ℕ) × Tells S.from source.old bytes source.new
+        × AnswersText (S.from.ended source.new) bytes result }
+    ensures failures { S.from.failures source.new ≡ failures_after_answer result (S.from.failures source.old) }
 {
     let mut bytes = Vec::new(alloc);
     match read_all(source, &mut bytes) {

@@ -1,4 +1,3 @@
-ghost use Rattle.tmw_report.specs.Streams.{from_source, to_sink};
 ghost use Rattle.tmw_bench.specs.Running.{BenchesBytes};
 
 use crate::Progress;
@@ -28,7 +27,7 @@ pub fn run_bench_cmd<S: Source, K: Sink, R: Threads + Wait + Sync, P: Progress>(
     memory: &(dyn Tm + Sync),
     plan: Plan<'_, P>,
 ) -> u8
-    ensures { BenchesBytes (from_source S.told S.remaining S.ended S.failures) (to_sink K.took K.holds K.failures) (gives memory.now)
+    ensures { BenchesBytes S.from K.to (gives memory.now)
         plan.entry.flags plan.entry.settings source.old source.new sink.old sink.new result }
 {
     let Plan {

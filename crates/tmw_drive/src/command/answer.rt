@@ -2,10 +2,9 @@ ghost use Rattle.std.specs.Prelude.{◌≡◌, ◌≢◌, ◌++◌, ◌⊎◌, O
 ghost use Rattle.tmw_defs.specs.declared.verdict.Verdict.TheVariants.{StrictSoFar};
 ghost use Rattle.tmw_report.specs.Lines.{fault_line};
 ghost use Rattle.tmw_report.specs.Putting.{IsPut};
-ghost use Rattle.tmw_report.specs.Streams.{to_sink};
 ghost use Rattle.tmw_report.specs.declared.fault.Fault.TheVariants.{Memory};
 ghost use Rattle.tmw_drive.specs.Driven.{driven_status, driven_text, log_text};
-ghost use Rattle.tmw_streams.specs.Told.{Takes, TakesBeginning, one_more};
+ghost use Rattle.tmw_streams.specs.Told.{Puts};
 
 use crate::command::driven::Driven;
 use std::alloc::Global;
@@ -17,8 +16,8 @@ use tmw_trace::write_trace;
 /// anything is written: where memory for it is refused, that fault stands in place of all.
 pub fn answer_driven<K: Sink>(alloc: Global, sink: &mut K, driven: &Driven, trace: bool) -> u8
     requires { driven.now.outcome.verdict ≢ StrictSoFar }
-    ensures { IsPut (to_sink K.took K.holds K.failures) sink.old sink.new (driven_text trace driven.now) (driven_status driven.now) result
-        ⊎ IsPut (to_sink K.took K.holds K.failures) sink.old sink.new (fault_line Memory) 4 result }
+    ensures { IsPut K.to sink.old sink.new (driven_text trace driven.now) (driven_status driven.now) result
+        ⊎ IsPut K.to sink.old sink.new (fault_line Memory) 4 result }
 {
     let outcome = &driven.outcome;
     let Ok(line) = report_text(alloc, outcome.log.len() as u64, &outcome.verdict) else {
@@ -38,10 +37,7 @@ pub fn put_driven<K: Sink>(
     trace: bool,
     line: &[u8],
 ) -> Result<(), IoFault>
-    ensures takes { OnOk result (Takes K.took K.holds sink.old (log_text trace driven.now ++ line.now) sink.new) }
-    ensures well { OnOk result (K.failures sink.new ≡ K.failures sink.old) }
-    ensures begun { OnErr result (TakesBeginning K.took K.holds sink.old (log_text trace driven.now ++ line.now) sink.new) }
-    ensures failed { OnErr result (K.failures sink.new ≡ one_more (K.failures sink.old)) }
+    ensures { Puts K.to sink.old (log_text trace driven.now ++ line.now) sink.new result }
 {
     if trace {
         write_trace(sink, &driven.header, &driven.outcome.log)?;

@@ -19,9 +19,9 @@ pub fn drive_source<S: Source>(
     memory: &(dyn Tm + Sync),
     bounds: Bounds,
 ) -> Result<Driven, Fault>
-    ensures right { (bytes : List ℕ) × Tells S.told S.remaining source.old bytes source.new
-        × AnswersWorkload (gives memory.now) bounds (S.ended source.new) bytes result }
-    ensures failures { S.failures source.new ≡ failures_after_answer result (S.failures source.old) }
+    ensures right { (bytes : List ℕ) × Tells S.from source.old bytes source.new
+        × AnswersWorkload (gives memory.now) bounds (S.from.ended source.new) bytes result }
+    ensures failures { S.from.failures source.new ≡ failures_after_answer result (S.from.failures source.old) }
 {
     let mut bytes = Vec::new(alloc);
     match read_all(source, &mut bytes) {

@@ -1,4 +1,3 @@
-ghost use Rattle.tmw_report.specs.Streams.{from_source, to_sink};
 ghost use Rattle.tmw_drive.specs.Running.{DrivesBytes};
 
 use crate::command::answer::answer_driven;
@@ -21,7 +20,7 @@ pub fn run_drive<S: Source, K: Sink>(
     trace: bool,
     bounds: Bounds,
 ) -> u8
-    ensures { DrivesBytes (from_source S.told S.remaining S.ended S.failures) (to_sink K.took K.holds K.failures) (gives memory.now)
+    ensures { DrivesBytes S.from K.to (gives memory.now)
         trace bounds source.old source.new sink.old sink.new result }
 {
     match drive_source(alloc, source, memory, bounds) {

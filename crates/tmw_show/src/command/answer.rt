@@ -1,7 +1,6 @@
 ghost use Rattle.std.specs.Prelude.{◌+◌, ◌≤◌, ◌⊎◌, length};
 ghost use Rattle.tmw_report.specs.Lines.{fault_line};
 ghost use Rattle.tmw_report.specs.Putting.{IsPut};
-ghost use Rattle.tmw_report.specs.Streams.{to_sink};
 ghost use Rattle.tmw_report.specs.declared.fault.Fault.TheVariants.{Memory};
 ghost use Rattle.tmw_show.specs.Running.{IsVerdictBy, shown_status, shown_text};
 
@@ -23,8 +22,8 @@ pub fn answer_shown<K: Sink>(
 ) -> u8
     requires own { IsVerdictBy criterion shown.now.showing.verdict }
     requires within { shown.now.showing.from + length shown.now.showing.events.items ≤ shown.now.showing.fed }
-    ensures { IsPut (to_sink K.took K.holds K.failures) sink.old sink.new (shown_text criterion trace shown.now) (shown_status shown.now) result
-        ⊎ IsPut (to_sink K.took K.holds K.failures) sink.old sink.new (fault_line Memory) 4 result }
+    ensures { IsPut K.to sink.old sink.new (shown_text criterion trace shown.now) (shown_status shown.now) result
+        ⊎ IsPut K.to sink.old sink.new (fault_line Memory) 4 result }
 {
     let Ok(text) = shown_text(alloc, criterion, trace, shown) else {
         return answer_fault(sink, Fault::Memory);

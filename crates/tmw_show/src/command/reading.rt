@@ -21,9 +21,9 @@ pub fn show_trace<S: Source>(
     criterion: Criterion,
     bounds: Bounds,
 ) -> Result<Shown, Fault>
-    ensures right { (bytes : List ℕ) × Tells S.told S.remaining source.old bytes source.new
-        × AnswersShow criterion bounds (S.ended source.new) bytes result }
-    ensures failures { S.failures source.new ≡ failures_after_answer result (S.failures source.old) }
+    ensures right { (bytes : List ℕ) × Tells S.from source.old bytes source.new
+        × AnswersShow criterion bounds (S.from.ended source.new) bytes result }
+    ensures failures { S.from.failures source.new ≡ failures_after_answer result (S.from.failures source.old) }
 {
     let mut lines = TraceLines::new();
     let header = match lines.header(source) {

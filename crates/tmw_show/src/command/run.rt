@@ -1,4 +1,3 @@
-ghost use Rattle.tmw_report.specs.Streams.{from_source, to_sink};
 ghost use Rattle.tmw_show.specs.Running.{ShowsBytes};
 
 use crate::command::answer::answer_shown;
@@ -23,7 +22,7 @@ pub fn run_show<S: Source, K: Sink>(
     trace: bool,
     bounds: Bounds,
 ) -> u8
-    ensures { ShowsBytes (from_source S.told S.remaining S.ended S.failures) (to_sink K.took K.holds K.failures) criterion trace bounds
+    ensures { ShowsBytes S.from K.to criterion trace bounds
         source.old source.new sink.old sink.new result }
 {
     match show_trace(alloc, source, criterion, bounds) {

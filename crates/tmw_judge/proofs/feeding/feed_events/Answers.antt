@@ -7,6 +7,6 @@ give_items-requires-clause-counted g c = fed-so_many c.args.lines.now c.args.mon
 
 pub returns-clause-feeds : goal.returns-clause-feeds
 returns-clause-feeds g c =
-    feeds-given g.S.Source.told g.S.Source.remaining (g.S.Source.ended c.give_items.new.source) c.args.source.now
+    feeds-given g.S.Source.from (g.S.Source.from.ended c.give_items.new.source) c.args.source.now
     c.give_items.new.source c.args.lines.now c.give_items.new.lines c.args.monitors.now c.give_items.new.taker c.give_items.result
     c.give_items.ensures.gives

@@ -12,7 +12,7 @@ returns-then-length_before-bytes-clause-skips g c =
     let at = rw same at c.length_before.ensures in
     let within : position_or_len (λ byte. byte == 10) more.0 < length more.0 =
     omega (arith, at, ap length same, c.if-length_before-bytes.true) in
-    rw held (Skips-feed g.S.Source.told g.S.Source.remaining c.args.source.now (g.S.Source.ended c.read.new.source)
+    rw held (Skips-feed g.S.Source.from c.args.source.now (g.S.Source.from.ended c.read.new.source)
     c.parts.source c.read.new.source more.0 c.parts.invariant.0 more.1 within)
 
 pub parts-preserved : goal.parts-preserved
@@ -23,7 +23,7 @@ parts-preserved g c =
     let at = rw same at c.length_before.ensures in
     let all : length more.0 ≤ position_or_len (λ byte. byte == 10) more.0 =
     omega (arith, at, ap length same, c.if-length_before-bytes.false) in (
-      HasSkipped-more g.S.Source.told g.S.Source.remaining c.args.source.now c.parts.source c.read.new.source more.0
+      HasSkipped-more g.S.Source.from c.args.source.now c.parts.source c.read.new.source more.0
           c.parts.invariant.0 more.1 all,
       c.in-Ok.ensures.well ∙ c.parts.invariant.1,
     )

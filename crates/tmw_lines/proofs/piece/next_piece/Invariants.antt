@@ -1,14 +1,15 @@
 use Rattle.std.proofs.Common.{◌≡◌, ◌+◌, ◌≤◌, length}
+use Rattle.tmw_streams.specs.Told.{Reads}
 use Rattle.tmw_lines.specs.Held.{bytes_of}
-use Rattle.tmw_lines.specs.Piece.{Reads, IsSeen}
+use Rattle.tmw_lines.specs.Piece.{IsSeen}
 use Rattle.tmw_lines.proofs.piece.next_piece.Given as goal
 
 abbrev pub invariant-loop-seen : goal.invariant-loop-seen
 invariant-loop-seen g l =
-    Reads g.S.Source.told g.S.Source.remaining l.initial.source l.source (bytes_of l.initial.held) (bytes_of l.held)
+    Reads g.S.Source.from l.initial.source l.source (bytes_of l.initial.held) (bytes_of l.held)
     × IsSeen l.seen (bytes_of l.held)
-    × (g.S.Source.left l.source + length (bytes_of l.held) ≤ g.S.Source.left l.initial.source + length (bytes_of l.initial.held))
-    × (g.S.Source.failures l.source ≡ g.S.Source.failures l.initial.source)
+    × (g.S.Source.from.left l.source + length (bytes_of l.held) ≤ g.S.Source.from.left l.initial.source + length (bytes_of l.initial.held))
+    × (g.S.Source.from.failures l.source ≡ g.S.Source.from.failures l.initial.source)
 
 abbrev pub decreases-loop-seen : goal.decreases-loop-seen
-decreases-loop-seen g l = g.S.Source.left l.source
+decreases-loop-seen g l = g.S.Source.from.left l.source

@@ -1,19 +1,17 @@
--- A beginning of the counts, or all of them and no line feed.
+-- The line feed came after the counts.
 use Rattle.std.proofs.Common.{[], ◌∷◌}
-use Rattle.std.proofs.lemmas.Result.{on_err_weaker, err_from_is_err_and}
-use Rattle.tmw_streams.proofs.Beginnings.{TakesBeginning-more, TakesBeginning-front}
 use Rattle.tmw_steps.specs.ReplyText.{counts_text}
+use Rattle.tmw_streams.proofs.Putting.{Puts-more, Puts-front}
 use Rattle.tmw_steps.proofs.reply_line.put_counts.Goals as goal
 
-pub returns-in_err-put_numbers-clause-begun : goal.returns-in_err-put_numbers-clause-begun
-returns-in_err-put_numbers-clause-begun g c =
-    let returned = err_from_is_err_and c.from_residual.result c.from_residual.ensures.1 in
-    rw returned.1 (TakesBeginning-front {S = g.row.K.Denot} g.K.Sink.took g.K.Sink.holds c.args.sink.now c.put_numbers.new.sink
-    (counts_text c.args.log c.args.taken) (10 ∷ []) c.in_err-put_numbers.ensures.begun)
+pub returns-in_err-put_numbers : goal.returns-in_err-put_numbers
+returns-in_err-put_numbers g c =
+    Puts-front g.K.Sink.to c.args.sink.now c.put_numbers.new.sink (counts_text c.args.log c.args.taken)
+    (10 ∷ []) c.from_residual.result
+    c.from_residual.ensures.0 c.in_err-put_numbers.ensures
 
-pub returns-clause-begun : goal.returns-clause-begun
-returns-clause-begun g c =
-    on_err_weaker c.put_all.result
-    (TakesBeginning-more {S = g.row.K.Denot} g.K.Sink.took g.K.Sink.holds c.args.sink.now c.put_numbers.new.sink c.put_all.new.sink
-    (counts_text c.args.log c.args.taken) (10 ∷ []) c.in_ok-put_numbers.ensures.takes)
-    c.put_all.ensures.begun
+pub returns : goal.returns
+returns g c =
+    Puts-more g.K.Sink.to c.args.sink.now c.put_numbers.new.sink (counts_text c.args.log c.args.taken)
+    (10 ∷ []) c.put_all.new.sink c.put_all.result
+    c.in_ok-put_numbers.ensures c.put_all.ensures

@@ -1,19 +1,17 @@
--- A beginning of the word, or of the event after it.
+-- The event came after the word.
 use Rattle.std.proofs.Common.{codes}
-use Rattle.std.proofs.lemmas.Result.{on_err_weaker, err_from_is_err_and}
-use Rattle.tmw_streams.proofs.Beginnings.{TakesBeginning-more, TakesBeginning-front}
 use Rattle.tmw_events.specs.Text.{event_text}
+use Rattle.tmw_streams.proofs.Putting.{Puts-more, Puts-front}
 use Rattle.tmw_steps.proofs.reply_line.put_taken.Goals as goal
 
-pub returns-in_err-put_all-clause-begun : goal.returns-in_err-put_all-clause-begun
-returns-in_err-put_all-clause-begun g c =
-    let returned = err_from_is_err_and c.from_residual.result c.from_residual.ensures.1 in
-    rw returned.1 (TakesBeginning-front {S = g.row.K.Denot} g.K.Sink.took g.K.Sink.holds c.args.sink.now c.put_all.new.sink
-    (codes "event ") (event_text c.args.event) c.in_err-put_all.ensures.begun)
+pub returns-in_err-put_all : goal.returns-in_err-put_all
+returns-in_err-put_all g c =
+    Puts-front g.K.Sink.to c.args.sink.now c.put_all.new.sink (codes "event ")
+    (event_text c.args.event) c.from_residual.result
+    c.from_residual.ensures.0 c.in_err-put_all.ensures
 
-pub returns-clause-begun : goal.returns-clause-begun
-returns-clause-begun g c =
-    on_err_weaker c.put_event.result
-    (TakesBeginning-more {S = g.row.K.Denot} g.K.Sink.took g.K.Sink.holds c.args.sink.now c.put_all.new.sink c.put_event.new.sink
-    (codes "event ") (event_text c.args.event) c.in_ok-put_all.ensures.takes)
-    c.put_event.ensures.begun
+pub returns : goal.returns
+returns g c =
+    Puts-more g.K.Sink.to c.args.sink.now c.put_all.new.sink (codes "event ")
+    (event_text c.args.event) c.put_event.new.sink c.put_event.result
+    c.in_ok-put_all.ensures c.put_event.ensures

@@ -11,6 +11,6 @@ returns-in-Ok-clause-right g c =
     let bytes = steps_text size steps in (
       bytes,
       c.in-Ok.ensures.text,
-      made-answers (g.S.Source.ended c.read_steps.new.source) bytes size steps c.made_of.result c.in-Ok.ensures.ended
+      made-answers (g.S.Source.from.ended c.read_steps.new.source) bytes size steps c.made_of.result c.in-Ok.ensures.ended
           (record { are_steps = c.in-Ok.ensures.steps; text = refl }) c.made_of.ensures,
     )

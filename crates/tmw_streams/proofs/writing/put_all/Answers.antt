@@ -10,7 +10,7 @@ loop-at-preserved g c =
     let within = rw (take_rest c.args.bytes.now c.loop-at.at) at c.in_ok-at.ensures.within in (
       omega (arith, length-drop c.loop-at.at c.args.bytes.now, within),
       rw (take-add c.loop-at.at c.in_ok-at.field-0 c.args.bytes.now)
-          (Takes-more g.K.Sink.took g.K.Sink.holds c.args.sink.now c.loop-at.sink c.put.new.self
+          (Takes-more g.K.Sink.to c.args.sink.now c.loop-at.sink c.put.new.self
           (take c.loop-at.at c.args.bytes.now) (take c.in_ok-at.field-0 (drop c.loop-at.at c.args.bytes.now))
           c.loop-at.invariant.1 takes),
       c.in_ok-at.ensures.well ∙ c.loop-at.invariant.2,

@@ -1,19 +1,17 @@
--- A beginning of the header, or all of it and no line feed.
+-- The line feed came after the header.
 use Rattle.std.proofs.Common.{[], ◌∷◌}
-use Rattle.std.proofs.lemmas.Result.{on_err_weaker, err_from_is_err_and}
-use Rattle.tmw_streams.proofs.Beginnings.{TakesBeginning-more, TakesBeginning-front}
 use Rattle.tmw_trace.specs.Text.{header_text}
+use Rattle.tmw_streams.proofs.Putting.{Puts-more, Puts-front}
 use Rattle.tmw_trace.proofs.header_text.put_header.Goals as goal
 
-pub returns-in_err-put_header_text-clause-begun : goal.returns-in_err-put_header_text-clause-begun
-returns-in_err-put_header_text-clause-begun g c =
-    let returned = err_from_is_err_and c.from_residual.result c.from_residual.ensures.1 in
-    rw returned.1 (TakesBeginning-front {S = g.row.K.Denot} g.K.Sink.took g.K.Sink.holds c.args.sink.now c.put_header_text.new.sink
-    (header_text c.args.header.now) (10 ∷ []) c.in_err-put_header_text.ensures.begun)
+pub returns-in_err-put_header_text : goal.returns-in_err-put_header_text
+returns-in_err-put_header_text g c =
+    Puts-front g.K.Sink.to c.args.sink.now c.put_header_text.new.sink (header_text c.args.header.now)
+    (10 ∷ []) c.from_residual.result
+    c.from_residual.ensures.0 c.in_err-put_header_text.ensures
 
-pub returns-clause-begun : goal.returns-clause-begun
-returns-clause-begun g c =
-    on_err_weaker c.put_all.result
-    (TakesBeginning-more {S = g.row.K.Denot} g.K.Sink.took g.K.Sink.holds c.args.sink.now c.put_header_text.new.sink c.put_all.new.sink
-    (header_text c.args.header.now) (10 ∷ []) c.in_ok-put_header_text.ensures.takes)
-    c.put_all.ensures.begun
+pub returns : goal.returns
+returns g c =
+    Puts-more g.K.Sink.to c.args.sink.now c.put_header_text.new.sink (header_text c.args.header.now)
+    (10 ∷ []) c.put_all.new.sink c.put_all.result
+    c.in_ok-put_header_text.ensures c.put_all.ensures

@@ -22,7 +22,7 @@ returns-clause-right g c =
     let workload = c.in-Ok.workload in (
       told.0,
       told.1,
-      fault-ended told.0 (g.S.Source.ended c.read_source.new.source) c.args.settings c.fault_of.result told.2.0
+      fault-ended told.0 (g.S.Source.from.ended c.read_source.new.source) c.args.settings c.fault_of.result told.2.0
           (c.fault_of.ensures c.args.settings told.0
           (no_bench_from workload c.args.settings told.0 c.in-Err-hunt.fault told.2.1 c.in-Err-hunt.ensures.err)),
     )
@@ -32,6 +32,6 @@ returns-clause-failures g c =
     let told = c.in-Ok.ensures.right in
     let workload = c.in-Ok.workload in
     c.in-Ok.ensures.failures
-    ∙ sym (fault-well told.0 c.args.settings (g.S.Source.failures c.args.source.now) c.fault_of.result
+    ∙ sym (fault-well told.0 c.args.settings (g.S.Source.from.failures c.args.source.now) c.fault_of.result
     (c.fault_of.ensures c.args.settings told.0
     (no_bench_from workload c.args.settings told.0 c.in-Err-hunt.fault told.2.1 c.in-Err-hunt.ensures.err)))

@@ -10,7 +10,7 @@ pub returns-in_err-write_trace-clause-begun : goal.returns-in_err-write_trace-cl
 returns-in_err-write_trace-clause-begun g c =
     let returned = err_from_is_err_and c.from_residual.result c.from_residual.ensures.1 in
     let begun = rw c.deref.ensures.value at c.in_err-write_trace.ensures.begun in
-    rw (returned.1, c.if-trace.true) (TakesBeginning-front {S = g.row.K.Denot} g.K.Sink.took g.K.Sink.holds c.args.sink.now c.write_trace.new.sink
+    rw (returned.1, c.if-trace.true) (TakesBeginning-front g.K.Sink.to c.args.sink.now c.write_trace.new.sink
     (trace_text c.args.driven.now.header c.args.driven.now.outcome.log.items) c.args.line.now begun)
 
 pub returns-clause-takes : goal.returns-clause-takes
@@ -20,7 +20,7 @@ returns-clause-takes g c =
           let first = rw w.deref.ensures.value at w.in_ok-write_trace.ensures.takes in
           let takes = rw w.sink-is at c.put_all.ensures.takes in
           rw w.if-trace.true (on_ok_weaker c.put_all.result
-          (Takes-more {S = g.row.K.Denot} g.K.Sink.took g.K.Sink.holds c.args.sink.now w.write_trace.new.sink c.put_all.new.sink
+          (Takes-more g.K.Sink.to c.args.sink.now w.write_trace.new.sink c.put_all.new.sink
           (trace_text c.args.driven.now.header c.args.driven.now.outcome.log.items) c.args.line.now first) takes)
       | else-trace w ↦ rw w.if-trace.false (rw w.sink-is at c.put_all.ensures.takes)
     ]
@@ -32,7 +32,7 @@ returns-clause-begun g c =
           let first = rw w.deref.ensures.value at w.in_ok-write_trace.ensures.takes in
           let begun = rw w.sink-is at c.put_all.ensures.begun in
           rw w.if-trace.true (on_err_weaker c.put_all.result
-          (TakesBeginning-more {S = g.row.K.Denot} g.K.Sink.took g.K.Sink.holds c.args.sink.now w.write_trace.new.sink c.put_all.new.sink
+          (TakesBeginning-more g.K.Sink.to c.args.sink.now w.write_trace.new.sink c.put_all.new.sink
           (trace_text c.args.driven.now.header c.args.driven.now.outcome.log.items) c.args.line.now first) begun)
       | else-trace w ↦ rw w.if-trace.false (rw w.sink-is at c.put_all.ensures.begun)
     ]

@@ -13,12 +13,12 @@ returns-in-Ok-clause-right g c =
     let gives : Call → Answer → Type 0 = λ call answer. (goal.Tm-dyn g c.args.memory.now).gives c.args.memory.now.1 call answer in
     let right = subst (λ (xs : List ℕ). AnswersWorkload gives c.args.bounds (Unit {0}) xs c.drive_text.result) c.deref.ensures.value c.drive_text.ensures in (
       bytes,
-      Tells-held g.S.Source.told g.S.Source.remaining c.args.source.now c.read_all.new.source c.new-bytes.result.items bytes none c.read_all.ensures.held,
-      answers-ended gives c.args.bounds bytes (g.S.Source.ended c.read_all.new.source) c.drive_text.result (c.in-Ok.ensures.ended) right,
+      Tells-held g.S.Source.from c.args.source.now c.read_all.new.source c.new-bytes.result.items bytes none c.read_all.ensures.held,
+      answers-ended gives c.args.bounds bytes (g.S.Source.from.ended c.read_all.new.source) c.drive_text.result (c.in-Ok.ensures.ended) right,
     )
 
 pub returns-in-Ok-clause-failures : goal.returns-in-Ok-clause-failures
 returns-in-Ok-clause-failures g c =
     let gives : Call → Answer → Type 0 = λ call answer. (goal.Tm-dyn g c.args.memory.now).gives c.args.memory.now.1 call answer in
     c.in-Ok.ensures.well
-    ∙ sym (failures-same gives c.args.bounds c.deref.result.now (g.S.Source.failures c.args.source.now) c.drive_text.result c.drive_text.ensures)
+    ∙ sym (failures-same gives c.args.bounds c.deref.result.now (g.S.Source.from.failures c.args.source.now) c.drive_text.result c.drive_text.ensures)

@@ -15,7 +15,7 @@ returns-in-Err-clause-fault g c =
     let line = c.in-Err.ensures.reads in (
       line.bytes,
       line.told,
-      text_fault-line g.F.LineFormat.grammar (g.S.Source.ended c.next_line.new.source) c.args.self.now line.bytes
+      text_fault-line g.F.LineFormat.grammar (g.S.Source.from.ended c.next_line.new.source) c.args.self.now line.bytes
           c.in-Err.fault line.is,
     )
 

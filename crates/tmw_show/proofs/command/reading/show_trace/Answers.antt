@@ -24,7 +24,7 @@ returns-in-Ok-give_items-clause-right g c =
     let judged_by = rules_for c.args.criterion header.registers header.initial c.args.bounds in
     let watches = all.given.1 judged_by [] c.in-Ok-new.ensures in (
       first.0 ++ all.bytes,
-      Tells-more g.S.Source.told g.S.Source.remaining c.args.source.now c.header.new.source c.give_items.new.source first.0 all.bytes first.1 all.told,
+      Tells-more g.S.Source.from c.args.source.now c.header.new.source c.give_items.new.source first.0 all.bytes first.1 all.told,
       (
         end.ended,
         record {
@@ -43,11 +43,11 @@ returns-in-Err-give_items-clause-right g c =
     let first = c.in-Ok.ensures.header in
     let all = c.in-Err-give_items.ensures.gives in (
       first.0 ++ all.bytes,
-      Tells-more g.S.Source.told g.S.Source.remaining c.args.source.now c.header.new.source c.give_items.new.source first.0 all.bytes first.1 all.told,
+      Tells-more g.S.Source.from c.args.source.now c.header.new.source c.give_items.new.source first.0 all.bytes first.1 all.told,
       (
         c.in-Err-give_items.fault,
         c.fault_of-in-Err-give_items.ensures,
-        given-fault (Unit {0}) LastWindow TakeEvents LackAnEvent (g.S.Source.ended c.give_items.new.source) c.header.new.self c.give_items.new.lines
+        given-fault (Unit {0}) LastWindow TakeEvents LackAnEvent (g.S.Source.from.ended c.give_items.new.source) c.header.new.self c.give_items.new.lines
             c.in-Ok-new.window c.give_items.new.taker c.in-Ok.header first.0 all.bytes all.items first.2 c.in-Err-give_items.fault all.given,
       ),
     )
