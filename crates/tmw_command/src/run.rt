@@ -46,7 +46,8 @@ pub fn run_command<
     progress: &P,
 ) -> u8
     ensures { RunsCommand S.from K.to
-        E.to (by_name (gives memories.entry.norec.now) (gives memories.entry.lock.now) (gives memories.entry.torn.now))
+        E.to (by_name (gives memories.entry.norec.now) (gives memories.entry.lock.now)
+        (gives memories.entry.torn.now))
         (result_map_both (λ given. map string_bytes given.items) (λ fault. fault) words)
         source.old source.new sink.old sink.new errors.old errors.new result }
 {
@@ -74,7 +75,8 @@ fn run_words<
     progress: &P,
 ) -> u8
     ensures { RunsWords S.from K.to
-        E.to (by_name (gives memories.entry.norec.now) (gives memories.entry.lock.now) (gives memories.entry.torn.now))
+        E.to (by_name (gives memories.entry.norec.now) (gives memories.entry.lock.now)
+        (gives memories.entry.torn.now))
         (map W.text words.now)
         source.old source.new sink.old sink.new errors.old errors.new result }
 {
@@ -94,7 +96,8 @@ fn run_order<S: Source, K: Sink, R: AllocGlobal + Threads + Wait + Sync, P: Prog
     progress: &P,
 ) -> u8
     ensures { RunsOrder S.from K.to
-        (by_name (gives memories.entry.norec.now) (gives memories.entry.lock.now) (gives memories.entry.torn.now)) order
+        (by_name (gives memories.entry.norec.now) (gives memories.entry.lock.now)
+        (gives memories.entry.torn.now)) order
         source.old source.new sink.old sink.new result }
 {
     let alloc = rt.alloc();

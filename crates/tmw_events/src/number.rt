@@ -19,7 +19,8 @@ pub fn number_of(bytes: &[u8]) -> Option<u64>
 
 /// The number that these digits write, where they are digits and it has 64 bits.
 fn digits_number(bytes: &[u8]) -> Option<u64>
-    ensures { SomeIff result (AllDigits 10 bytes.now × (digits_value 10 bytes.now < 2 ^ 64)) (digits_value 10 bytes.now) }
+    ensures { SomeIff result (AllDigits 10 bytes.now × (digits_value 10 bytes.now < 2 ^ 64))
+        (digits_value 10 bytes.now) }
 {
     let mut number: u64 = 0;
     for byte in bytes {

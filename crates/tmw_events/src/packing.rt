@@ -41,7 +41,8 @@ const fn parts_of(kind: Kind) -> (u64, u64, u64)
 pub fn unpack(header: u64, value: u64) -> Option<Event>
     ensures some { IfSome result (λ event. pack event ≡ (header, value)) }
     ensures fits { IfSome result (λ event. FitsKind event.kind) }
-    ensures none { IfNone result ((event : Event) → FitsKind event.kind → pack event ≡ (header, value) → ⊥) }
+    ensures none { IfNone result
+        ((event : Event) → FitsKind event.kind → pack event ≡ (header, value) → ⊥) }
 {
     let thread = low_ix(header / 8);
     let Some(kind) = kind_from(header / 64, low_ix(header), value) else {
@@ -63,7 +64,8 @@ fn low_ix(word: u64) -> Ix
 fn kind_from(code: u64, register: Ix, value: u64) -> Option<Kind>
     ensures some { IfSome result (λ kind. kind_parts kind ≡ (code, register.number, value)) }
     ensures fits { IfSome result FitsKind }
-    ensures none { IfNone result ((kind : Kind) → kind_parts kind ≡ (code, register.number, value) → ⊥) }
+    ensures none { IfNone result
+        ((kind : Kind) → kind_parts kind ≡ (code, register.number, value) → ⊥) }
 {
     match (code, register.get(), value) {
         (0, _, 0) => Some(Kind::R(register)),

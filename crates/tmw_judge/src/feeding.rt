@@ -42,10 +42,12 @@ pub fn feed_events<S: Source>(
     monitors: &mut ByCriterion<Monitor>,
 ) -> Result<(), TextFault>
     requires { AreFedAllRead lines.old monitors.old }
-    ensures feeds { FeedsEvents S.from (S.from.ended source.new) source.old source.new lines.old lines.new
+    ensures feeds { FeedsEvents S.from (S.from.ended source.new) source.old source.new lines.old
+        lines.new
         monitors.old monitors.new result }
     ensures well { OnOk result (S.from.failures source.new ≡ S.from.failures source.old) }
-    ensures failed { IfErr result (λ fault. S.from.failures source.new ≡ failures_after fault (S.from.failures source.old)) }
+    ensures failed { IfErr result
+        (λ fault. S.from.failures source.new ≡ failures_after fault (S.from.failures source.old)) }
     ensures over { OnOk result (IsOver lines.new) }
     ensures stays { IfErr result (λ fault. fault ≢ Memory → HasFailed lines.new fault) }
 {

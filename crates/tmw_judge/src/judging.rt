@@ -29,7 +29,8 @@ pub fn judge<S: Source>(
 ) -> Result<ByCriterion<Report>, Fault>
     ensures right { (bytes : List ℕ) × Tells S.from source.old bytes source.new
         × AnswersTrace bounds asked (S.from.ended source.new) bytes result }
-    ensures failures { S.from.failures source.new ≡ failures_after_answer result (S.from.failures source.old) }
+    ensures failures { S.from.failures source.new ≡ failures_after_answer result
+        (S.from.failures source.old) }
 {
     let mut lines = TraceLines::new();
     let mut monitors = match begin(alloc, &mut lines, source, bounds, asked) {
@@ -52,9 +53,11 @@ fn begin<S: Source>(
     asked: Asked,
 ) -> Result<ByCriterion<Monitor>, TextFault>
     requires { IsNew lines.old }
-    ensures begins { ReadsBeginning S.from (S.from.ended source.new) source.old source.new lines.new bounds asked result }
+    ensures begins { ReadsBeginning S.from (S.from.ended source.new) source.old source.new lines.new
+        bounds asked result }
     ensures well { OnOk result (S.from.failures source.new ≡ S.from.failures source.old) }
-    ensures failed { IfErr result (λ fault. S.from.failures source.new ≡ failures_after fault (S.from.failures source.old)) }
+    ensures failed { IfErr result
+        (λ fault. S.from.failures source.new ≡ failures_after fault (S.from.failures source.old)) }
 {
     let header = match lines.header(source) {
         Ok(header) => header,

@@ -61,10 +61,14 @@ fn monitor_for(
 #[inline(always)]
 pub fn feed_each(monitors: &mut ByCriterion<Monitor>, event: Event) -> Result<(), AllocError>
     requires { Each (λ _ monitor. monitor.count < 2 ^ 40) monitors.old }
-    ensures fed { OnOk result ((header : Header) (bounds : Bounds) (asked : Asked) (history : List Event)
-        → AreFed header bounds asked history monitors.old → AreFed header bounds asked (history ++ event ∷ []) monitors.new) }
-    ensures refused { OnErr result ((header : Header) (bounds : Bounds) (asked : Asked) (history : List Event)
-        → AreFed header bounds asked history monitors.old → LackEvent header bounds asked history event monitors.new) }
+    ensures fed { OnOk result
+        ((header : Header) (bounds : Bounds) (asked : Asked) (history : List Event)
+        → AreFed header bounds asked history monitors.old
+        → AreFed header bounds asked (history ++ event ∷ []) monitors.new) }
+    ensures refused { OnErr result
+        ((header : Header) (bounds : Bounds) (asked : Asked) (history : List Event)
+        → AreFed header bounds asked history monitors.old
+        → LackEvent header bounds asked history event monitors.new) }
 {
     match monitors {
         ByCriterion::Opacity(monitor) => {
@@ -86,10 +90,14 @@ pub fn feed_each(monitors: &mut ByCriterion<Monitor>, event: Event) -> Result<()
 #[inline(never)]
 fn feed_others(monitors: &mut ByCriterion<Monitor>, event: Event) -> Result<(), AllocError>
     requires { Each (λ _ monitor. monitor.count < 2 ^ 40) monitors.old }
-    ensures fed { OnOk result ((header : Header) (bounds : Bounds) (asked : Asked) (history : List Event)
-        → AreFed header bounds asked history monitors.old → AreFed header bounds asked (history ++ event ∷ []) monitors.new) }
-    ensures refused { OnErr result ((header : Header) (bounds : Bounds) (asked : Asked) (history : List Event)
-        → AreFed header bounds asked history monitors.old → LackEvent header bounds asked history event monitors.new) }
+    ensures fed { OnOk result
+        ((header : Header) (bounds : Bounds) (asked : Asked) (history : List Event)
+        → AreFed header bounds asked history monitors.old
+        → AreFed header bounds asked (history ++ event ∷ []) monitors.new) }
+    ensures refused { OnErr result
+        ((header : Header) (bounds : Bounds) (asked : Asked) (history : List Event)
+        → AreFed header bounds asked history monitors.old
+        → LackEvent header bounds asked history event monitors.new) }
 {
     match monitors {
         ByCriterion::Opacity(monitor) => {
@@ -108,7 +116,8 @@ fn feed_others(monitors: &mut ByCriterion<Monitor>, event: Event) -> Result<(), 
 
 /// What they report of the history that they have been fed.
 pub fn reports_of(monitors: &ByCriterion<Monitor>) -> ByCriterion<Report>
-    ensures { (header : Header) (bounds : Bounds) (asked : Asked) (history : List Event) → AreFed header bounds asked history monitors.now
+    ensures { (header : Header) (bounds : Bounds) (asked : Asked) (history : List Event)
+        → AreFed header bounds asked history monitors.now
         → AreReports header bounds asked history result }
 {
     match monitors {
@@ -122,7 +131,8 @@ pub fn reports_of(monitors: &ByCriterion<Monitor>) -> ByCriterion<Report>
 
 /// What one reports.
 fn report_of(monitor: &Monitor) -> Report
-    ensures { (rules : Rules) (history : List Event) → Fits rules history monitor.now → IsReportOn rules history result }
+    ensures { (rules : Rules) (history : List Event) → Fits rules history monitor.now
+        → IsReportOn rules history result }
 {
     Report {
         events: monitor.fed(),

@@ -19,7 +19,8 @@ pub fn first_line<F: LineFormat, S: Source>(
     ensures reads { ReadsHeader F.grammar S.from (S.from.ended source.new) source.old source.new
         (bytes_of held.old) (bytes_of held.new) result }
     ensures well { OnOk result (S.from.failures source.new ≡ S.from.failures source.old) }
-    ensures failed { IfErr result (λ fault. S.from.failures source.new ≡ failures_after fault (S.from.failures source.old)) }
+    ensures failed { IfErr result
+        (λ fault. S.from.failures source.new ≡ failures_after fault (S.from.failures source.old)) }
 {
     match next_piece(held, source) {
         Piece::Line(length) => match take_header::<F>(held, length) {
@@ -41,7 +42,8 @@ pub fn first_line<F: LineFormat, S: Source>(
 fn take_header<F: LineFormat>(held: &mut Held, count: usize) -> Option<F::Header>
     requires free { IsUnbroken (take count (bytes_of held.old)) }
     requires feed { drop count (bytes_of held.old) ≡ 10 ∷ drop (count + 1) (bytes_of held.old) }
-    ensures some { IfSome result (λ header. bytes_of held.old ≡ line (F.grammar.header_text header) ++ bytes_of held.new) }
+    ensures some { IfSome result
+        (λ header. bytes_of held.old ≡ line (F.grammar.header_text header) ++ bytes_of held.new) }
     ensures fits { IfSome result F.grammar.FitsHeader }
     ensures none { IfNone result (HasBadHeader F.grammar (bytes_of held.old)) }
 {

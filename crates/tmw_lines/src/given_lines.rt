@@ -28,7 +28,8 @@ pub fn give_lines<F: LineFormat, T: Taker<F::Item>>(
 ) -> Run
     requires few { read ≤ 2 ^ 40 }
     requires counted { T.counts taker.old read }
-    ensures { IsRun F.grammar T.takes T.lacks T.counts format bytes.now read taker.old taker.new result }
+    ensures { IsRun F.grammar T.takes T.lacks T.counts format bytes.now read taker.old taker.new
+        result }
 {
     let mut length = 0;
     let mut count = read;

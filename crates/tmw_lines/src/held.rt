@@ -57,12 +57,15 @@ impl Held {
     /// Reads once, into the room behind the bytes, and tells how many came: none at the source's end alone.
     pub fn read<S: Source>(&mut self, source: &mut S) -> Result<usize, IoFault>
         requires room { length (bytes_of self.old) < 4096 }
-        ensures more { IfOk result (λ count. (bytes : List ℕ) × Tells S.from source.old bytes source.new
+        ensures more { IfOk result
+            (λ count. (bytes : List ℕ) × Tells S.from source.old bytes source.new
             × (bytes_of self.new ≡ bytes_of self.old ++ bytes) × (length bytes ≡ count)) }
-        ensures falls { IfOk result (λ count. S.from.left source.new + count ≤ S.from.left source.old) }
+        ensures falls { IfOk result
+            (λ count. S.from.left source.new + count ≤ S.from.left source.old) }
         ensures end { IfOk result (λ count. count ≡ 0 → S.from.ended source.new) }
         ensures well { OnOk result (S.from.failures source.new ≡ S.from.failures source.old) }
-        ensures failed { OnErr result (S.from.failures source.new ≡ one_more (S.from.failures source.old)) }
+        ensures failed { OnErr result
+            (S.from.failures source.new ≡ one_more (S.from.failures source.old)) }
         ensures kept { OnErr result ((bytes_of self.new ≡ bytes_of self.old)
             × Tells S.from source.old [] source.new) }
         ensures no_end { OnErr result (S.from.ended source.new → ⊥) }

@@ -21,10 +21,12 @@ pub fn give_items<F: LineFormat, S: Source, T: Taker<F::Item>>(
 ) -> Result<(), TextFault>
     requires begun { HasBegunToRead F.grammar lines.old }
     requires counted { T.counts taker.old lines.old.count }
-    ensures gives { GivesAll F.grammar S.from (S.from.ended source.new) T.takes T.lacks source.old source.new lines.old
+    ensures gives { GivesAll F.grammar S.from (S.from.ended source.new) T.takes T.lacks source.old
+        source.new lines.old
         lines.new taker.old taker.new result }
     ensures well { OnOk result (S.from.failures source.new ≡ S.from.failures source.old) }
-    ensures failed { IfErr result (λ fault. S.from.failures source.new ≡ failures_after fault (S.from.failures source.old)) }
+    ensures failed { IfErr result
+        (λ fault. S.from.failures source.new ≡ failures_after fault (S.from.failures source.old)) }
     ensures over { OnOk result (IsOver lines.new) }
     ensures stays { IfErr result (λ fault. fault ≢ Memory → HasFailed lines.new fault) }
 {
@@ -54,11 +56,14 @@ pub fn read_items<F: LineFormat, S: Source>(
     items: &mut Vec<F::Item>,
 ) -> Result<(), TextFault>
     requires { HasBegunToRead F.grammar lines.old }
-    ensures reads { ReadsItems F.grammar S.from (S.from.ended source.new) source.old source.new lines.old lines.new
+    ensures reads { ReadsItems F.grammar S.from (S.from.ended source.new) source.old source.new
+        lines.old lines.new
         items.old.items items.new.items result }
-    ensures full { IfErr result (λ fault. fault ≡ Memory → vec_capacity items.old ≤ length items.new.items) }
+    ensures full { IfErr result
+        (λ fault. fault ≡ Memory → vec_capacity items.old ≤ length items.new.items) }
     ensures well { OnOk result (S.from.failures source.new ≡ S.from.failures source.old) }
-    ensures failed { IfErr result (λ fault. S.from.failures source.new ≡ failures_after fault (S.from.failures source.old)) }
+    ensures failed { IfErr result
+        (λ fault. S.from.failures source.new ≡ failures_after fault (S.from.failures source.old)) }
     ensures over { OnOk result (IsOver lines.new) }
     ensures stays { IfErr result (λ fault. fault ≢ Memory → HasFailed lines.new fault) }
 {

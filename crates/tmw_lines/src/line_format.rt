@@ -39,7 +39,8 @@ pub trait LineFormat: Copy {
     /// in one pass does so here. `Nothing` says nothing of the bytes: the line's end is then looked for, and `item_of` asked.
     fn give_first<T: Taker<Self::Item>>(self, bytes: &[u8], taker: &mut T) -> Given
         requires { (count : ℕ) × (count < 2 ^ 40) × T.counts taker.old count }
-        ensures { IsGiven grammar T.takes T.lacks T.counts self bytes.now taker.old taker.new result }
+        ensures { IsGiven grammar T.takes T.lacks T.counts self bytes.now taker.old taker.new
+            result }
     {
         let _bytes = bytes;
         let _taker = &mut *taker;

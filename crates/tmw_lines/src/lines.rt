@@ -65,7 +65,9 @@ impl<F: LineFormat> Lines<F> {
             × HasFirstLineFault F.grammar (S.from.ended source.new) bytes fault) }
         ensures stays { IfErr result (HasFailed self.new) }
         ensures well { OnOk result (S.from.failures source.new ≡ S.from.failures source.old) }
-        ensures failed { IfErr result (λ fault. S.from.failures source.new ≡ failures_after fault (S.from.failures source.old)) }
+        ensures failed { IfErr result
+            (λ fault. S.from.failures source.new ≡ failures_after fault
+            (S.from.failures source.old)) }
     {
         match first_line::<F, S>(&mut self.held, source) {
             Ok(header) => {
@@ -86,12 +88,16 @@ impl<F: LineFormat> Lines<F> {
     #[inline(always)]
     pub fn give_held<T: Taker<F::Item>>(&mut self, taker: &mut T) -> Result<(), AllocError>
         requires { T.counts taker.old self.old.count }
-        ensures gives { OnOk result (GivesItems F.grammar T.takes self.old self.new taker.old taker.new) }
+        ensures gives { OnOk result
+            (GivesItems F.grammar T.takes self.old self.new taker.old taker.new) }
         ensures counted { OnOk result (T.counts taker.new self.new.count) }
-        ensures lacks { OnErr result (LacksLast F.grammar T.takes T.lacks self.old self.new taker.old taker.new) }
+        ensures lacks { OnErr result
+            (LacksLast F.grammar T.takes T.lacks self.old self.new taker.old taker.new) }
         ensures fewer { unread self.new ≤ unread self.old }
-        ensures before_header { IsNew self.old → (result ≡ Ok tt) × (self.new ≡ self.old) × (taker.new ≡ taker.old) }
-        ensures over_again { IsOver self.old → (result ≡ Ok tt) × (self.new ≡ self.old) × (taker.new ≡ taker.old) }
+        ensures before_header { IsNew self.old → (result ≡ Ok tt) × (self.new ≡ self.old)
+            × (taker.new ≡ taker.old) }
+        ensures over_again { IsOver self.old → (result ≡ Ok tt) × (self.new ≡ self.old)
+            × (taker.new ≡ taker.old) }
         ensures fault_again { (fault : TextFault) → HasFailed self.old fault
             → (result ≡ Ok tt) × (self.new ≡ self.old) × (taker.new ≡ taker.old) }
     {

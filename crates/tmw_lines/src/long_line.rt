@@ -20,8 +20,10 @@ pub enum LineEnd {
 /// Reads on to the end of a line that is longer than can be held. What is held belongs to it, and is let go of. Where its line feed
 /// comes, the bytes read last are held, and it is among them; else none is held.
 pub fn skip_line<S: Source>(held: &mut Held, source: &mut S) -> LineEnd
-    ensures skips { Skips S.from (S.from.ended source.new) source.old source.new (bytes_of held.new) result }
-    ensures failures { S.from.failures source.new ≡ line_end_failures result (S.from.failures source.old) }
+    ensures skips { Skips S.from (S.from.ended source.new) source.old source.new (bytes_of held.new)
+        result }
+    ensures failures { S.from.failures source.new ≡ line_end_failures result
+        (S.from.failures source.old) }
 {
     'parts: loop {
         held.clear();

@@ -21,12 +21,15 @@ pub fn next_line<F: LineFormat, S: Source>(
     count: u64,
 ) -> Result<Option<F::Item>, TextFault>
     requires { count ≤ 2 ^ 40 }
-    ensures reads { ReadsLine F.grammar S.from (S.from.ended source.new) source.old source.new format count
+    ensures reads { ReadsLine F.grammar S.from (S.from.ended source.new) source.old source.new
+        format count
         (bytes_of held.old) (bytes_of held.new) result }
-    ensures falls { IfOk result (λ found. OnSome found (S.from.left source.new + length (bytes_of held.new)
+    ensures falls { IfOk result
+        (λ found. OnSome found (S.from.left source.new + length (bytes_of held.new)
         < S.from.left source.old + length (bytes_of held.old))) }
     ensures well { OnOk result (S.from.failures source.new ≡ S.from.failures source.old) }
-    ensures failed { IfErr result (λ fault. S.from.failures source.new ≡ failures_after fault (S.from.failures source.old)) }
+    ensures failed { IfErr result
+        (λ fault. S.from.failures source.new ≡ failures_after fault (S.from.failures source.old)) }
 {
     if count == MOST_ITEMS {
         return past_last(held, source, format);
@@ -53,11 +56,13 @@ fn past_last<F: LineFormat, S: Source>(
     source: &mut S,
     format: F,
 ) -> Result<Option<F::Item>, TextFault>
-    ensures reads { ReadsLine F.grammar S.from (S.from.ended source.new) source.old source.new format (2 ^ 40)
+    ensures reads { ReadsLine F.grammar S.from (S.from.ended source.new) source.old source.new
+        format (2 ^ 40)
         (bytes_of held.old) (bytes_of held.new) result }
     ensures none { IfOk result (λ found. found ≡ None) }
     ensures well { OnOk result (S.from.failures source.new ≡ S.from.failures source.old) }
-    ensures failed { IfErr result (λ fault. S.from.failures source.new ≡ failures_after fault (S.from.failures source.old)) }
+    ensures failed { IfErr result
+        (λ fault. S.from.failures source.new ≡ failures_after fault (S.from.failures source.old)) }
 {
     if !held.bytes().is_empty() {
         return Err(TextFault::TooLong);
@@ -73,7 +78,8 @@ fn past_last<F: LineFormat, S: Source>(
 fn take_item<F: LineFormat>(held: &mut Held, count: usize, format: F) -> Option<F::Item>
     requires free { IsUnbroken (take count (bytes_of held.old)) }
     requires feed { drop count (bytes_of held.old) ≡ 10 ∷ drop (count + 1) (bytes_of held.old) }
-    ensures some { IfSome result (λ item. IsItemLine F.grammar format item (bytes_of held.old) (bytes_of held.new)) }
+    ensures some { IfSome result
+        (λ item. IsItemLine F.grammar format item (bytes_of held.old) (bytes_of held.new)) }
     ensures none { IfNone result (IsBadLine F.grammar format (bytes_of held.old)) }
     ensures less { length (bytes_of held.new) < length (bytes_of held.old) }
 {

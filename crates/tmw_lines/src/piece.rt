@@ -27,7 +27,8 @@ pub fn next_piece<S: Source>(held: &mut Held, source: &mut S) -> Piece
     ensures piece { IsPiece result (S.from.ended source.new) (bytes_of held.new) }
     ensures falls { UnlessFailed result (S.from.left source.new + length (bytes_of held.new)
         ≤ S.from.left source.old + length (bytes_of held.old)) }
-    ensures failures { S.from.failures source.new ≡ piece_failures result (S.from.failures source.old) }
+    ensures failures { S.from.failures source.new ≡ piece_failures result
+        (S.from.failures source.old) }
 {
     let mut seen = 0;
     loop {
@@ -52,7 +53,8 @@ fn seen_on(bytes: &[u8], seen: usize) -> usize
     requires seen { IsSeen seen bytes.now }
     requires few { length bytes.now ≤ 4096 }
     ensures seen { IsSeen result bytes.now }
-    ensures stops { result < length bytes.now → drop result bytes.now ≡ 10 ∷ drop (result + 1) bytes.now }
+    ensures stops { result < length bytes.now → drop result bytes.now ≡ 10
+        ∷ drop (result + 1) bytes.now }
 {
     seen + length_before(&bytes[seen..], b'\n')
 }

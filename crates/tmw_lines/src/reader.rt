@@ -28,7 +28,8 @@ pub fn read_lines<F: LineFormat, S: Source>(
         × Tells S.from source.old bytes source.new
         × HasTextFault F.grammar (S.from.ended source.new) bytes fault) }
     ensures well { OnOk result (S.from.failures source.new ≡ S.from.failures source.old) }
-    ensures failed { IfErr result (λ fault. S.from.failures source.new ≡ failures_after fault (S.from.failures source.old)) }
+    ensures failed { IfErr result
+        (λ fault. S.from.failures source.new ≡ failures_after fault (S.from.failures source.old)) }
 {
     let mut lines = Lines::<F>::new();
     let header = match lines.header(source) {

@@ -16,7 +16,8 @@ pub trait Taker<I> {
         requires { (count : ℕ) × (count < 2 ^ 40) × counts self.old count }
         ensures taken { OnOk result (takes self.old (item ∷ []) self.new) }
         ensures lacks { OnErr result (lacks self.old item self.new) }
-        ensures counted { OnOk result ((count : ℕ) → counts self.old count → counts self.new (count + 1)) };
+        ensures counted { OnOk result
+            ((count : ℕ) → counts self.old count → counts self.new (count + 1)) };
 
     /// One that stays as it is has taken no item. One that has taken none need not be as it was.
     ghost takes_none: { (s : Self) → takes s [] s };

@@ -27,7 +27,9 @@ impl KeptWindow {
 
     /// Before the first event that the monitor is fed.
     pub fn new(alloc: Global, monitor: &Monitor) -> Result<KeptWindow, AllocError>
-        ensures { IfOk result (λ kept. (rules : Rules) → Fits rules [] monitor.now → KeepsShown rules [] monitor.now.verdict kept) }
+        ensures { IfOk result
+            (λ kept. (rules : Rules) → Fits rules [] monitor.now
+            → KeepsShown rules [] monitor.now.verdict kept) }
     {
         let states = monitor.outcomes().copy()?;
         Ok(KeptWindow {
@@ -62,9 +64,11 @@ impl KeptWindow {
     /// Goes on by the event that the monitor has taken, which is kept unless something was wrong before it.
     pub fn take(&mut self, next: NextShown, event: Event)
         requires { HasPlaceFor next self.old }
-        ensures { (rules : Rules) (history : List Event) (before : Monitor) (verdict : Verdict) → IsNext before next
+        ensures { (rules : Rules) (history : List Event) (before : Monitor) (verdict : Verdict)
+            → IsNext before next
             → Fits rules history before → IsVerdict rules (history ++ event ∷ []) verdict
-            → KeepsShown rules history before.verdict self.old → KeepsShown rules (history ++ event ∷ []) verdict self.new }
+            → KeepsShown rules history before.verdict self.old
+            → KeepsShown rules (history ++ event ∷ []) verdict self.new }
     {
         match next {
             NextShown::None => {}

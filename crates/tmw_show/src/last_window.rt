@@ -32,7 +32,8 @@ impl LastWindow {
         start: State,
         bounds: Bounds,
     ) -> Result<LastWindow, AllocError>
-        ensures { IfOk result (λ window. Watches (rules_for criterion registers start bounds) [] window) }
+        ensures { IfOk result
+            (λ window. Watches (rules_for criterion registers start bounds) [] window) }
     {
         let monitor = Monitor::for_criterion(alloc, criterion, registers, start, bounds)?;
         let kept = KeptWindow::new(alloc, &monitor)?;
@@ -42,13 +43,16 @@ impl LastWindow {
     /// Takes the next event. Where memory is refused, the event is not taken.
     pub fn feed(&mut self, event: Event) -> Result<(), AllocError>
         requires room { self.old.monitor.count < 2 ^ 40 }
-        ensures ok { OnOk result ((rules : Rules) (history : List Event) → Watches rules history self.old
+        ensures ok { OnOk result
+            ((rules : Rules) (history : List Event) → Watches rules history self.old
             → Watches rules (history ++ event ∷ []) self.new) }
-        ensures err { OnErr result ((rules : Rules) (history : List Event) → Watches rules history self.old
+        ensures err { OnErr result
+            ((rules : Rules) (history : List Event) → Watches rules history self.old
             → Watches rules history self.new) }
 
         // After a verdict that something is wrong each call succeeds.
-        ensures stays { (self.old.monitor.verdict ≡ so_far self.old.monitor.criterion → ⊥) → IsOk result }
+        ensures stays { (self.old.monitor.verdict ≡ so_far self.old.monitor.criterion → ⊥)
+            → IsOk result }
     {
         let next = self.kept.make_room(&self.monitor)?;
         self.monitor.feed(event)?;
@@ -80,21 +84,24 @@ impl LastWindow {
     /// How many events were taken.
     pub fn fed(&self) -> u64
         ensures shown { result ≡ self.now.monitor.count }
-        ensures fits { (rules : Rules) (history : List Event) → Watches rules history self.now → result ≡ length history }
+        ensures fits { (rules : Rules) (history : List Event) → Watches rules history self.now
+            → result ≡ length history }
     {
         self.monitor.fed()
     }
 
     /// The verdict on the events taken.
     pub fn verdict(&self) -> Verdict
-        ensures { (rules : Rules) (history : List Event) → Watches rules history self.now → IsVerdict rules history result }
+        ensures { (rules : Rules) (history : List Event) → Watches rules history self.now
+            → IsVerdict rules history result }
     {
         self.monitor.verdict()
     }
 
     /// What is shown of the run, where no event follows.
     pub fn finish(self) -> Showing
-        ensures { (rules : Rules) (history : List Event) → Watches rules history self → IsShowing rules history result }
+        ensures { (rules : Rules) (history : List Event) → Watches rules history self
+            → IsShowing rules history result }
     {
         self.kept.finish(&self.monitor)
     }

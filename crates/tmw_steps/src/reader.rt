@@ -14,14 +14,17 @@ use tmw_streams::Source;
 /// want of memory, with at most 4,096 bytes read behind whole lines; only tests show that a growth was refused.
 pub fn read_steps<S: Source>(alloc: Global, source: &mut S) -> Result<StepList, TextFault>
     // The bytes told, up to the end, are exactly the list's text.
-    ensures text { IfOk result (λ list. Tells S.from source.old (steps_text list.size list.steps.items) source.new) }
+    ensures text { IfOk result
+        (λ list. Tells S.from source.old (steps_text list.size list.steps.items) source.new) }
     ensures ended { OnOk result (S.from.ended source.new) }
     ensures steps { IfOk result (λ list. AreSteps list.size list.steps.items) }
     // The bytes told have the fault.
     ensures fault { IfErr result (λ fault. (bytes : List ℕ)
-        × Tells S.from source.old bytes source.new × HasTextFault steps_grammar (S.from.ended source.new) bytes fault) }
+        × Tells S.from source.old bytes source.new
+        × HasTextFault steps_grammar (S.from.ended source.new) bytes fault) }
     ensures well { OnOk result (S.from.failures source.new ≡ S.from.failures source.old) }
-    ensures failed { IfErr result (λ fault. S.from.failures source.new ≡ failures_after fault (S.from.failures source.old)) }
+    ensures failed { IfErr result
+        (λ fault. S.from.failures source.new ≡ failures_after fault (S.from.failures source.old)) }
 {
     match read_lines::<StepsFormat, S>(alloc, source) {
         Ok((size, steps)) => Ok(StepList { size, steps }),

@@ -78,7 +78,8 @@ fn put_numbers<K: Sink>(
     between: &[u8],
     second: u64,
 ) -> Result<(), IoFault>
-    ensures { Puts K.to sink.old ((before.now ++ decimal first) ++ (between.now ++ decimal second)) sink.new result }
+    ensures { Puts K.to sink.old ((before.now ++ decimal first) ++ (between.now ++ decimal second))
+        sink.new result }
 {
     put_with_number(sink, before, first)?;
     put_with_number(sink, between, second)

@@ -39,7 +39,8 @@ pub fn run_steps<S: Source, K: Sink>(alloc: Global, source: &mut S, sink: &mut K
 fn run_of<S: Source>(alloc: Global, source: &mut S) -> Result<Run, Fault>
     ensures right { (bytes : List ℕ) × Tells S.from source.old bytes source.new
         × AnswersSteps (S.from.ended source.new) bytes result }
-    ensures failures { S.from.failures source.new ≡ failures_after_answer result (S.from.failures source.old) }
+    ensures failures { S.from.failures source.new ≡ failures_after_answer result
+        (S.from.failures source.old) }
 {
     match read_steps(alloc, source) {
         Ok(list) => made_of(alloc, &list),

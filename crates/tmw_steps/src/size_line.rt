@@ -44,7 +44,8 @@ pub fn size_of(bytes: &[u8]) -> Option<SizeLine>
 fn numbers_of(bytes: &[u8]) -> Option<SizeLine>
     ensures some { IfSome result (λ size. bytes.now ≡ values_text (size_numbers size)) }
     ensures fits { IfSome result FitsSize }
-    ensures none { IfNone result ((size : SizeLine) → FitsSize size → bytes.now ≡ values_text (size_numbers size) → ⊥) }
+    ensures none { IfNone result
+        ((size : SizeLine) → FitsSize size → bytes.now ≡ values_text (size_numbers size) → ⊥) }
 {
     let Some((cells, first)) = first_value(bytes) else {
         return None;

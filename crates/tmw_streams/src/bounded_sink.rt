@@ -68,7 +68,8 @@ impl Sink for BoundedSink {
     fn put(&mut self, bytes: &[u8]) -> Result<usize, IoFault>
         ensures within { IfOk result (λ count. count ≤ length bytes.now) }
         ensures some { IfOk result (λ count. 0 < length bytes.now → 0 < count) }
-        ensures takes { IfOk result (λ count. Takes to_bounded self.old (take count bytes.now) self.new) }
+        ensures takes { IfOk result
+            (λ count. Takes to_bounded self.old (take count bytes.now) self.new) }
         ensures well { OnOk result (self.new.failures ≡ self.old.failures) }
         ensures failed { OnErr result (self.new.failures ≡ one_more self.old.failures) }
         ensures kept { OnErr result (Takes to_bounded self.old [] self.new) }

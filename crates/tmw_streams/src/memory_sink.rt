@@ -22,7 +22,8 @@ impl MemorySink {
     pub fn new(alloc: Global) -> MemorySink
         ensures held { held_bytes result ≡ [] }
         ensures failures { result.failures ≡ 0 }
-        ensures limits { (result.most ≡ 2 ^ 64 - 1) × (result.fails_at ≡ None) × (result.calls ≡ 0) }
+        ensures limits { (result.most ≡ 2 ^ 64 - 1) × (result.fails_at ≡ None)
+            × (result.calls ≡ 0) }
     {
         MemorySink::limited(alloc, usize::MAX, None)
     }
@@ -67,7 +68,8 @@ impl Sink for MemorySink {
     fn put(&mut self, bytes: &[u8]) -> Result<usize, IoFault>
         ensures within { IfOk result (λ count. count ≤ length bytes.now) }
         ensures some { IfOk result (λ count. 0 < length bytes.now → 0 < count) }
-        ensures takes { IfOk result (λ count. Takes to_memory self.old (take count bytes.now) self.new) }
+        ensures takes { IfOk result
+            (λ count. Takes to_memory self.old (take count bytes.now) self.new) }
         ensures well { OnOk result (self.new.failures ≡ self.old.failures) }
         ensures failed { OnErr result (self.new.failures ≡ one_more self.old.failures) }
         ensures kept { OnErr result (Takes to_memory self.old [] self.new) }
@@ -75,7 +77,8 @@ impl Sink for MemorySink {
         // It fails at the chosen call, and else takes as many bytes as there are and as it may.
         ensures called { SinkCalled self.old self.new }
         ensures goes_on { OnOk result (SinkFails self.old → ⊥) }
-        ensures count { IfOk result (λ count. count ≡ min (length bytes.now) (max self.old.most 1)) }
+        ensures count { IfOk result
+            (λ count. count ≡ min (length bytes.now) (max self.old.most 1)) }
     {
         self.calls = self.calls.saturating_add(1);
         if self.fails_at == Some(self.calls) {

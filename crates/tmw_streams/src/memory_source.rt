@@ -27,7 +27,8 @@ impl<'a> MemorySource<'a> {
         ensures content { source_bytes result ≡ content.now }
         ensures told { told_bytes result ≡ [] }
         ensures failures { result.failures ≡ 0 }
-        ensures limits { (result.most ≡ 2 ^ 64 - 1) × (result.fails_at ≡ None) × (result.calls ≡ 0) }
+        ensures limits { (result.most ≡ 2 ^ 64 - 1) × (result.fails_at ≡ None)
+            × (result.calls ≡ 0) }
         ensures over { result.over ≡ false }
     {
         MemorySource::limited(content, usize::MAX, None)
@@ -57,8 +58,10 @@ impl<'a> MemorySource<'a> {
     fn fails_now(&mut self) -> bool
         ensures fails { MatchBool result (self.old.fails_at ≡ Some (one_more self.old.calls))
             (self.old.fails_at ≢ Some (one_more self.old.calls)) }
-        ensures failures { self.new.failures ≡ (if result then one_more self.old.failures else self.old.failures) }
-        ensures same { self.new ≡ record self.old { calls = one_more self.old.calls; failures = self.new.failures } }
+        ensures failures { self.new.failures
+            ≡ (if result then one_more self.old.failures else self.old.failures) }
+        ensures same { self.new ≡ record self.old
+            { calls = one_more self.old.calls; failures = self.new.failures } }
     {
         self.calls = self.calls.saturating_add(1);
         let fails = self.fails_at == Some(self.calls);
@@ -70,7 +73,8 @@ impl<'a> MemorySource<'a> {
 
     /// How many bytes the next read tells into so much room.
     fn next_count(&self, room: usize) -> usize
-        ensures { result ≡ min (min (length (source_bytes self.now) - self.now.at) room) (max self.now.most 1) }
+        ensures { result ≡ min (min (length (source_bytes self.now) - self.now.at) room)
+            (max self.now.most 1) }
     {
         self.rest().len().min(room).min(self.most.max(1))
     }
@@ -90,10 +94,12 @@ impl Source for MemorySource<'_> {
 
     fn read(&mut self, buffer: &mut [u8]) -> Result<usize, IoFault>
         ensures within { IfOk result (λ count. count ≤ length buffer.old) }
-        ensures tells { IfOk result (λ count. Tells from_memory self.old (take count buffer.new) self.new) }
+        ensures tells { IfOk result
+            (λ count. Tells from_memory self.old (take count buffer.new) self.new) }
         ensures falls { IfOk result (λ count. (length self.new.content.now - self.new.at) + count
             ≤ length self.old.content.now - self.old.at) }
-        ensures end { IfOk result (λ count. 0 < length buffer.old → count ≡ 0 → IsTrue self.new.over) }
+        ensures end { IfOk result
+            (λ count. 0 < length buffer.old → count ≡ 0 → IsTrue self.new.over) }
         ensures end_again { IsTrue self.old.over → (result ≡ Ok 0) × (self.new ≡ self.old) }
         ensures well { OnOk result (self.new.failures ≡ self.old.failures) }
         ensures failed { OnErr result (self.new.failures ≡ one_more self.old.failures) }
@@ -103,11 +109,14 @@ impl Source for MemorySource<'_> {
         // Each call is counted until the end was answered. It fails at the chosen call alone, and tells as many bytes as there
         // are, as fit, and as it may.
         ensures called { self.old.over ≡ false → SourceCalled self.old self.new }
-        ensures over { IfOk result (λ count. self.old.over ≡ false → IsTrue self.new.over → (0 < length buffer.old) × (count ≡ 0)) }
+        ensures over { IfOk result
+            (λ count. self.old.over ≡ false → IsTrue self.new.over → (0 < length buffer.old)
+            × (count ≡ 0)) }
         ensures fails { OnErr result (SourceFails self.old) }
         ensures goes_on { OnOk result (self.old.over ≡ false → SourceFails self.old → ⊥) }
         ensures count { IfOk result (λ count. self.old.over ≡ false
-            → count ≡ min (min (length self.old.content.now - self.old.at) (length buffer.old)) (max self.old.most 1)) }
+            → count ≡ min (min (length self.old.content.now - self.old.at) (length buffer.old))
+            (max self.old.most 1)) }
     {
         if self.over {
             return Ok(0);

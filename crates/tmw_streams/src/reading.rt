@@ -19,7 +19,9 @@ pub fn read_all<S: Source>(source: &mut S, bytes: &mut Vec<u8>) -> Result<(), Re
     ensures no_end { IfErr result (NoEndAfter (S.from.ended source.new)) }
     ensures full { IfErr result (IsFullAfter bytes.new) }
     ensures well { OnOk result (S.from.failures source.new ≡ S.from.failures source.old) }
-    ensures failed { IfErr result (λ fault. S.from.failures source.new ≡ failures_behind_read fault (S.from.failures source.old)) }
+    ensures failed { IfErr result
+        (λ fault. S.from.failures source.new ≡ failures_behind_read fault
+        (S.from.failures source.old)) }
 {
     let mut buffer = [0; MOST_READ];
     'reads: loop {

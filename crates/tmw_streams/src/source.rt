@@ -16,9 +16,11 @@ pub trait Source {
     /// later read answers `Ok(0)` and changes nothing. A read that fails tells nothing, is counted, and is no end.
     fn read(&mut self, buffer: &mut [u8]) -> Result<usize, IoFault>
         ensures within { IfOk result (λ count. count ≤ length buffer.old) }
-        ensures tells { IfOk result (λ count. Tells from self.old (take count buffer.new) self.new) }
+        ensures tells { IfOk result
+            (λ count. Tells from self.old (take count buffer.new) self.new) }
         ensures falls { IfOk result (λ count. from.left self.new + count ≤ from.left self.old) }
-        ensures end { IfOk result (λ count. 0 < length buffer.old → count ≡ 0 → from.ended self.new) }
+        ensures end { IfOk result
+            (λ count. 0 < length buffer.old → count ≡ 0 → from.ended self.new) }
         ensures end_again { from.ended self.old → (result ≡ Ok 0) × (self.new ≡ self.old) }
         ensures well { OnOk result (from.failures self.new ≡ from.failures self.old) }
         ensures failed { OnErr result (from.failures self.new ≡ one_more (from.failures self.old)) }

@@ -89,7 +89,8 @@ fn read_again<R: Read>(reader: &mut R, buffer: &mut [u8]) -> Option<usize>
     ensures within { IfSome result (λ count. count ≤ length buffer.old) }
     ensures gives { IfSome result (λ count.
         Consumes (R.remaining reader.old) (R.remaining reader.new) (take count buffer.new)) }
-    ensures end { IfSome result (λ count. 0 < length buffer.old → count ≡ 0 → IsAtEnd (R.remaining reader.new)) }
+    ensures end { IfSome result
+        (λ count. 0 < length buffer.old → count ≡ 0 → IsAtEnd (R.remaining reader.new)) }
     ensures kept { IfNone result (Consumes (R.remaining reader.old) (R.remaining reader.new) []) }
 {
     for _ in 0..u64::MAX {

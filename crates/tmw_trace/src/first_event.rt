@@ -18,7 +18,8 @@ const LONGEST: usize = 26;
 #[inline(always)]
 pub fn give_event<T: Taker<Event>>(version: Version, bytes: &[u8], taker: &mut T) -> Given
     requires { (count : ℕ) × (count < 2 ^ 40) × T.counts taker.old count }
-    ensures { IsGiven trace_grammar T.takes T.lacks T.counts version bytes.now taker.old taker.new result }
+    ensures { IsGiven trace_grammar T.takes T.lacks T.counts version bytes.now taker.old taker.new
+        result }
 {
     if bytes.len() < LONGEST {
         return Given::Nothing;
@@ -39,7 +40,8 @@ pub fn give_event<T: Taker<Event>>(version: Version, bytes: &[u8], taker: &mut T
 fn give_kind<T: Taker<Event>>(version: Version, thread: Ix, bytes: &[u8], taker: &mut T) -> Given
     requires long { 24 ≤ length bytes.now }
     requires counted { (count : ℕ) × (count < 2 ^ 40) × T.counts taker.old count }
-    ensures { IsGiven trace_grammar T.takes T.lacks T.counts version (digit thread ∷ 32 ∷ bytes.now) taker.old taker.new result }
+    ensures { IsGiven trace_grammar T.takes T.lacks T.counts version (digit thread ∷ 32 ∷ bytes.now)
+        taker.old taker.new result }
 {
     match bytes {
         [b'K', b'\n', ..] => give(version, thread, Kind::K, bytes, 2, taker),
@@ -110,7 +112,8 @@ fn give<T: Taker<Event>>(
     requires line { bytes.now ≡ line (kind_text kind) ++ drop count bytes.now }
     requires fits { FitsKind kind }
     requires counted { (taken : ℕ) × (taken < 2 ^ 40) × T.counts taker.old taken }
-    ensures { IsGiven trace_grammar T.takes T.lacks T.counts version (digit thread ∷ 32 ∷ bytes.now) taker.old taker.new result }
+    ensures { IsGiven trace_grammar T.takes T.lacks T.counts version (digit thread ∷ 32 ∷ bytes.now)
+        taker.old taker.new result }
 {
     let _bytes = bytes;
     if !speaks(version, kind) {

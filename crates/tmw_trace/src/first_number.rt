@@ -7,7 +7,8 @@ ghost use Rattle.tmw_lines.specs.Text.{line};
 #[inline(always)]
 pub fn first_number(bytes: &[u8]) -> Option<(u64, usize)>
     requires long { 20 ≤ length bytes.now }
-    ensures some { IfSome result (λ found. bytes.now ≡ line (decimal found.0) ++ drop found.1 bytes.now) }
+    ensures some { IfSome result
+        (λ found. bytes.now ≡ line (decimal found.0) ++ drop found.1 bytes.now) }
     ensures within { IfSome result (λ found. found.1 ≤ 20) }
 {
     match bytes {
@@ -23,7 +24,8 @@ fn first_digits(bytes: &[u8]) -> Option<(u64, usize)>
     requires long { 20 ≤ length bytes.now }
     requires above { 48 < get_or bytes.now 0 0 }
     requires digit { get_or bytes.now 0 0 ≤ 57 }
-    ensures some { IfSome result (λ found. bytes.now ≡ line (decimal found.0) ++ drop found.1 bytes.now) }
+    ensures some { IfSome result
+        (λ found. bytes.now ≡ line (decimal found.0) ++ drop found.1 bytes.now) }
     ensures within { IfSome result (λ found. found.1 ≤ 20) }
 {
     let mut number: u64 = 0;

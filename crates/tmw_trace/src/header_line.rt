@@ -43,7 +43,8 @@ pub fn header_of(bytes: &[u8]) -> Option<Header>
 fn numbers_of(bytes: &[u8]) -> Option<Header>
     ensures some { IfSome result (λ header. bytes.now ≡ numbers_text header) }
     ensures fits { IfSome result FitsHeader }
-    ensures none { IfNone result ((header : Header) → FitsHeader header → bytes.now ≡ numbers_text header → ⊥) }
+    ensures none { IfNone result
+        ((header : Header) → FitsHeader header → bytes.now ≡ numbers_text header → ⊥) }
 {
     match bytes {
         [version, b' ', registers, values @ ..] => {
@@ -96,7 +97,8 @@ fn registers_of(byte: u8) -> Option<Registers>
 
 /// The values that these bytes are the text of, each after one space: as many as there are registers.
 fn values_of(registers: Registers, bytes: &[u8]) -> Option<[u64; 8]>
-    ensures some { IfSome result (λ values. bytes.now ≡ values_text (take registers.number values)) }
+    ensures some { IfSome result
+        (λ values. bytes.now ≡ values_text (take registers.number values)) }
     ensures fit { IfSome result (All (λ value. value < 2 ^ 64)) }
     ensures zeros { IfSome result (λ values. are_zeros (drop registers.number values) ≡ true) }
     ensures none { IfNone result ((values : List ℕ) → length values ≡ registers.number

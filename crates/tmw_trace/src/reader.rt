@@ -23,7 +23,8 @@ pub fn read_trace<S: Source>(alloc: Global, source: &mut S) -> Result<Trace, Tex
         × Tells S.from source.old bytes source.new
         × HasTextFault trace_grammar (S.from.ended source.new) bytes fault) }
     ensures well { OnOk result (S.from.failures source.new ≡ S.from.failures source.old) }
-    ensures failed { IfErr result (λ fault. S.from.failures source.new ≡ failures_after fault (S.from.failures source.old)) }
+    ensures failed { IfErr result
+        (λ fault. S.from.failures source.new ≡ failures_after fault (S.from.failures source.old)) }
 {
     match read_lines::<Version, S>(alloc, source) {
         Ok((header, events)) => Ok(Trace { header, events }),

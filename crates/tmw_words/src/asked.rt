@@ -21,7 +21,8 @@ pub fn asked_named(name: &str) -> Option<Asked>
 /// The criterion of this name: `opacity` or `strict`. There is none of another name.
 pub fn criterion_named(name: &str) -> Option<Criterion>
     ensures some { IfSome result (λ criterion. name.now ≡ criterion_name criterion) }
-    ensures none { IfNone result ((criterion : Criterion) → name.now ≡ criterion_name criterion → ⊥) }
+    ensures none { IfNone result
+        ((criterion : Criterion) → name.now ≡ criterion_name criterion → ⊥) }
 {
     match name {
         "opacity" => Some(Criterion::Opacity),

@@ -37,8 +37,11 @@ pub fn parse<S: AsStr>(alloc: Global, words: &[S]) -> Result<Order, Error>
 /// Parses words in which `help` is spelled as a flag already, by the program.
 fn parse_by<'a>(program: &mut Command<'a>, spelled: &'a [&'a str]) -> Result<Order, Error>
     requires { IsProgram (app_of program.old) }
-    ensures order { IfOk result (λ order. (words : List Text) → texts spelled.now ≡ help_as_flag words → Asks words order) }
-    ensures refused { IfErr result (λ error. (words : List Text) → texts spelled.now ≡ help_as_flag words → FailsAs words (kind_of error)) }
+    ensures order { IfOk result
+        (λ order. (words : List Text) → texts spelled.now ≡ help_as_flag words → Asks words order) }
+    ensures refused { IfErr result
+        (λ error. (words : List Text) → texts spelled.now ≡ help_as_flag words
+        → FailsAs words (kind_of error)) }
 {
     let matches = program.try_get_matches_from_mut(spelled)?;
     match order_of(&matches) {
@@ -83,7 +86,8 @@ fn names_help(words: &[&str]) -> bool
 /// The order that the matches hold. There is none where they lack a command or one of its values.
 fn order_of(matches: &ArgMatches<'_>) -> Option<Order>
     ensures some { IfSome result (IsOrder (subcommand_rows_of matches.now)) }
-    ensures none { IfNone result ((order : Order) → IsOrder (subcommand_rows_of matches.now) order → ⊥) }
+    ensures none { IfNone result
+        ((order : Order) → IsOrder (subcommand_rows_of matches.now) order → ⊥) }
 {
     match matches.subcommand() {
         Some(("judge", judge)) => judge_of(judge),
@@ -98,7 +102,8 @@ fn order_of(matches: &ArgMatches<'_>) -> Option<Order>
 /// The order that the matches of `judge` hold. There is none where they lack one of its values.
 fn judge_of(judge: &ArgMatches<'_>) -> Option<Order>
     ensures some { IfSome result (IsOrder (Some (codes "judge", rows_of (found_of judge.now)))) }
-    ensures none { IfNone result ((order : Order) → IsOrder (Some (codes "judge", rows_of (found_of judge.now))) order → ⊥) }
+    ensures none { IfNone result
+        ((order : Order) → IsOrder (Some (codes "judge", rows_of (found_of judge.now))) order → ⊥) }
 {
     let Some(asked) = asked_of(judge) else {
         return None;
@@ -112,7 +117,8 @@ fn judge_of(judge: &ArgMatches<'_>) -> Option<Order>
 /// The criteria that the matches of `judge` name.
 fn asked_of(judge: &ArgMatches<'_>) -> Option<Asked>
     ensures some { IfSome result (NamesCriteria (rows_of (found_of judge.now))) }
-    ensures none { IfNone result ((asked : Asked) → NamesCriteria (rows_of (found_of judge.now)) asked → ⊥) }
+    ensures none { IfNone result
+        ((asked : Asked) → NamesCriteria (rows_of (found_of judge.now)) asked → ⊥) }
 {
     let Some(name) = judge.get_str("criterion") else {
         return None;
@@ -126,7 +132,8 @@ fn asked_of(judge: &ArgMatches<'_>) -> Option<Asked>
 /// The order that the matches of `show` hold. There is none where they lack one of its values.
 fn show_of(show: &ArgMatches<'_>) -> Option<Order>
     ensures some { IfSome result (IsOrder (Some (codes "show", rows_of (found_of show.now)))) }
-    ensures none { IfNone result ((order : Order) → IsOrder (Some (codes "show", rows_of (found_of show.now))) order → ⊥) }
+    ensures none { IfNone result
+        ((order : Order) → IsOrder (Some (codes "show", rows_of (found_of show.now))) order → ⊥) }
 {
     let Some((criterion, trace)) = criterion_and_trace_of(show) else {
         return None;
@@ -143,8 +150,12 @@ fn show_of(show: &ArgMatches<'_>) -> Option<Order>
 
 /// The criterion that the matches of `show` name, and whether they have the flag `--trace`.
 fn criterion_and_trace_of(matches: &ArgMatches<'_>) -> Option<(Criterion, bool)>
-    ensures some { IfSome result (λ found. NamesCriterion (rows_of (found_of matches.now)) found.0 × HasTrace (rows_of (found_of matches.now)) found.1) }
-    ensures none { IfNone result ((criterion : Criterion) (trace : Bool) → NamesCriterion (rows_of (found_of matches.now)) criterion
+    ensures some { IfSome result
+        (λ found. NamesCriterion (rows_of (found_of matches.now)) found.0
+        × HasTrace (rows_of (found_of matches.now)) found.1) }
+    ensures none { IfNone result
+        ((criterion : Criterion) (trace : Bool)
+        → NamesCriterion (rows_of (found_of matches.now)) criterion
         → HasTrace (rows_of (found_of matches.now)) trace → ⊥) }
 {
     let Some(name) = matches.get_str("criterion") else {
@@ -162,7 +173,8 @@ fn criterion_and_trace_of(matches: &ArgMatches<'_>) -> Option<(Criterion, bool)>
 /// The order that the matches of `drive` hold. There is none where they lack one of its values.
 fn drive_of(drive: &ArgMatches<'_>) -> Option<Order>
     ensures some { IfSome result (IsOrder (Some (codes "drive", rows_of (found_of drive.now)))) }
-    ensures none { IfNone result ((order : Order) → IsOrder (Some (codes "drive", rows_of (found_of drive.now))) order → ⊥) }
+    ensures none { IfNone result
+        ((order : Order) → IsOrder (Some (codes "drive", rows_of (found_of drive.now))) order → ⊥) }
 {
     let Some((memory, trace)) = memory_and_trace_of(drive) else {
         return None;
@@ -180,7 +192,8 @@ fn drive_of(drive: &ArgMatches<'_>) -> Option<Order>
 /// The order that the matches of `bench` hold. There is none where they lack one of its values.
 fn bench_of(bench: &ArgMatches<'_>) -> Option<Order>
     ensures some { IfSome result (IsOrder (Some (codes "bench", rows_of (found_of bench.now)))) }
-    ensures none { IfNone result ((order : Order) → IsOrder (Some (codes "bench", rows_of (found_of bench.now))) order → ⊥) }
+    ensures none { IfNone result
+        ((order : Order) → IsOrder (Some (codes "bench", rows_of (found_of bench.now))) order → ⊥) }
 {
     let Some((memory, trace)) = memory_and_trace_of(bench) else {
         return None;
@@ -197,8 +210,11 @@ fn bench_of(bench: &ArgMatches<'_>) -> Option<Order>
 
 /// The memory that the matches of a command name, and whether they have the flag `--trace`.
 fn memory_and_trace_of(matches: &ArgMatches<'_>) -> Option<(Which, bool)>
-    ensures some { IfSome result (λ found. NamesMemory (rows_of (found_of matches.now)) found.0 × HasTrace (rows_of (found_of matches.now)) found.1) }
-    ensures none { IfNone result ((memory : Which) (trace : Bool) → NamesMemory (rows_of (found_of matches.now)) memory
+    ensures some { IfSome result
+        (λ found. NamesMemory (rows_of (found_of matches.now)) found.0
+        × HasTrace (rows_of (found_of matches.now)) found.1) }
+    ensures none { IfNone result
+        ((memory : Which) (trace : Bool) → NamesMemory (rows_of (found_of matches.now)) memory
         → HasTrace (rows_of (found_of matches.now)) trace → ⊥) }
 {
     let Some(name) = matches.get_str("memory") else {
@@ -216,7 +232,8 @@ fn memory_and_trace_of(matches: &ArgMatches<'_>) -> Option<(Which, bool)>
 /// Whether the matches of a command have this flag.
 fn flag_of(matches: &ArgMatches<'_>, name: &str) -> Option<bool>
     ensures some { IfSome result (HasFlag name.now (rows_of (found_of matches.now))) }
-    ensures none { IfNone result ((set : Bool) → HasFlag name.now (rows_of (found_of matches.now)) set → ⊥) }
+    ensures none { IfNone result
+        ((set : Bool) → HasFlag name.now (rows_of (found_of matches.now)) set → ⊥) }
 {
     let Some(set) = matches.get_one::<bool>(name) else {
         return None;
@@ -227,7 +244,8 @@ fn flag_of(matches: &ArgMatches<'_>, name: &str) -> Option<bool>
 /// The numbers, the bounds and the flags `--show` and `--quiet` that the matches of `bench` hold.
 fn options_of(matches: &ArgMatches<'_>) -> Option<BenchOptions>
     ensures some { IfSome result (HasOptions (rows_of (found_of matches.now))) }
-    ensures none { IfNone result ((options : BenchOptions) → HasOptions (rows_of (found_of matches.now)) options → ⊥) }
+    ensures none { IfNone result
+        ((options : BenchOptions) → HasOptions (rows_of (found_of matches.now)) options → ⊥) }
 {
     let Some(cells) = count_of(matches, "ring", 4096) else {
         return None;
@@ -259,9 +277,12 @@ fn options_of(matches: &ArgMatches<'_>) -> Option<BenchOptions>
 
 /// The number from 1 to `most` that the matches of a command hold for this option.
 fn count_of(matches: &ArgMatches<'_>, name: &str, most: u64) -> Option<u64>
-    ensures some { IfSome result (λ number. Gives name.now (rows_of (found_of matches.now)) number) }
+    ensures some { IfSome result
+        (λ number. Gives name.now (rows_of (found_of matches.now)) number) }
     ensures range { IfSome result (λ number. (1 ≤ number) × (number ≤ most)) }
-    ensures none { IfNone result ((number : ℕ) → 1 ≤ number → number ≤ most → Gives name.now (rows_of (found_of matches.now)) number → ⊥) }
+    ensures none { IfNone result
+        ((number : ℕ) → 1 ≤ number → number ≤ most
+        → Gives name.now (rows_of (found_of matches.now)) number → ⊥) }
 {
     let Some(number) = matches.get_one::<u64>(name) else {
         return None;
@@ -275,7 +296,8 @@ fn count_of(matches: &ArgMatches<'_>, name: &str, most: u64) -> Option<u64>
 /// The bounds that the matches of a command hold.
 fn bounds_of(matches: &ArgMatches<'_>) -> Option<Bounds>
     ensures some { IfSome result (HasBounds (rows_of (found_of matches.now))) }
-    ensures none { IfNone result ((bounds : Bounds) → HasBounds (rows_of (found_of matches.now)) bounds → ⊥) }
+    ensures none { IfNone result
+        ((bounds : Bounds) → HasBounds (rows_of (found_of matches.now)) bounds → ⊥) }
 {
     let Some(window) = matches.get_one::<u8>("window") else {
         return None;

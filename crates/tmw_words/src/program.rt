@@ -82,7 +82,8 @@ fn with_command<'a>(
     program: Command<'a>,
     command: Result<Command<'a>, AllocError>,
 ) -> Result<Command<'a>, AllocError>
-    ensures { IfOk result (λ given. IsOkAnd command.entry (λ added. AddsSubcommand program.entry added given)) }
+    ensures { IfOk result
+        (λ given. IsOkAnd command.entry (λ added. AddsSubcommand program.entry added given)) }
 {
     program.subcommand(command?)
 }
@@ -166,7 +167,8 @@ fn with_criterion<'a>(
     command: Command<'a>,
     criteria: &'a [&'a str],
 ) -> Result<Command<'a>, AllocError>
-    ensures { IfOk result (λ given. app_of given ≡ with_criterion (Names criteria.entry) (app_of command.entry)) }
+    ensures { IfOk result
+        (λ given. app_of given ≡ with_criterion (Names criteria.entry) (app_of command.entry)) }
 {
     let criterion = value_option(
         alloc,
@@ -186,7 +188,8 @@ fn with_flag<'a>(
     name: &'a str,
     help: &'a str,
 ) -> Result<Command<'a>, AllocError>
-    ensures { IfOk result (λ given. app_of given ≡ with_flag name.entry.now (app_of command.entry)) }
+    ensures { IfOk result
+        (λ given. app_of given ≡ with_flag name.entry.now (app_of command.entry)) }
 {
     command.arg(flag_option(alloc, name, help))
 }
@@ -197,7 +200,8 @@ fn with_memory<'a>(
     command: Command<'a>,
     memories: &'a [&'a str],
 ) -> Result<Command<'a>, AllocError>
-    ensures { IfOk result (λ given. app_of given ≡ with_memory (Names memories.entry) (app_of command.entry)) }
+    ensures { IfOk result
+        (λ given. app_of given ≡ with_memory (Names memories.entry) (app_of command.entry)) }
 {
     let memory = value_option(
         alloc,

@@ -9,7 +9,9 @@ use serde_json::Value;
 pub(crate) fn values_of(content: &Value, most: usize) -> Option<&[Value]>
     ensures some { IfSome result (λ values. view content.now ≡ list_data view values.now) }
     ensures most { IfSome result (λ values. length values.now ≤ most) }
-    ensures none { IfNone result ((items : List Data) → length items ≤ most → view content.now ≡ array (items_of items) → ⊥) }
+    ensures none { IfNone result
+        ((items : List Data) → length items ≤ most → view content.now ≡ array (items_of items)
+        → ⊥) }
 {
     let Some(values) = content.as_array() else {
         return None;

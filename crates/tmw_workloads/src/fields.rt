@@ -16,7 +16,8 @@ pub(crate) struct Fields<'a> {
 /// The fields of an object that has the keys of a workload and no other.
 pub(crate) fn fields_of(content: &Value) -> Option<Fields<'_>>
     ensures some { IfSome result (λ fields. view content.now
-        ≡ fields_data (view fields.order.now) (view fields.registers.now) (view fields.scripts.now)) }
+        ≡ fields_data (view fields.order.now) (view fields.registers.now)
+        (view fields.scripts.now)) }
     ensures none { IfNone result ((order registers scripts : Data)
         → view content.now ≡ fields_data order registers scripts → ⊥) }
 {

@@ -20,7 +20,9 @@ pub(crate) fn read_order(
 ) -> Result<Vec<u8>, WorkloadFault>
     ensures right { IfOk result (λ order. IsOrder threads order.items) }
     ensures ok { IfOk result (λ order. view content.now ≡ list_data number_data order.items) }
-    ensures shape { IfErr result (λ fault. fault ≡ Shape → IsNoPart (list_data number_data) (IsOrder threads) (view content.now)) }
+    ensures shape { IfErr result
+        (λ fault. fault ≡ Shape
+        → IsNoPart (list_data number_data) (IsOrder threads) (view content.now)) }
     ensures json { IfErr result (λ fault. fault ≡ Json → ⊥) }
 {
     let Some(values) = values_of(content, MOST_ENTRIES) else {
@@ -42,7 +44,8 @@ pub(crate) fn read_order(
 fn read_thread(threads: u8, content: &Value) -> Option<u8>
     ensures some { IfSome result (λ thread. view content.now ≡ number_data thread) }
     ensures below { IfSome result (λ thread. thread < threads) }
-    ensures none { IfNone result (IsNoPart number_data (λ thread. thread < threads) (view content.now)) }
+    ensures none { IfNone result
+        (IsNoPart number_data (λ thread. thread < threads) (view content.now)) }
 {
     let Some(number) = content.as_u64() else {
         return None;

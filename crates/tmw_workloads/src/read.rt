@@ -25,7 +25,8 @@ use std::alloc::Global;
 /// answers the JSON of any other value. `Memory` answers want of memory; only tests show that a growth was refused.
 pub fn read_workload(alloc: Global, bytes: &[u8]) -> Result<Workload, WorkloadFault>
     ensures ok { IfOk result (λ workload.
-        IsWorkloadText workload.registers.number (scripts_of workload.scripts.items) workload.order.items bytes.now) }
+        IsWorkloadText workload.registers.number (scripts_of workload.scripts.items)
+        workload.order.items bytes.now) }
     ensures shape { IfErr result (λ fault. fault ≡ Shape → IsOtherText bytes.now) }
     ensures json { IfErr result (λ fault. fault ≡ Json → IsNoText bytes.now) }
 {
@@ -42,7 +43,8 @@ pub fn read_workload(alloc: Global, bytes: &[u8]) -> Result<Workload, WorkloadFa
 /// The workload that this value is of. Never `Json`.
 fn workload_of(alloc: Global, content: &Value) -> Result<Workload, WorkloadFault>
     ensures ok { IfOk result (λ workload. view content.now
-        ≡ workload_data workload.registers.number (scripts_of workload.scripts.items) workload.order.items) }
+        ≡ workload_data workload.registers.number (scripts_of workload.scripts.items)
+        workload.order.items) }
     ensures fits { IfOk result (λ workload. FitScripts (scripts_of workload.scripts.items)) }
     ensures shape { IfErr result (λ fault. fault ≡ Shape → IsNoWorkload (view content.now)) }
     ensures json { IfErr result (λ fault. fault ≡ Json → ⊥) }

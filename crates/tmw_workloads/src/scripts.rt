@@ -24,8 +24,10 @@ pub(crate) fn read_scripts(
     registers: Registers,
     content: &Value,
 ) -> Result<Vec<Vec<Vec<Kind>>>, WorkloadFault>
-    ensures right { IfOk result (λ scripts. AreScripts registers.number (scripts_of scripts.items)) }
-    ensures ok { IfOk result (λ scripts. view content.now ≡ list_data script_data (scripts_of scripts.items)) }
+    ensures right { IfOk result
+        (λ scripts. AreScripts registers.number (scripts_of scripts.items)) }
+    ensures ok { IfOk result
+        (λ scripts. view content.now ≡ list_data script_data (scripts_of scripts.items)) }
     ensures shape { IfErr result (λ fault. fault ≡ Shape
         → IsNoPart (list_data script_data) (AreScripts registers.number) (view content.now)) }
     ensures json { IfErr result (λ fault. fault ≡ Json → ⊥) }

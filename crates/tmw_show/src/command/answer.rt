@@ -21,8 +21,10 @@ pub fn answer_shown<K: Sink>(
     shown: &Shown,
 ) -> u8
     requires own { IsVerdictBy criterion shown.now.showing.verdict }
-    requires within { shown.now.showing.from + length shown.now.showing.events.items ≤ shown.now.showing.fed }
-    ensures { IsPut K.to sink.old sink.new (shown_text criterion trace shown.now) (shown_status shown.now) result
+    requires within { shown.now.showing.from + length
+        shown.now.showing.events.items ≤ shown.now.showing.fed }
+    ensures { IsPut K.to sink.old sink.new (shown_text criterion trace shown.now)
+        (shown_status shown.now) result
         ⊎ IsPut K.to sink.old sink.new (fault_line Memory) 4 result }
 {
     let Ok(text) = shown_text(alloc, criterion, trace, shown) else {

@@ -28,7 +28,8 @@ pub fn push_kind(text: &mut Vec<u8>, kind: Kind) -> Result<(), AllocError>
 
 /// Adds the text of a call that names a register and a value.
 fn push_call(text: &mut Vec<u8>, letter: u8, register: Ix, value: u64) -> Result<(), AllocError>
-    ensures { OnOk result (text.new.items ≡ text.old.items ++ letter ∷ 32 ∷ digit register ∷ 32 ∷ decimal value) }
+    ensures { OnOk result
+        (text.new.items ≡ text.old.items ++ letter ∷ 32 ∷ digit register ∷ 32 ∷ decimal value) }
 {
     text.extend_from_slice(&[letter, b' ', digit_of(register), b' '])?;
     push_number(text, value)?;

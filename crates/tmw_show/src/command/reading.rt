@@ -23,7 +23,8 @@ pub fn show_trace<S: Source>(
 ) -> Result<Shown, Fault>
     ensures right { (bytes : List ℕ) × Tells S.from source.old bytes source.new
         × AnswersShow criterion bounds (S.from.ended source.new) bytes result }
-    ensures failures { S.from.failures source.new ≡ failures_after_answer result (S.from.failures source.old) }
+    ensures failures { S.from.failures source.new ≡ failures_after_answer result
+        (S.from.failures source.old) }
 {
     let mut lines = TraceLines::new();
     let header = match lines.header(source) {

@@ -18,7 +18,8 @@ pub fn shown_text(
     shown: &Shown,
 ) -> Result<Vec<u8>, AllocError>
     requires own { IsVerdictBy criterion shown.now.showing.verdict }
-    requires within { shown.now.showing.from + length shown.now.showing.events.items ≤ shown.now.showing.fed }
+    requires within { shown.now.showing.from + length
+        shown.now.showing.events.items ≤ shown.now.showing.fed }
     ensures { IfOk result (λ text. text.items ≡ shown_text criterion trace shown.now) }
 {
     let mut text = Vec::new(alloc);
@@ -44,7 +45,8 @@ fn push_drawn(
     shown: &Shown,
 ) -> Result<(), AllocError>
     requires own { IsVerdictBy criterion shown.now.showing.verdict }
-    requires within { shown.now.showing.from + length shown.now.showing.events.items ≤ shown.now.showing.fed }
+    requires within { shown.now.showing.from + length
+        shown.now.showing.events.items ≤ shown.now.showing.fed }
     ensures { OnOk result (text.new.items ≡ text.old.items ++ drawn_text criterion shown.now) }
 {
     let showing = &shown.showing;

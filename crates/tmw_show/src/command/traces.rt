@@ -16,7 +16,8 @@ pub fn push_traces(
     events: &[Event],
     states: &[State],
 ) -> Result<(), AllocError>
-    ensures { OnOk result (text.new.items ≡ text.old.items ++ traces_text registers events.now states.now) }
+    ensures { OnOk result
+        (text.new.items ≡ text.old.items ++ traces_text registers events.now states.now) }
 {
     for state in states {
         push_trace(text, registers, events, *state)?;
@@ -31,7 +32,8 @@ fn push_trace(
     events: &[Event],
     state: State,
 ) -> Result<(), AllocError>
-    ensures { OnOk result (text.new.items ≡ text.old.items ++ start_trace registers events.now state) }
+    ensures { OnOk result
+        (text.new.items ≡ text.old.items ++ start_trace registers events.now state) }
 {
     push_start(text, registers, state)?;
     push_events(text, events)?;

@@ -23,7 +23,8 @@ pub fn push_window(
     events: &[Event],
 ) -> Result<(), AllocError>
     requires { from + length events.now < 2 ^ 64 }
-    ensures { OnOk result (text.new.items ≡ text.old.items ++ window_text criterion verdict from events.now) }
+    ensures { OnOk result
+        (text.new.items ≡ text.old.items ++ window_text criterion verdict from events.now) }
 {
     let heads = heads_of(last_thread(events));
     text.extend_from_slice(heads)?;
@@ -62,7 +63,9 @@ fn push_rows(
     events: &[Event],
 ) -> Result<(), AllocError>
     requires { from + length events.now < 2 ^ 64 }
-    ensures { OnOk result (text.new.items ≡ text.old.items ++ rows_text criterion verdict width (from + 1) events.now) }
+    ensures { OnOk result
+        (text.new.items ≡ text.old.items
+        ++ rows_text criterion verdict width (from + 1) events.now) }
 {
     let mut number = from;
     for event in events {
@@ -86,7 +89,9 @@ fn push_line(
     event: Event,
     told: &str,
 ) -> Result<(), AllocError>
-    ensures { OnOk result (text.new.items ≡ text.old.items ++ line (told_row width (event_row number event) told.now)) }
+    ensures { OnOk result
+        (text.new.items ≡ text.old.items
+        ++ line (told_row width (event_row number event) told.now)) }
 {
     let before = text.len();
     push_row(text, number, event)?;
