@@ -160,6 +160,18 @@ many_replies() {
         END { printf "log %d taken %d\n", NR, NR }'
 }
 
+# Steps of two writers of a ring of two cells. The second publishes first, and finds the ring full.
+full_steps() {
+    printf '%s\n' 'ring-steps 1 2 2 100' 'front 0 W 0 5' 'front 1 T' 'tail 0' 'tail 1' 'claim 0' 'claim 1' 'fill 1' 'publish 1' peek
+    printf '%s\n' 'front 1 X' 'tail 1' 'fill 0' 'publish 0' peek read free peek read free
+}
+
+# What they are answered.
+full_replies() {
+    printf '%s\n' 'saw 0' 'saw 0' cleared cleared 'place 0' 'place 1' filled 'published 1' 'not ready' 'saw 0' 'full 0 2' filled
+    printf '%s\n' 'published 0' ready 'word 5' 'event 0 W 0 5' ready 'word 0' 'event 1 T' 'log 2 taken 2'
+}
+
 # A transaction that makes so many writes, and then reads a value that it has not written last.
 long_window() {
     echo 'opacity-trace 1 1'
@@ -283,6 +295,19 @@ row 'a wrong word' 4 4 /dev/null judge --window 9
 # To find a word like this one, a list asks for room at once, and where that is refused, for less: the run is then the plain one.
 kinds='growths write interrupted_write'
 row 'a word that is like a command' 4 4 /dev/null jugde
+
+# Two writers at once, whom two readers see in opposite orders; a ring of two cells that is full between two places which are
+# published in the other order; and a reader that a writer overtakes.
+kinds='growth growths read interrupted_read write interrupted_write'
+head -n 15 "$top/examples/opposite_readers.trace" >"$folder/opposite"
+echo '{"at":14,"events":14,"verdict":"violated"}' >"$folder/wanted"
+known_row 'judge, readers in opposite orders' 1 4 "$folder/opposite" judge
+full_steps >"$folder/full"
+full_replies >"$folder/wanted"
+known_row 'steps, a ring that is full' 0 4 "$folder/full" steps
+echo '{"registers":2,"scripts":[[["R 0","R 1","T"]],[["W 0 1","W 1 1","T"]]],"order":[0,1,1,1,0,0]}' >"$folder/overtaken"
+opaque 10 >"$folder/wanted"
+known_row 'drive, norec, an overtaken reader' 0 8 "$folder/overtaken" drive --memory norec
 
 # A write that moves a part of more than 4,096 bytes, and is interrupted before the rest.
 kinds='write interrupted_write'

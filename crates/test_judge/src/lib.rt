@@ -25,6 +25,8 @@ mod plain_check;
 #[cfg(test)]
 mod reading;
 #[cfg(test)]
+mod refused;
+#[cfg(test)]
 mod seeded;
 #[cfg(test)]
 mod show;

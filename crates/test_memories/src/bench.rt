@@ -17,6 +17,7 @@ use tmw_workloads::{Workload, read_workload};
 mod at_once;
 mod hunting;
 mod memories;
+mod plain;
 mod progress;
 mod rounds;
 

@@ -10,6 +10,7 @@ use tmw_tm::Did;
 use tmw_workloads::Workload;
 
 mod memories;
+mod norec;
 
 use crate::counting::Counting;
 use memories::Marking;

@@ -12,4 +12,6 @@ mod drive;
 #[cfg(test)]
 mod memories;
 #[cfg(test)]
+mod refused;
+#[cfg(test)]
 mod work;
