@@ -59,7 +59,8 @@ impl Effect {
     /// without a jump, since no processor foresees it.
     #[inline(always)]
     fn read(&mut self, register: Ix, value: u64)
-        ensures { (ops : List Op) → IsEffectOf self.old ops → IsEffectOf self.new (ops ++ Read register value ∷ []) }
+        ensures { (ops : List Op) → IsEffectOf self.old ops
+            → IsEffectOf self.new (ops ++ Read register value ∷ []) }
     {
         let place = register.get() as usize;
         let own = has_register(self.left, place);
@@ -82,7 +83,8 @@ impl Effect {
     /// Takes in that the register holds the value from here on.
     #[inline(always)]
     fn write(&mut self, register: Ix, value: u64)
-        ensures { (ops : List Op) → IsEffectOf self.old ops → IsEffectOf self.new (ops ++ Write register value ∷ []) }
+        ensures { (ops : List Op) → IsEffectOf self.old ops
+            → IsEffectOf self.new (ops ++ Write register value ∷ []) }
     {
         let place = register.get() as usize;
         self.left |= 1 << place;
@@ -92,7 +94,8 @@ impl Effect {
     /// Takes an add in: an answer, and then a write. It is called, so that what takes a read or a write stays small.
     #[inline(never)]
     fn add_to(&mut self, register: Ix, added: u64, value: u64)
-        ensures { (ops : List Op) → IsEffectOf self.old ops → IsEffectOf self.new (ops ++ Add register added value ∷ []) }
+        ensures { (ops : List Op) → IsEffectOf self.old ops
+            → IsEffectOf self.new (ops ++ Add register added value ∷ []) }
     {
         self.read(register, value);
         self.write(register, value.wrapping_add(added));
@@ -161,7 +164,8 @@ impl Effect {
     /// What the register holds after the operations.
     #[inline(always)]
     pub fn value_after(&self, state: &State, register: Ix) -> u64
-        ensures { (ops : List Op) → IsEffectOf self.now ops → result ≡ slice_index (after_writes state.now ops) register.number }
+        ensures { (ops : List Op) → IsEffectOf self.now ops
+            → result ≡ slice_index (after_writes state.now ops) register.number }
     {
         let place = register.get() as usize;
         let left = self.leaves[place];

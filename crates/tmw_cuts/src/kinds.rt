@@ -6,7 +6,8 @@ use tmw_events::Kind;
 
 /// The operation that a call and its answer make, if they make one.
 pub fn operation(call: Kind, answer: Kind) -> Option<Op>
-    ensures { MatchOption result (operation call answer ≡ []) (λ op. operation call answer ≡ op ∷ []) }
+    ensures { MatchOption result
+        (operation call answer ≡ []) (λ op. operation call answer ≡ op ∷ []) }
 {
     match (call, answer) {
         (Kind::R(register), Kind::V(value)) => Some(Op::Read(register, value)),

@@ -16,7 +16,8 @@ pub type State = [u64; 8];
 #[derive(Debug, Drop)]
 pub struct States {
     items: Vec<State>,
-    pub ghost rising: { IsStrictlySortedBy (slice_cmp nat_cmp) items.items } by { IsStrictlySortedBy-prop (slice_cmp nat_cmp) items.items },
+    pub ghost rising: { IsStrictlySortedBy (slice_cmp nat_cmp)
+        items.items } by { IsStrictlySortedBy-prop (slice_cmp nat_cmp) items.items },
 }
 
 impl States {

@@ -99,7 +99,8 @@ impl Txn {
     #[inline(always)]
     pub fn fits_answer(&self, state: &State, value: u64) -> bool
         ensures { IsTrue (reads_hold state.now self.now.ops.items)
-            → result ≡ reads_hold state.now (self.now.ops.items ++ answered_ops self.now.call (V value)) }
+            → result ≡ reads_hold state.now
+            (self.now.ops.items ++ answered_ops self.now.call (V value)) }
     {
         match self.call {
             Some(Kind::R(register)) => self.effect.value_after(state, register) == value,
@@ -120,7 +121,8 @@ impl Txn {
     #[inline(always)]
     pub fn only_reads(&self) -> bool
         ensures shown { result ≡ leaves_none (effect_of self.now) }
-        ensures leaves { IsTrue result → (s : State) → length s ≡ 8 → after_writes s self.now.ops.items ≡ s }
+        ensures leaves { IsTrue result → (s : State) → length s ≡ 8
+            → after_writes s self.now.ops.items ≡ s }
     {
         self.effect.only_reads()
     }

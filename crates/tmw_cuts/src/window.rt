@@ -40,7 +40,8 @@ fn any_awaits_commit(txns: &[Txn], thread: Ix) -> bool
 
 /// Puts a transaction in its place again.
 fn put_back(txns: &mut ArrayVec<Txn, 8>, held: (usize, Txn))
-    ensures { held.0 < length txns.old.items → txns.new.items ≡ slice_set txns.old.items held.0 held.1 }
+    ensures { held.0 < length txns.old.items
+        → txns.new.items ≡ slice_set txns.old.items held.0 held.1 }
 {
     let (place, txn) = held;
     if place < txns.len() {
@@ -74,7 +75,8 @@ impl Window {
     /// How many transactions it has.
     pub fn count(&self) -> u8
         ensures shown { result ≡ count_of self.now }
-        ensures stands { (events : List Event) → StandsFor self.now events → result ≡ length (transactions events) }
+        ensures stands { (events : List Event) → StandsFor self.now events
+            → result ≡ length (transactions events) }
     {
         self.txns.len() as u8
     }
@@ -89,7 +91,8 @@ impl Window {
     /// The transactions, in the order of their first events.
     pub fn transactions(&self) -> &[Txn]
         ensures shown { map view result.now ≡ views self.now }
-        ensures stands { (events : List Event) → StandsFor self.now events → map view result.now ≡ views_of events }
+        ensures stands { (events : List Event) → StandsFor self.now events
+            → map view result.now ≡ views_of events }
         ensures few { length result.now ≤ 8 }
     {
         self.txns.as_slice()
@@ -114,7 +117,8 @@ impl Window {
     #[inline(always)]
     pub fn push_new(&mut self, event: Event)
         requires room { count_of self.old < 8 }
-        ensures stands { (events : List Event) (note : Note) → note.begins ≡ true → StandsFor self.old events → Notes events event note
+        ensures stands { (events : List Event) (note : Note) → note.begins ≡ true
+            → StandsFor self.old events → Notes events event note
             → StandsFor self.new (events ++ event ∷ []) }
         ensures registers { self.new.registers ≡ self.old.registers }
     {
@@ -128,7 +132,8 @@ impl Window {
     pub fn push_at(&mut self, place: usize, event: Event)
         requires within { place < count_of self.old }
         ensures stands { (events : List Event) → StandsFor self.old events
-            → position (is_open_for event.thread.number) (views_of events) ≡ Some place → StandsFor self.new (events ++ event ∷ []) }
+            → position (is_open_for event.thread.number) (views_of events) ≡ Some place
+            → StandsFor self.new (events ++ event ∷ []) }
         ensures registers { self.new.registers ≡ self.old.registers }
     {
         self.txns[place].add(event.kind);
@@ -139,9 +144,13 @@ impl Window {
     #[inline(always)]
     fn note(&mut self, thread: Ix, place: usize, over: bool)
         requires { place < 8 }
-        ensures places { self.new.places ≡ slice_set self.old.places thread.number (if over then 8 else place) }
-        ensures completed { self.new.completed ≡ (if over then bit_or self.old.completed (1 * 2 ^ place % 2 ^ 8) else self.old.completed) }
-        ensures others { (self.new.txns ≡ self.old.txns) × (self.new.registers ≡ self.old.registers) }
+        ensures places { self.new.places
+            ≡ slice_set self.old.places thread.number (if over then 8 else place) }
+        ensures completed { self.new.completed
+            ≡ (if over then bit_or self.old.completed (1 * 2 ^ place % 2 ^ 8)
+            else self.old.completed) }
+        ensures others { (self.new.txns ≡ self.old.txns)
+            × (self.new.registers ≡ self.old.registers) }
     {
         let thread = thread.get() as usize;
         if over {
@@ -156,7 +165,8 @@ impl Window {
     #[inline(always)]
     pub fn open_place(&self, thread: Ix) -> Option<usize>
         ensures within { IfSome result (λ place. place < count_of self.now) }
-        ensures stands { (events : List Event) → StandsFor self.now events → result ≡ position (is_open_for thread.number) (views_of events) }
+        ensures stands { (events : List Event) → StandsFor self.now events
+            → result ≡ position (is_open_for thread.number) (views_of events) }
     {
         let place = self.places[thread.get() as usize] as usize;
         if place < self.txns.len() {
@@ -169,7 +179,8 @@ impl Window {
     /// Notes what the next event of the thread will change, so that it can be taken back.
     pub fn mark(&self, thread: Ix) -> Mark
         ensures thread { result.thread ≡ thread }
-        ensures marks { (events : List Event) → StandsFor self.now events → Marks result (views_of events) }
+        ensures marks { (events : List Event) → StandsFor self.now events
+            → Marks result (views_of events) }
     {
         match self.open_place(thread) {
             Some(place) => Mark {
@@ -182,8 +193,9 @@ impl Window {
 
     /// Takes back the last event, before which the mark was made.
     pub fn take_back(&mut self, mark: Mark)
-        ensures stands { (events : List Event) (event : Event) → event.thread ≡ mark.thread → Marks mark (views_of events)
-            → StandsFor self.old (events ++ event ∷ []) → StandsFor self.new events }
+        ensures stands { (events : List Event) (event : Event) → event.thread ≡ mark.thread
+            → Marks mark (views_of events) → StandsFor self.old (events ++ event ∷ [])
+            → StandsFor self.new events }
         ensures registers { self.new.registers ≡ self.old.registers }
     {
         let Mark { thread, held } = mark;
@@ -205,7 +217,8 @@ impl Window {
         ensures places { self.new.places ≡ slice_set self.old.places thread.number (min place 8) }
         ensures completed { self.new.completed ≡ completed_mask (views self.old) }
         ensures few { length (views self.old) ≤ 8 }
-        ensures others { (self.new.txns ≡ self.old.txns) × (self.new.registers ≡ self.old.registers) }
+        ensures others { (self.new.txns ≡ self.old.txns)
+            × (self.new.registers ≡ self.old.registers) }
     {
         self.places[thread.get() as usize] = place.min(8) as u8;
         self.completed = completed_mask(self.txns.as_slice());
@@ -239,7 +252,8 @@ impl Window {
     /// A window that stands for the same events.
     pub fn copy(&self) -> Window
         ensures shown { views result ≡ views self.now }
-        ensures stands { (events : List Event) → StandsFor self.now events → StandsFor result events }
+        ensures stands { (events : List Event) → StandsFor self.now events
+            → StandsFor result events }
         ensures registers { result.registers ≡ self.now.registers }
     {
         let mut txns = ArrayVec::new();

@@ -21,7 +21,7 @@ over-cut : (c : Criterion) (s m r : State) (past rest : List Event) → IsTrue (
 over-cut Opacity s m r past rest cut one two = leads-over s m r past rest cut one two
 over-cut Strict s m r past rest cut one two = strict_leads-over s m r past rest cut one two
 
--- the same of the end states from a set
+-- the outcomes of all are the end states of the rest, from those at the cut
 ends_over : (c : Criterion) (start end : State) (past rest : List Event) → IsTrue (is_cut past)
     → outcomes_by c start (past ++ rest) end ↔ EndsBy c (outcomes_by c start past) (transactions rest) end
 ends_over c start end past rest cut = (

@@ -95,7 +95,7 @@ is_before-lies place upto (t ∷ ts) us ended one two =
         ] in
         and_from _ _ (and_from _ _ first (rw not_after (not_and (is_ended u.text)))) (each t us over l all.1)
 
--- the same transaction, so many places later
+-- a transaction, so many places later
 pub record IsLater (n : ℕ) (t u : Txn) : Type 0 where
   pub thread : t.thread ≡ u.thread
   pub text : t.text ≡ u.text

@@ -24,7 +24,7 @@ use Rattle.tmw_defs.proofs.Removals.{list_all-places}
 use Rattle.std.proofs.lemmas.List.Folds.{list_all-append}
 
 -- a write at the end is read by nothing
-reads_hold-write : (s : State) (ops : List Op) (r : Ix) (v : ℕ) → reads_hold s (ops ++ Write r v ∷ []) ≡ reads_hold s ops
+pub reads_hold-write : (s : State) (ops : List Op) (r : Ix) (v : ℕ) → reads_hold s (ops ++ Write r v ∷ []) ≡ reads_hold s ops
 reads_hold-write s [] r v = refl
 reads_hold-write s (Read q w ∷ ops) r v = ap (λ b. (slice_index s q.number == w) && b) (reads_hold-write s ops r v)
 reads_hold-write s (Write q w ∷ ops) r v = reads_hold-write (slice_set s q.number w) ops r v

@@ -71,7 +71,7 @@ cut_law-push : (rules : Rules) (S : State → Type 0) (c : ℕ) (h : List Event)
 cut_law-push rules S c h e sums formed =
     cut_law rules.criterion rules.registers rules.start (take c h) (drop c h ++ e ∷ []) (rw (take-append-drop-push c h e) formed) sums.last.is.1
 
--- the same, with the set of outcomes there
+-- the law of cuts at the last cut, with the set of outcomes there
 final-push : (rules : Rules) (S : State → Type 0) (c : ℕ) (h : List Event) (e : Event) → SumsUp rules S c h
     → IsTrue (is_well_formed rules.registers (h ++ e ∷ []))
     → IsFinalBy rules.criterion rules.registers rules.start (h ++ e ∷ []) ↔ ((end : State) × EndsBy rules.criterion S (transactions (drop c h ++ e ∷ [])) end)

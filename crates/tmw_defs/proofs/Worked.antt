@@ -158,7 +158,7 @@ stale_read-before = opaque-passes 1 zeros (take 5 stale_read) refl
 stale_read-verdict : IsFinalOpaque 1 zeros stale_read → ⊥
 stale_read-verdict = not_final_opaque 1 zeros stale_read refl
 
--- The same read where the two overlap: the reader stands before the writer.
+-- A read of 0 that overlaps the write of 1: the reader stands before the writer.
 abbrev overlapping_read : List Event
 overlapping_read = by_one (R zero_ix) ∷ by_zero (W zero_ix 1) ∷ by_zero K ∷ by_zero T ∷ by_zero C ∷ by_one (V 0) ∷ []
 

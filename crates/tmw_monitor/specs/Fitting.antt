@@ -28,7 +28,7 @@ rules_for criterion registers start bounds = record {
   states = bounds.states;
 }
 
--- The same, where the criterion is opacity.
+-- What a history is judged by, where the criterion is opacity.
 abbrev pub rules_of : Registers → State → Bounds → Rules
 rules_of registers start bounds = rules_for Opacity registers start bounds
 

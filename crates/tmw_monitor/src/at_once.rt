@@ -21,7 +21,7 @@ pub fn take_at_once(kept: &mut Open, bounds: Bounds, event: Event) -> bool
     }
 }
 
-/// The same of an event for whose thread no transaction is open, where it begins one, for which the window has room.
+/// Takes at once an event for whose thread no transaction is open, where it begins one, for which the window has room.
 #[inline(always)]
 fn begin_at_once(kept: &mut Open, bounds: Bounds, event: Event) -> bool
     requires none { IsOpenAt None event kept.old }
@@ -39,7 +39,7 @@ fn begin_at_once(kept: &mut Open, bounds: Bounds, event: Event) -> bool
     true
 }
 
-/// The same of an event of the transaction at this place. Where the serial order that is kept explains it and it ends the only
+/// Takes at once an event of the transaction at this place. Where the serial order that is kept explains it and it ends the only
 /// transaction, from the only outcome before it, the order leads to the only outcome.
 #[inline(always)]
 fn go_on_at_once(kept: &mut Open, bounds: Bounds, place: usize, event: Event) -> bool
@@ -67,7 +67,7 @@ fn go_on_at_once(kept: &mut Open, bounds: Bounds, place: usize, event: Event) ->
     true
 }
 
-/// The same of an event that the order does not explain as it stands, where the event is quiet, as a request to commit is.
+/// Takes at once an event that the order does not explain as it stands, where it is quiet, as a request to commit is.
 #[inline(always)]
 fn ask_at_once(kept: &mut Open, bounds: Bounds, place: usize, event: Event) -> bool
     requires within { place < count_of kept.old.window }
@@ -75,7 +75,6 @@ fn ask_at_once(kept: &mut Open, bounds: Bounds, place: usize, event: Event) -> b
     ensures taken { IsTrue result → StaysFine bounds event kept.old kept.new }
     ensures left { IsFalse result → kept.new ≡ kept.old }
 {
-    let _bounds = bounds;
     if !kept.window.is_quiet(Criterion::Opacity, event) || !kept.tracker.go_on(event) {
         return false;
     }

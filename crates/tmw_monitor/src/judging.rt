@@ -23,7 +23,7 @@ pub fn judge(
     judge_from(alloc, registers, &[0; 8], bounds, events)
 }
 
-/// The same, where the registers begin with these values. Those that the run does not have are to be 0.
+/// The verdict by opacity on a history whose registers begin with these values. Those that the run does not have are to be 0.
 pub fn judge_from(
     alloc: Global,
     registers: Registers,
@@ -37,7 +37,7 @@ pub fn judge_from(
     judge_for(alloc, Criterion::Opacity, registers, start, bounds, events)
 }
 
-/// The same by this criterion.
+/// The verdict by this criterion on a history whose registers begin with these values.
 pub fn judge_for(
     alloc: Global,
     criterion: Criterion,

@@ -39,7 +39,8 @@ impl Monitor {
     /// A monitor that judges by opacity a run whose registers all begin at 0, before its first event.
     pub fn new(alloc: Global, registers: Registers, bounds: Bounds) -> Result<Monitor, AllocError>
         ensures fits { IfOk result (λ monitor. Fits (rules_of registers zeros bounds) [] monitor) }
-        ensures keeps { IfOk result (λ monitor. KeepsOnlyOpen (rules_of registers zeros bounds) [] monitor) }
+        ensures keeps { IfOk result (λ monitor. KeepsOnlyOpen (rules_of registers zeros bounds) []
+            monitor) }
         ensures criterion { IfOk result (λ monitor. monitor.criterion ≡ Opacity) }
     {
         Monitor::new_from(alloc, registers, [0; 8], bounds)
@@ -53,7 +54,8 @@ impl Monitor {
         bounds: Bounds,
     ) -> Result<Monitor, AllocError>
         ensures fits { IfOk result (λ monitor. Fits (rules_of registers start bounds) [] monitor) }
-        ensures keeps { IfOk result (λ monitor. KeepsOnlyOpen (rules_of registers start bounds) [] monitor) }
+        ensures keeps { IfOk result (λ monitor. KeepsOnlyOpen (rules_of registers start bounds) []
+            monitor) }
         ensures criterion { IfOk result (λ monitor. monitor.criterion ≡ Opacity) }
     {
         Monitor::for_criterion(alloc, Criterion::Opacity, registers, start, bounds)
@@ -68,8 +70,10 @@ impl Monitor {
         start: State,
         bounds: Bounds,
     ) -> Result<Monitor, AllocError>
-        ensures fits { IfOk result (λ monitor. Fits (rules_for criterion registers start bounds) [] monitor) }
-        ensures keeps { IfOk result (λ monitor. KeepsOnlyOpen (rules_for criterion registers start bounds) [] monitor) }
+        ensures fits { IfOk result (λ monitor. Fits (rules_for criterion registers start bounds) []
+            monitor) }
+        ensures keeps { IfOk result (λ monitor. KeepsOnlyOpen
+            (rules_for criterion registers start bounds) [] monitor) }
         ensures criterion { IfOk result (λ monitor. monitor.criterion ≡ criterion) }
     {
         let states = States::only(alloc, start)?;
@@ -97,18 +101,20 @@ impl Monitor {
     #[inline(always)]
     pub fn feed(&mut self, event: Event) -> Result<Verdict, AllocError>
         requires room { self.old.count < 2 ^ 40 }
-        ensures ok { IfOk result (λ verdict. (rules : Rules) (history : List Event) → Fits rules history self.old
-            → Fits rules (history ++ event ∷ []) self.new) }
+        ensures ok { IfOk result (λ verdict. (rules : Rules) (history : List Event)
+            → Fits rules history self.old → Fits rules (history ++ event ∷ []) self.new) }
         ensures verdict { IfOk result (λ verdict. verdict ≡ self.new.verdict) }
-        ensures err { OnErr result ((rules : Rules) (history : List Event) → Fits rules history self.old → Fits rules history self.new) }
-        ensures stays { (self.old.verdict ≡ so_far self.old.criterion → ⊥) → result ≡ Ok self.old.verdict }
+        ensures err { OnErr result ((rules : Rules) (history : List Event)
+            → Fits rules history self.old → Fits rules history self.new) }
+        ensures stays { (self.old.verdict ≡ so_far self.old.criterion → ⊥)
+            → result ≡ Ok self.old.verdict }
         ensures criterion { self.new.criterion ≡ self.old.criterion }
 
         // What is kept, whether the event was taken or not.
-        ensures keeps { IfOk result (λ verdict. (rules : Rules) (history : List Event) → Fits rules history self.old
-            → KeepsOnlyOpen rules (history ++ event ∷ []) self.new) }
-        ensures keeps_err { OnErr result ((rules : Rules) (history : List Event) → Fits rules history self.old
-            → KeepsOnlyOpen rules history self.new) }
+        ensures keeps { IfOk result (λ verdict. (rules : Rules) (history : List Event)
+            → Fits rules history self.old → KeepsOnlyOpen rules (history ++ event ∷ []) self.new) }
+        ensures keeps_err { OnErr result ((rules : Rules) (history : List Event)
+            → Fits rules history self.old → KeepsOnlyOpen rules history self.new) }
     {
         if self.criterion == Criterion::Opacity
             && is_so_far(self.criterion, self.verdict)
@@ -126,19 +132,21 @@ impl Monitor {
         Ok(self.verdict)
     }
 
-    /// The same of any event. What the verdict is then, the monitor knows.
+    /// Takes the next event, whatever it needs. What the verdict is then, the monitor knows.
     #[inline(never)]
     fn take(&mut self, event: Event) -> Result<(), AllocError>
         requires room { self.old.count < 2 ^ 40 }
-        ensures ok { OnOk result ((rules : Rules) (history : List Event) → Fits rules history self.old
-            → Fits rules (history ++ event ∷ []) self.new) }
-        ensures err { OnErr result ((rules : Rules) (history : List Event) → Fits rules history self.old → Fits rules history self.new) }
-        ensures stays { (self.old.verdict ≡ so_far self.old.criterion → ⊥) → IsOk result × (self.new.verdict ≡ self.old.verdict) }
+        ensures ok { OnOk result ((rules : Rules) (history : List Event)
+            → Fits rules history self.old → Fits rules (history ++ event ∷ []) self.new) }
+        ensures err { OnErr result ((rules : Rules) (history : List Event)
+            → Fits rules history self.old → Fits rules history self.new) }
+        ensures stays { (self.old.verdict ≡ so_far self.old.criterion → ⊥)
+            → IsOk result × (self.new.verdict ≡ self.old.verdict) }
         ensures criterion { self.new.criterion ≡ self.old.criterion }
-        ensures keeps { OnOk result ((rules : Rules) (history : List Event) → Fits rules history self.old
-            → KeepsOnlyOpen rules (history ++ event ∷ []) self.new) }
-        ensures keeps_err { OnErr result ((rules : Rules) (history : List Event) → Fits rules history self.old
-            → KeepsOnlyOpen rules history self.new) }
+        ensures keeps { OnOk result ((rules : Rules) (history : List Event)
+            → Fits rules history self.old → KeepsOnlyOpen rules (history ++ event ∷ []) self.new) }
+        ensures keeps_err { OnErr result ((rules : Rules) (history : List Event)
+            → Fits rules history self.old → KeepsOnlyOpen rules history self.new) }
     {
         let at = self.count + 1;
         if !is_so_far(self.criterion, self.verdict) {
@@ -164,7 +172,8 @@ impl Monitor {
     /// What the history is judged by.
     pub fn criterion(&self) -> Criterion
         ensures shown { result ≡ self.now.criterion }
-        ensures fits { (rules : Rules) (history : List Event) → Fits rules history self.now → result ≡ rules.criterion }
+        ensures fits { (rules : Rules) (history : List Event) → Fits rules history self.now
+            → result ≡ rules.criterion }
     {
         self.criterion
     }
@@ -172,7 +181,8 @@ impl Monitor {
     /// How many events were taken.
     pub fn fed(&self) -> u64
         ensures shown { result ≡ self.now.count }
-        ensures fits { (rules : Rules) (history : List Event) → Fits rules history self.now → result ≡ length history }
+        ensures fits { (rules : Rules) (history : List Event) → Fits rules history self.now
+            → result ≡ length history }
     {
         self.count
     }
@@ -180,7 +190,8 @@ impl Monitor {
     /// The verdict on the events taken.
     pub fn verdict(&self) -> Verdict
         ensures shown { result ≡ self.now.verdict }
-        ensures fits { (rules : Rules) (history : List Event) → Fits rules history self.now → IsVerdict rules history result }
+        ensures fits { (rules : Rules) (history : List Event) → Fits rules history self.now
+            → IsVerdict rules history result }
     {
         self.verdict
     }
@@ -196,7 +207,8 @@ impl Monitor {
     /// Whether each transaction of the history has ended, where nothing is wrong with it.
     pub fn is_at_cut(&self) -> bool
         ensures { (rules : Rules) (history : List Event) → Fits rules history self.now
-            → self.now.verdict ≡ so_far self.now.criterion → (IsTrue result ↔ IsTrue (is_cut history)) }
+            → self.now.verdict ≡ so_far self.now.criterion
+            → (IsTrue result ↔ IsTrue (is_cut history)) }
     {
         self.kept.tracker.live() == 0
     }
@@ -204,7 +216,8 @@ impl Monitor {
     /// The history's outcomes at its last cut, in rising order, at most 64. After a final verdict there are none.
     pub fn outcomes(&self) -> &States
         ensures last { (rules : Rules) (history : List Event) → Fits rules history self.now
-            → self.now.verdict ≡ so_far self.now.criterion → AreLastOutcomes rules history (members result.now) }
+            → self.now.verdict ≡ so_far self.now.criterion
+            → AreLastOutcomes rules history (members result.now) }
         ensures none { (rules : Rules) (history : List Event) → Fits rules history self.now
             → (self.now.verdict ≡ so_far self.now.criterion → ⊥) → members result.now ≡ [] }
     {

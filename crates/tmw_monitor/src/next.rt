@@ -21,10 +21,12 @@ pub fn next_wrong(
     at: u64,
     event: Event,
 ) -> Result<Option<Verdict>, AllocError>
-    ensures ok { IfOk result (λ wrong. (rules : Rules) (history : List Event) → criterion ≡ rules.criterion
-        → bounds.window ≡ rules.window → bounds.states ≡ rules.states → at ≡ length history + 1
-        → Keeps rules history kept.old → TellsWrong rules (history ++ event ∷ []) kept.new wrong) }
-    ensures err { OnErr result ((rules : Rules) (history : List Event) → Keeps rules history kept.old → Keeps rules history kept.new) }
+    ensures ok { IfOk result (λ wrong. (rules : Rules) (history : List Event)
+        → criterion ≡ rules.criterion → bounds.window ≡ rules.window → bounds.states ≡ rules.states
+        → at ≡ length history + 1 → Keeps rules history kept.old
+        → TellsWrong rules (history ++ event ∷ []) kept.new wrong) }
+    ensures err { OnErr result ((rules : Rules) (history : List Event)
+        → Keeps rules history kept.old → Keeps rules history kept.new) }
 {
     let tracker = kept.tracker;
     let Ok(note) = kept.tracker.step(event) else {

@@ -32,15 +32,18 @@ pub fn take_event(
     note: Note,
 ) -> Result<Weighed, AllocError>
     requires room { IsTrue note.begins → count_of kept.old.window < 8 }
-    ensures ok { IfOk result (λ found. (events : List Event) → StandsFor kept.old.window events → Notes events event note
-        → cut ≡ is_cut (events ++ event ∷ []) → Witnesses (members kept.old.states) (views_of events) kept.old.witness
-        → Tells criterion kept.old.states cap (is_quiet_by criterion (transactions events) event.thread.number event.kind)
+    ensures ok { IfOk result (λ found. (events : List Event) → StandsFor kept.old.window events
+        → Notes events event note → cut ≡ is_cut (events ++ event ∷ [])
+        → Witnesses (members kept.old.states) (views_of events) kept.old.witness
+        → Tells criterion kept.old.states cap
+        (is_quiet_by criterion (transactions events) event.thread.number event.kind)
         (events ++ event ∷ []) kept.new found) }
     ensures tracker { kept.new.tracker ≡ kept.old.tracker }
     ensures states { OnErr result (members kept.new.states ≡ members kept.old.states) }
-    ensures window { OnErr result ((events : List Event) → StandsFor kept.old.window events → Notes events event note
-        → StandsFor kept.new.window events) }
-    ensures witness { OnErr result ((events : List Event) → Witnesses (members kept.old.states) (views_of events) kept.old.witness
+    ensures window { OnErr result ((events : List Event) → StandsFor kept.old.window events
+        → Notes events event note → StandsFor kept.new.window events) }
+    ensures witness { OnErr result ((events : List Event)
+        → Witnesses (members kept.old.states) (views_of events) kept.old.witness
         → Witnesses (members kept.old.states) (views_of events) kept.new.witness) }
 {
     if !cut && kept.window.is_quiet(criterion, event) {
@@ -49,17 +52,19 @@ pub fn take_event(
     take_weighed(criterion, alloc, kept, cap, cut, event, note)
 }
 
-/// The same of an event that is quiet and at no cut: nothing is searched, so that nothing can fail once the event is taken.
+/// Takes an event that is quiet and at no cut: nothing is searched, so that nothing can fail once the event is taken.
 #[inline(always)]
 fn take_quiet(kept: &mut Open, event: Event, note: Note) -> Result<Weighed, AllocError>
     requires room { IsTrue note.begins → count_of kept.old.window < 8 }
-    ensures ok { IfOk result (λ found. (criterion : Criterion) (cap : ℕ) (events : List Event) → StandsFor kept.old.window events
-        → Notes events event note → IsFalse (is_cut (events ++ event ∷ []))
+    ensures ok { IfOk result (λ found. (criterion : Criterion) (cap : ℕ) (events : List Event)
+        → StandsFor kept.old.window events → Notes events event note
+        → IsFalse (is_cut (events ++ event ∷ []))
         → Witnesses (members kept.old.states) (views_of events) kept.old.witness
         → Tells criterion kept.old.states cap true (events ++ event ∷ []) kept.new found) }
     ensures tracker { kept.new.tracker ≡ kept.old.tracker }
     ensures states { OnErr result (members kept.new.states ≡ members kept.old.states) }
-    ensures window { OnErr result ((events : List Event) → StandsFor kept.old.window events → StandsFor kept.new.window events) }
+    ensures window { OnErr result ((events : List Event) → StandsFor kept.old.window events
+        → StandsFor kept.new.window events) }
     ensures witness { OnErr result (kept.new.witness ≡ kept.old.witness) }
 {
     let place = kept.window.open_place(event.thread);
@@ -68,7 +73,7 @@ fn take_quiet(kept: &mut Open, event: Event, note: Note) -> Result<Weighed, Allo
     Ok(Weighed::Outcome)
 }
 
-/// The same of any other event: the window is weighed with it, and where memory is refused the event is taken back.
+/// Takes any other event: the window is weighed with it, and where memory is refused the event is taken back.
 #[inline(never)]
 fn take_weighed(
     criterion: Criterion,
@@ -80,14 +85,17 @@ fn take_weighed(
     note: Note,
 ) -> Result<Weighed, AllocError>
     requires room { IsTrue note.begins → count_of kept.old.window < 8 }
-    ensures ok { IfOk result (λ found. (quiet : Bool) (events : List Event) → StandsFor kept.old.window events → Notes events event note
-        → cut ≡ is_cut (events ++ event ∷ []) → Witnesses (members kept.old.states) (views_of events) kept.old.witness
+    ensures ok { IfOk result (λ found. (quiet : Bool) (events : List Event)
+        → StandsFor kept.old.window events → Notes events event note
+        → cut ≡ is_cut (events ++ event ∷ [])
+        → Witnesses (members kept.old.states) (views_of events) kept.old.witness
         → Tells criterion kept.old.states cap quiet (events ++ event ∷ []) kept.new found) }
     ensures tracker { kept.new.tracker ≡ kept.old.tracker }
     ensures states { OnErr result (members kept.new.states ≡ members kept.old.states) }
-    ensures window { OnErr result ((events : List Event) → StandsFor kept.old.window events → Notes events event note
-        → StandsFor kept.new.window events) }
-    ensures witness { OnErr result ((events : List Event) → Witnesses (members kept.old.states) (views_of events) kept.old.witness
+    ensures window { OnErr result ((events : List Event) → StandsFor kept.old.window events
+        → Notes events event note → StandsFor kept.new.window events) }
+    ensures witness { OnErr result ((events : List Event)
+        → Witnesses (members kept.old.states) (views_of events) kept.old.witness
         → Witnesses (members kept.old.states) (views_of events) kept.new.witness) }
 {
     let explained = kept.witness.explains(&kept.window, event);

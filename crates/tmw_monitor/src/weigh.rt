@@ -29,12 +29,14 @@ pub fn weigh(
     cap: u8,
     cut: bool,
 ) -> Result<Weighed, AllocError>
-    ensures ok { IfOk result (λ found. (quiet : Bool) (events : List Event) → StandsFor kept.old.window events → cut ≡ is_cut events
+    ensures ok { IfOk result (λ found. (quiet : Bool) (events : List Event)
+        → StandsFor kept.old.window events → cut ≡ is_cut events
         → Witnesses (members kept.old.states) (views_of events) kept.old.witness
         → Tells criterion kept.old.states cap quiet events kept.new found) }
     ensures tracker { kept.new.tracker ≡ kept.old.tracker }
     ensures states { OnErr result (members kept.new.states ≡ members kept.old.states) }
-    ensures window { OnErr result ((events : List Event) → StandsFor kept.old.window events → StandsFor kept.new.window events) }
+    ensures window { OnErr result ((events : List Event) → StandsFor kept.old.window events
+        → StandsFor kept.new.window events) }
 {
     if cut {
         return close(criterion, alloc, kept, cap);
@@ -52,9 +54,11 @@ pub fn weigh(
 /// Whether a serial order is kept, or is found where none is known, and is kept then. Serial orders are kept for opacity alone.
 fn has_order(criterion: Criterion, witness: &mut Witness, starts: &States, window: &Window) -> bool
     ensures ends { IsTrue result → (events : List Event) → StandsFor window.now events
-        → Witnesses (members starts.now) (views_of events) witness.old → (end : State) × EndsOf criterion starts.now events end }
+        → Witnesses (members starts.now) (views_of events) witness.old
+        → (end : State) × EndsOf criterion starts.now events end }
     ensures witness { (events : List Event) → StandsFor window.now events
-        → Witnesses (members starts.now) (views_of events) witness.old → Witnesses (members starts.now) (views_of events) witness.new }
+        → Witnesses (members starts.now) (views_of events) witness.old
+        → Witnesses (members starts.now) (views_of events) witness.new }
 {
     match criterion {
         Criterion::Opacity => witness.finds(starts, window),
@@ -62,19 +66,21 @@ fn has_order(criterion: Criterion, witness: &mut Witness, starts: &States, windo
     }
 }
 
-/// The same of a window that is at a cut.
+/// Weighs the events of a window at a cut. The set becomes that of the outcomes there, where these are at most `cap`.
 fn close(
     criterion: Criterion,
     alloc: Global,
     kept: &mut Open,
     cap: u8,
 ) -> Result<Weighed, AllocError>
-    ensures ok { IfOk result (λ found. (quiet : Bool) (events : List Event) → StandsFor kept.old.window events → IsTrue (is_cut events)
+    ensures ok { IfOk result (λ found. (quiet : Bool) (events : List Event)
+        → StandsFor kept.old.window events → IsTrue (is_cut events)
         → Witnesses (members kept.old.states) (views_of events) kept.old.witness
         → Tells criterion kept.old.states cap quiet events kept.new found) }
     ensures tracker { kept.new.tracker ≡ kept.old.tracker }
     ensures states { OnErr result (members kept.new.states ≡ members kept.old.states) }
-    ensures window { OnErr result ((events : List Event) → StandsFor kept.old.window events → StandsFor kept.new.window events) }
+    ensures window { OnErr result ((events : List Event) → StandsFor kept.old.window events
+        → StandsFor kept.new.window events) }
 {
     // An outcome that is known is mostly the only one, and then nothing is searched.
     let known = known_end(criterion, &kept.witness);
@@ -91,7 +97,8 @@ fn close(
 
 /// The state in which the serial order ends, where one is kept and known.
 fn known_end(criterion: Criterion, witness: &Witness) -> Option<State>
-    ensures { IfSome result (λ end. (starts : List State) (events : List Event) → Witnesses starts (views_of events) witness.now
+    ensures { IfSome result (λ end. (starts : List State) (events : List Event)
+        → Witnesses starts (views_of events) witness.now
         → EndsBy criterion (Contains starts) (transactions events) end) }
 {
     match criterion {

@@ -5,7 +5,7 @@ use Rattle.tmw_defs.specs.Decision.{is_explained}
 use Rattle.tmw_defs.specs.History.{Txn, status_of}
 use Rattle.tmw_defs.specs.Opaque.{State, may_hold}
 
--- The same of a completion that holds these members, and of the transactions behind them any that it may.
+-- Whether some completion of these members, and of what it may hold of the transactions behind, has a legal serial order.
 abbrev pub goes_with : State → List Txn → List Txn → Bool
 goes_with s members [] = is_explained s members
 goes_with s members (t ∷ ts) =

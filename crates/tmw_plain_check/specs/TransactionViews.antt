@@ -10,7 +10,7 @@ txn_of t = record { thread = t.thread.number; first = t.first; last = t.last; te
 abbrev pub txns_of : List Transaction → List Txn
 txns_of ts = map txn_of ts
 
--- the same of references to them
+-- the transactions behind references
 abbrev pub shown : List (Bor Transaction) → List Txn
 shown ts = map (λ t. txn_of t.now) ts
 

@@ -19,7 +19,7 @@ pub fn has_completion(
     goes_with(alloc, &[], list, start)
 }
 
-/// The same of a completion that holds these members, and of the transactions behind them any that it may.
+/// Whether some completion of these members, and of what it may hold of the transactions behind, has a legal serial order.
 #[cycle(completions)]
 fn goes_with<'a>(
     alloc: Global,
@@ -27,7 +27,8 @@ fn goes_with<'a>(
     behind: &'a [Transaction],
     start: &[u64; 8],
 ) -> Result<bool, AllocError>
-    ensures { IfOk result (λ goes. goes ≡ goes_with start.now (shown members.now) (txns_of behind.now)) }
+    ensures { IfOk result (λ goes. goes
+        ≡ goes_with start.now (shown members.now) (txns_of behind.now)) }
 {
     let [next, rest @ ..] = behind else {
         return has_order(alloc, members, start);
@@ -42,7 +43,7 @@ fn goes_with<'a>(
     }
 }
 
-/// The same of a completion that holds the next transaction too.
+/// Whether some completion of these members and the next transaction, and of what it may hold of the rest, has one.
 #[cycle(completions)]
 fn goes_on_with<'a>(
     alloc: Global,
@@ -51,7 +52,8 @@ fn goes_on_with<'a>(
     rest: &'a [Transaction],
     start: &[u64; 8],
 ) -> Result<bool, AllocError>
-    ensures { IfOk result (λ goes. goes ≡ goes_with start.now (shown members.now ++ txn_of next.now ∷ []) (txns_of rest.now)) }
+    ensures { IfOk result (λ goes. goes
+        ≡ goes_with start.now (shown members.now ++ txn_of next.now ∷ []) (txns_of rest.now)) }
 {
     let mut more = members.to_vec(alloc)?;
     more.push(next)?;

@@ -51,7 +51,8 @@ fn may_come(
     state: &[u64; 8],
 ) -> Result<bool, AllocError>
     requires { index < length waiting.now }
-    ensures { IfOk result (λ may. may ≡ may_come (has_order (length waiting.now - 1)) state.now (shown waiting.now) index) }
+    ensures { IfOk result (λ may. may
+        ≡ may_come (has_order (length waiting.now - 1)) state.now (shown waiting.now) index) }
 {
     let next = waiting[index];
     let Some(after) = replay(&next.text, state) else {
@@ -104,7 +105,7 @@ pub fn has_order(
     Ok(waiting.is_empty())
 }
 
-/// The same of a list that owns its transactions.
+/// Whether the transactions of a list that owns them have a serial order, with a completion, as `has_order` asks.
 pub fn is_explained(
     alloc: Global,
     list: &[Transaction],

@@ -30,7 +30,8 @@ fn add(
     place: usize,
     event: &Event,
 ) -> Result<(), AllocError>
-    ensures { OnOk result (txns_of list.new.items ≡ add_event place event.now (txns_of list.old.items)) }
+    ensures { OnOk result (txns_of list.new.items
+        ≡ add_event place event.now (txns_of list.old.items)) }
 {
     match open_transaction(list, event.thread) {
         Some(index) => {

@@ -43,7 +43,7 @@ gives_headline old taken new keeps all rules log writers fits one_log =
     headline-verdict rules log writers new.judged.items new.monitor.verdict (sym judged.criterion ∙ new.opacity)
     (front_of log writers new.judged.items (listed new.held) (subst (IsLogOf log writers) (sym all) one_log)) judged.judged
 
--- The same for a log that goes on with what is left.
+-- What keeps the monitor's fit gives the headline of a log that goes on with what is left.
 pub gives_rest : (old new : Front) (left : List Event) → KeepsFit old new → GivesHeadline old (came new ++ left) new.judged.items new.monitor.verdict
 gives_rest old new left keeps by log writers fits one_log =
     let all = came new in

@@ -1,15 +1,16 @@
 -- What a call has done, turn by turn: each turn judges one event more.
-use Rattle.std.proofs.Common.{◌≡◌, ◌+◌, ◌++◌, ℕ, List, [], ◌∷◌, Option, Some, None, refl, sym, ap, ◌∙◌, subst, append_assoc}
+use Rattle.std.proofs.Common.{◌≡◌, ◌+◌, ◌++◌, ℕ, List, [], ◌∷◌, Option, Some, None, IfSome, IfNone, refl, sym, ap, ◌∙◌, subst, append_assoc}
 use Rattle.std.proofs.lemmas.List.{append-nil, length_push}
 use Rattle.tmw_events.specs.declared.event.Event.{Event}
 use Rattle.tmw_monitor.specs.Fitting.{Fits}
 use Rattle.tmw_monitor.specs.declared.monitor.Monitor.{Monitor}
 use Rattle.tmw_ring.specs.Ends.{ReaderIs}
+use Rattle.tmw_ring.specs.Takes.{HasFoundNone}
 use Rattle.tmw_pump.specs.Fronts.{came, HasCome, KeepsFit, HasJudged}
 use Rattle.tmw_pump.specs.Held.{listed}
-use Rattle.tmw_pump.specs.Pumping.{HasTakenAll, HasPumped}
+use Rattle.tmw_pump.specs.Pumping.{HasTakenAll, HasPumped, HasPumpedAll}
 use Rattle.tmw_pump.specs.declared.front.Front.{Front}
-use Rattle.tmw_pump.specs.Resting.{all_of, HasRested}
+use Rattle.tmw_pump.specs.Resting.{all_of, HasRested, HasRestedAll}
 use Rattle.tmw_pump.specs.declared.forgetting_pump.ForgettingPump.{ForgettingPump}
 use Rattle.tmw_pump.specs.declared.forgetting_rest.ForgettingRest.{ForgettingRest}
 
@@ -83,6 +84,24 @@ pumped-next count event old mid next done (fresh, taken) come = record {
   judged = judged-came count event old.front mid.front next.front done.judged come;
 }
 
+-- A turn to which an event is given has judged nothing yet.
+pub pumped-given : {A : Type 0} (of : A → ForgettingPump) (event : Option Event) (mid next : ForgettingPump) → HasCome event mid.front next.front
+    → IfSome event (λ _. (fresh : List Event) × HasTakenAll mid.reader fresh next.reader)
+    → IfSome event (λ _. (count : ℕ) (first : A) → HasPumped count (of first) mid.reader mid.front → HasPumped count (of first) next.reader next.front)
+pumped-given of None mid next come taken = tt
+pumped-given of (Some event) mid next come taken = λ count first done. pumped-next count (Some event) (of first) mid next done taken come
+
+-- A turn that has found none has judged nothing.
+pub pumped-ended : {A : Type 0} (of : A → ForgettingPump) (event : Option Event) (mid next : ForgettingPump) → HasCome event mid.front next.front
+    → IfNone event (HasFoundNone mid.reader next.reader)
+    → IfNone event ((count : ℕ) (first : A) → HasPumped count (of first) mid.reader mid.front → HasPumpedAll count (of first) next)
+pumped-ended of (Some event) mid next come none = tt
+pumped-ended of None mid next come none = λ count first done. record {
+  last = mid.reader;
+  counted = pumped-came count None (of first) mid.reader mid.front next.front done come;
+  none = none;
+}
+
 -- A turn that was refused memory has judged nothing.
 pub pumped-refused : (count : ℕ) (old next new : ForgettingPump) → HasPumped count old next.reader next.front → new.reader ≡ next.reader
     → new.front.judged.items ≡ next.front.judged.items → KeepsFit next.front new.front → HasPumped count old new.reader new.front
@@ -111,6 +130,20 @@ rested-next count event old mid next done all come = record {
   all = all ∙ done.all;
   judged = judged-came count event old.front mid.front next.front done.judged come;
 }
+
+-- A turn to which an event is given has judged nothing yet.
+pub rested-given : {A : Type 0} (of : A → ForgettingRest) (event : Option Event) (mid next : ForgettingRest) → all_of next ≡ all_of mid
+    → HasCome event mid.front next.front → IfSome event (λ _. (count : ℕ) (first : A) → HasRested count (of first) mid → HasRested count (of first) next)
+rested-given of None mid next all come = tt
+rested-given of (Some event) mid next all come = λ count first done. rested-next count (Some event) (of first) mid next done all come
+
+-- A turn that has found none has judged nothing.
+pub rested-ended : {A : Type 0} (of : A → ForgettingRest) (event : Option Event) (mid next : ForgettingRest) → all_of next ≡ all_of mid
+    → HasCome event mid.front next.front → IfNone event (next.settled ≡ [])
+    → IfNone event ((count : ℕ) (first : A) → HasRested count (of first) mid → HasRestedAll count (of first) next)
+rested-ended of (Some event) mid next all come none = tt
+rested-ended of None mid next all come none = λ count first done.
+    record { counted = rested-next count None (of first) mid next done all come; none_left = none }
 
 pub rested-same : (count : ℕ) (old mid new : ForgettingRest) → HasRested count old mid → new.settled ≡ mid.settled
     → new.front.judged.items ≡ mid.front.judged.items → new.front.held ≡ mid.front.held → KeepsFit mid.front new.front

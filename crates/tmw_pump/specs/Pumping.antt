@@ -19,6 +19,12 @@ pub record HasPumped (count : ℕ) (old : ForgettingPump) (reader : ReaderIs) (n
   pub taken : HasTakenAll old.reader fresh reader
   pub judged : HasJudged count old.front new
 
+-- So many events more were judged, and then the reader found that the next place was not published.
+pub record HasPumpedAll (count : ℕ) (old new : ForgettingPump) : Type 0 where
+  pub last : ReaderIs
+  pub counted : HasPumped count old last new.front
+  pub none : HasFoundNone last new.reader
+
 -- The call has judged as many events as it was to, or fewer, and then the reader last found that the next place was not published.
 -- It holds no event where it was to judge any, and has done nothing where it was to judge none.
 pub record IsPumped (max : ℕ) (pumped : Pumped) (old new : ForgettingPump) : Type 0 where

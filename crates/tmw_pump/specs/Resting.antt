@@ -14,6 +14,11 @@ pub record HasRested (count : ℕ) (old new : ForgettingRest) : Type 0 where
   pub all : all_of new ≡ all_of old
   pub judged : HasJudged count old.front new.front
 
+-- So many events more were judged, and none is left.
+pub record HasRestedAll (count : ℕ) (old new : ForgettingRest) : Type 0 where
+  pub counted : HasRested count old new
+  pub none_left : new.settled ≡ []
+
 -- The call has judged up to so many events, and fewer only where none is left. It holds no event where it was to judge any, and has
 -- done nothing where it was to judge none.
 pub record IsRested (max : ℕ) (pumped : Pumped) (old new : ForgettingRest) : Type 0 where

@@ -12,6 +12,7 @@ ghost use Rattle.tmw_ring.specs.Takes.{HasFoundNone};
 use crate::forgetting_rest::ForgettingRest;
 use crate::front::Front;
 use crate::pumped::Pumped;
+use crate::turn_by_turn::{Turns, judge_some};
 use std::alloc::AllocError;
 use tmw_defs::Verdict;
 use tmw_events::Event;
@@ -20,7 +21,8 @@ use tmw_ring::{Reader, Ring, Writer};
 
 /// Takes events from a running ring and judges them, by the definition of opacity (Guerraoui and Kapalka 2008, section 5) at each
 /// prefix. What it has judged is a beginning of the ring's one log: what its reader has taken, less the event that is held, if
-/// any: one for which memory was refused, or that `next` has told. It keeps no event but that one, so its memory is the monitor's, however long the run.
+/// any: one for which memory was refused, or that `next` has told. It keeps no event but that one, so its memory is the monitor's,
+/// however long the run.
 #[derive(Drop)]
 pub struct ForgettingPump {
     reader: Reader,
@@ -58,18 +60,13 @@ impl ForgettingPump {
         requires { ReaderOf ring.now self.old.reader }
         ensures of_ring { ReaderOf ring.now self.new.reader }
         ensures ok { IfOk result (λ pumped. IsPumped max pumped self.old self.new) }
-        ensures err { OnErr result (WasRefusedMemory max (λ count. HasPumped count self.old self.new.reader self.new.front)
-            self.new.front) }
+        ensures err { OnErr result (WasRefusedMemory max
+            (λ count. HasPumped count self.old self.new.reader self.new.front) self.new.front) }
         ensures headline { GivesHeadline self.old.front self.new.reader.taken
             self.new.front.judged.items self.new.front.monitor.verdict }
     {
-        for judged in 0..max {
-            let Some(event) = self.next(ring) else {
-                return Ok(self.pumped(judged));
-            };
-            self.judge(event)?;
-        }
-        Ok(self.pumped(max))
+        let judged = judge_some(self, ring, max)?;
+        Ok(self.pumped(judged))
     }
 
     /// The event to be judged next: the one that is held, or else the next of the ring, which is held from now on. `None` where the
@@ -78,7 +75,8 @@ impl ForgettingPump {
         requires { ReaderOf ring.now self.old.reader }
         ensures of_ring { ReaderOf ring.now self.new.reader }
         ensures front { HasCome result self.old.front self.new.front }
-        ensures taken { IfSome result (λ _. (fresh : List Event) × HasTakenAll self.old.reader fresh self.new.reader) }
+        ensures taken { IfSome result (λ _. (fresh : List Event)
+            × HasTakenAll self.old.reader fresh self.new.reader) }
         ensures none { IfNone result (HasFoundNone self.old.reader self.new.reader) }
     {
         if let Some(event) = self.front.held() {
@@ -96,11 +94,13 @@ impl ForgettingPump {
         requires { self.old.front.held ≡ Some event }
         ensures reader { self.new.reader ≡ self.old.reader }
         ensures fits { KeepsFit self.old.front self.new.front }
-        ensures judged { OnOk result (self.new.front.judged.items ≡ self.old.front.judged.items ++ event ∷ []) }
+        ensures judged { OnOk result (self.new.front.judged.items
+            ≡ self.old.front.judged.items ++ event ∷ []) }
         ensures free { OnOk result (self.new.front.held ≡ None) }
         ensures stays { OnErr result (self.new.front.judged.items ≡ self.old.front.judged.items) }
         ensures held { OnErr result (self.new.front.held ≡ self.old.front.held) }
-        ensures after { (self.old.front.monitor.verdict ≡ so_far self.old.front.monitor.criterion → ⊥) → IsOk result }
+        ensures after { (self.old.front.monitor.verdict
+            ≡ so_far self.old.front.monitor.criterion → ⊥) → IsOk result }
     {
         self.front.judge(event)
     }
@@ -164,5 +164,26 @@ impl ForgettingPump {
     {
         let ForgettingPump { reader, front } = self;
         ForgettingRest::new(ring.settle(reader, writers), front)
+    }
+}
+
+impl Turns<Ring> for ForgettingPump {
+    ghost use Rattle.tmw_pump.specs.Pumping.{HasPumped, HasPumpedAll};
+    ghost use Rattle.tmw_ring.specs.Ends.{ReaderOf};
+
+    ghost takes_from = { λ ring pump. ReaderOf ring pump.reader };
+
+    ghost holds = { λ pump. pump.front.held };
+
+    ghost has_judged = { λ count old new. HasPumped count old new.reader new.front };
+
+    ghost has_ended = { HasPumpedAll };
+
+    fn give(&mut self, ring: &Ring) -> Option<Event> {
+        self.next(ring)
+    }
+
+    fn judge_held(&mut self, event: Event) -> Result<(), AllocError> {
+        self.judge(event)
     }
 }

@@ -5,6 +5,7 @@ ghost use Rattle.tmw_pump.specs.Held.{listed};
 
 use crate::front::Front;
 use crate::pumped::Pumped;
+use crate::turn_by_turn::{Turns, judge_some};
 use std::alloc::AllocError;
 use tmw_defs::Verdict;
 use tmw_events::Event;
@@ -16,7 +17,8 @@ use tmw_ring::Settled;
 pub struct ForgettingRest {
     settled: Settled,
     front: Front,
-    pub ghost few: { length front.judged.items + length (listed front.held) + length settled ≤ 2 ^ 40 },
+    pub ghost few: { length front.judged.items + length (listed front.held) + length settled
+        ≤ 2 ^ 40 },
 }
 
 impl ForgettingRest {
@@ -26,7 +28,8 @@ impl ForgettingRest {
 
     /// What is left when the ring of a pump is settled.
     pub(crate) fn new(settled: Settled, front: Front) -> ForgettingRest
-        requires { length front.judged.items + length (listed front.held) + length settled ≤ 2 ^ 40 }
+        requires { length front.judged.items + length (listed front.held) + length settled
+            ≤ 2 ^ 40 }
         ensures settled { result.settled ≡ settled }
         ensures front { result.front ≡ front }
     {
@@ -37,17 +40,13 @@ impl ForgettingRest {
     /// judged is held, and is judged first by the next call; those judged before it in this call stay judged.
     pub fn pump(&mut self, max: u64) -> Result<Pumped, AllocError>
         ensures ok { IfOk result (λ pumped. IsRested max pumped self.old self.new) }
-        ensures err { OnErr result (WasRefusedMemory max (λ count. HasRested count self.old self.new) self.new.front) }
+        ensures err { OnErr result (WasRefusedMemory max
+            (λ count. HasRested count self.old self.new) self.new.front) }
         ensures headline { GivesHeadline self.old.front (all_of self.new)
             self.new.front.judged.items self.new.front.monitor.verdict }
     {
-        for judged in 0..max {
-            let Some(event) = self.next() else {
-                return Ok(self.pumped(judged));
-            };
-            self.judge(event)?;
-        }
-        Ok(self.pumped(max))
+        let judged = judge_some(self, &(), max)?;
+        Ok(self.pumped(judged))
     }
 
     /// The event to be judged next: the one that is held, or else the next of what is left, which is held from now on. `None` where all
@@ -72,11 +71,13 @@ impl ForgettingRest {
         requires { self.old.front.held ≡ Some event }
         ensures settled { self.new.settled ≡ self.old.settled }
         ensures fits { KeepsFit self.old.front self.new.front }
-        ensures judged { OnOk result (self.new.front.judged.items ≡ self.old.front.judged.items ++ event ∷ []) }
+        ensures judged { OnOk result (self.new.front.judged.items
+            ≡ self.old.front.judged.items ++ event ∷ []) }
         ensures free { OnOk result (self.new.front.held ≡ None) }
         ensures stays { OnErr result (self.new.front.judged.items ≡ self.old.front.judged.items) }
         ensures held { OnErr result (self.new.front.held ≡ self.old.front.held) }
-        ensures after { (self.old.front.monitor.verdict ≡ so_far self.old.front.monitor.criterion → ⊥) → IsOk result }
+        ensures after { (self.old.front.monitor.verdict
+            ≡ so_far self.old.front.monitor.criterion → ⊥) → IsOk result }
     {
         self.front.judge(event)
     }
@@ -123,5 +124,25 @@ impl ForgettingRest {
         ensures headline { GivesHeadline self.front (all_of self) self.front.judged.items result.1 }
     {
         (self.fed(), self.verdict())
+    }
+}
+
+impl Turns<()> for ForgettingRest {
+    ghost use Rattle.tmw_pump.specs.Resting.{HasRested, HasRestedAll};
+
+    ghost takes_from = { λ _ _. Unit {0} };
+
+    ghost holds = { λ rest. rest.front.held };
+
+    ghost has_judged = { HasRested };
+
+    ghost has_ended = { HasRestedAll };
+
+    fn give(&mut self, _source: &()) -> Option<Event> {
+        self.next()
+    }
+
+    fn judge_held(&mut self, event: Event) -> Result<(), AllocError> {
+        self.judge(event)
     }
 }

@@ -56,7 +56,8 @@ impl Front {
         ensures free { OnOk result (self.new.held ≡ None) }
         ensures stays { OnErr result (self.new.judged.items ≡ self.old.judged.items) }
         ensures held { OnErr result (self.new.held ≡ self.old.held) }
-        ensures after { (self.old.monitor.verdict ≡ so_far self.old.monitor.criterion → ⊥) → IsOk result }
+        ensures after { (self.old.monitor.verdict ≡ so_far self.old.monitor.criterion → ⊥)
+            → IsOk result }
     {
         self.monitor.feed(event)?;
         self.judged = self.judged.then(&event);

@@ -8,6 +8,7 @@ mod judged;
 mod pump;
 mod pumped;
 mod rest;
+mod turn_by_turn;
 
 pub use forgetting_pump::ForgettingPump;
 pub use forgetting_rest::ForgettingRest;

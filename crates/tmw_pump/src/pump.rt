@@ -10,6 +10,7 @@ ghost use Rattle.tmw_ring.specs.Settling.{AreInOrder, IsSettled};
 use crate::forgetting_pump::ForgettingPump;
 use crate::pumped::Pumped;
 use crate::rest::Rest;
+use crate::turn_by_turn::{Turns, judge_some};
 use std::alloc::{AllocError, Global};
 use tmw_defs::Verdict;
 use tmw_events::Event;
@@ -53,38 +54,17 @@ impl Pump {
     pub fn pump(&mut self, ring: &Ring, max: u64) -> Result<Pumped, AllocError>
         requires { ReaderOf ring.now self.old.forgetting.reader }
         ensures of_ring { ReaderOf ring.now self.new.forgetting.reader }
-        ensures ok { IfOk result (λ pumped. IsPumped max pumped self.old.forgetting self.new.forgetting) }
+        ensures ok { IfOk result (λ pumped. IsPumped max pumped self.old.forgetting
+            self.new.forgetting) }
         ensures idle { max ≡ 0 → self.new ≡ self.old }
-        ensures err { OnErr result (WasRefusedMemory max (λ count. HasPumped count self.old.forgetting self.new.forgetting.reader
+        ensures err { OnErr result (WasRefusedMemory max
+            (λ count. HasPumped count self.old.forgetting self.new.forgetting.reader
             self.new.forgetting.front) self.new.forgetting.front) }
         ensures headline { GivesHeadline self.old.forgetting.front self.new.forgetting.reader.taken
             self.new.forgetting.front.judged.items self.new.forgetting.front.monitor.verdict }
     {
-        for judged in 0..max {
-            let Some(event) = self.forgetting.next(ring) else {
-                return Ok(self.forgetting.pumped(judged));
-            };
-            self.judge(event)?;
-        }
-        Ok(self.forgetting.pumped(max))
-    }
-
-    /// Judges the event that is held, and keeps it. Where memory is refused, it is still held.
-    fn judge(&mut self, event: Event) -> Result<(), AllocError>
-        requires { self.old.forgetting.front.held ≡ Some event }
-        ensures reader { self.new.forgetting.reader ≡ self.old.forgetting.reader }
-        ensures fits { KeepsFit self.old.forgetting.front self.new.forgetting.front }
-        ensures judged { OnOk result (self.new.forgetting.front.judged.items
-            ≡ self.old.forgetting.front.judged.items ++ event ∷ []) }
-        ensures free { OnOk result (self.new.forgetting.front.held ≡ None) }
-        ensures stays { OnErr result (self.new.forgetting.front.judged.items ≡ self.old.forgetting.front.judged.items) }
-        ensures held { OnErr result (self.new.forgetting.front.held ≡ self.old.forgetting.front.held) }
-    {
-        // Room first: once the event is judged, nothing can fail.
-        self.judged.reserve(1)?;
-        self.forgetting.judge(event)?;
-        self.judged.push_reserved(event);
-        Ok(())
+        let judged = judge_some(self, ring, max)?;
+        Ok(self.forgetting.pumped(judged))
     }
 
     /// The judged front: the events that were judged, in the order of the log.
@@ -113,9 +93,11 @@ impl Pump {
     pub fn meet(&mut self, ring: &Ring, writer: &mut Writer)
         requires reader { ReaderOf ring.now self.old.forgetting.reader }
         requires writer { WriterOf ring.now writer.old }
-        ensures met { HaveMet writer.old writer.new self.old.forgetting.reader self.new.forgetting.reader }
+        ensures met { HaveMet writer.old writer.new self.old.forgetting.reader
+            self.new.forgetting.reader }
         ensures same { self.new.forgetting.front ≡ self.old.forgetting.front }
-        ensures one_log { (log : List Event) × IsLogOf log (writer.new ∷ []) self.new.forgetting.reader.taken }
+        ensures one_log { (log : List Event)
+            × IsLogOf log (writer.new ∷ []) self.new.forgetting.reader.taken }
     {
         self.forgetting.meet(ring, writer);
     }
@@ -128,9 +110,35 @@ impl Pump {
         requires order { AreInOrder writers.items }
         ensures settled { IsSettled self.forgetting.reader writers.items result.forgetting.settled }
         ensures front { result.forgetting.front ≡ self.forgetting.front }
-        ensures one_log { IsLogOf (all_of result.forgetting) writers.items (all_of result.forgetting) }
+        ensures one_log { IsLogOf (all_of result.forgetting) writers.items
+            (all_of result.forgetting) }
     {
         let Pump { forgetting, judged } = self;
         Rest::new(forgetting.settle(ring, writers), judged)
+    }
+}
+
+impl Turns<Ring> for Pump {
+    ghost use Rattle.tmw_pump.specs.Pumping.{HasPumped, HasPumpedAll};
+    ghost use Rattle.tmw_ring.specs.Ends.{ReaderOf};
+
+    ghost takes_from = { λ ring pump. ReaderOf ring pump.forgetting.reader };
+
+    ghost holds = { λ pump. pump.forgetting.front.held };
+
+    ghost has_judged = { λ count old new. HasPumped count old.forgetting new.forgetting.reader new.forgetting.front };
+
+    ghost has_ended = { λ count old new. HasPumpedAll count old.forgetting new.forgetting };
+
+    fn give(&mut self, ring: &Ring) -> Option<Event> {
+        self.forgetting.next(ring)
+    }
+
+    fn judge_held(&mut self, event: Event) -> Result<(), AllocError> {
+        // Room first: once the event is judged, nothing can fail.
+        self.judged.reserve(1)?;
+        self.forgetting.judge(event)?;
+        self.judged.push_reserved(event);
+        Ok(())
     }
 }

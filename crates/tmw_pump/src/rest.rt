@@ -3,6 +3,7 @@ ghost use Rattle.std.specs.Prelude.{◌≡◌, ◌++◌, [], ◌∷◌, Some, No
 
 use crate::forgetting_rest::ForgettingRest;
 use crate::pumped::Pumped;
+use crate::turn_by_turn::{Turns, judge_some};
 use std::alloc::AllocError;
 use tmw_defs::Verdict;
 use tmw_events::Event;
@@ -32,38 +33,17 @@ impl Rest {
     /// Judges up to `max` events: fewer only where all are judged. Where a growth of memory is refused, the event that was to be
     /// judged is held, and is judged first by the next call; those judged before it in this call stay judged.
     pub fn pump(&mut self, max: u64) -> Result<Pumped, AllocError>
-        ensures ok { IfOk result (λ pumped. IsRested max pumped self.old.forgetting self.new.forgetting) }
+        ensures ok { IfOk result (λ pumped. IsRested max pumped self.old.forgetting
+            self.new.forgetting) }
         ensures idle { max ≡ 0 → self.new ≡ self.old }
-        ensures err { OnErr result (WasRefusedMemory max (λ count. HasRested count self.old.forgetting self.new.forgetting)
+        ensures err { OnErr result (WasRefusedMemory max
+            (λ count. HasRested count self.old.forgetting self.new.forgetting)
             self.new.forgetting.front) }
         ensures headline { GivesHeadline self.old.forgetting.front (all_of self.new.forgetting)
             self.new.forgetting.front.judged.items self.new.forgetting.front.monitor.verdict }
     {
-        for judged in 0..max {
-            let Some(event) = self.forgetting.next() else {
-                return Ok(self.forgetting.pumped(judged));
-            };
-            self.judge(event)?;
-        }
-        Ok(self.forgetting.pumped(max))
-    }
-
-    /// Judges the event that is held, and keeps it. Where memory is refused, it is still held.
-    fn judge(&mut self, event: Event) -> Result<(), AllocError>
-        requires { self.old.forgetting.front.held ≡ Some event }
-        ensures settled { self.new.forgetting.settled ≡ self.old.forgetting.settled }
-        ensures fits { KeepsFit self.old.forgetting.front self.new.forgetting.front }
-        ensures judged { OnOk result (self.new.forgetting.front.judged.items
-            ≡ self.old.forgetting.front.judged.items ++ event ∷ []) }
-        ensures free { OnOk result (self.new.forgetting.front.held ≡ None) }
-        ensures stays { OnErr result (self.new.forgetting.front.judged.items ≡ self.old.forgetting.front.judged.items) }
-        ensures held { OnErr result (self.new.forgetting.front.held ≡ self.old.forgetting.front.held) }
-    {
-        // Room first: once the event is judged, nothing can fail.
-        self.judged.reserve(1)?;
-        self.forgetting.judge(event)?;
-        self.judged.push_reserved(event);
-        Ok(())
+        let judged = judge_some(self, &(), max)?;
+        Ok(self.forgetting.pumped(judged))
     }
 
     /// The judged front: the events that were judged, in the order of the log.
@@ -91,9 +71,34 @@ impl Rest {
     pub fn finish(self) -> (Vec<Event>, Verdict)
         ensures judged { result.0.items ≡ self.forgetting.front.judged.items }
         ensures verdict { result.1 ≡ self.forgetting.front.monitor.verdict }
-        ensures headline { GivesHeadline self.forgetting.front (all_of self.forgetting) result.0.items result.1 }
+        ensures headline { GivesHeadline self.forgetting.front (all_of self.forgetting)
+            result.0.items result.1 }
     {
         let Rest { forgetting, judged } = self;
         (judged, forgetting.finish().1)
+    }
+}
+
+impl Turns<()> for Rest {
+    ghost use Rattle.tmw_pump.specs.Resting.{HasRested, HasRestedAll};
+
+    ghost takes_from = { λ _ _. Unit {0} };
+
+    ghost holds = { λ rest. rest.forgetting.front.held };
+
+    ghost has_judged = { λ count old new. HasRested count old.forgetting new.forgetting };
+
+    ghost has_ended = { λ count old new. HasRestedAll count old.forgetting new.forgetting };
+
+    fn give(&mut self, _source: &()) -> Option<Event> {
+        self.forgetting.next()
+    }
+
+    fn judge_held(&mut self, event: Event) -> Result<(), AllocError> {
+        // Room first: once the event is judged, nothing can fail.
+        self.judged.reserve(1)?;
+        self.forgetting.judge(event)?;
+        self.judged.push_reserved(event);
+        Ok(())
     }
 }

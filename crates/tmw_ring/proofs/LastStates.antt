@@ -71,7 +71,7 @@ module _ {S : Type 0} where
             shown.knows seat (suc number) (part_of (get_or writers number fallback)) (writer_lies number fallback within);
       }
 
-  -- The same of the reader's seat, once it has taken in all writers' parts.
+  -- The ring at its end, once the reader's seat has taken in all writers' parts.
   pub ended_joined : (told size : RingSize) (writers : List WriterIs) (seat : ℕ) (old new : Me S Parts) (words : List ℕ) (slots : List S)
       → told ≡ size → IsReader (reader_in old.0) old → new ≡ (old.0 ++ map part_of writers, old.1)
       → Final (Seen (Shown {S = S} told) seat new.0) words slots → Ended size (reader_in old.0) writers words

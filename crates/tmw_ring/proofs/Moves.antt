@@ -140,7 +140,7 @@ module _ {S : Type 0} where
                 (others part (anothers at place part there.0 lain) before.0, before.1)
           ]
 
-  -- The same of a seat that has one part, whose actor makes a step.
+  -- A step by the actor of a seat that has one part keeps the rule.
   pub moves : (size : RingSize) (state : State S Parts) (shown : Shown size state) (seat word value : ℕ) (old new : Part) (next : Core)
       (answered : Answered) → get_elem? state.views seat ≡ some (old ∷ []) → next.size ≡ shown.core.size → Sound next → IsReal next
       → set state.words word value ≡ words_of next → Makes (key old) shown.core answered next → key new ≡ key old
@@ -177,7 +177,7 @@ module _ {S : Type 0} where
   Stays state views to = (from : ℕ × ℕ) (part : Part) → Lies state from.0 from.1 part
       → Lies (record state { views = views }) (to from).0 (to from).1 part
 
-  -- The same parts in other places keep the rule.
+  -- Parts that only change their places keep the rule.
   pub rearrange : (size : RingSize) (state : State S Parts) (views : List Parts) (to : ℕ × ℕ → ℕ × ℕ) → Shown size state
       → Rearranged state views to → Stays state views to → Shown size (record state { views = views })
   rearrange size state views to shown lay stays = record {

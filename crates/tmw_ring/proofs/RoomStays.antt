@@ -127,7 +127,7 @@ looked_so records old found has =
       omega (arith, fronted.counted, freed, places_freed-append between.run tailed.meets.gone.since),
     )
 
--- The same of writers, as callers see them.
+-- A writer, as callers see it, that found room and is refused: so many places more were claimed meanwhile.
 refused_by : (records : ℕ) (old found before after : WriterIs) (has : HasFoundRoom records old found) (since : List Answered) (kind : Kind)
     (seen : ℕ) (reply : Reply) → before.size ≡ old.size → before.run ≡ found.run ++ since
     → HasStepped

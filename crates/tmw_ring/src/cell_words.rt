@@ -2,6 +2,8 @@
 ghost use Rattle.std.specs.Prelude.{◌≡◌, ◌<◌, ◌≤◌, ◌%◌};
 ghost use Rattle.tmw_ring.specs.Words.{stamp_word, value_word};
 
+use crate::table_words::FIRST_CELL;
+
 /// A place, and where the words of its cell stand: the first, which has the stamp, and the second, which has the value.
 #[derive(Clone, Copy)]
 pub(crate) struct CellWords {
@@ -30,7 +32,7 @@ pub(crate) fn words_at(cells: u64, place: u64) -> CellWords
     ensures stamp { result.stamp ≡ stamp_word cells place }
     ensures value { result.value ≡ value_word cells place }
 {
-    let stamp = 32 + 2 * cell_of(cells, place) as usize;
+    let stamp = FIRST_CELL + 2 * cell_of(cells, place) as usize;
     CellWords {
         place,
         stamp,

@@ -22,7 +22,8 @@ impl Model for Ring {
 
     ghost use Rattle.tmw_ring.specs.Seats.{IsRingTable};
 
-    ghost invariant = { λ ring. IsRingTable ring.size ring.table.shared.key ring.table.shared.table_id };
+    ghost invariant = { λ ring. IsRingTable ring.size ring.table.shared.key
+        ring.table.shared.table_id };
 }
 
 /// The end at which one thread records its events.

@@ -3,7 +3,6 @@
 #![tactic(auto)]
 
 mod cell_words;
-mod cuts;
 mod ends;
 mod make;
 mod meet;
@@ -13,11 +12,12 @@ mod refused;
 mod room;
 mod rule;
 mod run_laws;
+mod seat_parts;
 mod settle;
 mod settled;
+mod table_words;
 mod take;
 
-pub use cuts::{AllParts, BothParts, SecondPart};
 pub use ends::{Reader, Ring, Writer};
 pub use make::ring;
 pub use part::{Made, Part, ReaderPart, WriterPart};
@@ -25,5 +25,6 @@ pub use refused::Refused;
 pub use room::law_room_stays;
 pub use rule::{RingRule, RingSeat, RingTable};
 pub use run_laws::{law_claims, law_runs};
+pub use seat_parts::{AllParts, BothParts, SecondPart};
 pub use settled::Settled;
 pub use tmw_ring_defs::{RingFault, RingSize};

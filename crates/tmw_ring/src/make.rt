@@ -5,9 +5,10 @@ ghost use Rattle.tmw_ring.specs.Parts.{new_parts, new_reader};
 ghost use Rattle.tmw_ring.specs.Seats.{IsReader};
 ghost use Rattle.tmw_ring_defs.specs.Sizes.{IsNoRing};
 
-use crate::cuts::SecondPart;
 use crate::ends::{Reader, Ring, Writer};
 use crate::rule::RingSeat;
+use crate::seat_parts::SecondPart;
+use crate::table_words::FIRST_CELL;
 use atomic_table::Table;
 use std::alloc::{AllocError, Global};
 use tmw_events::Ix;
@@ -25,7 +26,7 @@ pub fn ring(
     ensures err { IfErr result (IsNoRing cells writers limit) }
 {
     let size = RingSize::new(cells, writers, limit)?;
-    let words = vec![in alloc; 0; 32 + 2 * size.cells as usize]?;
+    let words = vec![in alloc; 0; FIRST_CELL + 2 * size.cells as usize]?;
     let (table, mut seat) = Table::of_words(alloc, words.as_slice(), &size)?;
     let ring = Ring { table, size };
     let writers = deal(alloc, &ring, &mut seat)?;

@@ -3,10 +3,11 @@ ghost use Rattle.std.specs.Prelude.{◌≡◌, [], ◌∷◌};
 ghost use Rattle.tmw_ring.specs.Ends.{WriterOf, ReaderOf};
 ghost use Rattle.tmw_ring.specs.Meeting.{HasFoundTail, FindsTail, SeatsHaveMet, HaveMet, WritersHaveMet};
 
-use crate::cuts::{AllParts, BothParts, SecondPart};
 use crate::ends::{Reader, Ring, Writer};
 use crate::part::Part;
 use crate::rule::RingSeat;
+use crate::seat_parts::{AllParts, BothParts, SecondPart};
+use crate::table_words::TAIL_WORD;
 use atomic_table::Play;
 use std::collections::LinkedList;
 
@@ -34,20 +35,24 @@ impl Ring {
         requires { WriterOf self.now writer.old }
         ensures { FindsTail result writer.old writer.new }
     {
-        self.table.shared.load::<FoundTail>(&mut writer.seat, 0)
+        self.table
+            .shared
+            .load::<FoundTail>(&mut writer.seat, TAIL_WORD)
     }
 
     /// One seat takes in the other's parts, finds tail for both, and gives them back.
     fn meet_seats(&self, one: &mut RingSeat, other: &mut RingSeat)
         requires one { one.old.table_id ≡ self.now.table }
         requires other { other.old.table_id ≡ self.now.table }
-        ensures tables { (one.new.table_id ≡ one.old.table_id) × (other.new.table_id ≡ other.old.table_id) }
-        ensures met { (first second : Part) → one.old.me ≡ (first ∷ [], []) → other.old.me ≡ (second ∷ [], []) → SeatsHaveMet first second one.new.me other.new.me }
+        ensures tables { (one.new.table_id ≡ one.old.table_id)
+            × (other.new.table_id ≡ other.old.table_id) }
+        ensures met { (first second : Part) → one.old.me ≡ (first ∷ [], [])
+            → other.old.me ≡ (second ∷ [], []) → SeatsHaveMet first second one.new.me other.new.me }
     {
         let shared = &self.table.shared;
         let given = shared.split_seat::<AllParts>(other);
         shared.join_seat::<BothParts>(one, given);
-        shared.load::<FoundTail>(one, 0);
+        shared.load::<FoundTail>(one, TAIL_WORD);
         *other = shared.split_seat::<SecondPart>(one);
     }
 }

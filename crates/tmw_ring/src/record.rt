@@ -14,6 +14,7 @@ use crate::ends::{Ring, Writer};
 use crate::part::Part;
 use crate::refused::Refused;
 use crate::rule::RingSeat;
+use crate::table_words::{FRONT_WORD, TAIL_WORD};
 use atomic_table::Play;
 use std::collections::LinkedList;
 use std::marker::{Brand, PhantomData};
@@ -83,7 +84,7 @@ fn see_front<C: Choice>(ring: &Ring, seat: &mut RingSeat) -> u64
     ensures table { seat.new.table_id ≡ seat.old.table_id }
     ensures seen { HasSeenFront C.kind seat.old.me result seat.new.me }
 {
-    ring.table.shared.load::<SeesFront<C>>(seat, 16)
+    ring.table.shared.load::<SeesFront<C>>(seat, FRONT_WORD)
 }
 
 /// A writer that has found this front looks at tail.
@@ -93,7 +94,7 @@ fn see_tail<C: Choice>(ring: &Ring, seat: &mut RingSeat, front: u64) -> u64
     ensures table { seat.new.table_id ≡ seat.old.table_id }
     ensures seen { HasSeenTail C.kind seat.old.me result seat.new.me }
 {
-    ring.table.shared.load::<SeesTail<C>>(seat, 0)
+    ring.table.shared.load::<SeesTail<C>>(seat, TAIL_WORD)
 }
 
 /// A cleared writer claims a place.
@@ -103,7 +104,7 @@ fn claim<C: Choice>(ring: &Ring, seat: &mut RingSeat) -> u64
     ensures table { seat.new.table_id ≡ seat.old.table_id }
     ensures claimed { HasClaimed C.kind seat.old.me result seat.new.me }
 {
-    ring.table.shared.fetch_add::<Claims<C>>(seat, 0, 1)
+    ring.table.shared.fetch_add::<Claims<C>>(seat, TAIL_WORD, 1)
 }
 
 /// A writer that has claimed this place fills in its event's value.
@@ -126,7 +127,8 @@ fn publish<C: Choice>(ring: &Ring, seat: &mut RingSeat, words: CellWords, header
     requires writer { IsSeatOf ring.now.size (Claimed words.place C.kind true) seat.old.me }
     requires word { words.stamp ≡ stamp_word ring.now.size.cells words.place }
     requires place { words.place < 2 ^ 40 }
-    requires header { header ≡ packed_header (record { thread = (writer_in seat.old.me.0).number; kind = C.kind }) }
+    requires header { header
+        ≡ packed_header (record { thread = (writer_in seat.old.me.0).number; kind = C.kind }) }
     requires small { IsHeader header }
     ensures table { seat.new.table_id ≡ seat.old.table_id }
     ensures published { HasPublished seat.old.me seat.new.me }
@@ -150,8 +152,12 @@ fn record_as<C: Choice>(
     ensures table { seat.new.table_id ≡ seat.old.table_id }
     ensures writer { IsSeatOf ring.now.size Idle seat.new.me }
     ensures number { (writer_in seat.new.me.0).number ≡ (writer_in seat.old.me.0).number }
-    ensures ok { IfOk result (λ place. HasRecorded kind place (writer_is seat.old.table_id (writer_in seat.old.me.0)) (writer_is seat.new.table_id (writer_in seat.new.me.0))) }
-    ensures err { IfErr result (λ refused. IsRefusal kind (writer_is seat.old.table_id (writer_in seat.old.me.0)) refused (writer_is seat.new.table_id (writer_in seat.new.me.0))) }
+    ensures ok { IfOk result (λ place. HasRecorded kind place
+        (writer_is seat.old.table_id (writer_in seat.old.me.0))
+        (writer_is seat.new.table_id (writer_in seat.new.me.0))) }
+    ensures err { IfErr result (λ refused. IsRefusal kind
+        (writer_is seat.old.table_id (writer_in seat.old.me.0)) refused
+        (writer_is seat.new.table_id (writer_in seat.new.me.0))) }
 {
     let (header, value) = pack(Event {
         thread: number,

@@ -6,6 +6,7 @@ ghost use Rattle.tmw_ring.specs.Rooms.{FindsFront, HasFoundFront, HasFoundRoom, 
 use crate::ends::{Ring, Writer};
 use crate::part::Part;
 use crate::refused::Refused;
+use crate::table_words::FRONT_WORD;
 use atomic_table::Play;
 use std::collections::LinkedList;
 
@@ -37,7 +38,9 @@ impl Ring {
         requires { WriterOf self.now writer.old }
         ensures { FindsFront result writer.old writer.new }
     {
-        self.table.shared.load::<FoundFront>(&mut writer.seat, 16)
+        self.table
+            .shared
+            .load::<FoundFront>(&mut writer.seat, FRONT_WORD)
     }
 }
 

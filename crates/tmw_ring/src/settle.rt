@@ -3,10 +3,11 @@ ghost use Rattle.std.specs.Prelude.{◌≡◌, ◌++◌, map, length, All};
 ghost use Rattle.tmw_ring.specs.Ends.{ReaderOf, WriterOf};
 ghost use Rattle.tmw_ring.specs.Settling.{AreInOrder, IsSettled, part_of};
 
-use crate::cuts::BothParts;
 use crate::ends::{Reader, Ring, Writer};
 use crate::rule::RingSeat;
+use crate::seat_parts::BothParts;
 use crate::settled::Settled;
+use crate::table_words::TAIL_WORD;
 
 impl Ring {
     /// Ends the ring, once its reader and all its writers have come back, with writer i at place i. What nobody has taken is left.
@@ -21,7 +22,7 @@ impl Ring {
         join_all(&self, &mut seat, writers);
         let Ring { table, size } = self;
         let closed = table.close_with(seat);
-        let tail = closed.word(0);
+        let tail = closed.word(TAIL_WORD);
         Settled {
             closed,
             cells: size.cells,

@@ -25,7 +25,8 @@ impl Model for Settled {
 
     ghost use Rattle.tmw_ring.specs.Settling.{events_from, IsLeft};
 
-    ghost view = { λ left. events_from (slots_items left.closed.words) left.cells left.front (left.tail - left.front) };
+    ghost view = { λ left. events_from (slots_items left.closed.words) left.cells left.front
+        (left.tail - left.front) };
 
     ghost invariant = { λ left. IsLeft left.closed left.cells left.front left.tail };
 }

@@ -9,6 +9,7 @@ use crate::cell_words::{CellWords, words_at};
 use crate::ends::{Reader, Ring};
 use crate::part::Part;
 use crate::rule::RingSeat;
+use crate::table_words::FRONT_WORD;
 use atomic_table::Play;
 use std::collections::LinkedList;
 use tmw_events::{Event, split, unpack};
@@ -67,7 +68,9 @@ impl Ring {
         ensures table { seat.new.table_id ≡ seat.old.table_id }
         ensures freed { PlaceFreed seat.old.me seat.new.me }
     {
-        self.table.shared.store::<FreesPlace>(seat, 16, front + 1);
+        self.table
+            .shared
+            .store::<FreesPlace>(seat, FRONT_WORD, front + 1);
     }
 }
 

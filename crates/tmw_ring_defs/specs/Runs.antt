@@ -56,7 +56,7 @@ pub record Gone (actor : ℕ) (old mine new : List Answered) : Type 0 where
   pub longer : new ≡ old ++ since
   pub own_steps : own actor since ≡ mine
 
--- The same, and a new ring of this size may run so.
+-- The run has gone on, with these steps of the actor's, and a new ring of this size may run so.
 pub record HasMade (size : RingSize) (actor : ℕ) (mine old new : List Answered) : Type 0 where
   pub gone : Gone actor old mine new
   pub is_run : IsRun size new

@@ -13,7 +13,8 @@ impl RingState {
     /// The reader loads the next place's stamp and header.
     pub fn peek(&mut self) -> Reply
         requires { Sound (core_of self.old) }
-        ensures { (result, machine_of self.new) ≡ answered (machine_of self.old) (core_step Step.Peek (core_of self.old)) }
+        ensures { (result, machine_of self.new)
+            ≡ answered (machine_of self.old) (core_step Step.Peek (core_of self.old)) }
     {
         match self.reader {
             ReaderPhase::Waiting => {
@@ -33,7 +34,8 @@ impl RingState {
     /// The reader loads the next place's value.
     pub fn read(&mut self) -> Reply
         requires { Sound (core_of self.old) }
-        ensures { (result, machine_of self.new) ≡ answered (machine_of self.old) (core_step Step.Read (core_of self.old)) }
+        ensures { (result, machine_of self.new)
+            ≡ answered (machine_of self.old) (core_step Step.Read (core_of self.old)) }
     {
         match self.reader {
             ReaderPhase::Ready { header } => {
@@ -48,7 +50,8 @@ impl RingState {
     /// The reader stores the next front. It has taken the event.
     pub fn free(&mut self) -> Result<Reply, AllocError>
         requires { Sound (core_of self.old) }
-        ensures ok { IfOk result (λ reply. (reply, machine_of self.new) ≡ answered (machine_of self.old) (core_step Step.Free (core_of self.old))) }
+        ensures ok { IfOk result (λ reply. (reply, machine_of self.new)
+            ≡ answered (machine_of self.old) (core_step Step.Free (core_of self.old))) }
         ensures err { OnErr result (machine_of self.new ≡ machine_of self.old) }
     {
         match self.reader {

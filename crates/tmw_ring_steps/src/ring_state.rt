@@ -58,7 +58,9 @@ impl RingState {
     /// The writer has come so far.
     pub fn set_phase(&mut self, writer: Ix, phase: WriterPhase)
         requires { writer.number < length self.old.writers.items }
-        ensures { machine_of self.new ≡ record (machine_of self.old) { core = with_phase writer.number phase (core_of self.old) } }
+        ensures { machine_of self.new
+            ≡ record (machine_of self.old)
+            { core = with_phase writer.number phase (core_of self.old) } }
     {
         self.writers[usize::from(writer.get())] = phase;
     }
@@ -74,7 +76,8 @@ impl RingState {
     /// Stores the words of the place's cell.
     pub fn set_cell(&mut self, place: u64, cell: RingCell)
         requires { Sound (core_of self.old) }
-        ensures { machine_of self.new ≡ record (machine_of self.old) { core = with_cell place cell (core_of self.old) } }
+        ensures { machine_of self.new
+            ≡ record (machine_of self.old) { core = with_cell place cell (core_of self.old) } }
     {
         self.cells[(place % self.size.cells) as usize] = cell;
     }

@@ -67,6 +67,7 @@ impl Sim {
         ensures err { OnErr result (RanFirst self.old steps.now self.new) }
         ensures sound { Sound self.new.machine.core }
     {
+        // Read, so that the proof knows that the state is sound also where no step is made.
         let _ = &self.state;
         let mut said = Vec::with_capacity(alloc, steps.len())?;
         for step in steps {

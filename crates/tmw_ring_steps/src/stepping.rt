@@ -11,7 +11,8 @@ impl RingState {
     /// Makes the step, and answers it.
     pub fn step(&mut self, step: Step) -> Result<Reply, AllocError>
         requires { Sound (core_of self.old) }
-        ensures ok { IfOk result (λ reply. (reply, machine_of self.new) ≡ machine_step step (machine_of self.old)) }
+        ensures ok { IfOk result (λ reply. (reply, machine_of self.new)
+            ≡ machine_step step (machine_of self.old)) }
         ensures err { OnErr result (machine_of self.new ≡ machine_of self.old) }
     {
         if self.has_stopped(step) {

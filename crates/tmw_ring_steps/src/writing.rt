@@ -12,7 +12,9 @@ use tmw_ring_defs::{Reply, RingCell, Step, WriterPhase};
 impl RingState {
     /// The writer, which has an event of this kind to record, loads front.
     pub fn see_front(&mut self, writer: Ix, kind: Kind) -> Reply
-        ensures { (result, machine_of self.new) ≡ answered (machine_of self.old) (core_step (Step.Front writer kind) (core_of self.old)) }
+        ensures { (result, machine_of self.new)
+            ≡ answered (machine_of self.old)
+            (core_step (Step.Front writer kind) (core_of self.old)) }
     {
         match self.phase_of(writer) {
             Some(WriterPhase::Idle) => {
@@ -27,7 +29,8 @@ impl RingState {
     /// The writer loads tail, and sees whether there is room.
     pub fn see_tail(&mut self, writer: Ix) -> Reply
         requires { Sound (core_of self.old) }
-        ensures { (result, machine_of self.new) ≡ answered (machine_of self.old) (core_step (Step.Tail writer) (core_of self.old)) }
+        ensures { (result, machine_of self.new)
+            ≡ answered (machine_of self.old) (core_step (Step.Tail writer) (core_of self.old)) }
     {
         let Some(phase) = self.phase_of(writer) else {
             return Reply::NotNow;
@@ -42,7 +45,9 @@ impl RingState {
     fn look_for_room(&mut self, writer: Ix, kind: Kind, front: u64) -> Reply
         requires sound { Sound (core_of self.old) }
         requires looked { IsIn (core_of self.old) writer.number (WriterPhase.Looked kind front) }
-        ensures { (result, machine_of self.new) ≡ answered (machine_of self.old) (tail_step writer.number (core_of self.old) (WriterPhase.Looked kind front)) }
+        ensures { (result, machine_of self.new)
+            ≡ answered (machine_of self.old)
+            (tail_step writer.number (core_of self.old) (WriterPhase.Looked kind front)) }
     {
         let tail = self.tail;
         if self.size.is_spent(tail) {
@@ -60,7 +65,8 @@ impl RingState {
     /// The writer adds 1 to tail, and its event joins the log.
     pub fn claim(&mut self, writer: Ix) -> Result<Reply, AllocError>
         requires { Sound (core_of self.old) }
-        ensures ok { IfOk result (λ reply. (reply, machine_of self.new) ≡ answered (machine_of self.old) (core_step (Step.Claim writer) (core_of self.old))) }
+        ensures ok { IfOk result (λ reply. (reply, machine_of self.new)
+            ≡ answered (machine_of self.old) (core_step (Step.Claim writer) (core_of self.old))) }
         ensures err { OnErr result (machine_of self.new ≡ machine_of self.old) }
     {
         let Some(phase) = self.phase_of(writer) else {
@@ -91,7 +97,8 @@ impl RingState {
     /// The writer stores its event's value in the place's cell.
     pub fn fill(&mut self, writer: Ix) -> Reply
         requires { Sound (core_of self.old) }
-        ensures { (result, machine_of self.new) ≡ answered (machine_of self.old) (core_step (Step.Fill writer) (core_of self.old)) }
+        ensures { (result, machine_of self.new)
+            ≡ answered (machine_of self.old) (core_step (Step.Fill writer) (core_of self.old)) }
     {
         let Some(phase) = self.phase_of(writer) else {
             return Reply::NotNow;
@@ -128,7 +135,8 @@ impl RingState {
     /// The writer stores the place's stamp, with its event's header, in the place's cell.
     pub fn publish(&mut self, writer: Ix) -> Reply
         requires { Sound (core_of self.old) }
-        ensures { (result, machine_of self.new) ≡ answered (machine_of self.old) (core_step (Step.Publish writer) (core_of self.old)) }
+        ensures { (result, machine_of self.new)
+            ≡ answered (machine_of self.old) (core_step (Step.Publish writer) (core_of self.old)) }
     {
         let Some(phase) = self.phase_of(writer) else {
             return Reply::NotNow;

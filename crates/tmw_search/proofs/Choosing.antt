@@ -356,7 +356,7 @@ skip_from lasts r reach start end within none x = record {
   rest = λ q above few. x.rest q (omega (arith, above)) few;
 }
 
--- the same members under another name
+-- what is added, under another name
 pub adds-as : (done : Bool) (old new : List State) (P Q : State → Type 0) → ((e : State) → P e → Q e) → ((e : State) → Q e → P e)
     → Adds done old new P → Adds done old new Q
 adds-as done old new P Q to from a = record {

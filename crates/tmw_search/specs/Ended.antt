@@ -29,7 +29,7 @@ abbrev pub AreLayer : States → Window → ℕ → List (ℕ × State) → Type
 AreLayer states window k pairs = (events : List Event) → StandsFor window events → (p : ℕ × State)
     → Contains pairs p ↔ InLayer (Contains (members states)) (transactions events) k p.0 p.1
 
--- The same of the criterion.
+-- The pairs are the layer of k transactions of the window by this criterion.
 abbrev pub AreLayerBy : Criterion → States → Window → ℕ → List (ℕ × State) → Type 0
 AreLayerBy criterion states window k pairs = (events : List Event) → StandsFor window events → (p : ℕ × State)
     → Contains pairs p ↔ InLayerBy criterion (Contains (members states)) (transactions events) k p.0 p.1

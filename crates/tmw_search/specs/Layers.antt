@@ -41,9 +41,9 @@ pub record AreAside (criterion : Criterion) (ts : List Txn) (mask count : ℕ) :
   pub size : length (chosen mask ts) ≡ count
   pub each : (i : ℕ) (t : Txn) → slice_get ts i ≡ Some t → bit_at mask i ≡ bit (is_aside criterion (status_of t.text))
 
--- The same layers for strict serializability. A mask there has all that are aside, and they order nothing: some order of what a
--- completion of the k transactions holds that the mask chooses ends in the state, and the mask leaves none that precedes one of
--- those that may be held.
+-- A mask and a state of a layer for strict serializability. The mask has all that are aside, and they order nothing. Some order of
+-- what a completion of its k transactions holds ends in the state, and the mask leaves none that precedes one of those that may be
+-- held.
 pub record InStrictLayer (S : State → Type 0) (ts : List Txn) (k mask : ℕ) (state : State) : Type 0 where
   pub fits : mask < 2 ^ length ts
   pub size : length (chosen mask ts) ≡ k

@@ -47,6 +47,6 @@ abbrev pub idle_or_all : Criterion → List View → ℕ × State → Option ℕ
 idle_or_all criterion xs p None = nexts_from criterion 0 xs p
 idle_or_all criterion xs p (Some place) = (bit_or p.0 (1 * 2 ^ place % 2 ^ 8), p.1) ∷ []
 
--- The same, where one that leaves each state as it is is placed as soon as it can be, and no other in its place.
+-- The pairs after one placing more: one that leaves each state as it is is placed as soon as it can be, and no other in its place.
 abbrev pub pruned_from : Criterion → List View → ℕ × State → List (ℕ × State)
 pruned_from criterion xs p = idle_or_all criterion xs p (idle_from 0 xs p)

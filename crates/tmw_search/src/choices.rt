@@ -37,7 +37,8 @@ pub fn add_ends(
 ) -> Result<bool, AllocError>
     requires within { register ≤ upto }
     requires few { upto ≤ 8 }
-    ensures adds { IfOk result (λ done. AddsEnds lasts.now upto register reach.now end.now done (members ends.old) (members ends.new)) }
+    ensures adds { IfOk result (λ done. AddsEnds lasts.now upto register reach.now end.now done
+        (members ends.old) (members ends.new)) }
     ensures more { IfOk result (λ done. IsFalse done → cap < length (members ends.new)) }
 {
     if register == upto {

@@ -118,7 +118,8 @@ pub fn replace_by_outcomes(
     known: Option<State>,
 ) -> Result<bool, AllocError>
     ensures ok { IfOk result (λ few. (events : List Event) → StandsFor window.now events
-        → IfSome known (EndsOf criterion states.old events) → Replaces criterion states.old cap events states.new few) }
+        → IfSome known (EndsOf criterion states.old events)
+        → Replaces criterion states.old cap events states.new few) }
     ensures err { OnErr result (members states.new ≡ members states.old) }
 {
     if let Some(end) = known {

@@ -70,7 +70,9 @@ fn last_writer(items: &[Txn], register: usize) -> Option<usize>
 fn gives_way(item: &Txn, place: usize, other: &Txn, register: usize) -> bool
     requires place { place < 8 }
     requires register { register < 8 }
-    ensures { IsTrue result → IsTrue (shows_way register (left_in register other.now.ops.items) (view other.now) place (view item.now)) }
+    ensures { IsTrue result
+        → IsTrue (shows_way register (left_in register other.now.ops.items) (view other.now) place
+        (view item.now)) }
 {
     !is_writer(item, register)
         || other.before >> place & 1 == 1
@@ -134,7 +136,8 @@ pub fn find_ends(
     cap: u8,
 ) -> Result<Option<EndStates>, AllocError>
     requires { length items.now ≤ 8 }
-    ensures { IfOk result (λ found. IfSome found (λ ends. AreForcedEnds criterion (map view items.now) states.now cap ends)) }
+    ensures { IfOk result (λ found. IfSome found (λ ends. AreForcedEnds criterion
+        (map view items.now) states.now cap ends)) }
 {
     let mut ends = States::empty(alloc);
     for state in states {

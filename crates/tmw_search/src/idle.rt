@@ -45,7 +45,8 @@ fn push_pruned(
     reached: &Reached,
 ) -> Result<(), AllocError>
     requires { length items.now ≤ 8 }
-    ensures { OnOk result (nexts.new.items ≡ nexts.old.items ++ pruned_from criterion (map view items.now) reached.now) }
+    ensures { OnOk result (nexts.new.items
+        ≡ nexts.old.items ++ pruned_from criterion (map view items.now) reached.now) }
 {
     match idle_place(items, reached) {
         Some(place) => {
@@ -56,7 +57,7 @@ fn push_pruned(
     }
 }
 
-/// The same of all of these.
+/// Adds what placing one transaction more makes of each of these pairs. One that leaves the state as it is is placed alone.
 pub fn push_all_pruned(
     criterion: Criterion,
     nexts: &mut Vec<Reached>,
@@ -64,7 +65,8 @@ pub fn push_all_pruned(
     layer: &[Reached],
 ) -> Result<(), AllocError>
     requires { length items.now ≤ 8 }
-    ensures { OnOk result (nexts.new.items ≡ nexts.old.items ++ flat_map (pruned_from criterion (map view items.now)) layer.now) }
+    ensures { OnOk result (nexts.new.items
+        ≡ nexts.old.items ++ flat_map (pruned_from criterion (map view items.now)) layer.now) }
 {
     for reached in layer {
         push_pruned(criterion, nexts, items, reached)?;

@@ -32,7 +32,8 @@ pub fn is_next(item: &Txn, place: usize, mask: u8) -> bool
 
 /// The state in which it leaves the memory, held or left out, where what is asked of its reads holds.
 pub fn end_of(criterion: Criterion, item: &Txn, held: bool, state: &State) -> Option<State>
-    ensures { IfSome result (λ end. IsTrue (reads_asked criterion held state.now item.now.ops.items) × (end ≡ end_at (view item.now) state.now held)) }
+    ensures { IfSome result (λ end. IsTrue (reads_asked criterion held state.now item.now.ops.items)
+        × (end ≡ end_at (view item.now) state.now held)) }
 {
     if criterion == Criterion::Strict && !held {
         return Some(*state);
@@ -52,7 +53,8 @@ fn push_next(
     reached: &Reached,
 ) -> Result<(), AllocError>
     requires { place < 8 }
-    ensures { OnOk result (nexts.new.items ≡ nexts.old.items ++ next_at criterion (view item.now) place reached.now) }
+    ensures { OnOk result (nexts.new.items
+        ≡ nexts.old.items ++ next_at criterion (view item.now) place reached.now) }
 {
     let (mask, state) = *reached;
     if !is_next(item, place, mask) {
@@ -70,7 +72,8 @@ fn push_ways(
     above: u8,
     state: &State,
 ) -> Result<(), AllocError>
-    ensures { OnOk result (nexts.new.items ≡ nexts.old.items ++ ways criterion (view item.now) above state.now) }
+    ensures { OnOk result (nexts.new.items
+        ≡ nexts.old.items ++ ways criterion (view item.now) above state.now) }
 {
     let after = item.after(state);
     let left_out = criterion == Criterion::Strict || after.is_some();
@@ -93,7 +96,8 @@ pub fn push_nexts(
     reached: &Reached,
 ) -> Result<(), AllocError>
     requires { length items.now ≤ 8 }
-    ensures { OnOk result (nexts.new.items ≡ nexts.old.items ++ nexts_from criterion 0 (map view items.now) reached.now) }
+    ensures { OnOk result (nexts.new.items
+        ≡ nexts.old.items ++ nexts_from criterion 0 (map view items.now) reached.now) }
 {
     for (place, item) in items.iter().enumerate() {
         push_next(criterion, nexts, item, place, reached)?;
@@ -109,7 +113,8 @@ pub fn push_all(
     layer: &[Reached],
 ) -> Result<(), AllocError>
     requires { length items.now ≤ 8 }
-    ensures { OnOk result (nexts.new.items ≡ nexts.old.items ++ flat_map (nexts_from criterion 0 (map view items.now)) layer.now) }
+    ensures { OnOk result (nexts.new.items
+        ≡ nexts.old.items ++ flat_map (nexts_from criterion 0 (map view items.now)) layer.now) }
 {
     for reached in layer {
         push_nexts(criterion, nexts, items, reached)?;

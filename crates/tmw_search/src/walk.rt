@@ -24,6 +24,15 @@ struct Trial {
     later: u8,
 }
 
+/// How far an order is.
+#[derive(Clone, Copy)]
+struct Progress {
+    /// The transactions that it has placed, as a mask.
+    mask: u8,
+    /// How many are left.
+    left: usize,
+}
+
 /// One transaction in an order, held or left out.
 #[derive(Clone, Copy, Debug)]
 pub struct Step {
@@ -52,9 +61,9 @@ impl Trail {
     }
 
     /// Notes that this transaction is placed, and that so many are left behind it.
-    fn note(&mut self, left: usize, place: usize, held: bool) {
-        if let Some(step) = self.steps.get_mut(left) {
-            *step = Step { place, held };
+    fn note(&mut self, left: usize, step: Step) {
+        if let Some(last) = self.steps.get_mut(left) {
+            *last = step;
         }
         self.fuel = self.fuel.saturating_sub(1);
     }
@@ -131,28 +140,33 @@ fn is_committed(items: &[Txn], place: usize) -> bool {
 fn place_one(
     criterion: Criterion,
     items: &[Txn],
-    place: usize,
-    held: bool,
-    mask: u8,
-    left: usize,
+    step: Step,
+    progress: Progress,
     state: &State,
     trail: &mut Trail,
 ) -> Option<State>
     requires few { length items.now ≤ 8 }
-    requires some { 0 < left }
-    ensures { IfSome result (λ end. GoesOnTo criterion (map view items.now) mask left state.now end) }
+    requires some { 0 < progress.left }
+    ensures { IfSome result (λ end. GoesOnTo criterion (map view items.now) progress.mask
+        progress.left state.now end) }
 {
+    let Step { place, held } = step;
     let Some(item) = items.get(place) else {
         return None;
     };
-    if trail.fuel == 0 || !is_next(item, place, mask) || !may_hold(item.status, held) {
+    if trail.fuel == 0 || !is_next(item, place, progress.mask) || !may_hold(item.status, held) {
         return None;
     }
     let Some(end) = end_of(criterion, item, held, state) else {
         return None;
     };
-    trail.note(left - 1, place, held);
-    walk(criterion, items, mask | 1 << place, left - 1, &end, trail)
+    let left = progress.left - 1;
+    trail.note(left, step);
+    let next = Progress {
+        mask: progress.mask | 1 << place,
+        left,
+    };
+    walk(criterion, items, next, &end, trail)
 }
 
 /// Places one of those in `tried`, held or left out, and then the rest.
@@ -162,18 +176,19 @@ fn place_each(
     items: &[Txn],
     tried: u8,
     held: bool,
-    mask: u8,
-    left: usize,
+    progress: Progress,
     state: &State,
     trail: &mut Trail,
 ) -> Option<State>
     requires few { length items.now ≤ 8 }
-    requires some { 0 < left }
-    ensures { IfSome result (λ end. GoesOnTo criterion (map view items.now) mask left state.now end) }
+    requires some { 0 < progress.left }
+    ensures { IfSome result (λ end. GoesOnTo criterion (map view items.now) progress.mask
+        progress.left state.now end) }
 {
     for place in 0..items.len() {
         if tried >> place & 1 == 1 {
-            if let Some(end) = place_one(criterion, items, place, held, mask, left, state, trail) {
+            let step = Step { place, held };
+            if let Some(end) = place_one(criterion, items, step, progress, state, trail) {
                 return Some(end);
             }
         }
@@ -186,69 +201,49 @@ fn place_each(
 fn walk(
     criterion: Criterion,
     items: &[Txn],
-    mask: u8,
-    left: usize,
+    progress: Progress,
     state: &State,
     trail: &mut Trail,
 ) -> Option<State>
     requires few { length items.now ≤ 8 }
-    ensures { IfSome result (λ end. GoesOnTo criterion (map view items.now) mask left state.now end) }
+    ensures { IfSome result (λ end. GoesOnTo criterion (map view items.now) progress.mask
+        progress.left state.now end) }
 {
-    if left == 0 {
+    if progress.left == 0 {
         return Some(*state);
     }
-    let mut trial = trial_of(criterion, items, mask, 0, state);
+    let mut trial = trial_of(criterion, items, progress.mask, 0, state);
     if let Some(place) = trial.next {
-        let held = is_committed(items, place);
-        let found = place_one(criterion, items, place, held, mask, left, state, trail);
+        let step = Step {
+            place,
+            held: is_committed(items, place),
+        };
+        let found = place_one(criterion, items, step, progress, state, trail);
         if trial.alone || found.is_some() {
             return found;
         }
-        trial = trial_of(criterion, items, mask, trial.tried, state);
-        if let Some(other) = trial.next {
-            return place_one(
-                criterion,
-                items,
-                other,
-                is_committed(items, other),
-                mask,
-                left,
-                state,
-                trail,
-            );
+        trial = trial_of(criterion, items, progress.mask, trial.tried, state);
+        if let Some(place) = trial.next {
+            let step = Step {
+                place,
+                held: is_committed(items, place),
+            };
+            return place_one(criterion, items, step, progress, state, trail);
         }
     }
-    if let Some(end) = place_each(
-        criterion,
-        items,
-        trial.first,
-        true,
-        mask,
-        left,
-        state,
-        trail,
-    ) {
+    let (first, later) = (trial.first, trial.later);
+    if let Some(end) = place_each(criterion, items, first, true, progress, state, trail) {
         return Some(end);
     }
-    if let Some(end) = place_each(
-        criterion,
-        items,
-        trial.later,
-        true,
-        mask,
-        left,
-        state,
-        trail,
-    ) {
+    if let Some(end) = place_each(criterion, items, later, true, progress, state, trail) {
         return Some(end);
     }
     place_each(
         criterion,
         items,
-        trial.first | trial.later,
+        first | later,
         false,
-        mask,
-        left,
+        progress,
         state,
         trail,
     )
@@ -266,21 +261,19 @@ pub fn find_end(
     ensures { IfSome result (λ end. LeadsAll criterion (map view items.now) state.now end) }
 {
     let aside = set_aside(criterion, items);
-    walk(
-        criterion,
-        items,
-        aside.mask,
-        items.len() - aside.count,
-        state,
-        trail,
-    )
+    let progress = Progress {
+        mask: aside.mask,
+        left: items.len() - aside.count,
+    };
+    walk(criterion, items, progress, state, trail)
 }
 
 /// How a search has placed the transactions that began in this state, where it has placed all of them: that one which so many were
 /// left behind, for each number. It is to be checked by whoever takes it; told is only that there is such an order.
 pub fn find_order(items: &[Txn], state: &State) -> Option<[Step; 8]>
     requires { length items.now ≤ 8 }
-    ensures { IfSome result (λ steps. (end : State) × LeadsAll Opacity (map view items.now) state.now end) }
+    ensures { IfSome result (λ steps. (end : State)
+        × LeadsAll Opacity (map view items.now) state.now end) }
 {
     let mut trail = Trail::new(64);
     let Some(_end) = find_end(Criterion::Opacity, items, state, &mut trail) else {

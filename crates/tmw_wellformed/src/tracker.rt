@@ -37,14 +37,15 @@ impl Tracker {
     /// faults that the event has.
     #[inline(always)]
     pub fn step(&mut self, event: Event) -> Result<Note, Malformed>
-        ensures takes { IfOk result (λ _. (registers : ℕ) (history : List Event) → Tracks registers history self.old
+        ensures takes { IfOk result (λ _. (registers : ℕ) (history : List Event)
+            → Tracks registers history self.old
             → Tracks registers (history ++ event ∷ []) self.new) }
-        ensures notes { IfOk result (λ note. (registers : ℕ) (history : List Event) → Tracks registers history self.old
-            → Notes history event note) }
+        ensures notes { IfOk result (λ note. (registers : ℕ) (history : List Event)
+            → Tracks registers history self.old → Notes history event note) }
 
         // With the event the history would be ill-formed, and this is its first fault.
-        ensures refuses { IfErr result (λ fault. (registers : ℕ) (history : List Event) → Tracks registers history self.old
-            → Refuses registers history event fault) }
+        ensures refuses { IfErr result (λ fault. (registers : ℕ) (history : List Event)
+            → Tracks registers history self.old → Refuses registers history event fault) }
         ensures kept { OnErr result (self.new ≡ self.old) }
     {
         if lacks_register(self.registers, event.kind) {
@@ -63,7 +64,8 @@ impl Tracker {
     /// the two below take most events, in few steps.
     #[inline(always)]
     pub fn begin(&mut self, event: Event) -> bool
-        ensures takes { IsTrue result → (registers : ℕ) (history : List Event) → Tracks registers history self.old
+        ensures takes { IsTrue result → (registers : ℕ) (history : List Event)
+            → Tracks registers history self.old
             → TakesAs registers history event true false self.new }
         ensures kept { IsFalse result → self.new ≡ self.old }
     {
@@ -81,7 +83,8 @@ impl Tracker {
     /// and changes nothing.
     #[inline(always)]
     pub fn go_on(&mut self, event: Event) -> bool
-        ensures takes { IsTrue result → (registers : ℕ) (history : List Event) → Tracks registers history self.old
+        ensures takes { IsTrue result → (registers : ℕ) (history : List Event)
+            → Tracks registers history self.old
             → TakesAs registers history event false false self.new }
         ensures kept { IsFalse result → self.new ≡ self.old }
     {
@@ -98,7 +101,8 @@ impl Tracker {
     /// Takes the next event where it ends the only transaction that is live. Else it answers no and changes nothing.
     #[inline(always)]
     pub fn end_last(&mut self, event: Event) -> bool
-        ensures takes { IsTrue result → (registers : ℕ) (history : List Event) → Tracks registers history self.old
+        ensures takes { IsTrue result → (registers : ℕ) (history : List Event)
+            → Tracks registers history self.old
             → TakesAs registers history event false true self.new }
         ensures kept { IsFalse result → self.new ≡ self.old }
     {
@@ -115,7 +119,8 @@ impl Tracker {
     /// The phase of the event's thread, and the one to which the event leads, where the history stays well-formed with it.
     #[inline(always)]
     fn phases_of(&self, event: Event) -> Option<(Phase, Phase)>
-        ensures { IfSome result (λ phases. IsFalse (lacks_register self.now.registers.number event.kind)
+        ensures { IfSome result (λ phases. IsFalse
+            (lacks_register self.now.registers.number event.kind)
             × (phases.0 ≡ slice_index_or self.now.phases.by_thread event.thread.number Between)
             × (next_phase phases.0 event.kind ≡ Ok phases.1)) }
     {

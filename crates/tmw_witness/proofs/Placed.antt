@@ -12,7 +12,7 @@ use Rattle.tmw_search.proofs.LayerSteps.{slice_get_some}
 use Rattle.tmw_witness.specs.declared.witness.Witness.{Witness}
 use Rattle.tmw_witness.specs.Placing.{HasWriterOf, PlacesThose}
 use Rattle.tmw_witness.specs.Witness.{Stands, IsWitness}
-use Rattle.tmw_witness.specs.Witnessing.{rank_of, held_of, state_of}
+use Rattle.tmw_witness.specs.Witnessing.{rank_of, committed_of, state_of}
 
 -- The transaction at the place, which the mask leaves, goes to the highest rank, and nothing else is changed.
 pub record IsPlaced (xs : List View) (mask above p : ℕ) (x : View) (w new : Witness) : Type 0 where
@@ -21,16 +21,16 @@ pub record IsPlaced (xs : List View) (mask above p : ℕ) (x : View) (w new : Wi
   pub set : bit_at above p ≡ 1
   pub others : (i : ℕ) → (i ≡ p → ⊥) → bit_at above i ≡ bit_at mask i
   pub before : (j : ℕ) → bit_at x.before j ≡ 1 → bit_at mask j ≡ 1
-  pub unmoved : (i : ℕ) → (i ≡ p → ⊥) → (rank_of new i ≡ rank_of w i) × (held_of new i ≡ held_of w i)
+  pub unmoved : (i : ℕ) → (i ≡ p → ⊥) → (rank_of new i ≡ rank_of w i) × (committed_of new i ≡ committed_of w i)
   pub states : (r : ℕ) → r ≤ w.top → state_of new r ≡ state_of w r
   pub ranked : rank_of new p ≡ w.top
-  pub top : new.top ≡ w.top + bit (held_of new p)
-  pub stands : Stands (rank_of new) (held_of new) (state_of new) new.top p x
+  pub top : new.top ≡ w.top + bit (committed_of new p)
+  pub stands : Stands (rank_of new) (committed_of new) (state_of new) new.top p x
 
 -- those that were placed stand as before
 stands-before : (starts : List State) (xs : List View) (mask above p i : ℕ) (x z : View) (w new : Witness) → PlacesThose starts xs mask w
     → IsPlaced xs mask above p x w new → (i ≡ p → ⊥) → slice_get xs i ≡ Some z → bit_at mask i ≡ 1
-    → Stands (rank_of new) (held_of new) (state_of new) new.top i z
+    → Stands (rank_of new) (committed_of new) (state_of new) new.top i z
 stands-before starts xs mask above p i x z w new those placed apart at one =
     let old = those.each i z at one in
     let (same_rank, same_held) = placed.unmoved i apart in
@@ -47,7 +47,7 @@ stands-before starts xs mask above p i x z w new those placed apart at one =
           let (j_rank, j_held) = placed.unmoved j (λ same. let k = rw same at in_mask in let none = placed.out in absurd (omega (arith, k, none))) in
           (earlier, rw (j_rank, j_held, same_rank) kept);
       leads = λ is.
-          let was : held_of w i ≡ true = sym same_held ∙ is in
+          let was : committed_of w i ≡ true = sym same_held ∙ is in
           let next : state_of new (rank_of w i + 1) ≡ state_of w (rank_of w i + 1) =
           placed.states (rank_of w i + 1) (let k : rank_of w i + bit true ≤ w.top = rw was at low in k) in
           rw (same_rank, next, same_state) (old.leads was);
@@ -107,7 +107,7 @@ placed-more starts xs mask above p x w new those placed =
     }
   where
     -- one that was placed and is held stands below the highest rank
-    below : (j : ℕ) → (j ≡ p → ⊥) → bit_at mask j ≡ 1 → held_of new j ≡ true → rank_of new j ≡ w.top → ⊥
+    below : (j : ℕ) → (j ≡ p → ⊥) → bit_at mask j ≡ 1 → committed_of new j ≡ true → rank_of new j ≡ w.top → ⊥
     below j other one is at_top =
         let z = slice_get_some xs j (those.within j one) in
         let (same_rank, same_held) = placed.unmoved j other in
@@ -117,7 +117,7 @@ placed-more starts xs mask above p x w new those placed =
     last : (r : ℕ) → r < new.top → w.top ≤ r → HasWriterOf above new r
     last r low late =
         let top = placed.top in
-        elim (cases_Bool (held_of new p)) [
+        elim (cases_Bool (committed_of new p)) [
           | inl is ↦
               let top_is : new.top ≡ w.top + bit true = rw is at top in
               record { place = p; placed = placed.set; is = is; ranked = placed.ranked ∙ omega (arith, top_is, low, late) }
@@ -129,7 +129,7 @@ placed-more starts xs mask above p x w new those placed =
 -- where all are placed, it is a witness
 pub placed-all : (starts : List State) (xs : List View) (mask : ℕ) (w : Witness) → length xs ≤ 8
     → ((i : ℕ) → i < length xs → bit_at mask i ≡ 1) → PlacesThose starts xs mask w
-    → IsWitness (Contains starts) xs (rank_of w) (held_of w) (state_of w) w.top
+    → IsWitness (Contains starts) xs (rank_of w) (committed_of w) (state_of w) w.top
 placed-all starts xs mask w few all those = record {
   few = few;
   start = those.start;

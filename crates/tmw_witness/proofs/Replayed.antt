@@ -14,7 +14,7 @@ use Rattle.tmw_search.proofs.LayerSteps.{slice_get_some}
 use Rattle.tmw_search.proofs.Masks.{pow_some}
 use Rattle.tmw_witness.specs.declared.witness.Witness.{Witness}
 use Rattle.tmw_witness.specs.Placing.{PlacesThose}
-use Rattle.tmw_witness.specs.Witnessing.{rank_of, held_of, state_of}
+use Rattle.tmw_witness.specs.Witnessing.{rank_of, committed_of, state_of}
 use Rattle.tmw_witness.proofs.Kept.{AreLong}
 use Rattle.tmw_witness.proofs.Placed.{placed-more}
 
@@ -41,14 +41,14 @@ pub replayed-more : (starts : List State) (xs : List View) (mask p more : ℕ) (
     → more ≡ bit held → MayFollow xs mask p x held end w → PlacesThose starts xs mask w
     → PlacesThose starts xs (bit_or mask (1 * 2 ^ p % 2 ^ 8)) (record w {
       ranks = slice_set w.ranks p w.top;
-      held = slice_set w.held p held;
+      committed = slice_set w.committed p held;
       states = slice_set w.states (w.top + 1) end;
       top = w.top + more;
     })
 replayed-more starts xs mask p more x held end w long one_more f those =
     let new : Witness = record w {
       ranks = slice_set w.ranks p w.top;
-      held = slice_set w.held p held;
+      committed = slice_set w.committed p held;
       states = slice_set w.states (w.top + 1) end;
       top = w.top + more;
     } in
@@ -58,9 +58,9 @@ replayed-more starts xs mask p more x held end w long one_more f those =
     let few = f.few in
     let room = f.room in
     let here : rank_of new p ≡ w.top = get_or-set_same w.ranks p w.top 0 (omega (arith, ranks, few)) in
-    let now : held_of new p ≡ held = get_or-set_same w.held p held false (omega (arith, helds, few)) in
+    let now : committed_of new p ≡ held = get_or-set_same w.committed p held false (omega (arith, helds, few)) in
     let ranks_same : (i : ℕ) → (i ≡ p → ⊥) → rank_of new i ≡ rank_of w i = λ i apart. get_or-set_other w.ranks p i w.top 0 apart in
-    let held_same : (i : ℕ) → (i ≡ p → ⊥) → held_of new i ≡ held_of w i = λ i apart. get_or-set_other w.held p i held false apart in
+    let held_same : (i : ℕ) → (i ≡ p → ⊥) → committed_of new i ≡ committed_of w i = λ i apart. get_or-set_other w.committed p i held false apart in
     let low : (r : ℕ) → r ≤ w.top → state_of new r ≡ state_of w r = λ r below.
     get_or-set_other w.states (w.top + 1) r end [] (λ same. absurd (omega (arith, below, same))) in
     let last : state_of new (w.top + 1) ≡ end = get_or-set_same w.states (w.top + 1) end [] (omega (arith, states, room)) in

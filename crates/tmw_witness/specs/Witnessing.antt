@@ -9,12 +9,12 @@ use Rattle.tmw_witness.specs.declared.witness.Witness.{Witness}
 abbrev pub rank_of : Witness → ℕ → ℕ
 rank_of w i = slice_index w.ranks i
 
-abbrev pub held_of : Witness → ℕ → Bool
-held_of w i = slice_index_or w.held i false
+abbrev pub committed_of : Witness → ℕ → Bool
+committed_of w i = slice_index_or w.committed i false
 
 abbrev pub state_of : Witness → ℕ → State
 state_of w r = slice_index_or w.states r []
 
 -- Where it is known, it is a witness of what a window shows, from one of these states.
 abbrev pub Witnesses : List State → List View → Witness → Type 0
-Witnesses starts xs w = IsTrue w.known → IsWitness (Contains starts) xs (rank_of w) (held_of w) (state_of w) w.top
+Witnesses starts xs w = IsTrue w.known → IsWitness (Contains starts) xs (rank_of w) (committed_of w) (state_of w) w.top

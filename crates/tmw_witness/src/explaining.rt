@@ -13,6 +13,7 @@ use tmw_events::{Event, Kind};
 fn leaves(item: &Txn, state: &State) -> bool
     ensures { IsTrue result → after_writes state.now item.now.ops.items ≡ state.now }
 {
+    // Read, so that the proof knows that there are eight registers.
     let _registers = *state;
     item.only_reads()
 }
@@ -28,8 +29,10 @@ impl Witness {
     #[inline(always)]
     fn has_value(&self, item: &Txn, place: usize, value: u64) -> bool
         requires { place < 8 }
-        ensures { IsTrue result → IsTrue (reads_hold (state_of self.now (rank_of self.now place)) item.now.ops.items)
-            → IsTrue (reads_hold (state_of self.now (rank_of self.now place)) (item.now.ops.items ++ answered_ops item.now.call (V value))) }
+        ensures { IsTrue result
+            → IsTrue (reads_hold (state_of self.now (rank_of self.now place)) item.now.ops.items)
+            → IsTrue (reads_hold (state_of self.now (rank_of self.now place))
+            (item.now.ops.items ++ answered_ops item.now.call (V value))) }
     {
         match self.states.get(usize::from(self.ranks[place])) {
             Some(state) => item.fits_answer(state, value),
@@ -37,11 +40,12 @@ impl Witness {
         }
     }
 
-    /// Whether the transaction writes nothing, and so may be held as well as left out.
+    /// Whether the transaction writes nothing, and so may be taken as committed as well as left out.
     #[inline(always)]
     fn leaves_nothing(&self, item: &Txn, place: usize) -> bool
         requires { place < 8 }
-        ensures { IsTrue result → after_writes (state_of self.now (rank_of self.now place)) item.now.ops.items
+        ensures { IsTrue result
+            → after_writes (state_of self.now (rank_of self.now place)) item.now.ops.items
             ≡ state_of self.now (rank_of self.now place) }
     {
         match self.states.get(usize::from(self.ranks[place])) {
@@ -54,15 +58,16 @@ impl Witness {
     #[inline(always)]
     fn explains_at(&self, item: &Txn, place: usize, kind: Kind) -> bool
         requires { place < 8 }
-        ensures { IsTrue result → (starts : List State) (xs ys : List View) → TurnsAt xs ys place (view item.now) (next_view kind (view item.now))
+        ensures { IsTrue result → (starts : List State) (xs ys : List View)
+            → TurnsAt xs ys place (view item.now) (next_view kind (view item.now))
             → Witnesses starts xs self.now → Witnesses starts ys self.now }
     {
         match kind {
-            Kind::V(value) => !self.held[place] && self.has_value(item, place, value),
-            Kind::C => self.held[place] || self.leaves_nothing(item, place),
-            Kind::T => !self.held[place] && item.only_reads(),
+            Kind::V(value) => !self.committed[place] && self.has_value(item, place, value),
+            Kind::C => self.committed[place] || self.leaves_nothing(item, place),
+            Kind::T => !self.committed[place] && item.only_reads(),
             Kind::R(_) | Kind::W(_, _) | Kind::N(_, _) | Kind::X | Kind::K | Kind::A => {
-                !self.held[place]
+                !self.committed[place]
             }
         }
     }
@@ -71,8 +76,9 @@ impl Witness {
     #[inline(always)]
     pub fn explains(&self, window: &Window, event: Event) -> bool
         ensures known { IsTrue result → IsTrue self.now.known }
-        ensures stands { IsTrue result → (starts : List State) (events : List Event) → StandsFor window.now events
-            → Witnesses starts (views_of events) self.now → Witnesses starts (views_of (events ++ event ∷ [])) self.now }
+        ensures stands { IsTrue result → (starts : List State) (events : List Event)
+            → StandsFor window.now events → Witnesses starts (views_of events) self.now
+            → Witnesses starts (views_of (events ++ event ∷ [])) self.now }
     {
         match window.open_place(event.thread) {
             Some(place) => self.explains_open(window, place, event),
@@ -80,14 +86,16 @@ impl Witness {
         }
     }
 
-    /// The same of an event of the transaction at this place, which is open for its thread.
+    /// Whether an order is known and stays one with an event of the transaction at this place, which is open for its thread.
     #[inline(always)]
     pub fn explains_open(&self, window: &Window, place: usize, event: Event) -> bool
         requires { place < count_of window.now }
         ensures known { IsTrue result → IsTrue self.now.known }
-        ensures stands { IsTrue result → (starts : List State) (events : List Event) → StandsFor window.now events
+        ensures stands { IsTrue result → (starts : List State) (events : List Event)
+            → StandsFor window.now events
             → Some place ≡ position (is_open_for event.thread.number) (views_of events)
-            → Witnesses starts (views_of events) self.now → Witnesses starts (views_of (events ++ event ∷ [])) self.now }
+            → Witnesses starts (views_of events) self.now
+            → Witnesses starts (views_of (events ++ event ∷ [])) self.now }
     {
         if !self.known {
             return false;

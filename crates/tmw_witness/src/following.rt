@@ -10,7 +10,7 @@ use tmw_cuts::{State, Txn, Window};
 use tmw_events::{Event, Kind};
 
 impl Witness {
-    ghost use Rattle.tmw_witness.specs.Witnessing.{Witnesses, rank_of, held_of, state_of};
+    ghost use Rattle.tmw_witness.specs.Witnessing.{Witnesses, rank_of, committed_of, state_of};
     ghost use Rattle.tmw_witness.specs.Turns.{TurnsAt};
     ghost use Rattle.tmw_events.specs.declared.event.Event.{Event};
     ghost use Rattle.tmw_cuts.specs.Standing.{StandsFor, views_of};
@@ -20,30 +20,36 @@ impl Witness {
     /// Takes in that a transaction begins with an event of this kind, with which there are so many.
     #[inline(always)]
     fn begin(&mut self, count: usize, kind: Kind)
-        ensures { (starts : List State) (xs : List View) (y : View) → length xs + 1 ≡ count → y.ops ≡ []
-            → y.status ≡ status_after (Some kind) → ((j : ℕ) → bit_at y.before j ≡ 1 → j < length xs)
-            → Witnesses starts xs self.old → Witnesses starts (xs ++ y ∷ []) self.new }
+        ensures { (starts : List State) (xs : List View) (y : View) → length xs + 1 ≡ count
+            → y.ops ≡ [] → y.status ≡ status_after (Some kind)
+            → ((j : ℕ) → bit_at y.before j ≡ 1 → j < length xs) → Witnesses starts xs self.old
+            → Witnesses starts (xs ++ y ∷ []) self.new }
     {
         if matches!(kind, Kind::C) || count == 0 || count > 8 {
             self.known = false;
             return;
         }
         self.ranks[count - 1] = self.top;
-        self.held[count - 1] = false;
+        self.committed[count - 1] = false;
     }
 
-    /// The rank above the transaction: the next, where it is held.
+    /// The rank above the transaction: the next, where it is taken as committed.
     fn above(&self, place: usize) -> u32
         requires { place < 8 }
-        ensures { result ≡ rank_of self.now place + bit (held_of self.now place) }
+        ensures { result ≡ rank_of self.now place + bit (committed_of self.now place) }
     {
         let rank = u32::from(self.ranks[place]);
-        if self.held[place] { rank + 1 } else { rank }
+        if self.committed[place] {
+            rank + 1
+        } else {
+            rank
+        }
     }
 
     /// The lowest rank at which a transaction may stand that these precede.
     fn lowest(&self, before: u8) -> u32
-        ensures { (j : ℕ) → j < 8 → bit_at before j ≡ 1 → rank_of self.now j + bit (held_of self.now j) ≤ result }
+        ensures { (j : ℕ) → j < 8 → bit_at before j ≡ 1
+            → rank_of self.now j + bit (committed_of self.now j) ≤ result }
     {
         let mut low = 0u32;
         for place in 0..8 {
@@ -65,8 +71,10 @@ impl Witness {
 
     /// A rank at which the transaction's reads hold, and above those that precede it.
     fn other_rank(&self, item: &Txn) -> Option<u8>
-        ensures { IfSome result (λ rank. (rank ≤ self.now.top) × (rank < 9) × IsTrue (reads_hold (state_of self.now rank) item.now.ops.items)
-            × ((j : ℕ) → j < 8 → bit_at item.now.before j ≡ 1 → rank_of self.now j + bit (held_of self.now j) ≤ rank)) }
+        ensures { IfSome result (λ rank. (rank ≤ self.now.top) × (rank < 9)
+            × IsTrue (reads_hold (state_of self.now rank) item.now.ops.items)
+            × ((j : ℕ) → j < 8 → bit_at item.now.before j ≡ 1
+            → rank_of self.now j + bit (committed_of self.now j) ≤ rank)) }
     {
         let low = self.lowest(item.before);
         for rank in 0..9u8 {
@@ -79,10 +87,11 @@ impl Witness {
 
     /// Takes in that a read or an add of the transaction was answered: it stands where it stood, or at another rank.
     fn answer(&mut self, item: &Txn, place: usize)
-        ensures { (starts : List State) (xs ys : List View) (x : View) → TurnsAt xs ys place x (view item.now)
-            → IsTrue (may_hold item.now.status false) → Witnesses starts xs self.old → Witnesses starts ys self.new }
+        ensures { (starts : List State) (xs ys : List View) (x : View)
+            → TurnsAt xs ys place x (view item.now) → IsTrue (may_hold item.now.status false)
+            → Witnesses starts xs self.old → Witnesses starts ys self.new }
     {
-        if place >= 8 || self.held[place] {
+        if place >= 8 || self.committed[place] {
             self.known = false;
             return;
         }
@@ -95,23 +104,24 @@ impl Witness {
         }
     }
 
-    /// Puts the transaction, which was left out, at the end and holds it, where its reads hold there. It is called, so that what has to be part of the
-    /// reading of each line stays small enough to be.
+    /// Puts the transaction, which was left out, at the end and takes it as committed, where its reads hold there. It is called, so
+    /// that what has to be part of the reading of each line stays small enough to be.
     #[inline(never)]
     fn hold(&mut self, item: &Txn, place: usize) -> bool
-        ensures held { IsTrue result → (starts : List State) (xs ys : List View) (x : View) → TurnsAt xs ys place x (view item.now)
-            → IsTrue (may_hold item.now.status true) → Witnesses starts xs self.old → Witnesses starts ys self.new }
+        ensures held { IsTrue result → (starts : List State) (xs ys : List View) (x : View)
+            → TurnsAt xs ys place x (view item.now) → IsTrue (may_hold item.now.status true)
+            → Witnesses starts xs self.old → Witnesses starts ys self.new }
         ensures left { IsFalse result → self.new ≡ self.old }
     {
         let rank = usize::from(self.top);
-        if place >= 8 || rank >= 8 || self.held[place] {
+        if place >= 8 || rank >= 8 || self.committed[place] {
             return false;
         }
         let Some(end) = item.after(&self.states[rank]) else {
             return false;
         };
         self.ranks[place] = self.top;
-        self.held[place] = true;
+        self.committed[place] = true;
         self.states[rank + 1] = end;
         self.top += 1;
         true
@@ -120,11 +130,12 @@ impl Witness {
     /// Takes in an event after which the transaction stands as before, and is to be left out.
     #[inline(always)]
     fn keep(&mut self, place: usize)
-        ensures { (starts : List State) (xs ys : List View) (x y : View) → TurnsAt xs ys place x y → IsTrue (may_hold y.status false)
+        ensures { (starts : List State) (xs ys : List View) (x y : View) → TurnsAt xs ys place x y
+            → IsTrue (may_hold y.status false)
             → ((s : State) → IsTrue (reads_hold s x.ops) → IsTrue (reads_hold s y.ops))
             → Witnesses starts xs self.old → Witnesses starts ys self.new }
     {
-        if place >= 8 || self.held[place] {
+        if place >= 8 || self.committed[place] {
             self.known = false;
         }
     }
@@ -132,8 +143,10 @@ impl Witness {
     /// Takes in that the transaction has asked to commit: it goes to the end, where its reads hold there.
     #[inline(always)]
     fn ask(&mut self, item: &Txn, place: usize)
-        ensures { (starts : List State) (xs ys : List View) (x : View) → TurnsAt xs ys place x (view item.now)
-            → item.now.status ≡ Pending → item.now.ops.items ≡ x.ops → Witnesses starts xs self.old → Witnesses starts ys self.new }
+        ensures { (starts : List State) (xs ys : List View) (x : View)
+            → TurnsAt xs ys place x (view item.now) → item.now.status ≡ Pending
+            → item.now.ops.items ≡ x.ops → Witnesses starts xs self.old
+            → Witnesses starts ys self.new }
     {
         if !self.hold(item, place) {
             self.keep(place);
@@ -143,7 +156,8 @@ impl Witness {
     /// Whether the transaction's operations leave the state of its rank as it is.
     fn leaves_state(&self, item: &Txn, place: usize) -> bool
         requires { place < 8 }
-        ensures { IsTrue result → after_writes (state_of self.now (rank_of self.now place)) item.now.ops.items
+        ensures { IsTrue result
+            → after_writes (state_of self.now (rank_of self.now place)) item.now.ops.items
             ≡ state_of self.now (rank_of self.now place) }
     {
         let rank = usize::from(self.ranks[place]);
@@ -153,16 +167,18 @@ impl Witness {
         item.after(&self.states[rank]) == Some(self.states[rank])
     }
 
-    /// Takes in that the transaction has committed: it is held, or can be, or its operations leave the state as it is.
+    /// Takes in that the transaction has committed: it is taken so, or can be, or its operations leave the state as it is.
     fn commit(&mut self, item: &Txn, place: usize)
-        ensures { (starts : List State) (xs ys : List View) (x : View) → TurnsAt xs ys place x (view item.now)
-            → item.now.status ≡ Committed → item.now.ops.items ≡ x.ops → Witnesses starts xs self.old → Witnesses starts ys self.new }
+        ensures { (starts : List State) (xs ys : List View) (x : View)
+            → TurnsAt xs ys place x (view item.now) → item.now.status ≡ Committed
+            → item.now.ops.items ≡ x.ops → Witnesses starts xs self.old
+            → Witnesses starts ys self.new }
     {
         if place >= 8 {
             self.known = false;
             return;
         }
-        if self.held[place] {
+        if self.committed[place] {
             return;
         }
         if self.hold(item, place) {
@@ -185,31 +201,33 @@ impl Witness {
         true
     }
 
-    /// Takes in that the transaction has aborted: it is left out, or can be, where it was the last that was held.
+    /// Takes in that the transaction has aborted: it is left out, or can be, where it was the last that was taken as committed.
     fn abort(&mut self, place: usize, count: usize)
-        ensures { (starts : List State) (xs ys : List View) (x y : View) → TurnsAt xs ys place x y → y.status ≡ Aborted → y.ops ≡ x.ops
-            → length ys ≡ count → Witnesses starts xs self.old → Witnesses starts ys self.new }
+        ensures { (starts : List State) (xs ys : List View) (x y : View) → TurnsAt xs ys place x y
+            → y.status ≡ Aborted → y.ops ≡ x.ops → length ys ≡ count → Witnesses starts xs self.old
+            → Witnesses starts ys self.new }
     {
         if place >= 8 || count > 8 {
             self.known = false;
             return;
         }
-        if !self.held[place] {
+        if !self.committed[place] {
             return;
         }
         if u32::from(self.ranks[place]) + 1 != u32::from(self.top) || !self.none_at_top(count) {
             self.known = false;
             return;
         }
-        self.held[place] = false;
+        self.committed[place] = false;
         self.top -= 1;
     }
 
     /// Takes in that the transaction at the place has an event of this kind more.
     #[inline(always)]
     fn go_on(&mut self, item: &Txn, place: usize, count: usize, kind: Kind)
-        ensures { (starts : List State) (xs ys : List View) (x : View) → TurnsAt xs ys place x (view item.now)
-            → view item.now ≡ next_view kind x → length ys ≡ count → Witnesses starts xs self.old → Witnesses starts ys self.new }
+        ensures { (starts : List State) (xs ys : List View) (x : View)
+            → TurnsAt xs ys place x (view item.now) → view item.now ≡ next_view kind x
+            → length ys ≡ count → Witnesses starts xs self.old → Witnesses starts ys self.new }
     {
         match kind {
             Kind::V(_) => self.answer(item, place),
@@ -224,8 +242,10 @@ impl Witness {
     /// first of another.
     #[inline(always)]
     pub fn follow(&mut self, window: &Window, place: Option<usize>, event: Event)
-        ensures { (starts : List State) (events : List Event) → StandsFor window.now (events ++ event ∷ [])
-            → place ≡ position (is_open_for event.thread.number) (views_of events) → Witnesses starts (views_of events) self.old
+        ensures { (starts : List State) (events : List Event)
+            → StandsFor window.now (events ++ event ∷ [])
+            → place ≡ position (is_open_for event.thread.number) (views_of events)
+            → Witnesses starts (views_of events) self.old
             → Witnesses starts (views_of (events ++ event ∷ [])) self.new }
     {
         let Some(place) = place else {
@@ -239,11 +259,13 @@ impl Witness {
         }
     }
 
-    /// The same of the first event of a transaction.
+    /// Takes in the event that the window has taken last, the first of a transaction.
     #[inline(always)]
     pub fn follow_new(&mut self, window: &Window, event: Event)
-        ensures { (starts : List State) (events : List Event) → StandsFor window.now (events ++ event ∷ [])
-            → None ≡ position (is_open_for event.thread.number) (views_of events) → Witnesses starts (views_of events) self.old
+        ensures { (starts : List State) (events : List Event)
+            → StandsFor window.now (events ++ event ∷ [])
+            → None ≡ position (is_open_for event.thread.number) (views_of events)
+            → Witnesses starts (views_of events) self.old
             → Witnesses starts (views_of (events ++ event ∷ [])) self.new }
     {
         self.begin(window.transactions().len(), event.kind);

@@ -20,7 +20,8 @@ impl Witness {
     fn place(&mut self, items: &[Txn], step: Step, mask: u8) -> Option<u8>
         requires { length items.now ≤ 8 }
         ensures known { self.new.known ≡ self.old.known }
-        ensures placed { IfSome result (λ above. (starts : List State) → PlacesThose starts (map view items.now) mask self.old
+        ensures placed { IfSome result (λ above. (starts : List State)
+            → PlacesThose starts (map view items.now) mask self.old
             → PlacesThose starts (map view items.now) above self.new) }
     {
         let place = step.place;
@@ -39,7 +40,7 @@ impl Witness {
             return None;
         };
         self.ranks[place] = self.top;
-        self.held[place] = step.held;
+        self.committed[place] = step.held;
         self.states[rank + 1] = end;
         self.top += u8::from(step.held);
         Some(mask | 1 << place)
@@ -48,7 +49,8 @@ impl Witness {
     /// Takes this order in, from this state: that which so many are behind, for each number. It is known where it is one of all.
     fn take(&mut self, items: &[Txn], start: &State, steps: &[Step; 8])
         requires { length items.now ≤ 8 }
-        ensures { (starts : List State) → Contains starts start.now → Witnesses starts (map view items.now) self.new }
+        ensures { (starts : List State) → Contains starts start.now
+            → Witnesses starts (map view items.now) self.new }
     {
         self.known = false;
         self.states[0] = *start;
@@ -67,7 +69,8 @@ impl Witness {
 
     /// Looks for a serial order of the window's transactions from one of the states.
     fn find(&mut self, starts: &States, window: &Window)
-        ensures { (events : List Event) → StandsFor window.now events → Witnesses (members starts.now) (views_of events) self.new }
+        ensures { (events : List Event) → StandsFor window.now events
+            → Witnesses (members starts.now) (views_of events) self.new }
     {
         self.known = false;
         let items = window.transactions();
@@ -84,7 +87,8 @@ impl Witness {
     pub fn finds(&mut self, starts: &States, window: &Window) -> bool
         ensures known { result ≡ self.new.known }
         ensures keeps { IsTrue self.old.known → self.new ≡ self.old }
-        ensures stays { (events : List Event) → StandsFor window.now events → Witnesses (members starts.now) (views_of events) self.old
+        ensures stays { (events : List Event) → StandsFor window.now events
+            → Witnesses (members starts.now) (views_of events) self.old
             → Witnesses (members starts.now) (views_of events) self.new }
         ensures ends { IsTrue result → (events : List Event) → StandsFor window.now events
             → Witnesses (members starts.now) (views_of events) self.old

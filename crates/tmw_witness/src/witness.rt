@@ -8,16 +8,16 @@ ghost use Rattle.tmw_cuts.specs.Standing.{views_of};
 
 use tmw_cuts::State;
 
-/// A serial order of the transactions of a window, told by ranks. Those that a completion holds lead one after the other from the state
-/// of each rank to that of the next; the others read the state of their rank.
+/// A serial order of the transactions of a window, told by ranks. Those that a completion takes as committed lead one after the other
+/// from the state of each rank to that of the next; the others read the state of their rank.
 #[derive(Clone, Copy, Debug)]
 pub struct Witness {
     /// Whether such an order is known. Where it is not, the rest tells nothing.
     pub known: bool,
     /// The rank of each transaction.
     pub ranks: [u8; 8],
-    /// Whether the completion holds it, so that it leads to the next rank.
-    pub held: [bool; 8],
+    /// Whether the completion takes it as committed, so that it leads to the next rank.
+    pub committed: [bool; 8],
     /// The state at each rank.
     pub states: [State; 9],
     /// The highest rank.
@@ -30,12 +30,13 @@ impl Witness {
     /// That of a window without a transaction, from this state.
     pub fn new(start: State) -> Witness
         ensures known { IsTrue result.known }
-        ensures witnesses { (starts : List State) → Contains starts start → Witnesses starts [] result }
+        ensures witnesses { (starts : List State) → Contains starts start
+            → Witnesses starts [] result }
     {
         Witness {
             known: true,
             ranks: [0; 8],
-            held: [false; 8],
+            committed: [false; 8],
             states: [start; 9],
             top: 0,
         }
@@ -44,7 +45,8 @@ impl Witness {
     /// Begins anew, with a window without a transaction, from this state.
     pub fn restart(&mut self, start: &State)
         ensures known { IsTrue self.new.known }
-        ensures witnesses { (starts : List State) → Contains starts start.now → Witnesses starts [] self.new }
+        ensures witnesses { (starts : List State) → Contains starts start.now
+            → Witnesses starts [] self.new }
     {
         self.known = true;
         self.states[0] = *start;
@@ -57,7 +59,8 @@ impl Witness {
         requires { self.old.top < 9 }
         ensures end { result ≡ state_of self.old self.old.top }
         ensures known { self.new.known ≡ self.old.known }
-        ensures witnesses { (starts : List State) → Contains starts result → Witnesses starts [] self.new }
+        ensures witnesses { (starts : List State) → Contains starts result
+            → Witnesses starts [] self.new }
     {
         let end = self.states[usize::from(self.top)];
         self.states[0] = end;
@@ -75,7 +78,8 @@ impl Witness {
     /// Whether an order is known. Then the window's transactions have an end state.
     pub fn is_known(&self) -> bool
         ensures shown { result ≡ self.now.known }
-        ensures ends { (starts : List State) (events : List Event) → Witnesses starts (views_of events) self.now → IsTrue result
+        ensures ends { (starts : List State) (events : List Event)
+            → Witnesses starts (views_of events) self.now → IsTrue result
             → (end : State) × Ends (Contains starts) (transactions events) end }
     {
         self.known
@@ -90,8 +94,10 @@ impl Witness {
 
     /// The state in which the order ends, where one is known.
     pub fn known_end(&self) -> Option<State>
-        ensures shown { result ≡ (if self.now.known then slice_get self.now.states self.now.top else None) }
-        ensures end { IfSome result (λ end. (starts : List State) (events : List Event) → Witnesses starts (views_of events) self.now
+        ensures shown { result
+            ≡ (if self.now.known then slice_get self.now.states self.now.top else None) }
+        ensures end { IfSome result (λ end. (starts : List State) (events : List Event)
+            → Witnesses starts (views_of events) self.now
             → Ends (Contains starts) (transactions events) end) }
     {
         if !self.known {

@@ -10,7 +10,7 @@ use Rattle.tmw_cuts.specs.Members.{members}
 use Rattle.tmw_cuts.specs.Standing.{views_of}
 use Rattle.tmw_cuts.proofs.FirstMembers.{contains_here}
 use Rattle.tmw_search.proofs.WindowViews.{shows-views_of}
-use Rattle.tmw_witness.specs.Witnessing.{rank_of, held_of, state_of}
+use Rattle.tmw_witness.specs.Witnessing.{rank_of, committed_of, state_of}
 use Rattle.tmw_witness.proofs.Path.{witness-ends}
 use Rattle.tmw_monitor.proofs.AtOnce.{open-fine, last-fine}
 use Rattle.tmw_monitor.proofs.at_once.go_on_at_once.Goals as goal
@@ -27,7 +27,7 @@ returns-then-go_on-clause-taken c took rules history opacity window states keeps
     let at = c.requires.open rest keeps.stands in
     let witness = c.explains_open.ensures.stands explained starts rest keeps.stands at keeps.witness in
     let ends : Ends (Contains starts) (transactions all) (state_of w w.top) =
-    witness-ends (Contains starts) (views_of all) (transactions all) (rank_of w) (held_of w) (state_of w) w.top
+    witness-ends (Contains starts) (views_of all) (transactions all) (rank_of w) (committed_of w) (state_of w) w.top
     (witness (c.explains_open.ensures.known explained)) (shows-views_of all) in
     open-fine rules history e old _ keeps false (c.go_on.ensures.takes c.if-go_on.true rules.registers history keeps.tracks)
     (λ begins. absurd (cc)) opacity (inr (state_of w w.top, ends)) refl (c.push_at.ensures.stands rest keeps.stands (sym at)) witness
@@ -44,7 +44,7 @@ returns-clause-taken c took rules history opacity window states keeps =
     let at = c.requires.open rest keeps.stands in
     let witness = c.explains_open.ensures.stands explained starts rest keeps.stands at keeps.witness in
     let ends : Ends (Contains starts) (transactions all) (state_of w w.top) =
-    witness-ends (Contains starts) (views_of all) (transactions all) (rank_of w) (held_of w) (state_of w) w.top
+    witness-ends (Contains starts) (views_of all) (transactions all) (rank_of w) (committed_of w) (state_of w) w.top
     (witness (c.explains_open.ensures.known explained)) (shows-views_of all) in
     let only : members c.put_only.new.self ≡ state_of w w.top ∷ [] = rw (← c.restart_at_end-end.ensures.end) c.put_only.ensures in
     let positive = c.args.bounds.some_states in

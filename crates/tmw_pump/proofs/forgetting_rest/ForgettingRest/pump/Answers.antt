@@ -1,43 +1,31 @@
-use Rattle.std.proofs.Common.{◌∙◌}
+use Rattle.std.proofs.Common.{sym, subst}
 use Rattle.std.proofs.lemmas.Result.{err_from_is_err_and}
-use Rattle.tmw_pump.proofs.Calls.{gives_rested}
-use Rattle.tmw_pump.proofs.Turns.{rested-next, rested-same}
+use Rattle.tmw_pump.proofs.Calls.{is_rested, gives_rested, rested_all}
 use Rattle.tmw_pump.proofs.forgetting_rest.ForgettingRest.pump.Goals as goal
+use Rattle.tmw_pump.specs.Resting.{IsRested}
+use Rattle.tmw_pump.specs.declared.pumped.Pumped.{Pumped}
 
-pub returns-in_default-clause-headline : goal.returns-in_default-clause-headline
-returns-in_default-clause-headline c =
-    let old = c.args.self.now in
-    let next = c.next.new.self in
-    gives_rested c.loop-judged.judged old next
-    (rested-next c.loop-judged.judged c.next.result old c.loop-judged.self next c.loop-judged.invariant.0 c.next.ensures.all c.next.ensures.front)
-
-pub returns-in_err-judge-clause-err : goal.returns-in_err-judge-clause-err
-returns-in_err-judge-clause-err c =
+pub returns-in_err-judged-clause-err : goal.returns-in_err-judged-clause-err
+returns-in_err-judged-clause-err c =
     let p = err_from_is_err_and c.from_residual.result c.from_residual.ensures.1 in
-    let old = c.args.self.now in
-    let next = c.next.new.self in
-    let found = c.next.ensures in
-    let err = c.in_err-judge.ensures in
-    let done = rested-next c.loop-judged.judged c.next.result old c.loop-judged.self next c.loop-judged.invariant.0 found.all found.front in
-    rw p.1 (record {
-      count = c.loop-judged.judged;
-      fewer = c.loop-judged-test.true;
-      counted = rested-same c.loop-judged.judged old next c.judge.new.self done err.settled err.stays err.held err.fits;
-      event = c.in-Some.event;
-      held = err.held ∙ found.front.held ∙ c.in-Some.is;
-    })
+    let (count, fewer, judged, event, held) = c.in_err-judged.ensures.err in
+    rw p.1 (record { count = count; fewer = fewer; counted = judged; event = event; held = held })
 
-pub returns-in_err-judge-clause-headline : goal.returns-in_err-judge-clause-headline
-returns-in_err-judge-clause-headline c =
+pub returns-in_err-judged-clause-headline : goal.returns-in_err-judged-clause-headline
+returns-in_err-judged-clause-headline c =
+    let (count, fewer, judged, event, held) = c.in_err-judged.ensures.err in
+    gives_rested count c.args.self.now c.judge_some.new.turns judged
+
+pub returns-clause-ok : goal.returns-clause-ok
+returns-clause-ok c =
     let old = c.args.self.now in
-    let next = c.next.new.self in
-    let new = c.judge.new.self in
-    let found = c.next.ensures in
-    let err = c.in_err-judge.ensures in
-    let done = rested-next c.loop-judged.judged c.next.result old c.loop-judged.self next c.loop-judged.invariant.0 found.all found.front in
-    gives_rested c.loop-judged.judged old new
-    (rested-same c.loop-judged.judged old next new done err.settled err.stays err.held err.fits)
+    let new = c.judge_some.new.turns in
+    let done = c.in_ok-judged.ensures in
+    subst (λ (p : Pumped). IsRested c.args.max p old new) (sym c.pumped.ensures)
+    (is_rested c.args.max c.in_ok-judged.judged old new done.ok done.free c.judge_some.ensures.idle)
 
 pub returns-clause-headline : goal.returns-clause-headline
 returns-clause-headline c =
-    gives_rested c.loop-judged.judged c.args.self.now c.loop-judged.self c.loop-judged.invariant.0
+    let old = c.args.self.now in
+    let new = c.judge_some.new.turns in
+    gives_rested c.in_ok-judged.judged old new (rested_all c.args.max c.in_ok-judged.judged old new c.in_ok-judged.ensures.ok)

@@ -7,9 +7,10 @@ use Rattle.tmw_defs.specs.History.{status_after}
 use Rattle.tmw_defs.specs.Opaque.{may_hold, reads_hold}
 use Rattle.tmw_defs.proofs.QuietTexts.{tells_no_value}
 use Rattle.tmw_cuts.specs.Views.{View, view, next_view}
-use Rattle.tmw_witness.specs.Witnessing.{rank_of, held_of, state_of}
+use Rattle.tmw_witness.specs.Witnessing.{rank_of, committed_of, state_of}
 use Rattle.tmw_witness.proofs.Kept.{left_out-kept, held-kept}
-use Rattle.tmw_witness.proofs.Quiet.{ops-none, reads-quiet, left_out}
+use Rattle.tmw_defs.proofs.QuietProof.{left_out}
+use Rattle.tmw_witness.proofs.Quiet.{ops-none, reads-quiet}
 use Rattle.tmw_witness.proofs.witness.Witness.explains_at.Goals as goal
 
 -- a request and a commit event leave the operations

@@ -4,7 +4,8 @@ use Rattle.tmw_events.specs.declared.event.Kind.TheVariants.{T, C, A}
 use Rattle.tmw_defs.specs.declared.status.Status.TheVariants.{Live}
 use Rattle.tmw_defs.proofs.QuietTexts.{tells_no_value}
 use Rattle.tmw_cuts.specs.Views.{View, view}
-use Rattle.tmw_witness.proofs.Quiet.{ops-none, reads-quiet, left_out}
+use Rattle.tmw_defs.proofs.QuietProof.{left_out}
+use Rattle.tmw_witness.proofs.Quiet.{ops-none, reads-quiet}
 use Rattle.tmw_witness.proofs.witness.Witness.go_on.Goals as goal
 
 pub returns-in-V : goal.returns-in-V

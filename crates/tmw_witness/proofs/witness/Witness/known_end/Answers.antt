@@ -8,7 +8,7 @@ use Rattle.tmw_defs.specs.Opaque.{State}
 use Rattle.tmw_defs.specs.Outcomes.{Ends}
 use Rattle.tmw_cuts.specs.Standing.{views_of}
 use Rattle.tmw_search.proofs.WindowViews.{shows-views_of}
-use Rattle.tmw_witness.specs.Witnessing.{rank_of, held_of, state_of}
+use Rattle.tmw_witness.specs.Witnessing.{rank_of, committed_of, state_of}
 use Rattle.tmw_witness.proofs.Path.{witness-ends}
 use Rattle.tmw_witness.proofs.witness.Witness.known_end.Goals as goal
 
@@ -23,5 +23,5 @@ returns-clause-end c =
     if_some c.state_at.result _ (λ end found starts events was.
     let last : state_of w w.top ≡ end = get_or_from_slice_get w.states w.top end [] (sym is ∙ found) in
     subst (λ (s : State). Ends (Contains starts) (transactions events) s) last
-    (witness-ends (Contains starts) (views_of events) (transactions events) (rank_of w) (held_of w) (state_of w) w.top
+    (witness-ends (Contains starts) (views_of events) (transactions events) (rank_of w) (committed_of w) (state_of w) w.top
     (was c.if-not-self.false) (shows-views_of events)))

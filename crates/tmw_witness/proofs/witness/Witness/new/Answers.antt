@@ -9,7 +9,7 @@ returns-clause-witnesses c = λ starts has.
     let new : Witness = record {
       known = true;
       ranks = replicate 8 0;
-      held = replicate 8 false;
+      committed = replicate 8 false;
       states = replicate 9 c.args.start;
       top = 0;
     } in

@@ -1,4 +1,4 @@
--- Writers that become recorders, one behind another.
+-- Items one behind another, as writers that go to threads or become recorders, and what holds of each at its place.
 use Rattle.std.proofs.Common.{◌≡◌, ◌<◌, ◌++◌, ℕ, zero, suc, List, [], ◌∷◌, length, get_or, sym, ap, ◌∙◌, subst, arith}
 use Rattle.std.proofs.Math.Seq.{get_or-append_seam}
 use Rattle.tmw_ring.specs.Ends.{RingIs, WriterIs, WriterOf}

@@ -1,4 +1,4 @@
-//! How the parts of a seat are cut off, and put with another's.
+//! How the parts of a seat are split off, and joined with another's.
 ghost use Rattle.std.specs.Prelude.{[], ◌++◌};
 ghost use Rattle.tmw_ring.specs.Seats.{second_alone, without_second};
 

@@ -1,8 +1,0 @@
--- So many events were judged as turns were made, and none is held behind the last; before the first turn nothing is done.
-use Rattle.std.proofs.Common.{◌≡◌, ◌<◌, None}
-use Rattle.tmw_pump.specs.Resting.{HasRested}
-use Rattle.tmw_pump.proofs.rest.Rest.pump.Given as goal
-
-abbrev pub invariant-loop-judged : goal.invariant-loop-judged
-invariant-loop-judged l =
-    HasRested l.judged l.fn.self.forgetting l.self.forgetting × (0 < l.judged → l.self.forgetting.front.held ≡ None) × (l.judged ≡ 0 → l.self ≡ l.fn.self)
