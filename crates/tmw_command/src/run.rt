@@ -3,6 +3,7 @@ ghost use Rattle.std.specs.Result.{result_map_both};
 ghost use Rattle.tmw_report.specs.Putting.{IsPut, IsSent};
 ghost use Rattle.tmw_report.specs.Streams.{from_source, to_sink};
 ghost use Rattle.tmw_command.specs.Running.{AnswersRefusal, RunsCommand, RunsOrder, RunsWords, by_name};
+ghost use Rattle.tmw_tm.specs.Memory.{memory_is};
 
 use crate::memories::Memories;
 use crate::settings::{bench_flags, bench_settings};
@@ -47,7 +48,8 @@ pub fn run_command<
     progress: &P,
 ) -> u8
     ensures { RunsCommand (from_source S.told S.remaining S.ended S.failures) (to_sink K.took K.holds K.failures)
-        (to_sink E.took E.holds E.failures) (by_name (gives memories.entry.norec.now) (gives memories.entry.lock.now) (gives memories.entry.torn.now))
+        (to_sink E.took E.holds E.failures)
+        (by_name (λ memory. memory_is (has memory.now) (gives memory.now)) memories.entry)
         (result_map_both (λ given. map string_bytes given.items) (λ fault. fault) words)
         source.old source.new sink.old sink.new errors.old errors.new result }
 {
@@ -75,7 +77,8 @@ fn run_words<
     progress: &P,
 ) -> u8
     ensures { RunsWords (from_source S.told S.remaining S.ended S.failures) (to_sink K.took K.holds K.failures)
-        (to_sink E.took E.holds E.failures) (by_name (gives memories.entry.norec.now) (gives memories.entry.lock.now) (gives memories.entry.torn.now))
+        (to_sink E.took E.holds E.failures)
+        (by_name (λ memory. memory_is (has memory.now) (gives memory.now)) memories.entry)
         (map W.text words.now)
         source.old source.new sink.old sink.new errors.old errors.new result }
 {
@@ -95,7 +98,7 @@ fn run_order<S: Source, K: Sink, R: AllocGlobal + Threads + Wait + Sync, P: Prog
     progress: &P,
 ) -> u8
     ensures { RunsOrder (from_source S.told S.remaining S.ended S.failures) (to_sink K.took K.holds K.failures)
-        (by_name (gives memories.entry.norec.now) (gives memories.entry.lock.now) (gives memories.entry.torn.now)) order
+        (by_name (λ memory. memory_is (has memory.now) (gives memory.now)) memories.entry) order
         source.old source.new sink.old sink.new result }
 {
     let alloc = rt.alloc();

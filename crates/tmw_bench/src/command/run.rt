@@ -1,5 +1,6 @@
 ghost use Rattle.tmw_report.specs.Streams.{from_source, to_sink};
 ghost use Rattle.tmw_bench.specs.Running.{BenchesBytes};
+ghost use Rattle.tmw_tm.specs.Memory.{memory_is};
 
 use crate::Progress;
 use crate::command::answer::{answer_hunt, answer_run};
@@ -28,8 +29,8 @@ pub fn run_bench_cmd<S: Source, K: Sink, R: Threads + Wait + Sync, P: Progress>(
     memory: &(dyn Tm + Sync),
     plan: Plan<'_, P>,
 ) -> u8
-    ensures { BenchesBytes (from_source S.told S.remaining S.ended S.failures) (to_sink K.took K.holds K.failures) (gives memory.now)
-        plan.entry.flags plan.entry.settings source.old source.new sink.old sink.new result }
+    ensures { BenchesBytes (from_source S.told S.remaining S.ended S.failures) (to_sink K.took K.holds K.failures)
+        (memory_is (has memory.now) (gives memory.now)) plan.entry.flags plan.entry.settings source.old source.new sink.old sink.new result }
 {
     let Plan {
         settings,

@@ -1,5 +1,6 @@
 ghost use Rattle.tmw_report.specs.Streams.{from_source, to_sink};
 ghost use Rattle.tmw_drive.specs.Running.{DrivesBytes};
+ghost use Rattle.tmw_tm.specs.Memory.{memory_is};
 
 use crate::command::answer::answer_driven;
 use crate::command::driving::drive_source;
@@ -21,8 +22,8 @@ pub fn run_drive<S: Source, K: Sink>(
     trace: bool,
     bounds: Bounds,
 ) -> u8
-    ensures { DrivesBytes (from_source S.told S.remaining S.ended S.failures) (to_sink K.took K.holds K.failures) (gives memory.now)
-        trace bounds source.old source.new sink.old sink.new result }
+    ensures { DrivesBytes (from_source S.told S.remaining S.ended S.failures) (to_sink K.took K.holds K.failures)
+        (memory_is (has memory.now) (gives memory.now)) trace bounds source.old source.new sink.old sink.new result }
 {
     match drive_source(alloc, source, memory, bounds) {
         Ok(driven) => answer_driven(alloc, sink, &driven, trace),
