@@ -57,6 +57,8 @@ impl Tm for OneWriter {
 
     ghost gives = { λ memory call answer. Gives memory.registers call answer };
 
+    ghost has = { λ memory. memory.registers.number };
+
     fn registers(&self) -> Registers
         ensures { result ≡ self.now.registers }
     {

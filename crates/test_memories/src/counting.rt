@@ -64,6 +64,8 @@ impl Counting {
 impl Tm for Counting {
     ghost gives = { λ memory call answer. (value : ℕ) → answer ≡ Value value → value ≡ memory.value };
 
+    ghost has = { λ memory. memory.registers.number };
+
     fn registers(&self) -> Registers {
         self.registers
     }

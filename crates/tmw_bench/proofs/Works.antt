@@ -18,19 +18,19 @@ use Rattle.tmw_runs.specs.Scripts.{are_transactions}
 use Rattle.tmw_runs.specs.Standing.{AllStand}
 use Rattle.tmw_tm.specs.Answers.{Call, Answer}
 use Rattle.tmw_bench.proofs.Claims.{claimed-none, claimed-more}
-use Rattle.tmw_bench.specs.Calling.{HasClaimed, HasCalled, HasPlayed, StopsAt}
+use Rattle.tmw_bench.specs.Calling.{HasClaimed, HasCalled, HasRunSoFar, StopsAt}
 use Rattle.tmw_bench.specs.Working.{tail_of, EndsWork, FindsFrom, HasWorked}
 
 -- no call was made
 pub played-new : (gives : Call → Answer → Type 0) (registers : ℕ) (script : List (List Kind)) (thread : ℕ) (player : Player) (writer : WriterIs)
-    → IsTrue (are_transactions registers script) → IsNew thread player → HasPlayed gives script player writer writer
+    → IsTrue (are_transactions registers script) → IsNew thread player → HasRunSoFar gives script player writer writer
 played-new gives registers script thread player writer asks new =
     record { kinds = []; claimed = claimed-none writer; plays = plays-new gives registers script thread player asks new }
 
 -- one call more was made
 pub played-called : (gives : Call → Answer → Type 0) (script : List (List Kind)) (old new : Player) (call : Kind) (start before after : WriterIs)
-    → HasPlayed gives script old start before → next_of (left_of script old) ≡ Some call → HasCalled gives call old new before after
-    → HasPlayed gives script new start after
+    → HasRunSoFar gives script old start before → next_of (left_of script old) ≡ Some call → HasCalled gives call old new before after
+    → HasRunSoFar gives script new start after
 played-called gives script old new call start before after played is called =
     let more = call ∷ called.answer ∷ [] in
     record {
@@ -56,7 +56,7 @@ worked gives script kinds old stop new claimed found stand ended =
 
 -- no call is left
 pub worked-none_left : (gives : Call → Answer → Type 0) (script : List (List Kind)) (player : Player) (old new : WriterIs)
-    → HasPlayed gives script player old new → next_of (left_of script player) ≡ None → HasWorked gives script old None new
+    → HasRunSoFar gives script player old new → next_of (left_of script player) ≡ None → HasWorked gives script old None new
 worked-none_left gives script player old new played is =
     worked gives script played.kinds old None new played.claimed tt (so_far_all gives played.kinds _ played.plays.stands)
     (whole-plays gives script player played.kinds played.plays is)
@@ -90,7 +90,7 @@ begins-answer gives script player kinds call answer plays is fits =
 
 -- a record was refused
 pub worked-refused : (gives : Call → Answer → Type 0) (script : List (List Kind)) (player : Player) (call : Kind) (refused : Refused) (start before after : WriterIs)
-    → HasPlayed gives script player start before → next_of (left_of script player) ≡ Some call → StopsAt call refused before after
+    → HasRunSoFar gives script player start before → next_of (left_of script player) ≡ Some call → StopsAt call refused before after
     → HasWorked gives script start (Some refused) after
 worked-refused gives script player call refused start before after played is stops =
     let kinds = played.kinds in

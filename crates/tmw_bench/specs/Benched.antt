@@ -105,15 +105,18 @@ pub record IsHunted (gives : Call → Answer → Type 0) (registers : Registers)
   pub benched : HasBenched gives registers scripts settings log hunted.showing.verdict hunted.ends.items hunted.rounds
   pub shown : IsShowing (rules_of registers zeros settings.bounds) log hunted.showing
 
--- A ring may have the settings' numbers of cells and of places, and a writer for each of so many threads.
-pub record CanBench (threads : ℕ) (settings : Settings) : Type 0 where
+-- The memory has no fewer registers than the workload, and a ring may have the settings' numbers of cells and of places, and a
+-- writer for each of so many threads.
+pub record CanBench (has registers threads : ℕ) (settings : Settings) : Type 0 where
+  pub enough : registers ≤ has
   pub room : HasRoom settings.cells threads
   pub limit : HasLimit threads settings.limit
 
--- Nothing was judged to its end: the workload is over more than one register, so that a memory can have too few; or there is no
--- ring of this size; or there can be one, and it may be that memory or a thread was refused.
-abbrev pub IsNoBench : (registers : ℕ) → (threads : ℕ) → Settings → BenchFault → Type 0
-IsNoBench registers threads settings TooManyRegisters = 1 < registers
-IsNoBench registers threads settings (Ring fault) = IsWrongSize settings.cells threads settings.limit fault
-IsNoBench registers threads settings Memory = CanBench threads settings
-IsNoBench registers threads settings Spawn = CanBench threads settings
+-- Nothing was judged to its end: the workload has more registers than the memory; or it has no more, but there is no ring of this
+-- size; or there can be one, and it may be that memory or a thread was refused.
+abbrev pub IsNoBench : (has registers threads : ℕ) → Settings → BenchFault → Type 0
+IsNoBench has registers threads settings TooManyRegisters = has < registers
+IsNoBench has registers threads settings (Ring fault) =
+    (registers ≤ has) × IsWrongSize settings.cells threads settings.limit fault
+IsNoBench has registers threads settings Memory = CanBench has registers threads settings
+IsNoBench has registers threads settings Spawn = CanBench has registers threads settings

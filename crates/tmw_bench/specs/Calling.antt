@@ -38,7 +38,7 @@ StopsAt call refused before after =
     ⊎ ((answer : Kind) × IsTrue (answers call answer) × HasClaimed (call ∷ []) before after × WasRefused answer refused after))
 
 -- The thread has recorded the player's run of the script so far.
-pub record HasPlayed (gives : Call → Answer → Type 0) (script : List (List Kind)) (player : Player) (old new : WriterIs) : Type 0 where
+pub record HasRunSoFar (gives : Call → Answer → Type 0) (script : List (List Kind)) (player : Player) (old new : WriterIs) : Type 0 where
   pub kinds : List Kind
   pub claimed : HasClaimed kinds old new
   pub plays : Plays gives script player kinds

@@ -1,5 +1,5 @@
 -- What `bench` promises: from the bytes that its source tells to what its sink takes and the exit status.
-use Rattle.std.specs.Prelude.{ℕ, List, Result, Ok, Err, length}
+use Rattle.std.specs.Prelude.{◌≤◌, ℕ, List, Result, Ok, Err, length}
 use Rattle.std.specs.Bool.{MatchBool}
 use Rattle.tmw_bench.specs.Benched.{IsBenched, IsHunted, IsNoBench}
 use Rattle.tmw_bench.specs.declared.fault.BenchFault.{BenchFault}
@@ -17,43 +17,46 @@ use Rattle.tmw_bench.specs.declared.command.flags.Flags.{Flags}
 use Rattle.tmw_bench.specs.declared.command.hunt_run.HuntRun.{HuntRun}
 use Rattle.tmw_drive.specs.Driven.{IsHeaderOf}
 use Rattle.tmw_drive.specs.Running.{IsTextOver}
-use Rattle.tmw_tm.specs.Answers.{Call, Answer}
+use Rattle.tmw_tm.specs.Memory.{MemoryIs}
 use Rattle.tmw_runs.specs.Scripts.{scripts_of}
 use Rattle.tmw_workloads.specs.Json.{IsNoText, IsOtherText, IsWorkloadText}
 use Rattle.tmw_workloads.specs.declared.workload.Workload.{Workload}
 
--- The bytes are the text of a workload, and this is what threads have made of it on a memory that gives these answers: its
--- scripts, round after round, the verdict on the record, from registers that all hold 0, and how each thread has ended.
-pub record IsBenchedFrom (gives : Call → Answer → Type 0) (settings : Settings) (bytes : List ℕ) (run : BenchRun) : Type 0 where
+-- The bytes are the text of a workload over no more registers than the memory has, and this is what threads have made of it on the
+-- memory: its scripts, round after round, the verdict on the record, from registers that all hold 0, and how each thread has ended.
+pub record IsBenchedFrom (memory : MemoryIs) (settings : Settings) (bytes : List ℕ) (run : BenchRun) : Type 0 where
   pub registers : Registers
+  pub enough : registers.number ≤ memory.registers
   pub workload : IsTextOver registers.number bytes
   pub header : IsHeaderOf registers run.driven.outcome.log.items run.driven.header
-  pub benched : IsBenched gives registers workload.scripts settings (benched_of run)
+  pub benched : IsBenched memory.gives registers workload.scripts settings (benched_of run)
 
--- The bytes are the text of a workload, and this is what threads have made of it, of whose log the last window is told.
-pub record IsHuntedFrom (gives : Call → Answer → Type 0) (settings : Settings) (bytes : List ℕ) (run : HuntRun) : Type 0 where
+-- The bytes are the text of a workload over no more registers than the memory has, and this is what threads have made of it, of whose
+-- log the last window is told.
+pub record IsHuntedFrom (memory : MemoryIs) (settings : Settings) (bytes : List ℕ) (run : HuntRun) : Type 0 where
+  pub enough : run.shown.registers.number ≤ memory.registers
   pub workload : IsTextOver run.shown.registers.number bytes
-  pub hunted : IsHunted gives run.shown.registers workload.scripts settings (hunted_of run)
+  pub hunted : IsHunted memory.gives run.shown.registers workload.scripts settings (hunted_of run)
 
 -- The bytes are the text of a workload, of which no run was judged to its end, by this fault.
-pub record IsNoBenchFrom (settings : Settings) (bytes : List ℕ) (fault : BenchFault) : Type 0 where
+pub record IsNoBenchFrom (has : ℕ) (settings : Settings) (bytes : List ℕ) (fault : BenchFault) : Type 0 where
   pub registers : Registers
   pub workload : IsTextOver registers.number bytes
-  pub none : IsNoBench registers.number (length workload.scripts) settings fault
+  pub none : IsNoBench has registers.number (length workload.scripts) settings fault
 
 -- The fault is right of these bytes, which are all that the source has where `Ended` holds: they are no JSON text, or the text
--- of a value that is no workload's; or of a workload over more than one register; or of one for whose scripts no ring has the
--- settings' size; or of one for which there may be a ring. Only tests show that the memory had too few registers then, that a
--- thread could not be started, and that a growth was refused where the fault is `Memory`. `Io` answers a failed read.
-abbrev pub IsRightFault : Type 0 → Settings → List ℕ → Fault → Type 0
-IsRightFault Ended settings bytes Json = Ended × IsNoText bytes
-IsRightFault Ended settings bytes Shape = Ended × IsOtherText bytes
-IsRightFault Ended settings bytes TooManyRegisters = Ended × IsNoBenchFrom settings bytes LacksRegisters
-IsRightFault Ended settings bytes Ring = Ended × (fault : RingFault) × IsNoBenchFrom settings bytes (HasNoRing fault)
-IsRightFault Ended settings bytes Spawn = Ended × IsNoBenchFrom settings bytes LacksThreads
-IsRightFault Ended settings bytes Io = Ended → ⊥
-IsRightFault Ended settings bytes Memory = Unit {0}
-IsRightFault Ended settings bytes _ = ⊥
+-- of a value that is no workload's; or of a workload over more registers than the memory has; or of one for whose scripts no ring
+-- has the settings' size; or of one for which there may be a ring. Only tests show that a thread could not be started then, and that
+-- a growth was refused where the fault is `Memory`. `Io` answers a failed read.
+abbrev pub IsRightFault : (has : ℕ) → Type 0 → Settings → List ℕ → Fault → Type 0
+IsRightFault has Ended settings bytes Json = Ended × IsNoText bytes
+IsRightFault has Ended settings bytes Shape = Ended × IsOtherText bytes
+IsRightFault has Ended settings bytes TooManyRegisters = Ended × IsNoBenchFrom has settings bytes LacksRegisters
+IsRightFault has Ended settings bytes Ring = Ended × (fault : RingFault) × IsNoBenchFrom has settings bytes (HasNoRing fault)
+IsRightFault has Ended settings bytes Spawn = Ended × IsNoBenchFrom has settings bytes LacksThreads
+IsRightFault has Ended settings bytes Io = Ended → ⊥
+IsRightFault has Ended settings bytes Memory = Unit {0}
+IsRightFault has Ended settings bytes _ = ⊥
 
 -- The fault is right of these bytes, as the text of a workload.
 abbrev pub IsTextFault : Type 0 → List ℕ → Fault → Type 0
@@ -71,22 +74,22 @@ AnswersText Ended bytes (Err fault) = IsTextFault Ended bytes fault
 
 -- This answers the bytes that a source told: what was found of the workload of which they are the text, or a fault that is right
 -- of them.
-abbrev pub AnswersBy : {Found : Type 0} → (List ℕ → Found → Type 0) → Settings → Type 0 → List ℕ → Result Found Fault → Type 0
-AnswersBy IsFound settings Ended bytes (Ok found) = Ended × IsFound bytes found
-AnswersBy IsFound settings Ended bytes (Err fault) = IsRightFault Ended settings bytes fault
+abbrev pub AnswersBy : {Found : Type 0} → (List ℕ → Found → Type 0) → (has : ℕ) → Settings → Type 0 → List ℕ → Result Found Fault → Type 0
+AnswersBy IsFound has settings Ended bytes (Ok found) = Ended × IsFound bytes found
+AnswersBy IsFound has settings Ended bytes (Err fault) = IsRightFault has Ended settings bytes fault
 
--- What threads have made of the workload on a memory that gives these answers, with their log.
-abbrev pub AnswersBench : (Call → Answer → Type 0) → Settings → Type 0 → List ℕ → Result BenchRun Fault → Type 0
-AnswersBench gives settings = AnswersBy (IsBenchedFrom gives settings) settings
+-- What threads have made of the workload on the memory, with their log.
+abbrev pub AnswersBench : MemoryIs → Settings → Type 0 → List ℕ → Result BenchRun Fault → Type 0
+AnswersBench memory settings = AnswersBy (IsBenchedFrom memory settings) memory.registers settings
 
 -- What threads have made of it, with the last window of their log.
-abbrev pub AnswersHunt : (Call → Answer → Type 0) → Settings → Type 0 → List ℕ → Result HuntRun Fault → Type 0
-AnswersHunt gives settings = AnswersBy (IsHuntedFrom gives settings) settings
+abbrev pub AnswersHunt : MemoryIs → Settings → Type 0 → List ℕ → Result HuntRun Fault → Type 0
+AnswersHunt memory settings = AnswersBy (IsHuntedFrom memory settings) memory.registers settings
 
 -- What a run of `bench` does: an answer to the bytes that its source tells in it, and the answer's text to its sink. Where the log's
 -- trace is asked for the answer has the log, and else its length, its verdict and its last window.
-abbrev pub BenchesBytes : {S K : Type 0} → FromSource S → ToSink K → (Call → Answer → Type 0) → Flags → Settings → S → S → K → K → ℕ → Type 0
-BenchesBytes From To gives flags settings source source_after sink sink_after status =
+abbrev pub BenchesBytes : {S K : Type 0} → FromSource S → ToSink K → MemoryIs → Flags → Settings → S → S → K → K → ℕ → Type 0
+BenchesBytes From To memory flags settings source source_after sink sink_after status =
     MatchBool (asks_for_log flags)
-    (IsCommandRun From To (AnswersBench gives settings) bench_text bench_status source source_after sink sink_after status)
-    (IsCommandRun From To (AnswersHunt gives settings) (hunt_text flags) hunt_status source source_after sink sink_after status)
+    (IsCommandRun From To (AnswersBench memory settings) bench_text bench_status source source_after sink sink_after status)
+    (IsCommandRun From To (AnswersHunt memory settings) (hunt_text flags) hunt_status source source_after sink sink_after status)

@@ -1,4 +1,4 @@
-ghost use Rattle.std.specs.Prelude.{◌<◌, length, IfOk, IfErr, IsTrue};
+ghost use Rattle.std.specs.Prelude.{◌≤◌, length, IfOk, IfErr};
 ghost use Rattle.tmw_bench.specs.Benched.{IsBenched, IsHunted, IsNoBench};
 ghost use Rattle.tmw_bench.specs.Keeping.{IsCarriedOut};
 ghost use Rattle.tmw_runs.specs.Scripts.{scripts_of};
@@ -21,7 +21,6 @@ use std::marker::Brand;
 use std::sync::Wait;
 use std::thread::Threads;
 use tmw_drive::{Ending, Outcome};
-use tmw_events::Registers;
 use tmw_monitor::Monitor;
 use tmw_pump::{ForgettingPump, ForgettingRest};
 use tmw_recorded::Signals;
@@ -36,8 +35,8 @@ use tmw_workloads::Workload;
 /// carried out round after round on the same memory: a round begins when all threads have ended the one before, and only
 /// where the verdict is opaque so far and no thread was stopped.
 ///
-/// `Registers` where the memory has fewer registers than the workload, which is tested first; `Ring` where there is no ring of this
-/// size; `Memory` where a growth was refused; `Spawn` where a thread could not be started. All threads have ended then.
+/// `Registers` exactly where the memory has fewer registers than the workload; else `Ring` where there is no ring of this size;
+/// `Memory` where a growth was refused; `Spawn` where a thread could not be started. All threads have ended then.
 ///
 /// It returns if each call of the memory does.
 pub fn run_bench<R: Threads + Wait + Sync>(
@@ -48,7 +47,8 @@ pub fn run_bench<R: Threads + Wait + Sync>(
     settings: Settings,
 ) -> Result<Benched, BenchFault>
     ensures ok { IfOk result (IsBenched (gives memory.now) workload.now.registers (scripts_of workload.now.scripts.items) settings) }
-    ensures err { IfErr result (IsNoBench workload.now.registers.number (length workload.now.scripts.items) settings) }
+    ensures enough { IfOk result (λ benched. workload.now.registers.number ≤ has memory.now) }
+    ensures err { IfErr result (IsNoBench (has memory.now) workload.now.registers.number (length workload.now.scripts.items) settings) }
 {
     let carried = carry_out::<R, Log>(rt, alloc, memory, workload, settings, ())?;
     Ok(Benched {
@@ -73,7 +73,8 @@ pub fn hunt<R: Threads + Wait + Sync, P: Progress>(
     progress: &P,
 ) -> Result<Hunted, BenchFault>
     ensures ok { IfOk result (IsHunted (gives memory.now) workload.now.registers (scripts_of workload.now.scripts.items) settings) }
-    ensures err { IfErr result (IsNoBench workload.now.registers.number (length workload.now.scripts.items) settings) }
+    ensures enough { IfOk result (λ hunted. workload.now.registers.number ≤ has memory.now) }
+    ensures err { IfErr result (IsNoBench (has memory.now) workload.now.registers.number (length workload.now.scripts.items) settings) }
 {
     let over = carry_out::<R, Hunting<'_, P>>(rt, alloc, memory, workload, settings, progress);
     progress.end();
@@ -106,9 +107,10 @@ fn carry_out<R: Threads + Wait + Sync, K: Keep>(
 ) -> Result<Carried<K>, BenchFault>
     ensures ok { IfOk result (IsCarriedOut K.keeps (gives memory.now) workload.now.registers
         (scripts_of workload.now.scripts.items) settings) }
-    ensures err { IfErr result (IsNoBench workload.now.registers.number (length workload.now.scripts.items) settings) }
+    ensures enough { IfOk result (λ carried. workload.now.registers.number ≤ has memory.now) }
+    ensures err { IfErr result (IsNoBench (has memory.now) workload.now.registers.number (length workload.now.scripts.items) settings) }
 {
-    if has_too_few(memory.registers(), workload.registers) {
+    if memory.registers().get() < workload.registers.get() {
         return Err(BenchFault::Registers);
     }
     let threads = workload.scripts.len() as u64;
@@ -161,11 +163,4 @@ fn carry_out<R: Threads + Wait + Sync, K: Keep>(
         ends,
         rounds,
     })
-}
-
-/// Whether the memory has fewer registers than the workload, which has more than one then.
-fn has_too_few(memory: Registers, workload: Registers) -> bool
-    ensures { IsTrue result → 1 < workload.number }
-{
-    memory.number < workload.number
 }

@@ -12,7 +12,7 @@ use Rattle.tmw_bench.specs.Running.{BenchesBytes}
 use Rattle.tmw_drive.specs.Running.{DrivesBytes}
 use Rattle.tmw_show.specs.Running.{ShowsBytes}
 use Rattle.tmw_steps.specs.Running.{RunsSteps}
-use Rattle.tmw_tm.specs.Answers.{Call, Answer}
+use Rattle.tmw_tm.specs.Memory.{MemoryIs}
 use Rattle.tmw_command.specs.Options.{flags_of, settings_of}
 use Rattle.tmw_words.specs.Reading.{IsReading}
 use Rattle.tmw_command.specs.Version.{version_line}
@@ -21,20 +21,19 @@ use Rattle.tmw_words.specs.declared.order.Order.TheVariants.{Judge, Show, Drive,
 use Rattle.tmw_words.specs.declared.refusal.Refusal.{Refusal}
 use Rattle.tmw_words.specs.declared.refusal.Refusal.TheVariants.{Help, Version, Usage, Memory}
 use Rattle.tmw_words.specs.declared.which.Which.{Which}
-use Rattle.tmw_words.specs.declared.which.Which.TheVariants.{NoRec, Lock, Torn}
+use Rattle.tmw_command.specs.Memories.{memory_named}
+use Rattle.tmw_command.specs.declared.memories.Memories.{Memories}
 
--- What each memory may answer to a call.
-abbrev pub MemoryAnswers : Type 1
-MemoryAnswers = Which → Call → Answer → Type 0
+-- How many registers each memory has, and what it may answer to a call.
+abbrev pub MemoriesAre : Type 1
+MemoriesAre = Which → MemoryIs
 
--- The answers of the memory of this name.
-abbrev pub by_name : (Call → Answer → Type 0) → (Call → Answer → Type 0) → (Call → Answer → Type 0) → MemoryAnswers
-by_name norec lock torn NoRec = norec
-by_name norec lock torn Lock = lock
-by_name norec lock torn Torn = torn
+-- The memory of this name.
+abbrev pub by_name : {M : Type 0} → (M → MemoryIs) → Memories M → MemoriesAre
+by_name is memories name = is (memory_named memories name)
 
 -- What the order's command does.
-abbrev pub RunsOrder : {S K : Type 0} → FromSource S → ToSink K → MemoryAnswers → Order → S → S → K → K → ℕ → Type 0
+abbrev pub RunsOrder : {S K : Type 0} → FromSource S → ToSink K → MemoriesAre → Order → S → S → K → K → ℕ → Type 0
 RunsOrder From To memories (Judge bounds asked) = JudgesBytes From To bounds asked
 RunsOrder From To memories (Show criterion trace bounds) = ShowsBytes From To criterion trace bounds
 RunsOrder From To memories (Drive memory trace bounds) = DrivesBytes From To (memories memory) trace bounds
@@ -55,7 +54,7 @@ AnswersRefusal To Errors Memory sink sink_after errors errors_after status =
 
 -- What words do that were read so. Without an order nothing is read from the source. An order sends nothing to the sink for errors:
 -- what a bench tells of how far it has come goes elsewhere, and is in no clause.
-abbrev pub RunsReading : {S K E : Type 0} → FromSource S → ToSink K → ToSink E → MemoryAnswers → Result Order Refusal → S → S → K → K → E → E
+abbrev pub RunsReading : {S K E : Type 0} → FromSource S → ToSink K → ToSink E → MemoriesAre → Result Order Refusal → S → S → K → K → E → E
     → ℕ → Type 0
 RunsReading From To Errors memories (Ok order) source source_after sink sink_after errors errors_after status =
     RunsOrder From To memories order source source_after sink sink_after status × (errors_after ≡ errors)
@@ -63,14 +62,14 @@ RunsReading From To Errors memories (Err refusal) source source_after sink sink_
     AnswersRefusal To Errors refusal sink sink_after errors errors_after status × (source_after ≡ source)
 
 -- What the words do, by a reading of them.
-pub record RunsWords {S K E : Type 0} (From : FromSource S) (To : ToSink K) (Errors : ToSink E) (memories : MemoryAnswers)
+pub record RunsWords {S K E : Type 0} (From : FromSource S) (To : ToSink K) (Errors : ToSink E) (memories : MemoriesAre)
     (words : List Text) (source source_after : S) (sink sink_after : K) (errors errors_after : E) (status : ℕ) : Type 0 where
   pub reading : Result Order Refusal
   pub read : IsReading words reading
   pub run : RunsReading From To Errors memories reading source source_after sink sink_after errors errors_after status
 
 -- What a command line does, of which the words may not be had: then the fault's line is put to the sink, and no more is done.
-abbrev pub RunsCommand : {S K E : Type 0} → FromSource S → ToSink K → ToSink E → MemoryAnswers → Result (List Text) Fault → S → S → K → K → E
+abbrev pub RunsCommand : {S K E : Type 0} → FromSource S → ToSink K → ToSink E → MemoriesAre → Result (List Text) Fault → S → S → K → K → E
     → E → ℕ → Type 0
 RunsCommand From To Errors memories (Ok words) source source_after sink sink_after errors errors_after status =
     RunsWords From To Errors memories words source source_after sink sink_after errors errors_after status

@@ -2,6 +2,7 @@ ghost use Rattle.std.specs.Prelude.{◌≡◌, MatchBool, None, Some, map, strin
 ghost use Rattle.std.specs.Result.{result_map_both};
 ghost use Rattle.tmw_report.specs.Putting.{IsPut, IsSent};
 ghost use Rattle.tmw_command.specs.Running.{AnswersRefusal, RunsCommand, RunsOrder, RunsWords, by_name};
+ghost use Rattle.tmw_tm.specs.Memory.{memory_is};
 
 use crate::memories::Memories;
 use crate::settings::{bench_flags, bench_settings};
@@ -46,8 +47,8 @@ pub fn run_command<
     progress: &P,
 ) -> u8
     ensures { RunsCommand S.from K.to
-        E.to (by_name (gives memories.entry.norec.now) (gives memories.entry.lock.now)
-        (gives memories.entry.torn.now))
+        E.to
+        (by_name (λ memory. memory_is (has memory.now) (gives memory.now)) memories.entry)
         (result_map_both (λ given. map string_bytes given.items) (λ fault. fault) words)
         source.old source.new sink.old sink.new errors.old errors.new result }
 {
@@ -75,8 +76,8 @@ fn run_words<
     progress: &P,
 ) -> u8
     ensures { RunsWords S.from K.to
-        E.to (by_name (gives memories.entry.norec.now) (gives memories.entry.lock.now)
-        (gives memories.entry.torn.now))
+        E.to
+        (by_name (λ memory. memory_is (has memory.now) (gives memory.now)) memories.entry)
         (map W.text words.now)
         source.old source.new sink.old sink.new errors.old errors.new result }
 {
@@ -96,8 +97,7 @@ fn run_order<S: Source, K: Sink, R: AllocGlobal + Threads + Wait + Sync, P: Prog
     progress: &P,
 ) -> u8
     ensures { RunsOrder S.from K.to
-        (by_name (gives memories.entry.norec.now) (gives memories.entry.lock.now)
-        (gives memories.entry.torn.now)) order
+        (by_name (λ memory. memory_is (has memory.now) (gives memory.now)) memories.entry) order
         source.old source.new sink.old sink.new result }
 {
     let alloc = rt.alloc();

@@ -1,5 +1,5 @@
 -- What `drive` promises: from the bytes that its source tells to what its sink takes and the exit status.
-use Rattle.std.specs.Prelude.{◌≡◌, ◌<◌, ℕ, Bool, IsTrue, List, Result, Ok, Err}
+use Rattle.std.specs.Prelude.{◌≡◌, ◌<◌, ◌≤◌, ℕ, Bool, IsTrue, List, Result, Ok, Err}
 use Rattle.tmw_defs.specs.Opaque.{zeros}
 use Rattle.tmw_defs.specs.Verdict.{IsVerdict}
 use Rattle.tmw_defs.specs.declared.verdict.Verdict.TheVariants.{Malformed}
@@ -14,7 +14,7 @@ use Rattle.tmw_report.specs.declared.fault.Fault.{Fault}
 use Rattle.tmw_report.specs.declared.fault.Fault.TheVariants.{Io, Json, Memory, Registers as TooManyRegisters, Shape}
 use Rattle.tmw_drive.specs.Driven.{IsHeaderOf, driven_text, driven_status}
 use Rattle.tmw_drive.specs.declared.command.driven.Driven.{Driven}
-use Rattle.tmw_tm.specs.Answers.{Call, Answer}
+use Rattle.tmw_tm.specs.Memory.{MemoryIs}
 use Rattle.tmw_workloads.specs.Json.{IsNoText, IsOtherText, IsWorkloadText}
 use Rattle.tmw_workloads.specs.Workload.{is_workload}
 
@@ -25,35 +25,36 @@ pub record IsTextOver (registers : ℕ) (bytes : List ℕ) : Type 0 where
   pub is : IsTrue (is_workload registers scripts order)
   pub text : IsWorkloadText registers scripts order bytes
 
--- The bytes are the text of a workload, and this is what a memory that gives these answers made of it: its scripts were driven
--- in its order, and the verdict is the one on the log, from registers that all hold 0.
-pub record IsDrivenFrom (gives : Call → Answer → Type 0) (bounds : Bounds) (bytes : List ℕ) (driven : Driven) : Type 0 where
+-- The bytes are the text of a workload over no more registers than the memory has, and this is what the memory made of it: its
+-- scripts were driven in its order, and the verdict is the one on the log, from registers that all hold 0.
+pub record IsDrivenFrom (memory : MemoryIs) (bounds : Bounds) (bytes : List ℕ) (driven : Driven) : Type 0 where
   pub registers : Registers
+  pub enough : registers.number ≤ memory.registers
   pub workload : IsTextOver registers.number bytes
   pub header : IsHeaderOf registers driven.outcome.log.items driven.header
-  pub made : IsDriven gives workload.scripts workload.order driven.outcome.log.items driven.outcome.ends.items
+  pub made : IsDriven memory.gives workload.scripts workload.order driven.outcome.log.items driven.outcome.ends.items
   pub judged : IsVerdict (rules_of registers zeros bounds) driven.outcome.log.items driven.outcome.verdict
   pub formed : (at : ℕ) → driven.outcome.verdict ≡ Malformed at → ⊥
 
 -- The fault is right of these bytes, which are all that the source has where `Ended` holds: they are no JSON text, or the
--- text of a value that is no workload's; or that of a workload over more than one register. Only tests show that the memory had too
--- few registers then, and that a growth was refused where the fault is `Memory`. `Io` answers a failed read.
-abbrev pub IsRightFault : Type 0 → List ℕ → Fault → Type 0
-IsRightFault Ended bytes Json = Ended × IsNoText bytes
-IsRightFault Ended bytes Shape = Ended × IsOtherText bytes
-IsRightFault Ended bytes TooManyRegisters =
-    Ended × (registers : Registers) × (1 < registers.number) × IsTextOver registers.number bytes
-IsRightFault Ended bytes Io = Ended → ⊥
-IsRightFault Ended bytes Memory = Unit {0}
-IsRightFault Ended bytes _ = ⊥
+-- text of a value that is no workload's; or that of a workload over more registers than the memory has. Only tests show that a
+-- growth was refused where the fault is `Memory`. `Io` answers a failed read.
+abbrev pub IsRightFault : (has : ℕ) → Type 0 → List ℕ → Fault → Type 0
+IsRightFault has Ended bytes Json = Ended × IsNoText bytes
+IsRightFault has Ended bytes Shape = Ended × IsOtherText bytes
+IsRightFault has Ended bytes TooManyRegisters =
+    Ended × (registers : Registers) × (has < registers.number) × IsTextOver registers.number bytes
+IsRightFault has Ended bytes Io = Ended → ⊥
+IsRightFault has Ended bytes Memory = Unit {0}
+IsRightFault has Ended bytes _ = ⊥
 
--- This answers the bytes that a source told: what a memory that gives these answers made of the workload of which they are
--- the text, or a fault that is right of them.
-abbrev pub AnswersWorkload : (Call → Answer → Type 0) → Bounds → Type 0 → List ℕ → Result Driven Fault → Type 0
-AnswersWorkload gives bounds Ended bytes (Ok driven) = Ended × IsDrivenFrom gives bounds bytes driven
-AnswersWorkload gives bounds Ended bytes (Err fault) = IsRightFault Ended bytes fault
+-- This answers the bytes that a source told: what the memory made of the workload of which they are the text, or a fault that is
+-- right of them.
+abbrev pub AnswersWorkload : MemoryIs → Bounds → Type 0 → List ℕ → Result Driven Fault → Type 0
+AnswersWorkload memory bounds Ended bytes (Ok driven) = Ended × IsDrivenFrom memory bounds bytes driven
+AnswersWorkload memory bounds Ended bytes (Err fault) = IsRightFault memory.registers Ended bytes fault
 
 -- What a run of `drive` does: an answer to the bytes that its source tells in it, and the answer's text to its sink.
-abbrev pub DrivesBytes : {S K : Type 0} → FromSource S → ToSink K → (Call → Answer → Type 0) → Bool → Bounds → S → S → K → K → ℕ → Type 0
-DrivesBytes From To gives trace bounds =
-    IsCommandRun From To (AnswersWorkload gives bounds) (driven_text trace) driven_status
+abbrev pub DrivesBytes : {S K : Type 0} → FromSource S → ToSink K → MemoryIs → Bool → Bounds → S → S → K → K → ℕ → Type 0
+DrivesBytes From To memory trace bounds =
+    IsCommandRun From To (AnswersWorkload memory bounds) (driven_text trace) driven_status

@@ -1,4 +1,4 @@
-ghost use Rattle.std.specs.Prelude.{◌≡◌, ◌≢◌, ◌<◌, ℕ, IfOk, IfErr};
+ghost use Rattle.std.specs.Prelude.{◌≡◌, ◌≢◌, ◌<◌, ◌≤◌, ◌↔◌, ℕ, IfOk, IfErr};
 ghost use Rattle.tmw_defs.specs.Opaque.{zeros};
 ghost use Rattle.tmw_defs.specs.Verdict.{IsVerdict};
 ghost use Rattle.tmw_defs.specs.declared.verdict.Verdict.TheVariants.{Malformed};
@@ -25,18 +25,21 @@ use tmw_workloads::Workload;
 /// is not made. After a commit or an abort event the script goes on with its next transaction. A thread without a call left
 /// does nothing. Transactions that the order leaves open are not aborted.
 ///
-/// `Registers` where the memory has fewer registers than the workload; it is asked for no more than that. `Memory` where a growth
-/// was refused; what was called until then is lost to the caller.
+/// `Registers` exactly where the memory has fewer registers than the workload; it is asked for no more than that. `Memory` where a
+/// growth was refused; what was called until then is lost to the caller.
 pub fn drive(
     alloc: Global,
     memory: &(dyn Tm + Sync),
     workload: &Workload,
     bounds: Bounds,
 ) -> Result<Outcome, DriveFault>
-    ensures driven { IfOk result (λ outcome. IsDriven (gives memory.now) (scripts_of workload.now.scripts.items) workload.now.order.items outcome.log.items outcome.ends.items) }
-    ensures verdict { IfOk result (λ outcome. IsVerdict (rules_of workload.now.registers zeros bounds) outcome.log.items outcome.verdict) }
+    ensures driven { IfOk result (λ outcome. IsDriven (gives memory.now) (scripts_of workload.now.scripts.items)
+        workload.now.order.items outcome.log.items outcome.ends.items) }
+    ensures verdict { IfOk result (λ outcome. IsVerdict (rules_of workload.now.registers zeros bounds) outcome.log.items
+        outcome.verdict) }
     ensures formed { IfOk result (λ outcome. (events : ℕ) → outcome.verdict ≢ Malformed events) }
-    ensures registers { IfErr result (λ fault. fault ≡ TooManyRegisters → 1 < workload.now.registers.number) }
+    ensures enough { IfOk result (λ outcome. workload.now.registers.number ≤ has memory.now) }
+    ensures too_few { IfErr result (λ fault. (fault ≡ TooManyRegisters) ↔ (has memory.now < workload.now.registers.number)) }
 {
     if memory.registers().get() < workload.registers.get() {
         return Err(DriveFault::Registers);
@@ -52,7 +55,8 @@ fn record(
     memory: &(dyn Tm + Sync),
     workload: &Workload,
 ) -> Result<(Vec<Event>, Vec<Ending>), AllocError>
-    ensures { IfOk result (λ recorded. IsDriven (gives memory.now) (scripts_of workload.now.scripts.items) workload.now.order.items recorded.0.items recorded.1.items) }
+    ensures { IfOk result (λ recorded. IsDriven (gives memory.now) (scripts_of workload.now.scripts.items)
+        workload.now.order.items recorded.0.items recorded.1.items) }
 {
     let mut players = new_players(alloc, workload.scripts.len() as u8)?;
     let mut log = Vec::new(alloc);

@@ -47,6 +47,8 @@ impl GlobalLock {
 impl Tm for GlobalLock {
     ghost gives = { λ memory call answer. Unit {0} };
 
+    ghost has = { λ memory. memory.registers.number };
+
     fn registers(&self) -> Registers
         ensures { result ≡ self.now.registers }
     {

@@ -122,6 +122,8 @@ impl NoRec {
 impl Tm for NoRec {
     ghost gives = { λ memory call answer. Unit {0} };
 
+    ghost has = { λ memory. memory.registers.number };
+
     fn registers(&self) -> Registers
         ensures { result ≡ self.now.registers }
     {

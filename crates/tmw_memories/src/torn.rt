@@ -29,6 +29,8 @@ impl Torn {
 impl Tm for Torn {
     ghost gives = { λ memory call answer. Unit {0} };
 
+    ghost has = { λ memory. memory.registers.number };
+
     fn registers(&self) -> Registers
         ensures { result ≡ self.now.registers }
     {

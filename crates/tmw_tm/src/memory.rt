@@ -1,3 +1,4 @@
+ghost use Rattle.std.specs.Prelude.{◌≡◌, ℕ};
 ghost use Rattle.tmw_tm.specs.Answers.{Call, Answer, got_answer, did_answer};
 ghost use Rattle.tmw_tm.specs.Answers.Call.{Begin, Read, Write, Add, Commit};
 
@@ -15,8 +16,12 @@ pub trait Tm: Drop {
     /// The memory may answer this call so, at any time.
     ghost gives: { Self → Call → Answer → Type 0 };
 
+    /// It has so many registers, at any time.
+    ghost has: { Self → ℕ };
+
     /// How many registers it has.
-    fn registers(&self) -> Registers;
+    fn registers(&self) -> Registers
+        ensures has { result.number ≡ has self.now };
 
     /// Begins a transaction.
     fn begin(&self, tx: &mut Tx) -> Did

@@ -43,6 +43,8 @@ impl Waiting {
 impl Tm for Waiting {
     ghost gives = { λ memory call answer. Unit {0} };
 
+    ghost has = { λ memory. 2 };
+
     fn registers(&self) -> Registers {
         Registers { number: 2 }
     }
@@ -110,6 +112,8 @@ impl Overtaken {
 impl Tm for Overtaken {
     ghost gives = { λ memory call answer. Unit {0} };
 
+    ghost has = { λ memory. 1 };
+
     fn registers(&self) -> Registers {
         Registers { number: 1 }
     }
@@ -165,6 +169,8 @@ impl Overlapping {
 
 impl Tm for Overlapping {
     ghost gives = { λ memory call answer. Unit {0} };
+
+    ghost has = { λ memory. 1 };
 
     fn registers(&self) -> Registers {
         Registers { number: 1 }
@@ -248,6 +254,8 @@ impl Holding {
 
 impl Tm for Holding {
     ghost gives = { λ memory call answer. Unit {0} };
+
+    ghost has = { λ memory. 2 };
 
     fn registers(&self) -> Registers {
         Registers { number: 2 }

@@ -19,6 +19,8 @@ fn mark(tx: &mut Tx) {
 impl Tm for Marking {
     ghost gives = { λ memory call answer. Unit {0} };
 
+    ghost has = { λ memory. memory.registers.number };
+
     fn registers(&self) -> Registers {
         self.registers
     }

@@ -4,6 +4,7 @@ ghost use Rattle.tmw_bench.specs.BenchRun.{benched_of, hunted_of};
 ghost use Rattle.tmw_bench.specs.Running.{AnswersBench, AnswersHunt, AnswersText, IsNoBenchFrom, IsRightFault};
 ghost use Rattle.tmw_drive.specs.Driven.{IsHeaderOf};
 ghost use Rattle.tmw_streams.specs.Told.{Tells};
+ghost use Rattle.tmw_tm.specs.Memory.{memory_is};
 
 use crate::command::bench_run::BenchRun;
 use crate::command::hunt_run::HuntRun;
@@ -28,7 +29,7 @@ pub fn bench_source<S: Source, R: Threads + Wait + Sync>(
     settings: Settings,
 ) -> Result<BenchRun, Fault>
     ensures right { (bytes : List ℕ) × Tells S.from source.old bytes source.new
-        × AnswersBench (gives memory.now) settings (S.from.ended source.new) bytes result }
+        × AnswersBench (memory_is (has memory.now) (gives memory.now)) settings (S.from.ended source.new) bytes result }
     ensures failures { S.from.failures source.new ≡ failures_after_answer result (S.from.failures source.old) }
 {
     let workload = match read_source(alloc, source) {
@@ -51,7 +52,7 @@ pub fn hunt_source<S: Source, R: Threads + Wait + Sync, P: Progress>(
     progress: &P,
 ) -> Result<HuntRun, Fault>
     ensures right { (bytes : List ℕ) × Tells S.from source.old bytes source.new
-        × AnswersHunt (gives memory.now) settings (S.from.ended source.new) bytes result }
+        × AnswersHunt (memory_is (has memory.now) (gives memory.now)) settings (S.from.ended source.new) bytes result }
     ensures failures { S.from.failures source.new ≡ failures_after_answer result (S.from.failures source.old) }
 {
     let workload = match read_source(alloc, source) {
@@ -92,8 +93,8 @@ fn read_bytes(alloc: Global, bytes: &[u8]) -> Result<Workload, Fault>
 
 /// The fault by which a workload was not carried out.
 fn fault_of(fault: BenchFault) -> Fault
-    ensures { (settings : Settings) (bytes : List ℕ) → IsNoBenchFrom settings bytes fault
-        → IsRightFault (Unit {0}) settings bytes result }
+    ensures { (has : ℕ) (settings : Settings) (bytes : List ℕ) → IsNoBenchFrom has settings bytes fault
+        → IsRightFault has (Unit {0}) settings bytes result }
 {
     match fault {
         BenchFault::Registers => Fault::Registers,

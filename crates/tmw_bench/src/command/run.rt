@@ -1,4 +1,5 @@
 ghost use Rattle.tmw_bench.specs.Running.{BenchesBytes};
+ghost use Rattle.tmw_tm.specs.Memory.{memory_is};
 
 use crate::Progress;
 use crate::command::answer::{answer_hunt, answer_run};
@@ -27,8 +28,8 @@ pub fn run_bench_cmd<S: Source, K: Sink, R: Threads + Wait + Sync, P: Progress>(
     memory: &(dyn Tm + Sync),
     plan: Plan<'_, P>,
 ) -> u8
-    ensures { BenchesBytes S.from K.to (gives memory.now)
-        plan.entry.flags plan.entry.settings source.old source.new sink.old sink.new result }
+    ensures { BenchesBytes S.from K.to
+        (memory_is (has memory.now) (gives memory.now)) plan.entry.flags plan.entry.settings source.old source.new sink.old sink.new result }
 {
     let Plan {
         settings,

@@ -2,6 +2,7 @@ ghost use Rattle.std.specs.Prelude.{◌≡◌, ℕ, List};
 ghost use Rattle.tmw_report.specs.CommandRun.{failures_after_answer};
 ghost use Rattle.tmw_drive.specs.Running.{AnswersWorkload};
 ghost use Rattle.tmw_streams.specs.Told.{Tells};
+ghost use Rattle.tmw_tm.specs.Memory.{memory_is};
 
 use crate::command::driven::{Driven, header_of};
 use crate::{DriveFault, drive};
@@ -20,7 +21,7 @@ pub fn drive_source<S: Source>(
     bounds: Bounds,
 ) -> Result<Driven, Fault>
     ensures right { (bytes : List ℕ) × Tells S.from source.old bytes source.new
-        × AnswersWorkload (gives memory.now) bounds (S.from.ended source.new) bytes result }
+        × AnswersWorkload (memory_is (has memory.now) (gives memory.now)) bounds (S.from.ended source.new) bytes result }
     ensures failures { S.from.failures source.new ≡ failures_after_answer result (S.from.failures source.old) }
 {
     let mut bytes = Vec::new(alloc);
@@ -38,7 +39,7 @@ fn drive_text(
     memory: &(dyn Tm + Sync),
     bounds: Bounds,
 ) -> Result<Driven, Fault>
-    ensures { AnswersWorkload (gives memory.now) bounds (Unit {0}) bytes.now result }
+    ensures { AnswersWorkload (memory_is (has memory.now) (gives memory.now)) bounds (Unit {0}) bytes.now result }
 {
     let workload = match read_workload(alloc, bytes) {
         Ok(workload) => workload,

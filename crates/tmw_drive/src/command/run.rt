@@ -1,4 +1,5 @@
 ghost use Rattle.tmw_drive.specs.Running.{DrivesBytes};
+ghost use Rattle.tmw_tm.specs.Memory.{memory_is};
 
 use crate::command::answer::answer_driven;
 use crate::command::driving::drive_source;
@@ -20,8 +21,8 @@ pub fn run_drive<S: Source, K: Sink>(
     trace: bool,
     bounds: Bounds,
 ) -> u8
-    ensures { DrivesBytes S.from K.to (gives memory.now)
-        trace bounds source.old source.new sink.old sink.new result }
+    ensures { DrivesBytes S.from K.to
+        (memory_is (has memory.now) (gives memory.now)) trace bounds source.old source.new sink.old sink.new result }
 {
     match drive_source(alloc, source, memory, bounds) {
         Ok(driven) => answer_driven(alloc, sink, &driven, trace),

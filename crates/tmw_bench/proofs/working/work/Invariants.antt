@@ -3,14 +3,14 @@ use Rattle.std.proofs.Common.{◌≡◌}
 use Rattle.tmw_drive.specs.Playing.{calls_of, left_of}
 use Rattle.tmw_ring.specs.Ends.{WriterOf}
 use Rattle.tmw_bench.proofs.Left.{calls_left}
-use Rattle.tmw_bench.specs.Calling.{HasPlayed}
+use Rattle.tmw_bench.specs.Calling.{HasRunSoFar}
 use Rattle.tmw_bench.proofs.working.work.Given as goal
 
 abbrev pub invariant-loop-call : goal.invariant-loop-call
 invariant-loop-call g l =
     WriterOf l.ring l.writer
     × (l.writer.number ≡ l.fn.writer.number)
-    × HasPlayed ((goal.Tm-dyn g l.memory.now).gives l.memory.now.1) (calls_of l.script) l.player l.fn.writer l.writer
+    × HasRunSoFar ((goal.Tm-dyn g l.memory.now).gives l.memory.now.1) (calls_of l.script) l.player l.fn.writer l.writer
 
 abbrev pub decreases-loop-call : goal.decreases-loop-call
 decreases-loop-call g l = calls_left (left_of (calls_of l.script) l.player)

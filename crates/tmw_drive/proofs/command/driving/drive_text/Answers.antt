@@ -11,6 +11,7 @@ returns-in-Ok-drive g c =
       tt,
       record {
         registers = workload.registers;
+        enough = c.in-Ok-drive.ensures.enough;
         workload = record {
           scripts = scripts_of workload.scripts.items;
           order = workload.order.items;
@@ -29,7 +30,7 @@ returns-in-Err-Registers g c =
     let workload = c.in-Ok.workload in (
       tt,
       workload.registers,
-      c.in-Err-Registers.ensures.registers c.in-Err-Registers.field-0-is,
+      c.in-Err-Registers.ensures.too_few.0 c.in-Err-Registers.field-0-is,
       record {
         scripts = scripts_of workload.scripts.items;
         order = workload.order.items;
