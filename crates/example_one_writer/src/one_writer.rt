@@ -31,7 +31,8 @@ impl OneWriter {
 
     /// Whether the transaction has begun, and there is such a register.
     fn may_use(&self, tx: &Tx, register: Ix) -> bool
-        ensures { IsTrue result ↔ ((tx.now.begun ≡ true) × (register.number < self.now.registers.number)) }
+        ensures { IsTrue result ↔
+            ((tx.now.begun ≡ true) × (register.number < self.now.registers.number)) }
     {
         tx.begun && register.get() < self.registers.get()
     }

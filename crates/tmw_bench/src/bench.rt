@@ -46,9 +46,13 @@ pub fn run_bench<R: Threads + Wait + Sync>(
     workload: &Workload,
     settings: Settings,
 ) -> Result<Benched, BenchFault>
-    ensures ok { IfOk result (IsBenched (gives memory.now) workload.now.registers (scripts_of workload.now.scripts.items) settings) }
+    ensures ok { IfOk result
+        (IsBenched (gives memory.now) workload.now.registers (scripts_of workload.now.scripts.items)
+        settings) }
     ensures enough { IfOk result (λ benched. workload.now.registers.number ≤ has memory.now) }
-    ensures err { IfErr result (IsNoBench (has memory.now) workload.now.registers.number (length workload.now.scripts.items) settings) }
+    ensures err { IfErr result
+        (IsNoBench (has memory.now) workload.now.registers.number
+        (length workload.now.scripts.items) settings) }
 {
     let carried = carry_out::<R, Log>(rt, alloc, memory, workload, settings, ())?;
     Ok(Benched {
@@ -72,9 +76,13 @@ pub fn hunt<R: Threads + Wait + Sync, P: Progress>(
     settings: Settings,
     progress: &P,
 ) -> Result<Hunted, BenchFault>
-    ensures ok { IfOk result (IsHunted (gives memory.now) workload.now.registers (scripts_of workload.now.scripts.items) settings) }
+    ensures ok { IfOk result
+        (IsHunted (gives memory.now) workload.now.registers (scripts_of workload.now.scripts.items)
+        settings) }
     ensures enough { IfOk result (λ hunted. workload.now.registers.number ≤ has memory.now) }
-    ensures err { IfErr result (IsNoBench (has memory.now) workload.now.registers.number (length workload.now.scripts.items) settings) }
+    ensures err { IfErr result
+        (IsNoBench (has memory.now) workload.now.registers.number
+        (length workload.now.scripts.items) settings) }
 {
     let over = carry_out::<R, Hunting<'_, P>>(rt, alloc, memory, workload, settings, progress);
     progress.end();
@@ -108,7 +116,9 @@ fn carry_out<R: Threads + Wait + Sync, K: Keep>(
     ensures ok { IfOk result (IsCarriedOut K.keeps (gives memory.now) workload.now.registers
         (scripts_of workload.now.scripts.items) settings) }
     ensures enough { IfOk result (λ carried. workload.now.registers.number ≤ has memory.now) }
-    ensures err { IfErr result (IsNoBench (has memory.now) workload.now.registers.number (length workload.now.scripts.items) settings) }
+    ensures err { IfErr result
+        (IsNoBench (has memory.now) workload.now.registers.number
+        (length workload.now.scripts.items) settings) }
 {
     if memory.registers().get() < workload.registers.get() {
         return Err(BenchFault::Registers);

@@ -33,7 +33,8 @@ pub fn close_all(
 ) -> Result<(Vec<Writer>, Vec<Option<Refused>>), AllocError>
     requires count { length back.items ≡ length lines.items }
     requires pairs { ArePairs (map (λ one. one.0) back.items) lines.items }
-    ensures writers { IfOk result (λ sorted. sorted.0.items ≡ map (λ one. one.0.writer) back.items) }
+    ensures writers { IfOk result
+        (λ sorted. sorted.0.items ≡ map (λ one. one.0.writer) back.items) }
     ensures stops { IfOk result (λ sorted. sorted.1.items ≡ map (λ one. one.1) back.items) }
     ensures closed { IfOk result (λ sorted. AreClosed (map (λ one. one.0) back.items) lines.items) }
 {

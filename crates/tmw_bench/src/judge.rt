@@ -22,10 +22,13 @@ impl<K: Keep> Judge<K> {
     pub fn pump(&mut self, ring: &Ring, max: u64) -> Result<u64, AllocError>
         requires { ReaderOf ring.now self.old.forgetting.reader }
         ensures of_ring { ReaderOf ring.now self.new.forgetting.reader }
-        ensures judged { IfOk result (λ judged. HasKept K.keeps judged self.old.forgetting.front self.new.forgetting.front
+        ensures judged { IfOk result
+            (λ judged. HasKept K.keeps judged self.old.forgetting.front self.new.forgetting.front
             self.old.kept self.new.kept) }
         ensures within { IfOk result (λ judged. judged ≤ max) }
-        ensures ended { IfOk result (λ judged. judged < max → (last : ReaderIs) × HasFoundNone last self.new.forgetting.reader) }
+        ensures ended { IfOk result
+            (λ judged. judged < max → (last : ReaderIs)
+            × HasFoundNone last self.new.forgetting.reader) }
     {
         for judged in 0..max {
             let Some(event) = self.forgetting.next(ring) else {
@@ -40,7 +43,8 @@ impl<K: Keep> Judge<K> {
     fn judge(&mut self, event: Event) -> Result<(), AllocError>
         requires { self.old.forgetting.front.held ≡ Some event }
         ensures reader { self.new.forgetting.reader ≡ self.old.forgetting.reader }
-        ensures judged { OnOk result (HasKept K.keeps 1 self.old.forgetting.front self.new.forgetting.front
+        ensures judged { OnOk result
+            (HasKept K.keeps 1 self.old.forgetting.front self.new.forgetting.front
             self.old.kept self.new.kept) }
     {
         let next = self.kept.make_room(self.forgetting.monitor())?;

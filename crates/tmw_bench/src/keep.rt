@@ -26,20 +26,25 @@ pub trait Keep: Drop {
 
     /// Before the first event that the monitor is fed.
     fn begin(alloc: Global, monitor: &Monitor, told: Self::Told) -> Result<Self, AllocError>
-        ensures { IfOk result (λ kept. (rules : Rules) → Fits rules [] monitor.now → keeps rules [] monitor.now.verdict kept) };
+        ensures { IfOk result
+            (λ kept. (rules : Rules) → Fits rules [] monitor.now
+            → keeps rules [] monitor.now.verdict kept) };
 
     /// Makes room for the event that the monitor takes next, and answers what that does with the window, where one is kept.
     fn make_room(&mut self, monitor: &Monitor) -> Result<NextShown, AllocError>
-        ensures same { (rules : Rules) (history : List Event) (verdict : Verdict) → keeps rules history verdict self.old
+        ensures same { (rules : Rules) (history : List Event) (verdict : Verdict)
+            → keeps rules history verdict self.old
             → keeps rules history verdict self.new }
         ensures room { IfOk result (λ next. awaits monitor.now next self.new) };
 
     /// Keeps the event that the monitor has taken, for which there is room.
     fn take(&mut self, next: NextShown, event: Event)
         requires { (monitor : Monitor) × awaits monitor next self.old }
-        ensures { (rules : Rules) (history : List Event) (before : Monitor) (verdict : Verdict) → awaits before next self.old
+        ensures { (rules : Rules) (history : List Event) (before : Monitor) (verdict : Verdict)
+            → awaits before next self.old
             → Fits rules history before → IsVerdict rules (history ++ event ∷ []) verdict
-            → keeps rules history before.verdict self.old → keeps rules (history ++ event ∷ []) verdict self.new };
+            → keeps rules history before.verdict self.old
+            → keeps rules (history ++ event ∷ []) verdict self.new };
 
     /// So many rounds have ended, and so many events are judged.
     fn tell(&self, rounds: u64, events: u64);

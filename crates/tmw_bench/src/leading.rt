@@ -33,11 +33,13 @@ pub fn lead<R: Wait, K: Keep>(
     requires some { 1 ≤ rounds }
     ensures reader { OnOk result (ReaderOf ring.now judge.new.forgetting.reader) }
     ensures goes_on { OnOk result (HasGoneOn K.keeps judge.old judge.new) }
-    ensures led { IfOk result (λ count. (rules : Rules) → Fits rules [] judge.old.forgetting.front.monitor
+    ensures led { IfOk result
+        (λ count. (rules : Rules) → Fits rules [] judge.old.forgetting.front.monitor
         → HasLed rules count judge.new.forgetting.front lines.old lines.new) }
     ensures within { IfOk result (λ count. count ≤ rounds) }
     ensures over { IfOk result (λ count. count < rounds
-        → SomeToldStop (length lines.old) lines.new ⊎ (judge.new.forgetting.front.monitor.verdict ≢ OpaqueSoFar)) }
+        → SomeToldStop (length lines.old) lines.new
+        ⊎ (judge.new.forgetting.front.monitor.verdict ≢ OpaqueSoFar)) }
 {
     for round in 1..rounds {
         let (tail, stopped) = hear_all(rt, ring, judge, lines, orders)?;

@@ -74,7 +74,8 @@ pub fn hear_all<R: Wait, K: Keep>(
     ensures reader { OnOk result (ReaderOf ring.now judge.new.forgetting.reader) }
     ensures goes_on { OnOk result (HasGoneOn K.keeps judge.old judge.new) }
     ensures heard { OnOk result (HaveHeardUpTo (length lines.old) lines.old lines.new) }
-    ensures stopped { IfOk result (λ heard. IsTrue heard.1 → SomeToldStop (length lines.old) lines.new) }
+    ensures stopped { IfOk result
+        (λ heard. IsTrue heard.1 → SomeToldStop (length lines.old) lines.new) }
 {
     let mut most = 0;
     let mut stopped = false;

@@ -52,10 +52,14 @@ pub fn play_rounds<R: Threads + Wait + Sync, J: Giving + Send, K: Keep>(
     requires judged { judge.forgetting.front.judged.items ≡ [] }
     requires fits { (rules : Rules) × Fits rules [] judge.forgetting.front.monitor }
     requires some { 1 ≤ stage.rounds }
-    ensures begun { IfOk result (λ left. (rules : Rules) → Fits rules [] judge.forgetting.front.monitor
-        → HaveBegun rules J.gave stage.entry.ring.now (scripts_of stage.entry.scripts.now) left.rounds
-        left.judge.forgetting.reader left.judge.forgetting.front left.writers.items left.stops.items) }
-    ensures kept { IfOk result (λ left. (rules : Rules) → IsKept K.keeps rules judge.forgetting.front judge.kept
+    ensures begun { IfOk result
+        (λ left. (rules : Rules) → Fits rules [] judge.forgetting.front.monitor
+        → HaveBegun rules J.gave stage.entry.ring.now (scripts_of stage.entry.scripts.now)
+        left.rounds
+        left.judge.forgetting.reader left.judge.forgetting.front left.writers.items
+        left.stops.items) }
+    ensures kept { IfOk result
+        (λ left. (rules : Rules) → IsKept K.keeps rules judge.forgetting.front judge.kept
         → IsKept K.keeps rules left.judge.forgetting.front left.judge.kept) }
     ensures within { IfOk result (λ left. left.rounds ≤ stage.entry.rounds) }
     ensures over { IfOk result (λ left. left.rounds < stage.entry.rounds
@@ -74,10 +78,14 @@ pub fn play_rounds<R: Threads + Wait + Sync, J: Giving + Send, K: Keep>(
             requires judged { judge.forgetting.front.judged.items ≡ [] }
             requires fits { (rules : Rules) × Fits rules [] judge.forgetting.front.monitor }
             requires some { 1 ≤ stage.rounds }
-            ensures begun { IfOk result (λ left. (rules : Rules) → Fits rules [] judge.forgetting.front.monitor
-                → HaveBegun rules J.gave stage.entry.ring.now (scripts_of stage.entry.scripts.now) left.rounds
-                left.judge.forgetting.reader left.judge.forgetting.front left.writers.items left.stops.items) }
-            ensures kept { IfOk result (λ left. (rules : Rules) → IsKept K.keeps rules judge.forgetting.front judge.kept
+            ensures begun { IfOk result
+                (λ left. (rules : Rules) → Fits rules [] judge.forgetting.front.monitor
+                → HaveBegun rules J.gave stage.entry.ring.now (scripts_of stage.entry.scripts.now)
+                left.rounds
+                left.judge.forgetting.reader left.judge.forgetting.front left.writers.items
+                left.stops.items) }
+            ensures kept { IfOk result
+                (λ left. (rules : Rules) → IsKept K.keeps rules judge.forgetting.front judge.kept
                 → IsKept K.keeps rules left.judge.forgetting.front left.judge.kept) }
             ensures within { IfOk result (λ left. left.rounds ≤ stage.entry.rounds) }
             ensures over { IfOk result (λ left. left.rounds < stage.entry.rounds
@@ -105,10 +113,14 @@ fn play_within<'s, E, R: Threads + Wait + Sync, J: Giving + Send + 's, K: Keep>(
     requires judged { judge.forgetting.front.judged.items ≡ [] }
     requires fits { (rules : Rules) × Fits rules [] judge.forgetting.front.monitor }
     requires some { 1 ≤ stage.rounds }
-    ensures begun { IfOk result (λ left. (rules : Rules) → Fits rules [] judge.forgetting.front.monitor
-        → HaveBegun rules J.gave stage.entry.ring.now (scripts_of stage.entry.scripts.now) left.rounds
-        left.judge.forgetting.reader left.judge.forgetting.front left.writers.items left.stops.items) }
-    ensures kept { IfOk result (λ left. (rules : Rules) → IsKept K.keeps rules judge.forgetting.front judge.kept
+    ensures begun { IfOk result
+        (λ left. (rules : Rules) → Fits rules [] judge.forgetting.front.monitor
+        → HaveBegun rules J.gave stage.entry.ring.now (scripts_of stage.entry.scripts.now)
+        left.rounds
+        left.judge.forgetting.reader left.judge.forgetting.front left.writers.items
+        left.stops.items) }
+    ensures kept { IfOk result
+        (λ left. (rules : Rules) → IsKept K.keeps rules judge.forgetting.front judge.kept
         → IsKept K.keeps rules left.judge.forgetting.front left.judge.kept) }
     ensures within { IfOk result (λ left. left.rounds ≤ stage.entry.rounds) }
     ensures over { IfOk result (λ left. left.rounds < stage.entry.rounds

@@ -26,7 +26,8 @@ impl Tally {
 
     /// Counts one event more.
     pub fn take(&mut self, event: Event)
-        ensures { (history : List Event) → IsTally history self.old → IsTally (history ++ event ∷ []) self.new }
+        ensures { (history : List Event) → IsTally history self.old
+            → IsTally (history ++ event ∷ []) self.new }
     {
         let thread = event.thread.get() as usize;
         let more = count_of(event.kind, self.asking[thread]);

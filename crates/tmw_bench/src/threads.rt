@@ -46,7 +46,8 @@ fn play<R: Wait, J: Giving>(
     requires gives { GivesWithin (gives memory.now) J.gave }
     requires new { IsNewWorker stage.ring.now worker }
     requires script { (registers : ℕ) × IsTrue (are_transactions registers (calls_of script.now)) }
-    ensures { HasPlayedOn J.gave stage.entry.ring.now (calls_of script.now) worker result.1 result.0 }
+    ensures { HasPlayedOn J.gave stage.entry.ring.now (calls_of script.now) worker result.1
+        result.0 }
 {
     let stop = play_on::<R, J>(rt, memory, stage, &mut worker, script);
     (worker, stop)
@@ -66,9 +67,11 @@ pub fn start_all<'s, E, R: Wait + Sync, J: Giving + Send + 's>(
     requires count { length workers.items ≡ length stage.scripts.now }
     requires scripts { AreTransactions (scripts_of stage.scripts.now) }
     ensures count { IfOk result (λ handles. length handles.items ≡ length workers.items) }
-    ensures promised { IfOk result (λ handles. (place : ℕ) (fallback : _) → place < length handles.items
+    ensures promised { IfOk result
+        (λ handles. (place : ℕ) (fallback : _) → place < length handles.items
         → IsPromised stage.entry.ring.now (scripts_of stage.entry.scripts.now) workers.items place
-        (get_or handles.items place fallback).promise.ring.now (calls_of (get_or handles.items place fallback).promise.script.now)
+        (get_or handles.items place fallback).promise.ring.now
+        (calls_of (get_or handles.items place fallback).promise.script.now)
         (get_or handles.items place fallback).promise.before.value) }
     ensures err { IfErr result IsOfThreads }
 {
@@ -88,8 +91,10 @@ pub fn start_all<'s, E, R: Wait + Sync, J: Giving + Send + 's>(
             move || -> (Worker, Option<Refused>)
                 requires gives { GivesWithin (gives memory.now) J.gave }
                 requires new { IsNewWorker stage.ring.now worker }
-                requires script { (registers : ℕ) × IsTrue (are_transactions registers (calls_of script.now)) }
-                ensures { HasPlayedOn J.gave stage.entry.ring.now (calls_of script.entry.now) worker result.1 result.0 }
+                requires script { (registers : ℕ)
+                    × IsTrue (are_transactions registers (calls_of script.now)) }
+                ensures { HasPlayedOn J.gave stage.entry.ring.now (calls_of script.entry.now) worker
+                    result.1 result.0 }
             { play::<R, J>(rt, memory, stage, worker, script) },
         ) else {
             return Err(BenchFault::Spawn);

@@ -59,7 +59,8 @@ pub fn next_bound<R: Wait>(
     orders: &Orders,
 ) -> Option<u64>
     ensures ring { SameConsumer down.old down.new }
-    ensures next { IfSome result (λ bound. (tail ≤ bound) × (received down.new ≡ received down.old ++ bound ∷ [])) }
+    ensures next { IfSome result
+        (λ bound. (tail ≤ bound) × (received down.new ≡ received down.old ++ bound ∷ [])) }
     ensures over { IfNone result (received down.new ≡ received down.old) }
 {
     let mut look = 0u64;

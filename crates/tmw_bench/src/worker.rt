@@ -43,7 +43,8 @@ pub fn play_on<R: Wait, J: Giving>(
     requires new { worker.old.writer.made ≡ [] }
     requires told { received worker.old.down ≡ [] }
     requires sent { sent worker.old.up ≡ [] }
-    ensures { HasPlayedOn J.gave stage.entry.ring.now (calls_of script.now) worker.old result worker.new }
+    ensures { HasPlayedOn J.gave stage.entry.ring.now (calls_of script.now) worker.old result
+        worker.new }
 {
     let threads = stage.scripts.len() as u64;
     let mut begun = 0u64;

@@ -32,7 +32,8 @@ pub fn work(
     requires script { (registers : ℕ) × IsTrue (are_transactions registers (calls_of script.now)) }
     ensures of_ring { WriterOf ring.now writer.new }
     ensures number { writer.new.number ≡ writer.old.number }
-    ensures worked { HasWorked (gives memory.now) (calls_of script.now) writer.old result writer.new }
+    ensures worked { HasWorked (gives memory.now) (calls_of script.now) writer.old result
+        writer.new }
 {
     let tries = patience.saturating_sub(1);
     let mut player = Player::new(writer.number());
@@ -62,7 +63,8 @@ fn step(
     requires later_call { player.old.call + 1 < 2 ^ 64 }
     ensures of_ring { WriterOf ring.now writer.new }
     ensures number { writer.new.number ≡ writer.old.number }
-    ensures called { IfNone result (HasCalled (gives memory.now) call player.old player.new writer.old writer.new) }
+    ensures called { IfNone result
+        (HasCalled (gives memory.now) call player.old player.new writer.old writer.new) }
     ensures stopped { IfSome result (λ refused. StopsAt call refused writer.old writer.new) }
 {
     if let Err(refused) = record_soon(ring, writer, call, tries, signals) {

@@ -9,7 +9,8 @@ use tmw_handles::RecorderHandle;
 /// Records the call of a read of this register.
 #[unsafe(no_mangle)]
 pub extern "C" fn tmwatch_read(alloc: Global, recorder: &mut RecorderHandle, register: u64) -> u32
-    ensures { Tells result (IsRecordingUntold 82 register 0 recorder.old.slot.held recorder.new.slot.held) }
+    ensures { Tells result
+        (IsRecordingUntold 82 register 0 recorder.old.slot.held recorder.new.slot.held) }
 {
     record_untold(alloc, recorder, 82, register, 0).number()
 }
@@ -17,7 +18,8 @@ pub extern "C" fn tmwatch_read(alloc: Global, recorder: &mut RecorderHandle, reg
 /// Records the answer of a read or an add: the value that the register had.
 #[unsafe(no_mangle)]
 pub extern "C" fn tmwatch_value(alloc: Global, recorder: &mut RecorderHandle, value: u64) -> u32
-    ensures { Tells result (IsRecordingUntold 86 0 value recorder.old.slot.held recorder.new.slot.held) }
+    ensures { Tells result
+        (IsRecordingUntold 86 0 value recorder.old.slot.held recorder.new.slot.held) }
 {
     record_untold(alloc, recorder, 86, 0, value).number()
 }
@@ -30,7 +32,8 @@ pub extern "C" fn tmwatch_write(
     register: u64,
     value: u64,
 ) -> u32
-    ensures { Tells result (IsRecordingUntold 87 register value recorder.old.slot.held recorder.new.slot.held) }
+    ensures { Tells result
+        (IsRecordingUntold 87 register value recorder.old.slot.held recorder.new.slot.held) }
 {
     record_untold(alloc, recorder, 87, register, value).number()
 }
@@ -38,7 +41,8 @@ pub extern "C" fn tmwatch_write(
 /// Records the answer of a write.
 #[unsafe(no_mangle)]
 pub extern "C" fn tmwatch_stored(alloc: Global, recorder: &mut RecorderHandle) -> u32
-    ensures { Tells result (IsRecordingUntold 75 0 0 recorder.old.slot.held recorder.new.slot.held) }
+    ensures { Tells result
+        (IsRecordingUntold 75 0 0 recorder.old.slot.held recorder.new.slot.held) }
 {
     record_untold(alloc, recorder, 75, 0, 0).number()
 }
@@ -51,7 +55,8 @@ pub extern "C" fn tmwatch_add(
     register: u64,
     value: u64,
 ) -> u32
-    ensures { Tells result (IsRecordingUntold 78 register value recorder.old.slot.held recorder.new.slot.held) }
+    ensures { Tells result
+        (IsRecordingUntold 78 register value recorder.old.slot.held recorder.new.slot.held) }
 {
     record_untold(alloc, recorder, 78, register, value).number()
 }
@@ -59,7 +64,8 @@ pub extern "C" fn tmwatch_add(
 /// Records the call to commit.
 #[unsafe(no_mangle)]
 pub extern "C" fn tmwatch_commit(alloc: Global, recorder: &mut RecorderHandle) -> u32
-    ensures { Tells result (IsRecordingUntold 84 0 0 recorder.old.slot.held recorder.new.slot.held) }
+    ensures { Tells result
+        (IsRecordingUntold 84 0 0 recorder.old.slot.held recorder.new.slot.held) }
 {
     record_untold(alloc, recorder, 84, 0, 0).number()
 }
@@ -67,7 +73,8 @@ pub extern "C" fn tmwatch_commit(alloc: Global, recorder: &mut RecorderHandle) -
 /// Records that the transaction has committed.
 #[unsafe(no_mangle)]
 pub extern "C" fn tmwatch_committed(alloc: Global, recorder: &mut RecorderHandle) -> u32
-    ensures { Tells result (IsRecordingUntold 67 0 0 recorder.old.slot.held recorder.new.slot.held) }
+    ensures { Tells result
+        (IsRecordingUntold 67 0 0 recorder.old.slot.held recorder.new.slot.held) }
 {
     record_untold(alloc, recorder, 67, 0, 0).number()
 }
@@ -75,7 +82,8 @@ pub extern "C" fn tmwatch_committed(alloc: Global, recorder: &mut RecorderHandle
 /// Records the call to abort.
 #[unsafe(no_mangle)]
 pub extern "C" fn tmwatch_abort(alloc: Global, recorder: &mut RecorderHandle) -> u32
-    ensures { Tells result (IsRecordingUntold 88 0 0 recorder.old.slot.held recorder.new.slot.held) }
+    ensures { Tells result
+        (IsRecordingUntold 88 0 0 recorder.old.slot.held recorder.new.slot.held) }
 {
     record_untold(alloc, recorder, 88, 0, 0).number()
 }
@@ -83,7 +91,8 @@ pub extern "C" fn tmwatch_abort(alloc: Global, recorder: &mut RecorderHandle) ->
 /// Records that the transaction has aborted.
 #[unsafe(no_mangle)]
 pub extern "C" fn tmwatch_aborted(alloc: Global, recorder: &mut RecorderHandle) -> u32
-    ensures { Tells result (IsRecordingUntold 65 0 0 recorder.old.slot.held recorder.new.slot.held) }
+    ensures { Tells result
+        (IsRecordingUntold 65 0 0 recorder.old.slot.held recorder.new.slot.held) }
 {
     record_untold(alloc, recorder, 65, 0, 0).number()
 }

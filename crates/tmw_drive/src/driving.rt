@@ -33,13 +33,16 @@ pub fn drive(
     workload: &Workload,
     bounds: Bounds,
 ) -> Result<Outcome, DriveFault>
-    ensures driven { IfOk result (λ outcome. IsDriven (gives memory.now) (scripts_of workload.now.scripts.items)
+    ensures driven { IfOk result
+        (λ outcome. IsDriven (gives memory.now) (scripts_of workload.now.scripts.items)
         workload.now.order.items outcome.log.items outcome.ends.items) }
-    ensures verdict { IfOk result (λ outcome. IsVerdict (rules_of workload.now.registers zeros bounds) outcome.log.items
+    ensures verdict { IfOk result
+        (λ outcome. IsVerdict (rules_of workload.now.registers zeros bounds) outcome.log.items
         outcome.verdict) }
     ensures formed { IfOk result (λ outcome. (events : ℕ) → outcome.verdict ≢ Malformed events) }
     ensures enough { IfOk result (λ outcome. workload.now.registers.number ≤ has memory.now) }
-    ensures too_few { IfErr result (λ fault. (fault ≡ TooManyRegisters) ↔ (has memory.now < workload.now.registers.number)) }
+    ensures too_few { IfErr result
+        (λ fault. (fault ≡ TooManyRegisters) ↔ (has memory.now < workload.now.registers.number)) }
 {
     if memory.registers().get() < workload.registers.get() {
         return Err(DriveFault::Registers);
@@ -55,7 +58,8 @@ fn record(
     memory: &(dyn Tm + Sync),
     workload: &Workload,
 ) -> Result<(Vec<Event>, Vec<Ending>), AllocError>
-    ensures { IfOk result (λ recorded. IsDriven (gives memory.now) (scripts_of workload.now.scripts.items)
+    ensures { IfOk result
+        (λ recorded. IsDriven (gives memory.now) (scripts_of workload.now.scripts.items)
         workload.now.order.items recorded.0.items recorded.1.items) }
 {
     let mut players = new_players(alloc, workload.scripts.len() as u8)?;

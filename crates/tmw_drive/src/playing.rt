@@ -30,10 +30,14 @@ fn step(
     player: &mut Player,
     log: &mut Vec<Event>,
 ) -> Result<(), AllocError>
-    requires { Plays (gives memory.now) (calls_of script.now) player.old (kinds_of player.old.thread.number log.old.items) }
+    requires { Plays (gives memory.now) (calls_of script.now) player.old
+        (kinds_of player.old.thread.number log.old.items) }
     ensures thread { player.new.thread ≡ player.old.thread }
-    ensures plays { OnOk result (Plays (gives memory.now) (calls_of script.now) player.new (kinds_of player.old.thread.number log.new.items)) }
-    ensures entry { OnOk result (DoesEntry (calls_of script.now) player.old.thread.number log.old.items log.new.items) }
+    ensures plays { OnOk result
+        (Plays (gives memory.now) (calls_of script.now) player.new
+        (kinds_of player.old.thread.number log.new.items)) }
+    ensures entry { OnOk result
+        (DoesEntry (calls_of script.now) player.old.thread.number log.old.items log.new.items) }
 {
     let Some(call) = player.next(script) else {
         return Ok(());
@@ -60,8 +64,10 @@ fn enter(
 ) -> Result<(), AllocError>
     requires within { entry < length scripts.now }
     requires all { AllPlay (gives memory.now) (scripts_of scripts.now) players.old log.old.items }
-    ensures all { OnOk result (AllPlay (gives memory.now) (scripts_of scripts.now) players.new log.new.items) }
-    ensures entry { OnOk result (DoesEntry (script_at (scripts_of scripts.now) entry) entry log.old.items log.new.items) }
+    ensures all { OnOk result
+        (AllPlay (gives memory.now) (scripts_of scripts.now) players.new log.new.items) }
+    ensures entry { OnOk result
+        (DoesEntry (script_at (scripts_of scripts.now) entry) entry log.old.items log.new.items) }
 {
     let place = usize::from(entry);
     step(memory, &scripts[place], &mut players[place], log)
@@ -77,8 +83,10 @@ pub fn play(
 ) -> Result<(), AllocError>
     requires within { All (λ thread. thread < length scripts.now) order.now }
     requires all { AllPlay (gives memory.now) (scripts_of scripts.now) players.old log.old.items }
-    ensures all { OnOk result (AllPlay (gives memory.now) (scripts_of scripts.now) players.new log.new.items) }
-    ensures drives { OnOk result (Drives (scripts_of scripts.now) log.old.items order.now log.new.items) }
+    ensures all { OnOk result
+        (AllPlay (gives memory.now) (scripts_of scripts.now) players.new log.new.items) }
+    ensures drives { OnOk result
+        (Drives (scripts_of scripts.now) log.old.items order.now log.new.items) }
 {
     for entry in order {
         enter(memory, scripts, players, *entry, log)?;

@@ -91,7 +91,8 @@ impl Tm for GlobalLock {
     }
 
     fn add(&self, tx: &mut Tx, register: Ix, addend: u64) -> Got
-        ensures adds { Adds (Reads self.now.registers) (Writes self.now.registers) tx.old register addend result tx.new }
+        ensures adds { Adds (Reads self.now.registers) (Writes self.now.registers) tx.old register
+            addend result tx.new }
     {
         match self.read(tx, register) {
             Got::Value(value) => match self.write(tx, register, value.wrapping_add(addend)) {

@@ -50,7 +50,8 @@ pub fn latest(writes: &Entries, register: Ix) -> Option<u64>
 
 /// Appends an entry, where there is room for it.
 pub fn append(entries: &mut Entries, register: Ix, value: u64) -> bool
-    ensures done { OnTrue result (Appends entries.old.items (entry register value) entries.new.items) }
+    ensures done { OnTrue result
+        (Appends entries.old.items (entry register value) entries.new.items) }
     ensures full { OnFalse result (length entries.old.items ≡ 16) }
 {
     entries.try_push(Entry { register, value }).is_ok()
@@ -59,7 +60,8 @@ pub fn append(entries: &mut Entries, register: Ix, value: u64) -> bool
 /// Appends a write of the transaction, where it may be made.
 pub fn write(registers: Registers, tx: &mut Tx, register: Ix, value: u64) -> bool
     ensures done { OnTrue result (Writes registers tx.old register value Done tx.new) }
-    ensures full { OnFalse result (MayUse registers tx.old register → length tx.old.writes.items ≡ 16) }
+    ensures full { OnFalse result
+        (MayUse registers tx.old register → length tx.old.writes.items ≡ 16) }
     ensures begun { tx.new.begun ≡ tx.old.begun }
 {
     may_use(registers, tx, register) && append(&mut tx.writes, register, value)

@@ -57,7 +57,8 @@ pub(crate) fn judge_some<S, T: Turns<S>>(
     ensures free { OnOk result (0 < max → T.holds turns.new ≡ None) }
     ensures idle { max ≡ 0 → turns.new ≡ turns.old }
     ensures err { OnErr result ((count : ℕ) × (count < max)
-        × T.has_judged count turns.old turns.new × (event : Event) × (T.holds turns.new ≡ Some event)) }
+        × T.has_judged count turns.old turns.new × (event : Event)
+        × (T.holds turns.new ≡ Some event)) }
 {
     for judged in 0..max {
         let Some(event) = turns.give(source) else {

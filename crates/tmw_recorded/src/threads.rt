@@ -39,9 +39,13 @@ pub fn start_all<'s, E>(
 ) -> Result<Vec<PromisedHandle<(Writer, Option<Refused>), Recording<'s>>>, RecordFault>
     requires { AreNewWriters ring.now writers.items }
     ensures count { IfOk result (λ handles. length handles.items ≡ length writers.items) }
-    ensures of_ring { IfOk result (λ handles. All (λ handle. handle.promise.ring.now ≡ ring.now) handles.items) }
-    ensures lists { IfOk result (λ handles. All (λ handle. handle.promise.lists.now ≡ lists.now) handles.items) }
-    ensures order { IfOk result (λ handles. (place : ℕ) (fallback : _) → place < length handles.items → (get_or handles.items place fallback).promise.number.number ≡ place) }
+    ensures of_ring { IfOk result
+        (λ handles. All (λ handle. handle.promise.ring.now ≡ ring.now) handles.items) }
+    ensures lists { IfOk result
+        (λ handles. All (λ handle. handle.promise.lists.now ≡ lists.now) handles.items) }
+    ensures order { IfOk result
+        (λ handles. (place : ℕ) (fallback : _) → place < length handles.items
+        → (get_or handles.items place fallback).promise.number.number ≡ place) }
     ensures err { IfErr result IsOfThreads }
 {
     let mut handles = Vec::new(alloc);
@@ -57,7 +61,8 @@ pub fn start_all<'s, E>(
             move || -> (Writer, Option<Refused>)
                 requires of_ring { WriterOf ring.now writer }
                 requires new { writer.made ≡ [] }
-                ensures { IsBack ring.entry.now lists.entry.now writer.number.number result.0 result.1 }
+                ensures { IsBack ring.entry.now lists.entry.now writer.number.number result.0
+                    result.1 }
             { record_list(ring, writer, lists, tries, signals) },
         ) else {
             return Err(RecordFault::Thread);

@@ -163,7 +163,8 @@ fn run_dropped<R: Threads + Wait + Sync>(
             requires reader { ReaderOf shared.now pump.forgetting.reader }
             requires writers { All (WriterOf shared.now) writers.items }
             requires order { AreInOrder writers.items }
-            ensures reader { IfSome result (λ back. ReaderOf shared.entry.now back.1.forgetting.reader) }
+            ensures reader { IfSome result
+                (λ back. ReaderOf shared.entry.now back.1.forgetting.reader) }
         { run_away(scope, alloc, trial, told, shared, pump, writers) },
     );
     let Some((meanwhile, mut pump)) = back else {
@@ -221,7 +222,8 @@ fn run_settled<R: Threads + Wait + Sync>(
             requires reader { ReaderOf shared.now pump.forgetting.reader }
             requires writers { All (WriterOf shared.now) writers.items }
             requires order { AreInOrder writers.items }
-            ensures reader { IfSome result (λ back. ReaderOf shared.entry.now back.1.forgetting.reader) }
+            ensures reader { IfSome result
+                (λ back. ReaderOf shared.entry.now back.1.forgetting.reader) }
             ensures writers { IfSome result (λ back. All (WriterOf shared.entry.now) back.2.items) }
             ensures count { IfSome result (λ back. length back.2.items ≡ length writers.items) }
             ensures order { IfSome result (λ back. AreInOrder back.2.items) }

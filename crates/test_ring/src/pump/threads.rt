@@ -197,7 +197,8 @@ fn judged_run<R: Threads + Wait + Sync>(
             requires reader { ReaderOf shared.now pump.forgetting.reader }
             requires writers { All (WriterOf shared.now) writers.items }
             requires order { AreInOrder writers.items }
-            ensures reader { IfSome result (λ back. ReaderOf shared.entry.now back.0.forgetting.reader) }
+            ensures reader { IfSome result
+                (λ back. ReaderOf shared.entry.now back.0.forgetting.reader) }
             ensures writers { IfSome result (λ back. All (WriterOf shared.entry.now) back.1.items) }
             ensures count { IfSome result (λ back. length back.1.items ≡ length writers.items) }
             ensures order { IfSome result (λ back. AreInOrder back.1.items) }

@@ -44,7 +44,8 @@ pub fn answer_run<K: Sink>(alloc: Global, sink: &mut K, run: &BenchRun) -> u8
 /// goes out: where memory for it is refused, that fault stands in the place of all.
 pub fn answer_hunt<K: Sink>(alloc: Global, sink: &mut K, flags: Flags, run: &HuntRun) -> u8
     requires own { run.now.shown.showing.verdict ≢ StrictSoFar }
-    requires within { run.now.shown.showing.from + length run.now.shown.showing.events.items ≤ run.now.shown.showing.fed }
+    requires within { run.now.shown.showing.from + length
+        run.now.shown.showing.events.items ≤ run.now.shown.showing.fed }
     ensures { IsPut K.to sink.old sink.new (hunt_text flags run.now) (hunt_status run.now) result
         ⊎ IsPut K.to sink.old sink.new (fault_line Memory) 4 result }
 {
@@ -60,7 +61,8 @@ pub fn answer_hunt<K: Sink>(alloc: Global, sink: &mut K, flags: Flags, run: &Hun
 /// The text that these flags ask for.
 fn text_of(alloc: Global, flags: Flags, run: &HuntRun) -> Result<Vec<u8>, AllocError>
     requires own { run.now.shown.showing.verdict ≢ StrictSoFar }
-    requires within { run.now.shown.showing.from + length run.now.shown.showing.events.items ≤ run.now.shown.showing.fed }
+    requires within { run.now.shown.showing.from + length
+        run.now.shown.showing.events.items ≤ run.now.shown.showing.fed }
     ensures { IfOk result (λ text. text.items ≡ hunt_text flags run.now) }
 {
     if flags.show {
@@ -84,7 +86,8 @@ fn lines_of(
     ends: &[Ending],
 ) -> Result<String, AllocError>
     requires { verdict.now ≢ StrictSoFar }
-    ensures { IfOk result (λ lines. string_bytes lines ≡ report_text events verdict.now ++ ends_line ends.now) }
+    ensures { IfOk result
+        (λ lines. string_bytes lines ≡ report_text events verdict.now ++ ends_line ends.now) }
 {
     let mut lines = report_text(alloc, events, verdict)?;
     let ends = ends_text(alloc, ends)?;

@@ -29,8 +29,10 @@ pub fn bench_source<S: Source, R: Threads + Wait + Sync>(
     settings: Settings,
 ) -> Result<BenchRun, Fault>
     ensures right { (bytes : List ℕ) × Tells S.from source.old bytes source.new
-        × AnswersBench (memory_is (has memory.now) (gives memory.now)) settings (S.from.ended source.new) bytes result }
-    ensures failures { S.from.failures source.new ≡ failures_after_answer result (S.from.failures source.old) }
+        × AnswersBench (memory_is (has memory.now) (gives memory.now)) settings
+        (S.from.ended source.new) bytes result }
+    ensures failures { S.from.failures source.new ≡ failures_after_answer result
+        (S.from.failures source.old) }
 {
     let workload = match read_source(alloc, source) {
         Ok(workload) => workload,
@@ -52,8 +54,10 @@ pub fn hunt_source<S: Source, R: Threads + Wait + Sync, P: Progress>(
     progress: &P,
 ) -> Result<HuntRun, Fault>
     ensures right { (bytes : List ℕ) × Tells S.from source.old bytes source.new
-        × AnswersHunt (memory_is (has memory.now) (gives memory.now)) settings (S.from.ended source.new) bytes result }
-    ensures failures { S.from.failures source.new ≡ failures_after_answer result (S.from.failures source.old) }
+        × AnswersHunt (memory_is (has memory.now) (gives memory.now)) settings
+        (S.from.ended source.new) bytes result }
+    ensures failures { S.from.failures source.new ≡ failures_after_answer result
+        (S.from.failures source.old) }
 {
     let workload = match read_source(alloc, source) {
         Ok(workload) => workload,
@@ -69,7 +73,8 @@ pub fn hunt_source<S: Source, R: Threads + Wait + Sync, P: Progress>(
 fn read_source<S: Source>(alloc: Global, source: &mut S) -> Result<Workload, Fault>
     ensures right { (bytes : List ℕ) × Tells S.from source.old bytes source.new
         × AnswersText (S.from.ended source.new) bytes result }
-    ensures failures { S.from.failures source.new ≡ failures_after_answer result (S.from.failures source.old) }
+    ensures failures { S.from.failures source.new ≡ failures_after_answer result
+        (S.from.failures source.old) }
 {
     let mut bytes = Vec::new(alloc);
     match read_all(source, &mut bytes) {
@@ -93,7 +98,8 @@ fn read_bytes(alloc: Global, bytes: &[u8]) -> Result<Workload, Fault>
 
 /// The fault by which a workload was not carried out.
 fn fault_of(fault: BenchFault) -> Fault
-    ensures { (has : ℕ) (settings : Settings) (bytes : List ℕ) → IsNoBenchFrom has settings bytes fault
+    ensures { (has : ℕ) (settings : Settings) (bytes : List ℕ)
+        → IsNoBenchFrom has settings bytes fault
         → IsRightFault has (Unit {0}) settings bytes result }
 {
     match fault {

@@ -29,7 +29,8 @@ pub fn run_bench_cmd<S: Source, K: Sink, R: Threads + Wait + Sync, P: Progress>(
     plan: Plan<'_, P>,
 ) -> u8
     ensures { BenchesBytes S.from K.to
-        (memory_is (has memory.now) (gives memory.now)) plan.entry.flags plan.entry.settings source.old source.new sink.old sink.new result }
+        (memory_is (has memory.now) (gives memory.now)) plan.entry.flags plan.entry.settings
+        source.old source.new sink.old sink.new result }
 {
     let Plan {
         settings,

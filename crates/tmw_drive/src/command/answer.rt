@@ -16,7 +16,8 @@ use tmw_trace::write_trace;
 /// anything is written: where memory for it is refused, that fault stands in place of all.
 pub fn answer_driven<K: Sink>(alloc: Global, sink: &mut K, driven: &Driven, trace: bool) -> u8
     requires { driven.now.outcome.verdict ≢ StrictSoFar }
-    ensures { IsPut K.to sink.old sink.new (driven_text trace driven.now) (driven_status driven.now) result
+    ensures { IsPut K.to sink.old sink.new (driven_text trace driven.now) (driven_status driven.now)
+        result
         ⊎ IsPut K.to sink.old sink.new (fault_line Memory) 4 result }
 {
     let outcome = &driven.outcome;

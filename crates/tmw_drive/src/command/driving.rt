@@ -21,8 +21,10 @@ pub fn drive_source<S: Source>(
     bounds: Bounds,
 ) -> Result<Driven, Fault>
     ensures right { (bytes : List ℕ) × Tells S.from source.old bytes source.new
-        × AnswersWorkload (memory_is (has memory.now) (gives memory.now)) bounds (S.from.ended source.new) bytes result }
-    ensures failures { S.from.failures source.new ≡ failures_after_answer result (S.from.failures source.old) }
+        × AnswersWorkload (memory_is (has memory.now) (gives memory.now)) bounds
+        (S.from.ended source.new) bytes result }
+    ensures failures { S.from.failures source.new ≡ failures_after_answer result
+        (S.from.failures source.old) }
 {
     let mut bytes = Vec::new(alloc);
     match read_all(source, &mut bytes) {
@@ -39,7 +41,8 @@ fn drive_text(
     memory: &(dyn Tm + Sync),
     bounds: Bounds,
 ) -> Result<Driven, Fault>
-    ensures { AnswersWorkload (memory_is (has memory.now) (gives memory.now)) bounds (Unit {0}) bytes.now result }
+    ensures { AnswersWorkload (memory_is (has memory.now) (gives memory.now)) bounds (Unit {0})
+        bytes.now result }
 {
     let workload = match read_workload(alloc, bytes) {
         Ok(workload) => workload,

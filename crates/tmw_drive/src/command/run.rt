@@ -22,7 +22,8 @@ pub fn run_drive<S: Source, K: Sink>(
     bounds: Bounds,
 ) -> u8
     ensures { DrivesBytes S.from K.to
-        (memory_is (has memory.now) (gives memory.now)) trace bounds source.old source.new sink.old sink.new result }
+        (memory_is (has memory.now) (gives memory.now)) trace bounds source.old source.new sink.old
+        sink.new result }
 {
     match drive_source(alloc, source, memory, bounds) {
         Ok(driven) => answer_driven(alloc, sink, &driven, trace),
