@@ -86,7 +86,7 @@ pub fn feed_each(monitors: &mut ByCriterion<Monitor>, event: Event) -> Result<()
     }
 }
 
-/// The same, apart from its callers.
+/// Feeds the event to each monitor, apart from the callers that mostly have one.
 #[inline(never)]
 fn feed_others(monitors: &mut ByCriterion<Monitor>, event: Event) -> Result<(), AllocError>
     requires { Each (λ _ monitor. monitor.count < 2 ^ 40) monitors.old }

@@ -42,6 +42,7 @@ pub trait LineFormat: Copy {
         ensures { IsGiven grammar T.takes T.lacks T.counts self bytes.now taker.old taker.new
             result }
     {
+        // A format that does nothing here uses neither.
         let _bytes = bytes;
         let _taker = &mut *taker;
         Given::Nothing

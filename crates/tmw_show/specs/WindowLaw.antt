@@ -12,7 +12,7 @@ use Rattle.tmw_show.specs.Shown.{IsShown}
 abbrev pub from_state : Rules → State → Rules
 from_state rules state = record rules { start = state }
 
--- The same verdict on a history of so many events, where what is wrong with it is so at its end.
+-- The verdict on a history of so many events, where what is wrong with it is so at its end.
 abbrev pub at_end : ℕ → Verdict → Verdict
 at_end events OpaqueSoFar = OpaqueSoFar
 at_end events StrictSoFar = StrictSoFar

@@ -35,7 +35,7 @@ pub fn give_event<T: Taker<Event>>(version: Version, bytes: &[u8], taker: &mut T
     }
 }
 
-/// The same, where the thread and the space behind it are read. Each letter has a call of its own, which knows the kind.
+/// Gives the event of this thread whose kind's line these bytes begin with. Each letter has a call of its own, which knows the kind.
 #[inline(always)]
 fn give_kind<T: Taker<Event>>(version: Version, thread: Ix, bytes: &[u8], taker: &mut T) -> Given
     requires long { 24 ≤ length bytes.now }
@@ -115,6 +115,7 @@ fn give<T: Taker<Event>>(
     ensures { IsGiven trace_grammar T.takes T.lacks T.counts version (digit thread ∷ 32 ∷ bytes.now)
         taker.old taker.new result }
 {
+    // Only clauses speak of the bytes.
     let _bytes = bytes;
     if !speaks(version, kind) {
         return Given::Nothing;

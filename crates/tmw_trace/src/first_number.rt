@@ -18,7 +18,7 @@ pub fn first_number(bytes: &[u8]) -> Option<(u64, usize)>
     }
 }
 
-/// The same, where the first byte is a digit other than 0. Nineteen digits need no check for overflow.
+/// Reads a number that begins with a digit other than 0. Nineteen digits need no check for overflow.
 #[inline(always)]
 fn first_digits(bytes: &[u8]) -> Option<(u64, usize)>
     requires long { 20 ≤ length bytes.now }
