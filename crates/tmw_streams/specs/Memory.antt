@@ -1,5 +1,5 @@
 -- What sources and sinks over memory hold.
-use Rattle.std.specs.Prelude.{◌≡◌, ℕ, ◌-◌, IsTrue, List, Some, length, take, drop}
+use Rattle.std.specs.Prelude.{◌≡◌, ℕ, ◌-◌, Bool, IsTrue, Option, List, Some, length, take, drop}
 use Rattle.tmw_streams.specs.Streams.{FromSource, ToSink}
 use Rattle.tmw_streams.specs.declared.memory_sink.MemorySink.{MemorySink}
 use Rattle.tmw_streams.specs.declared.memory_source.MemorySource.{MemorySource}
@@ -34,6 +34,34 @@ to_memory = record {
   holds = λ sink. Some (held_bytes sink);
   failures = λ sink. sink.failures;
 }
+
+-- how many bytes a call of the source tells at the most, where 0 counts as 1
+abbrev pub source_most : MemorySource → ℕ
+source_most source = source.most
+
+-- the call at which the source was to fail
+abbrev pub source_fails_at : MemorySource → Option ℕ
+source_fails_at source = source.fails_at
+
+-- how many calls of the source were counted
+abbrev pub source_calls : MemorySource → ℕ
+source_calls source = source.calls
+
+-- whether the source has answered its end
+abbrev pub source_over : MemorySource → Bool
+source_over source = source.over
+
+-- how many bytes a call of the sink takes at the most, where 0 counts as 1
+abbrev pub sink_most : MemorySink → ℕ
+sink_most sink = sink.most
+
+-- the call at which the sink was to fail
+abbrev pub sink_fails_at : MemorySink → Option ℕ
+sink_fails_at sink = sink.fails_at
+
+-- how many calls of the sink were counted
+abbrev pub sink_calls : MemorySink → ℕ
+sink_calls sink = sink.calls
 
 -- The source's next call, counted from 1, is the one at which it was to fail.
 abbrev pub SourceFails : MemorySource → Type 0

@@ -1,5 +1,5 @@
 ghost use Rattle.std.specs.Prelude.{◌≡◌, ◌+◌, ◌<◌, ◌≤◌, [], length, take, IfOk, OnOk, OnErr, refl};
-ghost use Rattle.tmw_streams.specs.Bounded.{bounded_bytes};
+ghost use Rattle.tmw_streams.specs.Bounded.{bounded_bytes, to_bounded};
 ghost use Rattle.tmw_streams.specs.Told.{Takes, one_more};
 
 use crate::io_fault::IoFault;
@@ -21,7 +21,7 @@ impl BoundedSink {
     /// Nothing is held.
     pub fn new() -> BoundedSink
         ensures held { bounded_bytes result ≡ [] }
-        ensures failures { result.failures ≡ 0 }
+        ensures failures { to_bounded.failures result ≡ 0 }
     {
         BoundedSink {
             bytes: ArrayVec::new(),
@@ -46,7 +46,7 @@ impl BoundedSink {
     /// Keeps the first bytes alone, where there are more.
     pub fn truncate(&mut self, count: usize)
         ensures held { bounded_bytes self.new ≡ take count (bounded_bytes self.old) }
-        ensures failures { self.new.failures ≡ self.old.failures }
+        ensures failures { to_bounded.failures self.new ≡ to_bounded.failures self.old }
     {
         self.bytes.truncate(count);
     }
@@ -54,15 +54,13 @@ impl BoundedSink {
     /// Lets go of all bytes.
     pub fn clear(&mut self)
         ensures held { bounded_bytes self.new ≡ [] }
-        ensures failures { self.new.failures ≡ self.old.failures }
+        ensures failures { to_bounded.failures self.new ≡ to_bounded.failures self.old }
     {
         self.bytes.clear();
     }
 }
 
 impl Sink for BoundedSink {
-    ghost use Rattle.tmw_streams.specs.Bounded.{to_bounded};
-
     ghost to = { to_bounded };
 
     fn put(&mut self, bytes: &[u8]) -> Result<usize, IoFault>
@@ -70,8 +68,9 @@ impl Sink for BoundedSink {
         ensures some { IfOk result (λ count. 0 < length bytes.now → 0 < count) }
         ensures takes { IfOk result
             (λ count. Takes to_bounded self.old (take count bytes.now) self.new) }
-        ensures well { OnOk result (self.new.failures ≡ self.old.failures) }
-        ensures failed { OnErr result (self.new.failures ≡ one_more self.old.failures) }
+        ensures well { OnOk result (to_bounded.failures self.new ≡ to_bounded.failures self.old) }
+        ensures failed { OnErr result
+            (to_bounded.failures self.new ≡ one_more (to_bounded.failures self.old)) }
         ensures kept { OnErr result (Takes to_bounded self.old [] self.new) }
 
         // It takes all bytes where they fit, and fails only where they don't.

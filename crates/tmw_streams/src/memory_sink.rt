@@ -1,5 +1,5 @@
 ghost use Rattle.std.specs.Prelude.{◌≡◌, ◌-◌, ◌^◌, ◌<◌, ◌≤◌, [], length, take, min, max, IfOk, OnOk, OnErr, refl};
-ghost use Rattle.tmw_streams.specs.Memory.{held_bytes};
+ghost use Rattle.tmw_streams.specs.Memory.{held_bytes, sink_calls, sink_fails_at, sink_most, to_memory};
 ghost use Rattle.tmw_streams.specs.Told.{Takes, one_more};
 
 use crate::io_fault::IoFault;
@@ -21,9 +21,9 @@ impl MemorySink {
     /// An empty sink that takes all the bytes of a call, and fails only where a growth is refused.
     pub fn new(alloc: Global) -> MemorySink
         ensures held { held_bytes result ≡ [] }
-        ensures failures { result.failures ≡ 0 }
-        ensures limits { (result.most ≡ 2 ^ 64 - 1) × (result.fails_at ≡ None)
-            × (result.calls ≡ 0) }
+        ensures failures { to_memory.failures result ≡ 0 }
+        ensures limits { (sink_most result ≡ 2 ^ 64 - 1) × (sink_fails_at result ≡ None)
+            × (sink_calls result ≡ 0) }
     {
         MemorySink::limited(alloc, usize::MAX, None)
     }
@@ -32,8 +32,9 @@ impl MemorySink {
     /// first being call 1.
     pub fn limited(alloc: Global, most: usize, fails_at: Option<u64>) -> MemorySink
         ensures held { held_bytes result ≡ [] }
-        ensures failures { result.failures ≡ 0 }
-        ensures limits { (result.most ≡ most) × (result.fails_at ≡ fails_at) × (result.calls ≡ 0) }
+        ensures failures { to_memory.failures result ≡ 0 }
+        ensures limits { (sink_most result ≡ most) × (sink_fails_at result ≡ fails_at)
+            × (sink_calls result ≡ 0) }
     {
         MemorySink {
             bytes: Vec::new(alloc),
@@ -61,7 +62,7 @@ impl MemorySink {
 }
 
 impl Sink for MemorySink {
-    ghost use Rattle.tmw_streams.specs.Memory.{to_memory, SinkFails, SinkCalled};
+    ghost use Rattle.tmw_streams.specs.Memory.{SinkFails, SinkCalled};
 
     ghost to = { to_memory };
 
@@ -70,15 +71,16 @@ impl Sink for MemorySink {
         ensures some { IfOk result (λ count. 0 < length bytes.now → 0 < count) }
         ensures takes { IfOk result
             (λ count. Takes to_memory self.old (take count bytes.now) self.new) }
-        ensures well { OnOk result (self.new.failures ≡ self.old.failures) }
-        ensures failed { OnErr result (self.new.failures ≡ one_more self.old.failures) }
+        ensures well { OnOk result (to_memory.failures self.new ≡ to_memory.failures self.old) }
+        ensures failed { OnErr result
+            (to_memory.failures self.new ≡ one_more (to_memory.failures self.old)) }
         ensures kept { OnErr result (Takes to_memory self.old [] self.new) }
 
         // It fails at the chosen call, and else takes as many bytes as there are and as it may.
         ensures called { SinkCalled self.old self.new }
         ensures goes_on { OnOk result (SinkFails self.old → ⊥) }
         ensures count { IfOk result
-            (λ count. count ≡ min (length bytes.now) (max self.old.most 1)) }
+            (λ count. count ≡ min (length bytes.now) (max (sink_most self.old) 1)) }
     {
         self.calls = self.calls.saturating_add(1);
         if self.fails_at == Some(self.calls) {

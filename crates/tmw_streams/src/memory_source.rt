@@ -20,16 +20,16 @@ pub struct MemorySource<'a> {
 }
 
 impl<'a> MemorySource<'a> {
-    ghost use Rattle.tmw_streams.specs.Memory.{source_bytes, told_bytes};
+    ghost use Rattle.tmw_streams.specs.Memory.{source_bytes, source_calls, source_fails_at, source_most, source_over, told_bytes, from_memory};
 
     /// A source of these bytes that never fails. It tells as many a call as fit the buffer.
     pub fn new(content: &'a [u8]) -> MemorySource<'a>
         ensures content { source_bytes result ≡ content.now }
         ensures told { told_bytes result ≡ [] }
-        ensures failures { result.failures ≡ 0 }
-        ensures limits { (result.most ≡ 2 ^ 64 - 1) × (result.fails_at ≡ None)
-            × (result.calls ≡ 0) }
-        ensures over { result.over ≡ false }
+        ensures failures { from_memory.failures result ≡ 0 }
+        ensures limits { (source_most result ≡ 2 ^ 64 - 1) × (source_fails_at result ≡ None)
+            × (source_calls result ≡ 0) }
+        ensures over { source_over result ≡ false }
     {
         MemorySource::limited(content, usize::MAX, None)
     }
@@ -39,9 +39,10 @@ impl<'a> MemorySource<'a> {
     pub fn limited(content: &'a [u8], most: usize, fails_at: Option<u64>) -> MemorySource<'a>
         ensures content { source_bytes result ≡ content.now }
         ensures told { told_bytes result ≡ [] }
-        ensures failures { result.failures ≡ 0 }
-        ensures limits { (result.most ≡ most) × (result.fails_at ≡ fails_at) × (result.calls ≡ 0) }
-        ensures over { result.over ≡ false }
+        ensures failures { from_memory.failures result ≡ 0 }
+        ensures limits { (source_most result ≡ most) × (source_fails_at result ≡ fails_at)
+            × (source_calls result ≡ 0) }
+        ensures over { source_over result ≡ false }
     {
         MemorySource {
             content,
@@ -88,7 +89,7 @@ impl<'a> MemorySource<'a> {
 }
 
 impl Source for MemorySource<'_> {
-    ghost use Rattle.tmw_streams.specs.Memory.{from_memory, SourceFails, SourceCalled};
+    ghost use Rattle.tmw_streams.specs.Memory.{from_memory, source_over, source_most, SourceFails, SourceCalled};
 
     ghost from = { from_memory };
 
@@ -96,27 +97,30 @@ impl Source for MemorySource<'_> {
         ensures within { IfOk result (λ count. count ≤ length buffer.old) }
         ensures tells { IfOk result
             (λ count. Tells from_memory self.old (take count buffer.new) self.new) }
-        ensures falls { IfOk result (λ count. (length self.new.content.now - self.new.at) + count
-            ≤ length self.old.content.now - self.old.at) }
+        ensures falls { IfOk result
+            (λ count. from_memory.left self.new + count ≤ from_memory.left self.old) }
         ensures end { IfOk result
-            (λ count. 0 < length buffer.old → count ≡ 0 → IsTrue self.new.over) }
-        ensures end_again { IsTrue self.old.over → (result ≡ Ok 0) × (self.new ≡ self.old) }
-        ensures well { OnOk result (self.new.failures ≡ self.old.failures) }
-        ensures failed { OnErr result (self.new.failures ≡ one_more self.old.failures) }
+            (λ count. 0 < length buffer.old → count ≡ 0 → IsTrue (source_over self.new)) }
+        ensures end_again { IsTrue (source_over self.old) → (result ≡ Ok 0)
+            × (self.new ≡ self.old) }
+        ensures well { OnOk result (from_memory.failures self.new ≡ from_memory.failures self.old) }
+        ensures failed { OnErr result
+            (from_memory.failures self.new ≡ one_more (from_memory.failures self.old)) }
         ensures kept { OnErr result (Tells from_memory self.old [] self.new) }
-        ensures no_end { OnErr result (IsTrue self.new.over → ⊥) }
+        ensures no_end { OnErr result (IsTrue (source_over self.new) → ⊥) }
 
         // Each call is counted until the end was answered. It fails at the chosen call alone, and tells as many bytes as there
         // are, as fit, and as it may.
-        ensures called { self.old.over ≡ false → SourceCalled self.old self.new }
+        ensures called { source_over self.old ≡ false → SourceCalled self.old self.new }
         ensures over { IfOk result
-            (λ count. self.old.over ≡ false → IsTrue self.new.over → (0 < length buffer.old)
+            (λ count. source_over self.old ≡ false → IsTrue (source_over self.new)
+            → (0 < length buffer.old)
             × (count ≡ 0)) }
         ensures fails { OnErr result (SourceFails self.old) }
-        ensures goes_on { OnOk result (self.old.over ≡ false → SourceFails self.old → ⊥) }
-        ensures count { IfOk result (λ count. self.old.over ≡ false
-            → count ≡ min (min (length self.old.content.now - self.old.at) (length buffer.old))
-            (max self.old.most 1)) }
+        ensures goes_on { OnOk result (source_over self.old ≡ false → SourceFails self.old → ⊥) }
+        ensures count { IfOk result (λ count. source_over self.old ≡ false
+            → count ≡ min (min (from_memory.left self.old) (length buffer.old))
+            (max (source_most self.old) 1)) }
     {
         if self.over {
             return Ok(0);
