@@ -35,3 +35,8 @@ impl<T, A: Allocator> Parts<T, A> {
         unsafe { Box::from_raw(alloc, at) }
     }
 }
+
+/// A pointer to nothing.
+pub(crate) fn nowhere() -> *mut u8 {
+    std::ptr::null_mut()
+}

@@ -3,7 +3,7 @@ ghost use Rattle.tmw_handles.specs.Slots.{recorder_coded, recorder_owned};
 ghost use Rattle.tmw_handles.specs.declared.held_recorder.HeldRecorder.{HeldRecorder};
 
 use crate::held_recorder::HeldRecorder;
-use crate::parts::Parts;
+use crate::parts::{Parts, nowhere};
 use std::alloc::Global;
 use std::marker::Model;
 
@@ -53,11 +53,6 @@ impl RecorderSlot {
     {
         RecorderSlot::empty_at(nowhere(), alloc)
     }
-}
-
-/// A pointer to nothing.
-fn nowhere() -> *mut u8 {
-    std::ptr::null_mut()
 }
 
 unsafe impl Send for RecorderSlot {}

@@ -3,7 +3,7 @@ ghost use Rattle.tmw_handles.specs.Slots.{watch_coded, watch_owned};
 ghost use Rattle.tmw_handles.specs.declared.held_watch.HeldWatch.{HeldWatch};
 
 use crate::held_watch::HeldWatch;
-use crate::parts::Parts;
+use crate::parts::{Parts, nowhere};
 use std::alloc::Global;
 use std::marker::Model;
 
@@ -53,9 +53,4 @@ impl WatchSlot {
     {
         WatchSlot::empty_at(nowhere(), alloc)
     }
-}
-
-/// A pointer to nothing.
-fn nowhere() -> *mut u8 {
-    std::ptr::null_mut()
 }

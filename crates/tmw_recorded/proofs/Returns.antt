@@ -1,15 +1,14 @@
 -- Writers that go to their threads, and that come back from them.
-use Rattle.std.proofs.Common.{◌≡◌, ◌<◌, ◌++◌, ℕ, zero, suc, List, [], ◌∷◌, Option, None, length, get_or, map, All, sym, ap, ◌∙◌, subst, arith}
-use Rattle.std.proofs.Math.Seq.{get_or-append_seam}
+use Rattle.std.proofs.Common.{◌≡◌, ◌<◌, ℕ, List, Option, None, length, get_or, map, All, sym, ap, ◌∙◌, subst}
 use Rattle.std.proofs.lemmas.List.{get_or-map}
 use Rattle.std.specs.Global.{Vec}
 use Rattle.std.specs.declared.thread.PromisedHandle.{PromisedHandle}
 use Rattle.tmw_events.specs.declared.event.Kind.{Kind}
 use Rattle.tmw_recorded.specs.Recording.{IsBack}
 use Rattle.tmw_recorded.specs.declared.threads.Recording.{Recording}
-use Rattle.tmw_ring.specs.Ends.{RingIs, WriterIs, WriterOf}
-use Rattle.tmw_ring.specs.NewRing.{IsNewWriter, AreNewWriters}
+use Rattle.tmw_ring.specs.Ends.{RingIs, WriterIs}
 use Rattle.tmw_ring.specs.declared.refused.Refused.{Refused}
+pub use Rattle.tmw_ring.proofs.InOrder.{one_more, shorter}
 
 -- what a thread gives back, and the handle that promises it
 abbrev pub Back : Type 0
@@ -17,31 +16,6 @@ Back = WriterIs × Option Refused
 
 abbrev pub Handle : Type 0
 Handle = PromisedHandle Back Recording
-
--- What holds of each item at its place still does when one more is put behind them.
-pub one_more : {A : Type 0} (P : ℕ → A → Type 0) (items : List A) (item : A)
-    → ((place : ℕ) (fallback : A) → place < length items → P place (get_or items place fallback)) → P (length items) item
-    → (place : ℕ) (fallback : A) → place < length (items ++ item ∷ []) → P place (get_or (items ++ item ∷ []) place fallback)
-one_more P [] item each last zero fallback low = last
-one_more P [] item each last (suc place) fallback low = absurd (omega (arith, low))
-one_more P (first ∷ items) item each last zero fallback low = each zero fallback (omega arith)
-one_more P (first ∷ items) item each last (suc place) fallback low =
-    one_more (λ n. P (suc n)) items item (λ n d below. each (suc n) d (omega (arith, below))) last place fallback (omega (arith, low))
-
--- An item has a place.
-pub shorter : {A : Type 0} (before : List A) (item : A) (after : List A) → length before < length (before ++ item ∷ after)
-shorter [] item after = omega arith
-shorter (first ∷ before) item after = let rest = shorter before item after in omega (arith, rest)
-
--- The writer behind so many new ones is a new one of that number.
-pub next_new : (ring : RingIs) (writers before after : List WriterIs) (writer : WriterIs) → AreNewWriters ring writers
-    → before ++ writer ∷ after ≡ writers → WriterOf ring writer × IsNewWriter (length before) writer
-next_new ring writers before after writer new is =
-    let place = length before in
-    let low : place < length writers = subst (λ (l : List WriterIs). place < length l) is (shorter before writer after) in
-    let at : get_or writers place writer ≡ writer =
-    ap (λ (l : List WriterIs). get_or l place writer) (sym is) ∙ get_or-append_seam before writer after writer in
-    (subst (WriterOf ring) at (new.of_ring place writer low), subst (IsNewWriter place) at (new.each place writer low))
 
 -- What a thread has promised is what it gives back at its place.
 pub kept_at : (ring : RingIs) (lists : List (Vec Kind)) (handles : List Handle) (place : ℕ) (handle : Handle) (back : Back)
@@ -58,7 +32,7 @@ kept_at ring lists handles place handle back is low rings all order kept =
     (subst (λ (l : List (Vec Kind)). IsBack ring l handle.promise.number.number back.0 back.1) same_lists
     (subst (λ (r : RingIs). IsBack r handle.promise.lists.now handle.promise.number.number back.0 back.1) same_ring kept))
 
--- The same of the writers and of the refusals, sorted.
+-- What a thread has given back stands at its place in the writers and in the refusals.
 pub sorted_at : (ring : RingIs) (lists : List (Vec Kind)) (place : ℕ) (back : List Back) (writers : List WriterIs) (stops : List (Option Refused))
     → (fallback : WriterIs) → writers ≡ map (λ (one : Back). one.0) back → stops ≡ map (λ (one : Back). one.1) back → place < length back
     → (let d : Back = (fallback, None) in IsBack ring lists place (get_or back place d).0 (get_or back place d).1)

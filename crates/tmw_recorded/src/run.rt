@@ -12,7 +12,7 @@ use crate::plan::Plan;
 use crate::pumping::{judge_rest, pump_running};
 use crate::recorded::Recorded;
 use crate::signals::Signals;
-use crate::threads::start_all;
+use crate::threads::{Work, start_all};
 use std::alloc::Global;
 use std::sync::Wait;
 use std::thread;
@@ -84,18 +84,35 @@ fn record_in_threads<R: Threads + Wait>(
             requires reader { ReaderOf ring.now pump.forgetting.reader }
             requires writers { AreNewWriters ring.now writers.items }
             requires count { length writers.items ≡ length lists.now }
+<<<<<<< HEAD
             ensures reader { IfOk result
                 (λ left. ReaderOf ring.entry.now left.0.forgetting.reader) }
             ensures fits { IfOk result
                 (λ left. KeepsFit pump.forgetting.front left.0.forgetting.front) }
             ensures back { IfOk result
                 (λ left. AreBack ring.entry.now lists.entry.now left.1.items left.2.items) }
+=======
+            ensures reader { IfOk result (λ left. ReaderOf ring.entry.now
+                left.0.forgetting.reader) }
+            ensures fits { IfOk result (λ left. KeepsFit pump.forgetting.front
+                left.0.forgetting.front) }
+            ensures back { IfOk result (λ left. AreBack ring.entry.now lists.entry.now left.1.items
+                left.2.items) }
+>>>>>>> rings
             ensures err { IfErr result IsOfThreads }
-        { record_within(rt, scope, alloc, ring, pump, writers, lists, tries, signals) },
+        {
+            let work = Work {
+                lists,
+                tries,
+                signals,
+            };
+            record_within(rt, scope, alloc, ring, pump, writers, work)
+        },
     )
 }
 
-/// The same, by threads of this scope. Where it fails, threads that find the ring full stop.
+/// Lets each writer record its list in a thread of this scope while the events are judged. Where it fails, threads that find the ring
+/// full stop.
 fn record_within<'s, E, R: Threads + Wait>(
     rt: &R,
     scope: &Scope<'s, E>,
@@ -103,27 +120,26 @@ fn record_within<'s, E, R: Threads + Wait>(
     ring: &'s Ring,
     mut pump: Pump,
     writers: Vec<Writer>,
-    lists: &'s [Vec<Kind>],
-    tries: u64,
-    signals: &'s Signals,
+    work: Work<'s>,
 ) -> Result<Left, RecordFault>
     requires reader { ReaderOf ring.now pump.forgetting.reader }
     requires writers { AreNewWriters ring.now writers.items }
-    requires count { length writers.items ≡ length lists.now }
+    requires count { length writers.items ≡ length work.lists.now }
     ensures reader { IfOk result (λ left. ReaderOf ring.now left.0.forgetting.reader) }
     ensures fits { IfOk result (λ left. KeepsFit pump.forgetting.front left.0.forgetting.front) }
-    ensures back { IfOk result (λ left. AreBack ring.now lists.now left.1.items left.2.items) }
+    ensures back { IfOk result (λ left. AreBack ring.now work.entry.lists.now left.1.items
+        left.2.items) }
     ensures err { IfErr result IsOfThreads }
 {
-    let handles = match start_all(scope, alloc, ring, writers, lists, tries, signals) {
+    let handles = match start_all(scope, alloc, ring, writers, work) {
         Ok(handles) => handles,
         Err(fault) => {
-            signals.give_up();
+            work.signals.give_up();
             return Err(fault);
         }
     };
-    let Ok(()) = pump_running(rt, ring, &mut pump, signals, lists.len() as u64) else {
-        signals.give_up();
+    let Ok(()) = pump_running(rt, ring, &mut pump, work.signals, work.lists.len() as u64) else {
+        work.signals.give_up();
         return Err(RecordFault::Memory);
     };
     let Ok(back) = thread::join_promised(rt, handles) else {

@@ -24,7 +24,19 @@ pub struct Recording<'a> {
 impl<'a> Promise<(Writer, Option<Refused>)> for Recording<'a> {
     ghost use Rattle.tmw_recorded.specs.Recording.{IsBack};
 
-    ghost kept_by = { λ promise back. IsBack promise.ring.now promise.lists.now promise.number.number back.0 back.1 };
+    ghost kept_by = { λ promise back. IsBack promise.ring.now promise.lists.now
+        promise.number.number back.0 back.1 };
+}
+
+/// What the threads have to do.
+#[derive(Clone, Copy)]
+pub struct Work<'a> {
+    /// The kinds that each thread records.
+    pub lists: &'a [Vec<Kind>],
+    /// So often more a thread tries a record for which the ring lacks room.
+    pub tries: u64,
+    /// Where threads and judge tell one another how they stand.
+    pub signals: &'a Signals,
 }
 
 /// Gives each writer a thread in which it records its list, if there are threads for all.
@@ -33,21 +45,33 @@ pub fn start_all<'s, E>(
     alloc: Global,
     ring: &'s Ring,
     writers: Vec<Writer>,
-    lists: &'s [Vec<Kind>],
-    tries: u64,
-    signals: &'s Signals,
+    work: Work<'s>,
 ) -> Result<Vec<PromisedHandle<(Writer, Option<Refused>), Recording<'s>>>, RecordFault>
     requires { AreNewWriters ring.now writers.items }
     ensures count { IfOk result (λ handles. length handles.items ≡ length writers.items) }
+<<<<<<< HEAD
     ensures of_ring { IfOk result
         (λ handles. All (λ handle. handle.promise.ring.now ≡ ring.now) handles.items) }
     ensures lists { IfOk result
         (λ handles. All (λ handle. handle.promise.lists.now ≡ lists.now) handles.items) }
     ensures order { IfOk result
         (λ handles. (place : ℕ) (fallback : _) → place < length handles.items
+=======
+    ensures of_ring { IfOk result (λ handles. All (λ handle. handle.promise.ring.now ≡ ring.now)
+        handles.items) }
+    ensures lists { IfOk result (λ handles. All (λ handle. handle.promise.lists.now
+        ≡ work.entry.lists.now) handles.items) }
+    ensures order { IfOk result (λ handles. (place : ℕ) (fallback : _)
+        → place < length handles.items
+>>>>>>> rings
         → (get_or handles.items place fallback).promise.number.number ≡ place) }
     ensures err { IfErr result IsOfThreads }
 {
+    let Work {
+        lists,
+        tries,
+        signals,
+    } = work;
     let mut handles = Vec::new(alloc);
     for writer in writers {
         let number = writer.number();

@@ -96,7 +96,7 @@ has_ended watch recorders writers rest are all settled front one_log = record {
   one_log = subst (λ (l : List WriterIs). IsLogOf (all_of rest) l (all_of rest)) are one_log;
 }
 
--- The same of what was settled, where it was.
+-- Where a ring was settled, it has ended with these recorders.
 pub ended_settled : {E : Type 0} (settled : Result Closing E) (watch : Watch) (recorders : List Recorder) (writers : List WriterIs)
     → writers ≡ writers_of recorders → AreAll watch.recorders recorders
     → IfOk settled (λ (closing : Closing). IsSettled watch.pump.reader writers closing.rest.settled)

@@ -1,3 +1,2 @@
 pub mod Closings
 pub mod Placing
-pub mod Recorders

@@ -8,7 +8,7 @@ use Rattle.tmw_recorded.proofs.run.record_within.Goals as goal
 pub returns-clause-back : goal.returns-clause-back
 returns-clause-back g c =
     let ring = c.args.ring.now in
-    let lists = c.args.lists.now in
+    let lists = c.args.work.lists.now in
     let started = c.in-Ok.ensures in
     let handles = c.in-Ok.handles in
     let joined = c.in-Ok-join_promised.ensures in

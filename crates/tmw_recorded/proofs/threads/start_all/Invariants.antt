@@ -8,5 +8,5 @@ invariant-loop-writer g l =
     × (l.yielded ++ into_iter_items l.writer-iterator ≡ l.fn.writers.items)
     × (into_iter_len l.writer-iterator ≡ length (into_iter_items l.writer-iterator))
     × ((place : ℕ) (fallback : _) → place < length l.handles.items → (get_or l.handles.items place fallback).promise.ring.now ≡ l.fn.ring)
-    × ((place : ℕ) (fallback : _) → place < length l.handles.items → (get_or l.handles.items place fallback).promise.lists.now ≡ l.fn.lists)
+    × ((place : ℕ) (fallback : _) → place < length l.handles.items → (get_or l.handles.items place fallback).promise.lists.now ≡ l.fn.work.lists.now)
     × ((place : ℕ) (fallback : _) → place < length l.handles.items → (get_or l.handles.items place fallback).promise.number.number ≡ place)

@@ -3,7 +3,7 @@ use Rattle.std.proofs.lemmas.List.{length_push}
 use Rattle.std.specs.Vec.Iter.{into_iter_items}
 use Rattle.tmw_ring.specs.Ends.{WriterIs}
 use Rattle.tmw_ring.specs.NewRing.{IsNewWriter}
-use Rattle.tmw_watch.proofs.Recorders.{one_more, next_new}
+use Rattle.tmw_ring.proofs.InOrder.{one_more, next_new}
 use Rattle.tmw_watch.proofs.open.share.Goals as goal
 use Rattle.tmw_watch.specs.Opening.{IsNewRecorder}
 use Rattle.tmw_watch.specs.declared.recorder.Recorder.{Recorder}
