@@ -54,21 +54,11 @@ pub fn pump_running<R: Wait>(
 /// Judges all that the settled ring has left, and gives all events with the verdict on them.
 pub fn judge_rest(mut rest: Rest) -> Result<(Vec<Event>, Verdict), AllocError>
     ensures all { IfOk result (λ judged. judged.0.items ≡ all_of rest.forgetting) }
-<<<<<<< HEAD
-    ensures verdict { IfOk result
-        (λ judged. (by : Rules)
-        → Fits by rest.forgetting.front.judged.items rest.forgetting.front.monitor
-        → IsVerdict by judged.0.items judged.1) }
-    ensures headline { IfOk result
-        (λ judged. GivesHeadline rest.forgetting.front (all_of rest.forgetting)
-        judged.0.items judged.1) }
-=======
     ensures verdict { IfOk result (λ judged. (by : Rules)
         → Fits by rest.forgetting.front.judged.items rest.forgetting.front.monitor
         → IsVerdict by judged.0.items judged.1) }
     ensures headline { IfOk result (λ judged. GivesHeadline rest.forgetting.front
         (all_of rest.forgetting) judged.0.items judged.1) }
->>>>>>> rings
 {
     rest.pump(u64::MAX)?;
     Ok(rest.finish())

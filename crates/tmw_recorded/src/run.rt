@@ -84,21 +84,12 @@ fn record_in_threads<R: Threads + Wait>(
             requires reader { ReaderOf ring.now pump.forgetting.reader }
             requires writers { AreNewWriters ring.now writers.items }
             requires count { length writers.items ≡ length lists.now }
-<<<<<<< HEAD
-            ensures reader { IfOk result
-                (λ left. ReaderOf ring.entry.now left.0.forgetting.reader) }
-            ensures fits { IfOk result
-                (λ left. KeepsFit pump.forgetting.front left.0.forgetting.front) }
-            ensures back { IfOk result
-                (λ left. AreBack ring.entry.now lists.entry.now left.1.items left.2.items) }
-=======
             ensures reader { IfOk result (λ left. ReaderOf ring.entry.now
                 left.0.forgetting.reader) }
             ensures fits { IfOk result (λ left. KeepsFit pump.forgetting.front
                 left.0.forgetting.front) }
             ensures back { IfOk result (λ left. AreBack ring.entry.now lists.entry.now left.1.items
                 left.2.items) }
->>>>>>> rings
             ensures err { IfErr result IsOfThreads }
         {
             let work = Work {

@@ -49,21 +49,12 @@ pub fn start_all<'s, E>(
 ) -> Result<Vec<PromisedHandle<(Writer, Option<Refused>), Recording<'s>>>, RecordFault>
     requires { AreNewWriters ring.now writers.items }
     ensures count { IfOk result (λ handles. length handles.items ≡ length writers.items) }
-<<<<<<< HEAD
-    ensures of_ring { IfOk result
-        (λ handles. All (λ handle. handle.promise.ring.now ≡ ring.now) handles.items) }
-    ensures lists { IfOk result
-        (λ handles. All (λ handle. handle.promise.lists.now ≡ lists.now) handles.items) }
-    ensures order { IfOk result
-        (λ handles. (place : ℕ) (fallback : _) → place < length handles.items
-=======
     ensures of_ring { IfOk result (λ handles. All (λ handle. handle.promise.ring.now ≡ ring.now)
         handles.items) }
     ensures lists { IfOk result (λ handles. All (λ handle. handle.promise.lists.now
         ≡ work.entry.lists.now) handles.items) }
     ensures order { IfOk result (λ handles. (place : ℕ) (fallback : _)
         → place < length handles.items
->>>>>>> rings
         → (get_or handles.items place fallback).promise.number.number ≡ place) }
     ensures err { IfErr result IsOfThreads }
 {

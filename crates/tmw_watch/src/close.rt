@@ -57,13 +57,8 @@ impl Watch {
         requires room { vec_len room + length recorders.items ≤ vec_capacity room }
         ensures ok { IfOk result (λ closing. HasEnded self recorders.items (all_of closing.rest)) }
         ensures front { IfOk result (λ closing. closing.rest.front ≡ self.pump.front) }
-<<<<<<< HEAD
-        ensures err { IfErr result
-            (λ back. (back.0 ≡ self) × (back.1.items ≡ writers_of recorders.items)) }
-=======
         ensures err { IfErr result (λ back. (back.0 ≡ self)
             × (back.1.items ≡ writers_of recorders.items)) }
->>>>>>> rings
     {
         self.settle(give_up(recorders, room))
     }
@@ -80,19 +75,11 @@ impl Watch {
         requires writers { All (WriterOf self.ring.value) writers.items }
         requires count { length writers.items ≡ self.recorders }
         requires order { AreInOrder writers.items }
-<<<<<<< HEAD
-        ensures settled { IfOk result
-            (λ closing. IsSettled self.pump.reader writers.items closing.rest.settled) }
-        ensures front { IfOk result (λ closing. closing.rest.front ≡ self.pump.front) }
-        ensures one_log { IfOk result
-            (λ closing. IsLogOf (all_of closing.rest) writers.items (all_of closing.rest)) }
-=======
         ensures settled { IfOk result (λ closing. IsSettled self.pump.reader writers.items
             closing.rest.settled) }
         ensures front { IfOk result (λ closing. closing.rest.front ≡ self.pump.front) }
         ensures one_log { IfOk result (λ closing. IsLogOf (all_of closing.rest) writers.items
             (all_of closing.rest)) }
->>>>>>> rings
         ensures err { IfErr result (λ back. (back.0 ≡ self) × (back.1.items ≡ writers.items)) }
     {
         let Watch {

@@ -53,13 +53,8 @@ fn share(
 ) -> Result<Vec<Recorder>, AllocError>
     requires { AreNewWriters ring.now.value writers.items }
     ensures count { IfOk result (λ recorders. length recorders.items ≡ length writers.items) }
-<<<<<<< HEAD
-    ensures each { IfOk result
-        (λ recorders. (number : ℕ) (fallback : _) → number < length recorders.items
-=======
     ensures each { IfOk result (λ recorders. (number : ℕ) (fallback : _)
         → number < length recorders.items
->>>>>>> rings
         → IsNewRecorder ring.now.value number (get_or recorders.items number fallback)) }
     ensures of_ring { IfOk result (λ recorders. AreOf ring.now.value recorders.items) }
 {

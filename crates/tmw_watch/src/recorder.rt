@@ -43,13 +43,8 @@ impl Recorder {
         ensures ring { self.new.ring ≡ self.old.ring }
         ensures number { self.new.writer.number ≡ self.old.writer.number }
         ensures ok { IfOk result (λ place. HasRecorded kind place self.old.writer self.new.writer) }
-<<<<<<< HEAD
-        ensures err { IfErr result
-            (λ refused. IsRefusal kind self.old.writer refused self.new.writer) }
-=======
         ensures err { IfErr result (λ refused. IsRefusal kind self.old.writer refused
             self.new.writer) }
->>>>>>> rings
     {
         self.ring.record(&mut self.writer, kind)
     }
@@ -62,13 +57,8 @@ impl Recorder {
     pub fn room(&mut self, records: u64) -> Result<(), Refused>
         ensures ring { self.new.ring ≡ self.old.ring }
         ensures ok { IfOk result (λ _. HasFoundRoom records self.old.writer self.new.writer) }
-<<<<<<< HEAD
-        ensures err { IfErr result
-            (λ refused. LacksRoom records self.old.writer refused self.new.writer) }
-=======
         ensures err { IfErr result (λ refused. LacksRoom records self.old.writer refused
             self.new.writer) }
->>>>>>> rings
     {
         self.ring.room(&mut self.writer, records)
     }

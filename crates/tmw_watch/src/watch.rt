@@ -31,12 +31,7 @@ impl Watch {
     pub fn pump(&mut self, most: u64) -> Result<Pumped, AllocError>
         ensures ring { self.new.ring ≡ self.old.ring }
         ensures ok { IfOk result (λ pumped. IsPumped most pumped self.old.pump self.new.pump) }
-<<<<<<< HEAD
-        ensures err { OnErr result
-            (WasRefusedMemory most
-=======
         ensures err { OnErr result (WasRefusedMemory most
->>>>>>> rings
             (λ count. HasPumped count self.old.pump self.new.pump.reader self.new.pump.front)
             self.new.pump.front) }
         ensures headline { GivesHeadline self.old.pump.front self.new.pump.reader.taken
