@@ -1,5 +1,5 @@
 -- What sources and sinks over memory hold.
-use Rattle.std.specs.Prelude.{◌≡◌, ℕ, ◌-◌, Bool, IsTrue, Option, List, Some, length, take, drop}
+use Rattle.std.specs.Prelude.{◌≡◌, ℕ, ◌+◌, ◌-◌, ◌<◌, vec_capacity, Bool, IsTrue, Option, List, Some, length, take, drop}
 use Rattle.tmw_streams.specs.Streams.{FromSource, ToSink}
 use Rattle.tmw_streams.specs.declared.memory_sink.MemorySink.{MemorySink}
 use Rattle.tmw_streams.specs.declared.memory_source.MemorySource.{MemorySource}
@@ -70,6 +70,10 @@ SourceFails source = source.fails_at ≡ Some (one_more source.calls)
 -- The sink's next call, counted from 1, is the one at which it was to fail.
 abbrev pub SinkFails : MemorySink → Type 0
 SinkFails sink = sink.fails_at ≡ Some (one_more sink.calls)
+
+-- So many bytes more are over the room that the sink has.
+abbrev pub SinkLacksRoom : MemorySink → ℕ → Type 0
+SinkLacksRoom sink count = vec_capacity sink.bytes < length sink.bytes.items + count
 
 -- One call more of the source was counted, and its limits are as they were.
 pub record SourceCalled (old new : MemorySource) : Type 0 where

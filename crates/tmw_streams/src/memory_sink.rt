@@ -1,4 +1,4 @@
-ghost use Rattle.std.specs.Prelude.{◌≡◌, ◌-◌, ◌^◌, ◌<◌, ◌≤◌, [], length, take, min, max, IfOk, OnOk, OnErr, refl};
+ghost use Rattle.std.specs.Prelude.{◌≡◌, ◌⊎◌, ◌-◌, ◌^◌, ◌<◌, ◌≤◌, [], length, take, min, max, IfOk, OnOk, OnErr, refl};
 ghost use Rattle.tmw_streams.specs.Memory.{held_bytes, sink_calls, sink_fails_at, sink_most, to_memory};
 ghost use Rattle.tmw_streams.specs.Told.{Takes, one_more};
 
@@ -29,7 +29,7 @@ impl MemorySink {
     }
 
     /// An empty sink that takes at most `most` bytes a call, where 0 counts as 1, and fails at call `fails_at` alone, the
-    /// first being call 1.
+    /// first being call 1. Calls are counted up to 2^64 - 1, where the count stays.
     pub fn limited(alloc: Global, most: usize, fails_at: Option<u64>) -> MemorySink
         ensures held { held_bytes result ≡ [] }
         ensures failures { to_memory.failures result ≡ 0 }
@@ -62,7 +62,7 @@ impl MemorySink {
 }
 
 impl Sink for MemorySink {
-    ghost use Rattle.tmw_streams.specs.Memory.{SinkFails, SinkCalled};
+    ghost use Rattle.tmw_streams.specs.Memory.{SinkFails, SinkCalled, SinkLacksRoom};
 
     ghost to = { to_memory };
 
@@ -76,8 +76,10 @@ impl Sink for MemorySink {
             (to_memory.failures self.new ≡ one_more (to_memory.failures self.old)) }
         ensures kept { OnErr result (Takes to_memory self.old [] self.new) }
 
-        // It fails at the chosen call, and else takes as many bytes as there are and as it may.
+        // It fails at the chosen call, and where there is no room, and else takes as many bytes as there are and as it may.
         ensures called { SinkCalled self.old self.new }
+        ensures fails { OnErr result (SinkFails self.old
+            ⊎ SinkLacksRoom self.old (min (length bytes.now) (max (sink_most self.old) 1))) }
         ensures goes_on { OnOk result (SinkFails self.old → ⊥) }
         ensures count { IfOk result
             (λ count. count ≡ min (length bytes.now) (max (sink_most self.old) 1)) }

@@ -35,7 +35,7 @@ impl<'a> MemorySource<'a> {
     }
 
     /// A source of these bytes that tells at most `most` of them a call, where 0 counts as 1, and fails at call `fails_at`
-    /// alone, the first being call 1.
+    /// alone, the first being call 1. Calls are counted up to 2^64 - 1, where the count stays.
     pub fn limited(content: &'a [u8], most: usize, fails_at: Option<u64>) -> MemorySource<'a>
         ensures content { source_bytes result ≡ content.now }
         ensures told { told_bytes result ≡ [] }

@@ -20,6 +20,6 @@ pub trait Sink {
         ensures failed { OnErr result (to.failures self.new ≡ one_more (to.failures self.old)) }
         ensures kept { OnErr result (Takes to self.old [] self.new) };
 
-    /// In each state there are bytes that it has taken, so that a promise on them says something.
+    /// In each state there are bytes that it may have taken.
     ghost took_some: { (s : Self) → (bytes : List ℕ) × to.took s bytes };
 }

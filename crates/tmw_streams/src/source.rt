@@ -27,7 +27,7 @@ pub trait Source {
         ensures kept { OnErr result (Tells from self.old [] self.new) }
         ensures no_end { OnErr result (from.ended self.new → ⊥) };
 
-    /// In each state there are bytes that it has told, so that a promise on them says something.
+    /// In each state there are bytes that it may have told.
     ghost tells_some: { (s : Self) → (bytes : List ℕ) × from.told s bytes };
     /// Where it has answered its end, no byte that is known is left.
     ghost none_left: { (s : Self) → from.ended s → IsAtEnd (from.remaining s) };
