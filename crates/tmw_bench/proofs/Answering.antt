@@ -1,74 +1,39 @@
--- What answers a text answers a source that has told it and has ended.
-use Rattle.std.proofs.Common.{◌≡◌, ◌≤◌, ℕ, List, Result, Ok, Err, IsTrue, length, refl, subst, sym}
+-- What answers a workload that was read answers the source that told its text.
+use Rattle.std.proofs.Common.{◌≡◌, ◌≤◌, ℕ, List, IsTrue, length, subst, sym}
 use Rattle.std.proofs.lemmas.List.{length-map}
 use Rattle.tmw_bench.specs.Benched.{IsHunted, IsNoBench}
+use Rattle.tmw_bench.specs.BenchRun.{hunted_of}
+use Rattle.tmw_bench.specs.Running.{IsHuntedFrom, IsNoBenchFrom, IsRightFault, fault_of}
+use Rattle.tmw_bench.specs.declared.command.hunt_run.HuntRun.{HuntRun}
 use Rattle.tmw_bench.specs.declared.fault.BenchFault.{BenchFault}
+use Rattle.tmw_bench.specs.declared.fault.BenchFault.TheVariants.{Memory as LacksMemory, Registers as LacksRegisters, Ring as HasNoRing, Spawn as LacksThreads}
 use Rattle.tmw_bench.specs.declared.hunted.Hunted.{Hunted}
 use Rattle.tmw_bench.specs.declared.settings.Settings.{Settings}
-use Rattle.tmw_report.specs.CommandRun.{failures_after_answer}
-use Rattle.tmw_report.specs.Putting.{failures_behind}
-use Rattle.tmw_report.specs.declared.fault.Fault.{Fault}
-use Rattle.tmw_report.specs.declared.fault.Fault.TheVariants.{Io, Json, Memory, Registers, Ring, Shape, Spawn}
+use Rattle.tmw_drive.proofs.Answering.{text_over}
 use Rattle.tmw_events.specs.declared.registers.Registers.{Registers as Width}
-use Rattle.tmw_bench.specs.BenchRun.{hunted_of}
-use Rattle.tmw_bench.specs.Running.{AnswersText, IsHuntedFrom, IsNoBenchFrom, IsRightFault, IsTextFault}
-use Rattle.tmw_bench.specs.declared.command.hunt_run.HuntRun.{HuntRun}
 use Rattle.tmw_runs.specs.Scripts.{scripts_of, script_of}
 use Rattle.tmw_tm.specs.Memory.{MemoryIs}
 use Rattle.tmw_workloads.specs.Json.{IsWorkloadText}
 use Rattle.tmw_workloads.specs.Workload.{is_workload}
 use Rattle.tmw_workloads.specs.declared.workload.Workload.{Workload}
 
-module _ (bytes : List ℕ) where
-  pub text-ended : (Ended : Type 0) (answer : Result Workload Fault) → Ended → AnswersText (Unit {0}) bytes answer → AnswersText Ended bytes answer
-  text-ended Ended (Ok workload) ended right = (ended, right.1)
-  text-ended Ended (Err Json) ended right = (ended, right.1)
-  text-ended Ended (Err Shape) ended right = (ended, right.1)
-  text-ended Ended (Err Io) ended right = absurd (right tt)
-  text-ended Ended (Err Memory) ended right = tt
-  text-ended Ended (Err _) ended right = absurd right
+module _ (has : ℕ) (Ended : Type 0) (settings : Settings) (bytes : List ℕ) where
+  -- the fault is right by which no run was judged to its end
+  right-no_bench : (fault : BenchFault) → Ended → IsNoBenchFrom has settings bytes fault → IsRightFault has Ended settings bytes (fault_of fault)
+  right-no_bench LacksRegisters ended none = (ended, none)
+  right-no_bench (HasNoRing fault) ended none = (ended, fault, none)
+  right-no_bench LacksMemory ended none = tt
+  right-no_bench LacksThreads ended none = (ended, none)
 
-  -- no read failed
-  pub failures-same : (count : ℕ) (answer : Result Workload Fault) → AnswersText (Unit {0}) bytes answer
-      → failures_after_answer answer count ≡ count
-  failures-same count (Ok workload) right = refl
-  failures-same count (Err Io) right = absurd (right tt)
-  failures-same count (Err _) right = refl
-
-  -- a fault that is right of the bytes as a text is right of them
-  pub right-text : (has : ℕ) (Ended : Type 0) (settings : Settings) (fault : Fault) → IsTextFault Ended bytes fault → IsRightFault has Ended settings bytes fault
-  right-text has Ended settings Json right = right
-  right-text has Ended settings Shape right = right
-  right-text has Ended settings Io right = right
-  right-text has Ended settings Memory right = right
-  right-text has Ended settings _ right = absurd right
-
-  pub fault-ended : (has : ℕ) (Ended : Type 0) (settings : Settings) (fault : Fault) → Ended → IsRightFault has (Unit {0}) settings bytes fault
-      → IsRightFault has Ended settings bytes fault
-  fault-ended has Ended settings Json ended right = (ended, right.1)
-  fault-ended has Ended settings Shape ended right = (ended, right.1)
-  fault-ended has Ended settings Registers ended right = (ended, right.1)
-  fault-ended has Ended settings Ring ended right = (ended, right.1, right.2)
-  fault-ended has Ended settings Spawn ended right = (ended, right.1)
-  fault-ended has Ended settings Io ended right = absurd (right tt)
-  fault-ended has Ended settings Memory ended right = tt
-  fault-ended has Ended settings _ ended right = absurd right
-
-  -- and no read failed
-  pub fault-well : (has : ℕ) (settings : Settings) (count : ℕ) (fault : Fault) → IsRightFault has (Unit {0}) settings bytes fault
-      → failures_behind fault count ≡ count
-  fault-well has settings count Io right = absurd (right tt)
-  fault-well has settings count _ right = refl
-
--- the text of a workload of which no run was judged to its end
-pub no_bench_from : (has : ℕ) (workload : Workload) (settings : Settings) (bytes : List ℕ) (fault : BenchFault)
-    → IsWorkloadText workload.registers.number (scripts_of workload.scripts.items) workload.order.items bytes
-    → IsNoBench has workload.registers.number (length workload.scripts.items) settings fault → IsNoBenchFrom has settings bytes fault
-no_bench_from has workload settings bytes fault text none = record {
-  registers = workload.registers;
-  workload = record { scripts = scripts_of workload.scripts.items; order = workload.order.items; is = workload.is; text = text };
-  none = subst (λ (count : ℕ). IsNoBench has workload.registers.number count settings fault) (sym (length-map workload.scripts.items script_of)) none;
-}
+  pub right-bench : (workload : Workload) (fault : BenchFault) → Ended
+      → IsWorkloadText workload.registers.number (scripts_of workload.scripts.items) workload.order.items bytes
+      → IsNoBench has workload.registers.number (length workload.scripts.items) settings fault
+      → IsRightFault has Ended settings bytes (fault_of fault)
+  right-bench workload fault ended text none = right-no_bench fault ended (record {
+    registers = workload.registers;
+    workload = text_over workload bytes text;
+    none = subst (λ (count : ℕ). IsNoBench has workload.registers.number count settings fault) (sym (length-map workload.scripts.items script_of)) none;
+  })
 
 -- what threads have made of the text of a workload
 pub hunted-from : (memory : MemoryIs) (workload : Workload) (settings : Settings) (bytes : List ℕ) (hunted : Hunted) (run : HuntRun)

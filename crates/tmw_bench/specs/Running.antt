@@ -3,24 +3,21 @@ use Rattle.std.specs.Prelude.{◌≤◌, ℕ, List, Result, Ok, Err, length}
 use Rattle.std.specs.Bool.{MatchBool}
 use Rattle.tmw_bench.specs.Benched.{IsBenched, IsHunted, IsNoBench}
 use Rattle.tmw_bench.specs.declared.fault.BenchFault.{BenchFault}
-use Rattle.tmw_bench.specs.declared.fault.BenchFault.TheVariants.{Registers as LacksRegisters, Ring as HasNoRing, Spawn as LacksThreads}
+use Rattle.tmw_bench.specs.declared.fault.BenchFault.TheVariants.{Memory as LacksMemory, Registers as LacksRegisters, Ring as HasNoRing, Spawn as LacksThreads}
 use Rattle.tmw_bench.specs.declared.settings.Settings.{Settings}
 use Rattle.tmw_events.specs.declared.registers.Registers.{Registers}
 use Rattle.tmw_report.specs.CommandRun.{IsCommandRun}
 use Rattle.tmw_streams.specs.Streams.{FromSource, ToSink}
 use Rattle.tmw_report.specs.declared.fault.Fault.{Fault}
-use Rattle.tmw_report.specs.declared.fault.Fault.TheVariants.{Io, Json, Memory, Registers as TooManyRegisters, Ring, Shape, Spawn}
+use Rattle.tmw_report.specs.declared.fault.Fault.TheVariants.{Memory, Registers as TooManyRegisters, Ring, Spawn}
 use Rattle.tmw_ring_defs.specs.declared.ring_fault.RingFault.{RingFault}
 use Rattle.tmw_bench.specs.BenchRun.{asks_for_log, bench_status, bench_text, benched_of, hunt_status, hunt_text, hunted_of}
 use Rattle.tmw_bench.specs.declared.command.bench_run.BenchRun.{BenchRun}
 use Rattle.tmw_bench.specs.declared.command.flags.Flags.{Flags}
 use Rattle.tmw_bench.specs.declared.command.hunt_run.HuntRun.{HuntRun}
 use Rattle.tmw_drive.specs.Driven.{IsHeaderOf}
-use Rattle.tmw_drive.specs.Running.{IsTextOver}
+use Rattle.tmw_drive.specs.Reading.{IsTextFault, IsTextOver}
 use Rattle.tmw_tm.specs.Memory.{MemoryIs}
-use Rattle.tmw_runs.specs.Scripts.{scripts_of}
-use Rattle.tmw_workloads.specs.Json.{IsNoText, IsOtherText, IsWorkloadText}
-use Rattle.tmw_workloads.specs.declared.workload.Workload.{Workload}
 
 -- The bytes are the text of a workload over no more registers than the memory has, and this is what threads have made of it on the
 -- memory: its scripts, round after round, the verdict on the record, from registers that all hold 0, and how each thread has ended.
@@ -44,33 +41,21 @@ pub record IsNoBenchFrom (has : ℕ) (settings : Settings) (bytes : List ℕ) (f
   pub workload : IsTextOver registers.number bytes
   pub none : IsNoBench has registers.number (length workload.scripts) settings fault
 
--- The fault is right of these bytes, which are all that the source has where `Ended` holds: they are no JSON text, or the text
--- of a value that is no workload's; or of a workload over more registers than the memory has; or of one for whose scripts no ring
--- has the settings' size; or of one for which there may be a ring. Only tests show that a thread could not be started then, and that
--- a growth was refused where the fault is `Memory`. `Io` answers a failed read.
+-- The fault by which the command answers that no run was judged to its end.
+abbrev pub fault_of : BenchFault → Fault
+fault_of LacksRegisters = TooManyRegisters
+fault_of (HasNoRing fault) = Ring
+fault_of LacksMemory = Memory
+fault_of LacksThreads = Spawn
+
+-- The fault is right of these bytes, which are all that the source has where `Ended` holds: they are the text of a workload over more
+-- registers than the memory has; or of one for whose scripts no ring has the settings' size; or of one for which there may be a ring;
+-- or the fault is right of them as a text. Only tests show that a thread could not be started where it is `Spawn`.
 abbrev pub IsRightFault : (has : ℕ) → Type 0 → Settings → List ℕ → Fault → Type 0
-IsRightFault has Ended settings bytes Json = Ended × IsNoText bytes
-IsRightFault has Ended settings bytes Shape = Ended × IsOtherText bytes
 IsRightFault has Ended settings bytes TooManyRegisters = Ended × IsNoBenchFrom has settings bytes LacksRegisters
 IsRightFault has Ended settings bytes Ring = Ended × (fault : RingFault) × IsNoBenchFrom has settings bytes (HasNoRing fault)
 IsRightFault has Ended settings bytes Spawn = Ended × IsNoBenchFrom has settings bytes LacksThreads
-IsRightFault has Ended settings bytes Io = Ended → ⊥
-IsRightFault has Ended settings bytes Memory = Unit {0}
-IsRightFault has Ended settings bytes _ = ⊥
-
--- The fault is right of these bytes, as the text of a workload.
-abbrev pub IsTextFault : Type 0 → List ℕ → Fault → Type 0
-IsTextFault Ended bytes Json = Ended × IsNoText bytes
-IsTextFault Ended bytes Shape = Ended × IsOtherText bytes
-IsTextFault Ended bytes Io = Ended → ⊥
-IsTextFault Ended bytes Memory = Unit {0}
-IsTextFault Ended bytes _ = ⊥
-
--- This answers the bytes that a source told: the workload of which they are the text, or a fault that is right of such a text.
-abbrev pub AnswersText : Type 0 → List ℕ → Result Workload Fault → Type 0
-AnswersText Ended bytes (Ok workload) =
-    Ended × IsWorkloadText workload.registers.number (scripts_of workload.scripts.items) workload.order.items bytes
-AnswersText Ended bytes (Err fault) = IsTextFault Ended bytes fault
+IsRightFault has Ended settings bytes fault = IsTextFault Ended bytes fault
 
 -- This answers the bytes that a source told: what was found of the workload of which they are the text, or a fault that is right
 -- of them.

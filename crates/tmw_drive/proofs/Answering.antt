@@ -1,27 +1,24 @@
--- What answers a text answers a source that has told it and has ended.
-use Rattle.std.proofs.Common.{◌≡◌, ℕ, List, Result, Ok, Err, refl}
-use Rattle.tmw_monitor.specs.declared.bounds.Bounds.{Bounds}
-use Rattle.tmw_report.specs.CommandRun.{failures_after_answer}
-use Rattle.tmw_report.specs.declared.fault.Fault.{Fault}
-use Rattle.tmw_report.specs.declared.fault.Fault.TheVariants.{Io, Json, Memory, Registers, Shape}
-use Rattle.tmw_drive.specs.Running.{AnswersWorkload}
-use Rattle.tmw_drive.specs.declared.command.driven.Driven.{Driven}
-use Rattle.tmw_tm.specs.Memory.{MemoryIs}
+-- What a workload that was read says of its text.
+use Rattle.std.proofs.Common.{◌≡◌, ◌<◌, ℕ, List, refl}
+use Rattle.tmw_drive.specs.Reading.{IsTextOver}
+use Rattle.tmw_drive.specs.Running.{IsRightFault, fault_of}
+use Rattle.tmw_drive.specs.declared.fault.DriveFault.{DriveFault}
+use Rattle.tmw_drive.specs.declared.fault.DriveFault.TheVariants.{Memory as LacksMemory, Registers as LacksRegisters}
+use Rattle.tmw_runs.specs.Scripts.{scripts_of}
+use Rattle.tmw_workloads.specs.Json.{IsWorkloadText}
+use Rattle.tmw_workloads.specs.declared.workload.Workload.{Workload}
 
-module _ (memory : MemoryIs) (bounds : Bounds) (bytes : List ℕ) where
-  pub answers-ended : (Ended : Type 0) (answer : Result Driven Fault) → Ended → AnswersWorkload memory bounds (Unit {0}) bytes answer
-      → AnswersWorkload memory bounds Ended bytes answer
-  answers-ended Ended (Ok driven) ended right = (ended, right.1)
-  answers-ended Ended (Err Json) ended right = (ended, right.1)
-  answers-ended Ended (Err Shape) ended right = (ended, right.1)
-  answers-ended Ended (Err Registers) ended right = (ended, right.1, right.2, right.3)
-  answers-ended Ended (Err Io) ended right = absurd (right tt)
-  answers-ended Ended (Err Memory) ended right = tt
-  answers-ended Ended (Err _) ended right = absurd right
+-- the text of a workload that was read
+abbrev pub text_over : (workload : Workload) (bytes : List ℕ)
+    → IsWorkloadText workload.registers.number (scripts_of workload.scripts.items) workload.order.items bytes
+    → IsTextOver workload.registers.number bytes
+text_over workload bytes text =
+    record { scripts = scripts_of workload.scripts.items; order = workload.order.items; is = workload.is; text = text }
 
-  -- no read failed
-  pub failures-same : (count : ℕ) (answer : Result Driven Fault) → AnswersWorkload memory bounds (Unit {0}) bytes answer
-      → failures_after_answer answer count ≡ count
-  failures-same count (Ok driven) right = refl
-  failures-same count (Err Io) right = absurd (right tt)
-  failures-same count (Err _) right = refl
+-- a workload that was read and not driven is answered by a right fault
+pub right-drive : (has : ℕ) (Ended : Type 0) (workload : Workload) (bytes : List ℕ) (fault : DriveFault) → Ended
+    → IsWorkloadText workload.registers.number (scripts_of workload.scripts.items) workload.order.items bytes
+    → (fault ≡ LacksRegisters → has < workload.registers.number) → IsRightFault has Ended bytes (fault_of fault)
+right-drive has Ended workload bytes LacksRegisters ended text fewer =
+    (ended, workload.registers, fewer refl, text_over workload bytes text)
+right-drive has Ended workload bytes LacksMemory ended text fewer = tt

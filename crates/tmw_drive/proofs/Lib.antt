@@ -1,5 +1,5 @@
 mod AllPlaying
-mod Answering
+pub mod Answering
 pub mod Drives
 mod Entries
 pub mod Going

@@ -1,29 +1,22 @@
 -- What `drive` promises: from the bytes that its source tells to what its sink takes and the exit status.
-use Rattle.std.specs.Prelude.{◌≡◌, ◌<◌, ◌≤◌, ℕ, Bool, IsTrue, List, Result, Ok, Err}
+use Rattle.std.specs.Prelude.{◌≡◌, ◌<◌, ◌≤◌, ℕ, Bool, List, Result, Ok, Err}
 use Rattle.tmw_defs.specs.Opaque.{zeros}
 use Rattle.tmw_defs.specs.Verdict.{IsVerdict}
 use Rattle.tmw_defs.specs.declared.verdict.Verdict.TheVariants.{Malformed}
 use Rattle.tmw_drive.specs.Driving.{IsDriven}
-use Rattle.tmw_events.specs.declared.event.Kind.{Kind}
 use Rattle.tmw_events.specs.declared.registers.Registers.{Registers}
 use Rattle.tmw_monitor.specs.Fitting.{rules_of}
 use Rattle.tmw_monitor.specs.declared.bounds.Bounds.{Bounds}
 use Rattle.tmw_report.specs.CommandRun.{IsCommandRun}
 use Rattle.tmw_streams.specs.Streams.{FromSource, ToSink}
 use Rattle.tmw_report.specs.declared.fault.Fault.{Fault}
-use Rattle.tmw_report.specs.declared.fault.Fault.TheVariants.{Io, Json, Memory, Registers as TooManyRegisters, Shape}
+use Rattle.tmw_report.specs.declared.fault.Fault.TheVariants.{Memory, Registers as TooManyRegisters}
 use Rattle.tmw_drive.specs.Driven.{IsHeaderOf, driven_text, driven_status}
+use Rattle.tmw_drive.specs.Reading.{IsTextFault, IsTextOver}
 use Rattle.tmw_drive.specs.declared.command.driven.Driven.{Driven}
+use Rattle.tmw_drive.specs.declared.fault.DriveFault.{DriveFault}
+use Rattle.tmw_drive.specs.declared.fault.DriveFault.TheVariants.{Memory as LacksMemory, Registers as LacksRegisters}
 use Rattle.tmw_tm.specs.Memory.{MemoryIs}
-use Rattle.tmw_workloads.specs.Json.{IsNoText, IsOtherText, IsWorkloadText}
-use Rattle.tmw_workloads.specs.Workload.{is_workload}
-
--- The bytes are the text of a workload over so many registers.
-pub record IsTextOver (registers : ℕ) (bytes : List ℕ) : Type 0 where
-  pub scripts : List (List (List Kind))
-  pub order : List ℕ
-  pub is : IsTrue (is_workload registers scripts order)
-  pub text : IsWorkloadText registers scripts order bytes
 
 -- The bytes are the text of a workload over no more registers than the memory has, and this is what the memory made of it: its
 -- scripts were driven in its order, and the verdict is the one on the log, from registers that all hold 0.
@@ -36,17 +29,17 @@ pub record IsDrivenFrom (memory : MemoryIs) (bounds : Bounds) (bytes : List ℕ)
   pub judged : IsVerdict (rules_of registers zeros bounds) driven.outcome.log.items driven.outcome.verdict
   pub formed : (at : ℕ) → driven.outcome.verdict ≡ Malformed at → ⊥
 
--- The fault is right of these bytes, which are all that the source has where `Ended` holds: they are no JSON text, or the
--- text of a value that is no workload's; or that of a workload over more registers than the memory has. Only tests show that a
--- growth was refused where the fault is `Memory`. `Io` answers a failed read.
+-- The fault by which the command answers that a workload was not driven.
+abbrev pub fault_of : DriveFault → Fault
+fault_of LacksRegisters = TooManyRegisters
+fault_of LacksMemory = Memory
+
+-- The fault is right of these bytes, which are all that the source has where `Ended` holds: they are the text of a workload over more
+-- registers than the memory has; or it is right of them as a text.
 abbrev pub IsRightFault : (has : ℕ) → Type 0 → List ℕ → Fault → Type 0
-IsRightFault has Ended bytes Json = Ended × IsNoText bytes
-IsRightFault has Ended bytes Shape = Ended × IsOtherText bytes
 IsRightFault has Ended bytes TooManyRegisters =
     Ended × (registers : Registers) × (has < registers.number) × IsTextOver registers.number bytes
-IsRightFault has Ended bytes Io = Ended → ⊥
-IsRightFault has Ended bytes Memory = Unit {0}
-IsRightFault has Ended bytes _ = ⊥
+IsRightFault has Ended bytes fault = IsTextFault Ended bytes fault
 
 -- This answers the bytes that a source told: what the memory made of the workload of which they are the text, or a fault that is
 -- right of them.

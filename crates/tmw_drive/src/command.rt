@@ -3,8 +3,10 @@
 mod answer;
 mod driven;
 mod driving;
+mod reading;
 mod run;
 
 pub use answer::put_driven;
 pub use driven::{Driven, header_of};
+pub use reading::read_source;
 pub use run::run_drive;

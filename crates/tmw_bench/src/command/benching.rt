@@ -1,7 +1,7 @@
 ghost use Rattle.std.specs.Prelude.{◌≡◌, ℕ, List};
 ghost use Rattle.tmw_report.specs.CommandRun.{failures_after_answer};
 ghost use Rattle.tmw_bench.specs.BenchRun.{benched_of, hunted_of};
-ghost use Rattle.tmw_bench.specs.Running.{AnswersBench, AnswersHunt, AnswersText, IsNoBenchFrom, IsRightFault};
+ghost use Rattle.tmw_bench.specs.Running.{AnswersBench, AnswersHunt, fault_of};
 ghost use Rattle.tmw_drive.specs.Driven.{IsHeaderOf};
 ghost use Rattle.tmw_streams.specs.Told.{Tells};
 ghost use Rattle.tmw_tm.specs.Memory.{memory_is};
@@ -12,13 +12,12 @@ use crate::{BenchFault, Benched, Hunted, Progress, Settings, hunt, run_bench};
 use std::alloc::Global;
 use std::sync::Wait;
 use std::thread::Threads;
-use tmw_drive::{Driven, header_of};
+use tmw_drive::{Driven, header_of, read_source};
 use tmw_events::Registers;
 use tmw_report::Fault;
 use tmw_show::Shown;
-use tmw_streams::{ReadFault, Source, read_all};
+use tmw_streams::Source;
 use tmw_tm::Tm;
-use tmw_workloads::{Workload, WorkloadFault, read_workload};
 
 /// Reads a workload up to the source's end, and carries it out by threads on the memory. The log is kept.
 pub fn bench_source<S: Source, R: Threads + Wait + Sync>(
@@ -29,19 +28,12 @@ pub fn bench_source<S: Source, R: Threads + Wait + Sync>(
     settings: Settings,
 ) -> Result<BenchRun, Fault>
     ensures right { (bytes : List ℕ) × Tells S.from source.old bytes source.new
-        × AnswersBench (memory_is (has memory.now) (gives memory.now)) settings
-        (S.from.ended source.new) bytes result }
-    ensures failures { S.from.failures source.new ≡ failures_after_answer result
-        (S.from.failures source.old) }
+        × AnswersBench (memory_is (has memory.now) (gives memory.now)) settings (S.from.ended source.new) bytes result }
+    ensures failures { S.from.failures source.new ≡ failures_after_answer result (S.from.failures source.old) }
 {
-    let workload = match read_source(alloc, source) {
-        Ok(workload) => workload,
-        Err(fault) => return Err(fault),
-    };
-    match run_bench(rt, alloc, memory, &workload, settings) {
-        Ok(benched) => Ok(with_header(workload.registers, benched)),
-        Err(fault) => Err(fault_of(fault)),
-    }
+    let workload = read_source(alloc, source)?;
+    let benched = run_bench(rt, alloc, memory, &workload, settings)?;
+    Ok(with_header(workload.registers, benched))
 }
 
 /// Reads a workload up to the source's end, and carries it out by threads on the memory. Of the log the last window is kept.
@@ -54,60 +46,12 @@ pub fn hunt_source<S: Source, R: Threads + Wait + Sync, P: Progress>(
     progress: &P,
 ) -> Result<HuntRun, Fault>
     ensures right { (bytes : List ℕ) × Tells S.from source.old bytes source.new
-        × AnswersHunt (memory_is (has memory.now) (gives memory.now)) settings
-        (S.from.ended source.new) bytes result }
-    ensures failures { S.from.failures source.new ≡ failures_after_answer result
-        (S.from.failures source.old) }
+        × AnswersHunt (memory_is (has memory.now) (gives memory.now)) settings (S.from.ended source.new) bytes result }
+    ensures failures { S.from.failures source.new ≡ failures_after_answer result (S.from.failures source.old) }
 {
-    let workload = match read_source(alloc, source) {
-        Ok(workload) => workload,
-        Err(fault) => return Err(fault),
-    };
-    match hunt(rt, alloc, memory, &workload, settings, progress) {
-        Ok(hunted) => Ok(with_registers(workload.registers, hunted)),
-        Err(fault) => Err(fault_of(fault)),
-    }
-}
-
-/// Reads a workload up to the source's end.
-fn read_source<S: Source>(alloc: Global, source: &mut S) -> Result<Workload, Fault>
-    ensures right { (bytes : List ℕ) × Tells S.from source.old bytes source.new
-        × AnswersText (S.from.ended source.new) bytes result }
-    ensures failures { S.from.failures source.new ≡ failures_after_answer result
-        (S.from.failures source.old) }
-{
-    let mut bytes = Vec::new(alloc);
-    match read_all(source, &mut bytes) {
-        Ok(()) => read_bytes(alloc, &bytes),
-        Err(ReadFault::Io) => Err(Fault::Io),
-        Err(ReadFault::Memory) => Err(Fault::Memory),
-    }
-}
-
-/// The workload that these bytes are the text of. Never `Io`.
-fn read_bytes(alloc: Global, bytes: &[u8]) -> Result<Workload, Fault>
-    ensures { AnswersText (Unit {0}) bytes.now result }
-{
-    match read_workload(alloc, bytes) {
-        Ok(workload) => Ok(workload),
-        Err(WorkloadFault::Json) => Err(Fault::Json),
-        Err(WorkloadFault::Shape) => Err(Fault::Shape),
-        Err(WorkloadFault::Memory) => Err(Fault::Memory),
-    }
-}
-
-/// The fault by which a workload was not carried out.
-fn fault_of(fault: BenchFault) -> Fault
-    ensures { (has : ℕ) (settings : Settings) (bytes : List ℕ)
-        → IsNoBenchFrom has settings bytes fault
-        → IsRightFault has (Unit {0}) settings bytes result }
-{
-    match fault {
-        BenchFault::Registers => Fault::Registers,
-        BenchFault::Ring(_) => Fault::Ring,
-        BenchFault::Memory => Fault::Memory,
-        BenchFault::Spawn => Fault::Spawn,
-    }
+    let workload = read_source(alloc, source)?;
+    let hunted = hunt(rt, alloc, memory, &workload, settings, progress)?;
+    Ok(with_registers(workload.registers, hunted))
 }
 
 /// What threads have made of a workload over so many registers, with the header of its log.
@@ -136,5 +80,18 @@ fn with_registers(registers: Registers, hunted: Hunted) -> HuntRun
         },
         ends: hunted.ends,
         rounds: hunted.rounds,
+    }
+}
+
+impl From<BenchFault> for Fault {
+    ghost from_gives = { λ bench fault. fault ≡ fault_of bench };
+
+    fn from(fault: BenchFault) -> Fault {
+        match fault {
+            BenchFault::Registers => Fault::Registers,
+            BenchFault::Ring(_) => Fault::Ring,
+            BenchFault::Memory => Fault::Memory,
+            BenchFault::Spawn => Fault::Spawn,
+        }
     }
 }

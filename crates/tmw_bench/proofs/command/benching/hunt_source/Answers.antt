@@ -1,40 +1,31 @@
 -- The workload that was read was carried out, or it was not, by the fault that is answered.
-use Rattle.std.proofs.Common.{◌∙◌, sym}
-use Rattle.tmw_bench.proofs.Answering.{fault-ended, fault-well, hunted-from, no_bench_from}
+use Rattle.std.proofs.lemmas.Result.{err_from_is_err_and}
+use Rattle.tmw_bench.proofs.Answering.{hunted-from, right-bench}
+use Rattle.tmw_tm.specs.Memory.{memory_is}
 use Rattle.tmw_bench.proofs.command.benching.hunt_source.Goals as goal
 
-pub returns-in-Ok-hunt-clause-right : goal.returns-in-Ok-hunt-clause-right
-returns-in-Ok-hunt-clause-right g c =
-    let told = c.in-Ok.ensures.right in
-    let workload = c.in-Ok.workload in
-    let has = (goal.Tm-dyn g c.args.memory.now).has c.args.memory.now.1 in (
+pub returns-in_err-hunted-clause-right : goal.returns-in_err-hunted-clause-right
+returns-in_err-hunted-clause-right g c =
+    let told = c.in_ok-workload.ensures.right in
+    let has = (goal.Tm-dyn g c.args.memory.now).has c.args.memory.now.1 in
+    let returned = err_from_is_err_and c.from_residual-in_err-hunted.result c.from_residual-in_err-hunted.ensures.1 in
+    rw (returned.1, returned.2) (
       told.0,
       told.1,
-      (
-        told.2.0,
-        hunted-from (record { registers = has; gives = λ call answer. (goal.Tm-dyn g c.args.memory.now).gives c.args.memory.now.1 call answer }) workload c.args.settings told.0
-            c.in-Ok-hunt.hunted c.with_registers.result told.2.1 c.in-Ok-hunt.ensures.enough c.with_registers.ensures.registers c.with_registers.ensures.same c.in-Ok-hunt.ensures.ok,
-      ),
+      right-bench has (g.S.Source.from.ended c.read_source.new.source) c.args.settings told.0 c.in_ok-workload.workload c.in_err-hunted.field-0.0
+          told.2.0 told.2.1 c.in_err-hunted.ensures.err,
     )
 
 pub returns-clause-right : goal.returns-clause-right
 returns-clause-right g c =
-    let told = c.in-Ok.ensures.right in
-    let workload = c.in-Ok.workload in
-    let has = (goal.Tm-dyn g c.args.memory.now).has c.args.memory.now.1 in (
+    let told = c.in_ok-workload.ensures.right in
+    let tm = goal.Tm-dyn g c.args.memory.now in (
       told.0,
       told.1,
-      fault-ended told.0 has (g.S.Source.from.ended c.read_source.new.source) c.args.settings c.fault_of.result told.2.0
-          (c.fault_of.ensures has c.args.settings told.0
-          (no_bench_from has workload c.args.settings told.0 c.in-Err-hunt.fault told.2.1 c.in-Err-hunt.ensures.err)),
+      (
+        told.2.0,
+        hunted-from (memory_is (tm.has c.args.memory.now.1) (λ call answer. tm.gives c.args.memory.now.1 call answer)) c.in_ok-workload.workload
+            c.args.settings told.0 c.in_ok-hunted.hunted c.with_registers.result told.2.1 c.in_ok-hunted.ensures.enough
+            c.with_registers.ensures.registers c.with_registers.ensures.same c.in_ok-hunted.ensures.ok,
+      ),
     )
-
-pub returns-clause-failures : goal.returns-clause-failures
-returns-clause-failures g c =
-    let told = c.in-Ok.ensures.right in
-    let workload = c.in-Ok.workload in
-    let has = (goal.Tm-dyn g c.args.memory.now).has c.args.memory.now.1 in
-    c.in-Ok.ensures.failures
-    ∙ sym (fault-well told.0 has c.args.settings (g.S.Source.from.failures c.args.source.now) c.fault_of.result
-    (c.fault_of.ensures has c.args.settings told.0
-    (no_bench_from has workload c.args.settings told.0 c.in-Err-hunt.fault told.2.1 c.in-Err-hunt.ensures.err)))
