@@ -15,7 +15,8 @@ fn record_held(
     register: u64,
     value: u64,
 ) -> Result<u64, Status>
-    ensures ok { IfOk result (λ place. HasRecordedAsked letter register value held.old place held.new) }
+    ensures ok { IfOk result (λ place. HasRecordedAsked letter register value held.old place
+        held.new) }
     ensures err { IfErr result (HasRefused letter register value held.old held.new) }
 {
     let kind = match asked(held.registers, letter, register, value) {
@@ -39,7 +40,8 @@ pub fn record(
     value: u64,
     place: &mut u64,
 ) -> Status
-    ensures { IsRecording letter register value recorder.old.slot.held recorder.new.slot.held place.old place.new result }
+    ensures { IsRecording letter register value recorder.old.slot.held recorder.new.slot.held
+        place.old place.new result }
 {
     let Some(mut held) = recorder.take(alloc) else {
         return Status::NoHandle;
@@ -55,7 +57,7 @@ pub fn record(
     }
 }
 
-/// The same, where the place is not told.
+/// Records an event by what the handle holds, which it holds then again. The place is not told.
 pub fn record_untold(
     alloc: Global,
     recorder: &mut RecorderHandle,
@@ -63,7 +65,8 @@ pub fn record_untold(
     register: u64,
     value: u64,
 ) -> Status
-    ensures { IsRecordingUntold letter register value recorder.old.slot.held recorder.new.slot.held result }
+    ensures { IsRecordingUntold letter register value recorder.old.slot.held recorder.new.slot.held
+        result }
 {
     let mut place = 0;
     record(alloc, recorder, letter, register, value, &mut place)
