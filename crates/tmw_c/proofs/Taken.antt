@@ -10,7 +10,7 @@ use Rattle.tmw_watch.specs.Closing.{AreAll, writers_of}
 use Rattle.tmw_watch.specs.Opening.{AreOf}
 use Rattle.tmw_watch.specs.declared.recorder.Recorder.{Recorder}
 
--- The same of those behind the first.
+-- Where handles hold recorders, those behind the first hold those behind the first.
 behind : (recorder : Recorder) (recorders : List Recorder) (handle : RecorderHandle) (handles : List RecorderHandle)
     → AreHeld (recorder ∷ recorders) (handle ∷ handles) → AreHeld recorders handles
 behind recorder recorders handle handles held = record {

@@ -83,7 +83,7 @@ WasNotPumped most old new Memory = WasPumpedPartly most old new
 WasNotPumped most old new Closing = IsNotOpen old × (new ≡ old)
 WasNotPumped most old new _ = ⊥
 
--- the same of a watch that a handle holds
+-- the watch that a handle holds has judged so many events
 pub record WasPumpedHeld (most judged : ℕ) (old new : Option HeldWatch) : Type 0 where
   pub before : HeldWatch
   pub after : HeldWatch
@@ -113,7 +113,7 @@ pub record WasReported (held : HeldWatch) (told : Told) : Type 0 where
   pub tells : TellsVerdict watch.pump.front verdict
   pub headline : GivesHeadline watch.pump.front watch.pump.reader.taken watch.pump.front.judged.items verdict
 
--- the same of a watch that a handle holds
+-- what is told is of the watch that a handle holds
 pub record WasReportedHeld (old : Option HeldWatch) (told : Told) : Type 0 where
   pub watch : HeldWatch
   pub held : old ≡ Some watch

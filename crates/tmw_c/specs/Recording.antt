@@ -52,7 +52,7 @@ HasRefused letter register value old new BadKind = IsNoLetter letter × (new ≡
 HasRefused letter register value old new BadRegister = IsNoRegister old.registers.number letter register × (new ≡ old)
 HasRefused letter register value old new _ = ⊥
 
--- the same of a recorder that a handle holds
+-- why the recorder that a handle holds has recorded nothing, and what it is then
 pub record HasRefusedHeld (letter register value : ℕ) (old new : Option HeldRecorder) (status : Status) : Type 0 where
   pub before : HeldRecorder
   pub after : HeldRecorder
@@ -60,7 +60,7 @@ pub record HasRefusedHeld (letter register value : ℕ) (old new : Option HeldRe
   pub holds : new ≡ Some after
   pub refused : HasRefused letter register value before after status
 
--- the same of one that has recorded
+-- the recorder that a handle holds has recorded the event that is asked for
 pub record HasRecordedHeld (letter register value place : ℕ) (old new : Option HeldRecorder) : Type 0 where
   pub before : HeldRecorder
   pub after : HeldRecorder
@@ -75,6 +75,6 @@ IsRecording letter register value old new old_place new_place NoHandle = (old �
 IsRecording letter register value old new old_place new_place status =
     HasRefusedHeld letter register value old new status × (new_place ≡ old_place)
 
--- The same of a call that tells no place.
+-- Each status of a call to record that tells no place.
 abbrev pub IsRecordingUntold : (letter register value : ℕ) → (old new : Option HeldRecorder) → Status → Type 0
 IsRecordingUntold letter register value old new status = (place : ℕ) × IsRecording letter register value old new 0 place status

@@ -32,7 +32,7 @@ Finds records old new Full = FindsFull records old new
 Finds records old new Spent = FindsSpent records old new
 Finds records old new _ = ⊥
 
--- the same of a recorder that a handle holds
+-- what the recorder that a handle holds has found, by the status
 pub record FindsHeld (records : ℕ) (old new : Option HeldRecorder) (status : Status) : Type 0 where
   pub before : HeldRecorder
   pub after : HeldRecorder

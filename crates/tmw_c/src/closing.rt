@@ -49,10 +49,10 @@ fn room(
     count: usize,
 ) -> Result<(Vec<RecorderHandle>, Vec<Recorder>, Vec<Writer>), AllocError>
     ensures count { IfOk result (λ room. length room.0.items ≡ count) }
-    ensures empty { IfOk result
-        (λ room. AreEmpty room.0.items × (room.1.items ≡ []) × (room.2.items ≡ [])) }
-    ensures room { IfOk result
-        (λ room. (vec_capacity room.1 ≡ count) × (vec_capacity room.2 ≡ count)) }
+    ensures empty { IfOk result (λ room. AreEmpty room.0.items × (room.1.items ≡ [])
+        × (room.2.items ≡ [])) }
+    ensures room { IfOk result (λ room. (vec_capacity room.1 ≡ count)
+        × (vec_capacity room.2 ≡ count)) }
 {
     let handles = empty_handles(alloc, count)?;
     let recorders = Vec::with_capacity(alloc, count)?;
@@ -84,8 +84,8 @@ fn close_open(
 ) -> Result<Report, (HeldWatch, Status)>
     requires { AreOfWatch (Some (Open watch)) handles.old }
     ensures ok { IfOk result (WasClosed (Open watch) handles.old handles.new) }
-    ensures err { IfErr result
-        (λ back. IsUnended (Open watch) back.0 handles.old handles.new back.1) }
+    ensures err { IfErr result (λ back. IsUnended (Open watch) back.0 handles.old handles.new
+        back.1) }
 {
     if !are_in_place(handles, watch.recorders()) {
         return Err((HeldWatch::Open(watch), Status::Missing));
@@ -111,8 +111,7 @@ fn end(
     handles: &mut [RecorderHandle],
 ) -> Result<Report, (HeldWatch, Status)>
     requires { AreOfWatch (Some held) handles.old }
-    ensures ok { IfOk result
-        (λ report. WasClosed held handles.old handles.new report
+    ensures ok { IfOk result (λ report. WasClosed held handles.old handles.new report
         ⊎ WasFinished held handles.old handles.new report) }
     ensures err { IfErr result (λ back. IsUnended held back.0 handles.old handles.new back.1) }
 {

@@ -36,9 +36,8 @@ pub extern "C" fn tmwatch_close(
     told: &mut Told,
 ) -> u32
     requires { AreOfWatch watch.old.slot.held recorders.old }
-    ensures { Tells result
-        (IsClosing watch.old.slot.held watch.new.slot.held recorders.old recorders.new told.old
-        told.new) }
+    ensures { Tells result (IsClosing watch.old.slot.held watch.new.slot.held recorders.old
+        recorders.new told.old told.new) }
 {
     closing::close(alloc, watch, recorders, told).number()
 }
@@ -53,9 +52,8 @@ pub extern "C" fn tmwatch_record(
     value: u64,
     place: &mut u64,
 ) -> u32
-    ensures { Tells result
-        (IsRecording letter register value recorder.old.slot.held recorder.new.slot.held place.old
-        place.new) }
+    ensures { Tells result (IsRecording letter register value recorder.old.slot.held
+        recorder.new.slot.held place.old place.new) }
 {
     record::record(alloc, recorder, letter, register, value, place).number()
 }
@@ -76,8 +74,8 @@ pub extern "C" fn tmwatch_pump(
     most: u64,
     judged: &mut u64,
 ) -> u32
-    ensures { Tells result
-        (IsPumping most watch.old.slot.held watch.new.slot.held judged.old judged.new) }
+    ensures { Tells result (IsPumping most watch.old.slot.held watch.new.slot.held judged.old
+        judged.new) }
 {
     judge::pump(alloc, watch, most, judged).number()
 }

@@ -6,23 +6,23 @@ ghost use Rattle.tmw_c.specs.Recording.{IsUnasked};
 use crate::status::Status;
 use tmw_events::{Ix, Kind, Registers};
 
-const R: u32 = 82;
+pub(crate) const R: u32 = 82;
 
-const V: u32 = 86;
+pub(crate) const V: u32 = 86;
 
-const W: u32 = 87;
+pub(crate) const W: u32 = 87;
 
-const K: u32 = 75;
+pub(crate) const K: u32 = 75;
 
-const T: u32 = 84;
+pub(crate) const T: u32 = 84;
 
-const C: u32 = 67;
+pub(crate) const C: u32 = 67;
 
-const X: u32 = 88;
+pub(crate) const X: u32 = 88;
 
-const A: u32 = 65;
+pub(crate) const A: u32 = 65;
 
-const N: u32 = 78;
+pub(crate) const N: u32 = 78;
 
 /// The register of this number, where the memory has it.
 fn register_of(registers: Registers, register: u64) -> Option<Ix>

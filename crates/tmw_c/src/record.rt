@@ -15,8 +15,8 @@ fn record_held(
     register: u64,
     value: u64,
 ) -> Result<u64, Status>
-    ensures ok { IfOk result
-        (λ place. HasRecordedAsked letter register value held.old place held.new) }
+    ensures ok { IfOk result (λ place. HasRecordedAsked letter register value held.old place
+        held.new) }
     ensures err { IfErr result (HasRefused letter register value held.old held.new) }
 {
     let kind = match asked(held.registers, letter, register, value) {
@@ -57,7 +57,7 @@ pub fn record(
     }
 }
 
-/// The same, where the place is not told.
+/// Records an event by what the handle holds, which it holds then again. The place is not told.
 pub fn record_untold(
     alloc: Global,
     recorder: &mut RecorderHandle,

@@ -17,7 +17,7 @@ fn ask_held(held: &mut HeldRecorder, records: u64) -> Status
     }
 }
 
-/// The same of what the handle holds, which it holds then again.
+/// Whether so many records find room by what the handle holds, which it holds then again.
 pub fn ask(alloc: Global, recorder: &mut RecorderHandle, records: u64) -> Status
     ensures { IsAsking records recorder.old.slot.held recorder.new.slot.held result }
 {

@@ -52,8 +52,8 @@ impl Wanted {
 
     /// How far is judged, where both bounds are in their ranges.
     fn bounds(&self) -> Option<Bounds>
-        ensures some { IfSome result
-            (λ bounds. (bounds.window ≡ self.now.window) × (bounds.states ≡ self.now.states)) }
+        ensures some { IfSome result (λ bounds. (bounds.window ≡ self.now.window)
+            × (bounds.states ≡ self.now.states)) }
         ensures none { IfNone result (HasBounds self.now → ⊥) }
     {
         if self.window > 8 || self.states > 64 {

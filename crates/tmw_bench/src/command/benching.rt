@@ -28,8 +28,10 @@ pub fn bench_source<S: Source, R: Threads + Wait + Sync>(
     settings: Settings,
 ) -> Result<BenchRun, Fault>
     ensures right { (bytes : List ℕ) × Tells S.from source.old bytes source.new
-        × AnswersBench (memory_is (has memory.now) (gives memory.now)) settings (S.from.ended source.new) bytes result }
-    ensures failures { S.from.failures source.new ≡ failures_after_answer result (S.from.failures source.old) }
+        × AnswersBench (memory_is (has memory.now) (gives memory.now)) settings
+        (S.from.ended source.new) bytes result }
+    ensures failures { S.from.failures source.new ≡ failures_after_answer result
+        (S.from.failures source.old) }
 {
     let workload = read_source(alloc, source)?;
     let benched = run_bench(rt, alloc, memory, &workload, settings)?;
@@ -46,8 +48,10 @@ pub fn hunt_source<S: Source, R: Threads + Wait + Sync, P: Progress>(
     progress: &P,
 ) -> Result<HuntRun, Fault>
     ensures right { (bytes : List ℕ) × Tells S.from source.old bytes source.new
-        × AnswersHunt (memory_is (has memory.now) (gives memory.now)) settings (S.from.ended source.new) bytes result }
-    ensures failures { S.from.failures source.new ≡ failures_after_answer result (S.from.failures source.old) }
+        × AnswersHunt (memory_is (has memory.now) (gives memory.now)) settings
+        (S.from.ended source.new) bytes result }
+    ensures failures { S.from.failures source.new ≡ failures_after_answer result
+        (S.from.failures source.old) }
 {
     let workload = read_source(alloc, source)?;
     let hunted = hunt(rt, alloc, memory, &workload, settings, progress)?;

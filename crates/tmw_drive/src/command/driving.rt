@@ -21,8 +21,10 @@ pub fn drive_source<S: Source>(
     bounds: Bounds,
 ) -> Result<Driven, Fault>
     ensures right { (bytes : List ℕ) × Tells S.from source.old bytes source.new
-        × AnswersWorkload (memory_is (has memory.now) (gives memory.now)) bounds (S.from.ended source.new) bytes result }
-    ensures failures { S.from.failures source.new ≡ failures_after_answer result (S.from.failures source.old) }
+        × AnswersWorkload (memory_is (has memory.now) (gives memory.now)) bounds
+        (S.from.ended source.new) bytes result }
+    ensures failures { S.from.failures source.new ≡ failures_after_answer result
+        (S.from.failures source.old) }
 {
     let workload = read_source(alloc, source)?;
     let outcome = drive(alloc, memory, &workload, bounds)?;

@@ -13,7 +13,8 @@ use tmw_workloads::{Workload, WorkloadFault, read_workload};
 pub fn read_source<S: Source>(alloc: Global, source: &mut S) -> Result<Workload, Fault>
     ensures right { (bytes : List ℕ) × Tells S.from source.old bytes source.new
         × AnswersText (S.from.ended source.new) bytes result }
-    ensures failures { S.from.failures source.new ≡ failures_after_answer result (S.from.failures source.old) }
+    ensures failures { S.from.failures source.new ≡ failures_after_answer result
+        (S.from.failures source.old) }
 {
     let mut bytes = Vec::new(alloc);
     match read_all(source, &mut bytes) {
