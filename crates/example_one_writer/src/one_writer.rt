@@ -60,6 +60,8 @@ impl Tm for OneWriter {
 
     ghost has = { λ memory. memory.registers.number };
 
+    ghost has_few = { λ memory. (memory.registers.some, memory.registers.most) };
+
     fn registers(&self) -> Registers
         ensures { result ≡ self.now.registers }
     {

@@ -66,6 +66,8 @@ impl Tm for Counting {
 
     ghost has = { λ memory. memory.registers.number };
 
+    ghost has_few = { λ memory. (memory.registers.some, memory.registers.most) };
+
     fn registers(&self) -> Registers {
         self.registers
     }

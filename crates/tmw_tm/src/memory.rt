@@ -1,4 +1,4 @@
-ghost use Rattle.std.specs.Prelude.{◌≡◌, ℕ};
+ghost use Rattle.std.specs.Prelude.{◌≡◌, ◌<◌, ◌≤◌, ℕ};
 ghost use Rattle.tmw_tm.specs.Answers.{Call, Answer, got_answer, did_answer};
 ghost use Rattle.tmw_tm.specs.Answers.Call.{Begin, Read, Write, Add, Commit};
 
@@ -45,4 +45,7 @@ pub trait Tm: Drop {
 
     /// Ends the transaction with nothing written.
     fn abort(&self, tx: &mut Tx);
+
+    /// It has 1 to 8 registers.
+    ghost has_few: { (memory : Self) → (0 < has memory) × (has memory ≤ 8) };
 }

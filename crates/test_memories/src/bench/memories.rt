@@ -1,4 +1,7 @@
 //! Memories that tests run.
+ghost use Rattle.std.proofs.Common.{rules};
+ghost use Rattle.std.proofs.lemmas.Grind.{common_steps};
+
 use std::sync::atomic::{AtomicBool, AtomicU64, Ordering};
 use std::{hint, thread};
 use tmw_events::{Ix, Registers};
@@ -44,6 +47,8 @@ impl Tm for Waiting {
     ghost gives = { λ memory call answer. Unit {0} };
 
     ghost has = { λ memory. 2 };
+
+    ghost has_few = { λ memory. (Prim.search (rules, common_steps), Prim.search (rules, common_steps)) };
 
     fn registers(&self) -> Registers {
         Registers { number: 2 }
@@ -114,6 +119,8 @@ impl Tm for Overtaken {
 
     ghost has = { λ memory. 1 };
 
+    ghost has_few = { λ memory. (Prim.search (rules, common_steps), Prim.search (rules, common_steps)) };
+
     fn registers(&self) -> Registers {
         Registers { number: 1 }
     }
@@ -171,6 +178,8 @@ impl Tm for Overlapping {
     ghost gives = { λ memory call answer. Unit {0} };
 
     ghost has = { λ memory. 1 };
+
+    ghost has_few = { λ memory. (Prim.search (rules, common_steps), Prim.search (rules, common_steps)) };
 
     fn registers(&self) -> Registers {
         Registers { number: 1 }
@@ -256,6 +265,8 @@ impl Tm for Holding {
     ghost gives = { λ memory call answer. Unit {0} };
 
     ghost has = { λ memory. 2 };
+
+    ghost has_few = { λ memory. (Prim.search (rules, common_steps), Prim.search (rules, common_steps)) };
 
     fn registers(&self) -> Registers {
         Registers { number: 2 }

@@ -21,6 +21,8 @@ impl Tm for Marking {
 
     ghost has = { λ memory. memory.registers.number };
 
+    ghost has_few = { λ memory. (memory.registers.some, memory.registers.most) };
+
     fn registers(&self) -> Registers {
         self.registers
     }
