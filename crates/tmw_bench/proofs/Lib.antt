@@ -6,7 +6,8 @@ pub mod Cutting
 mod EndsLines
 pub mod Gathered
 pub mod InRounds
-pub mod Keeps
+pub mod Joined
+mod Keeps
 pub mod Leads
 mod Left
 pub mod MadeFrom

@@ -1,7 +1,7 @@
 ghost use Rattle.std.specs.Prelude.{◌≡◌};
 ghost use Rattle.tmw_memories.specs.Calls.{Adds, Begins, Commits, IsEnded, Reads, Writes};
 
-use crate::transaction::{TURNS, begin, end, latest, may_use, write};
+use crate::transaction::{TURNS, begin, end, may_use, value_of, write};
 use crate::words::Words;
 use std::sync::atomic::{AtomicU64, Ordering};
 use tmw_events::{Ix, Registers};
@@ -71,13 +71,11 @@ impl Tm for GlobalLock {
     fn read(&self, tx: &mut Tx, register: Ix) -> Got
         ensures reads { Reads self.now.registers tx.old register result tx.new }
     {
-        if !may_use(self.registers, tx, register) {
+        if may_use(self.registers, tx, register) {
+            Got::Value(value_of(&self.words, tx, register))
+        } else {
             self.abort(tx);
-            return Got::Abort;
-        }
-        match latest(&tx.writes, register) {
-            Some(own) => Got::Value(own),
-            None => Got::Value(self.words.load(register)),
+            Got::Abort
         }
     }
 

@@ -1,7 +1,7 @@
 ghost use Rattle.std.specs.Prelude.{◌≡◌};
 ghost use Rattle.tmw_memories.specs.Calls.{Adds, BeginsAtOnce, Commits, IsEnded, Reads, Writes};
 
-use crate::transaction::{begin, end, latest, may_use, write};
+use crate::transaction::{begin, end, may_use, value_of, write};
 use crate::words::Words;
 use tmw_events::{Ix, Registers};
 use tmw_tm::{Did, Got, Tm, Tx};
@@ -53,13 +53,11 @@ impl Tm for Torn {
     fn read(&self, tx: &mut Tx, register: Ix) -> Got
         ensures reads { Reads self.now.registers tx.old register result tx.new }
     {
-        if !may_use(self.registers, tx, register) {
+        if may_use(self.registers, tx, register) {
+            Got::Value(value_of(&self.words, tx, register))
+        } else {
             self.abort(tx);
-            return Got::Abort;
-        }
-        match latest(&tx.writes, register) {
-            Some(own) => Got::Value(own),
-            None => Got::Value(self.words.load(register)),
+            Got::Abort
         }
     }
 

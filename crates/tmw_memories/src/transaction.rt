@@ -1,9 +1,10 @@
 //! What the memories share: how a transaction begins and ends, its writes, and what it reads of them.
-ghost use Rattle.std.specs.Prelude.{◌≡◌, ◌↔◌, length, IsTrue};
+ghost use Rattle.std.specs.Prelude.{◌≡◌, ◌↔◌, length, IfSome, IsTrue};
 ghost use Rattle.std.specs.Bool.{OnTrue, OnFalse};
 ghost use Rattle.tmw_memories.specs.Calls.{Appends, IsBegun, IsEnded, MayUse, Writes, entry, latest as latest_of};
 ghost use Rattle.tmw_tm.specs.declared.answer.Did.TheVariants.{Done};
 
+use crate::words::Words;
 use tmw_events::{Ix, Registers};
 use tmw_tm::{Entries, Entry, Tx};
 
@@ -46,6 +47,16 @@ pub fn latest(writes: &Entries, register: Ix) -> Option<u64>
         .rev()
         .find(|write| write.register.get() == register.get())
         .map(|write| write.value)
+}
+
+/// The value that a read answers: that of the latest own write to the register, or else the one that the register has now.
+pub fn value_of(words: &Words, tx: &Tx, register: Ix) -> u64
+    ensures { IfSome (latest_of tx.now.writes.items register) (λ own. result ≡ own) }
+{
+    match latest(&tx.writes, register) {
+        Some(own) => own,
+        None => words.load(register),
+    }
 }
 
 /// Appends an entry, where there is room for it.

@@ -1,14 +1,12 @@
-use Rattle.std.proofs.Common.{◌≡◌, ◌<◌, ◌+◌, ◌++◌, ℕ, List, Option, length, get_or, map, take, drop, inl, inr, sym, ◌∙◌, subst, arith}
+use Rattle.std.proofs.Common.{◌≡◌, List, Option, length, map, inl, inr, sym, ◌∙◌, subst}
 use Rattle.std.proofs.lemmas.List.{length-map}
 use Rattle.tmw_bench.specs.Begun.{IsAfter}
 use Rattle.tmw_bench.specs.Playing.{SomeStop}
-use Rattle.tmw_drive.specs.Driving.{script_at}
-use Rattle.tmw_drive.specs.Playing.{calls_of}
-use Rattle.tmw_bench.proofs.Gathered.{is_after-gathered, new_lines, new_workers, pairs, promised_at, some_stop-gathered, written_back}
-use Rattle.tmw_bench.proofs.Starts.{Back, Handle}
-use Rattle.tmw_bench.specs.Lines.{AreClosed, ArePairs, IsPromised}
-use Rattle.tmw_bench.specs.Workers.{HasPlayedOn}
-use Rattle.tmw_bench.specs.Leading.{AreNewLines, HasLedTo, SomeToldStop}
+use Rattle.tmw_bench.proofs.Gathered.{is_after-gathered, new_lines, new_workers, pairs, some_stop-gathered}
+use Rattle.tmw_bench.proofs.Joined.{back_count, come_back, given_back, led_to}
+use Rattle.tmw_bench.proofs.Starts.{Back}
+use Rattle.tmw_bench.specs.Lines.{AreClosed, ArePairs}
+use Rattle.tmw_bench.specs.Leading.{AreNewLines, SomeToldStop}
 use Rattle.tmw_bench.specs.declared.line.Line.{Line}
 use Rattle.tmw_ring.specs.Ends.{WriterIs}
 use Rattle.tmw_ring.specs.declared.refused.Refused.{Refused}
@@ -35,37 +33,20 @@ close_all-requires-clause-pairs g c =
     let workers = c.in-Ok.workers.items in
     let lines = c.in-Ok.lines.items in
     let after = c.lead-led.new.lines in
+    let front = c.lead-led.new.judge.forgetting.front in
     let backs = c.in-Ok-join_promised.back.items in
-    let handles = c.in-Ok-start_all.handles.items in
     let opened = c.in-Ok.ensures in
     let started = c.in-Ok-start_all.ensures in
     let joined = c.in-Ok-join_promised.ensures in
-    let threads : length handles ≡ length workers = started.count in
-    let worker_count = opened.worker_count in
-    let all : length backs ≡ length writers =
-    (let one = joined.len in
-    let two = c.in-Ok-join_promised.back.ok.0 in
-    let three = c.in-Ok-start_all.handles.ok.0 in
-    omega (arith, one, two, three, threads, worker_count)) in
     let count : length writers ≡ length scripts = c.requires.count ∙ sym (length-map c.args.stage.scripts.now script_of) in
-    let on : (place : ℕ) (d : Back) → place < length writers
-    → HasPlayedOn gave ring (script_at scripts place) (get_or workers place d.0) (get_or backs place d).1 (get_or backs place d).0
-    = λ place d low.
-    let kept = (joined.each place d (let three = c.in-Ok-start_all.handles.ok.0 in omega (arith, three, threads, worker_count, low))).1 in
-    let promise : IsPromised ring scripts workers place kept.handle.promise.ring.now (calls_of kept.handle.promise.script.now)
-    kept.handle.promise.before.value =
-    subst (λ (h : Handle g.row.J.Denot). IsPromised ring scripts workers place h.promise.ring.now (calls_of h.promise.script.now) h.promise.before.value)
-    (sym {A = Handle g.row.J.Denot} kept.handle_is) (started.promised place kept.handle (omega (arith, threads, worker_count, low))) in
-    promised_at gave ring scripts workers place kept.handle.promise.ring.now (calls_of kept.handle.promise.script.now)
-    kept.handle.promise.before.value (get_or backs place d) d promise kept.kept in
+    let all = back_count gave ring scripts writers workers lines c.in-Ok-start_all.handles c.in-Ok-join_promised.back _ opened started.count
+    started.promised joined.len joined.each in
+    let on = come_back gave ring scripts writers workers lines c.in-Ok-start_all.handles c.in-Ok-join_promised.back _ opened started.count
+    started.promised joined.len joined.each (λ handle back kept. kept) in
     let led = c.in-Ok-led.ensures.led rules fits in
-    let led_to : HasLedTo rules (length led.bounds + 1) led.bounds c.lead-led.new.judge.forgetting.front lines after =
-    subst (λ (l : List Line). HasLedTo rules (length led.bounds + 1) led.bounds c.lead-led.new.judge.forgetting.front l after) c.as_mut_slice.ensures.value
-    (subst (λ (n : ℕ). HasLedTo rules n led.bounds c.lead-led.new.judge.forgetting.front c.as_mut_slice.result.now after) led.counted led.led) in
-    let lines_are : take c.in-Ok.lines.len (after ++ drop (length after) lines) ≡ after =
-    written_back c.in-Ok.lines.len after lines
-    (let one = led_to.line_count in let two = c.in-Ok.lines.ok.0 in omega (arith, one, two)) in
-    subst (ArePairs (map (λ (one : Back). one.0) backs)) (sym lines_are) (pairs gave ring scripts rules led.bounds c.lead-led.new.judge.forgetting.front writers workers lines after backs opened led_to count all on)
+    let to = led_to rules c.in-Ok-led.rounds front c.in-Ok.lines c.as_mut_slice.result.now after c.as_mut_slice.ensures.value led in
+    let lines_are = given_back rules c.in-Ok-led.rounds front c.in-Ok.lines c.as_mut_slice.result.now after c.as_mut_slice.ensures.value led in
+    subst (ArePairs (map (λ (one : Back). one.0) backs)) (sym lines_are) (pairs gave ring scripts rules led.bounds front writers workers lines after backs opened to count all on)
 
 pub returns-clause-begun : goal.returns-clause-begun
 returns-clause-begun g c = λ rules fits.
@@ -76,36 +57,19 @@ returns-clause-begun g c = λ rules fits.
     let workers = c.in-Ok.workers.items in
     let lines = c.in-Ok.lines.items in
     let after = c.lead-led.new.lines in
+    let front = c.lead-led.new.judge.forgetting.front in
     let backs = c.in-Ok-join_promised.back.items in
-    let handles = c.in-Ok-start_all.handles.items in
     let opened = c.in-Ok.ensures in
     let started = c.in-Ok-start_all.ensures in
     let joined = c.in-Ok-join_promised.ensures in
-    let threads : length handles ≡ length workers = started.count in
-    let worker_count = opened.worker_count in
-    let all : length backs ≡ length writers =
-    (let one = joined.len in
-    let two = c.in-Ok-join_promised.back.ok.0 in
-    let three = c.in-Ok-start_all.handles.ok.0 in
-    omega (arith, one, two, three, threads, worker_count)) in
     let count : length writers ≡ length scripts = c.requires.count ∙ sym (length-map c.args.stage.scripts.now script_of) in
-    let on : (place : ℕ) (d : Back) → place < length writers
-    → HasPlayedOn gave ring (script_at scripts place) (get_or workers place d.0) (get_or backs place d).1 (get_or backs place d).0
-    = λ place d low.
-    let kept = (joined.each place d (let three = c.in-Ok-start_all.handles.ok.0 in omega (arith, three, threads, worker_count, low))).1 in
-    let promise : IsPromised ring scripts workers place kept.handle.promise.ring.now (calls_of kept.handle.promise.script.now)
-    kept.handle.promise.before.value =
-    subst (λ (h : Handle g.row.J.Denot). IsPromised ring scripts workers place h.promise.ring.now (calls_of h.promise.script.now) h.promise.before.value)
-    (sym {A = Handle g.row.J.Denot} kept.handle_is) (started.promised place kept.handle (omega (arith, threads, worker_count, low))) in
-    promised_at gave ring scripts workers place kept.handle.promise.ring.now (calls_of kept.handle.promise.script.now)
-    kept.handle.promise.before.value (get_or backs place d) d promise kept.kept in
+    let all = back_count gave ring scripts writers workers lines c.in-Ok-start_all.handles c.in-Ok-join_promised.back _ opened started.count
+    started.promised joined.len joined.each in
+    let on = come_back gave ring scripts writers workers lines c.in-Ok-start_all.handles c.in-Ok-join_promised.back _ opened started.count
+    started.promised joined.len joined.each (λ handle back kept. kept) in
     let led = c.in-Ok-led.ensures.led rules fits in
-    let led_to : HasLedTo rules (length led.bounds + 1) led.bounds c.lead-led.new.judge.forgetting.front lines after =
-    subst (λ (l : List Line). HasLedTo rules (length led.bounds + 1) led.bounds c.lead-led.new.judge.forgetting.front l after) c.as_mut_slice.ensures.value
-    (subst (λ (n : ℕ). HasLedTo rules n led.bounds c.lead-led.new.judge.forgetting.front c.as_mut_slice.result.now after) led.counted led.led) in
-    let lines_are : take c.in-Ok.lines.len (after ++ drop (length after) lines) ≡ after =
-    written_back c.in-Ok.lines.len after lines
-    (let one = led_to.line_count in let two = c.in-Ok.lines.ok.0 in omega (arith, one, two)) in
+    let to = led_to rules c.in-Ok-led.rounds front c.in-Ok.lines c.as_mut_slice.result.now after c.as_mut_slice.ensures.value led in
+    let lines_are = given_back rules c.in-Ok-led.rounds front c.in-Ok.lines c.as_mut_slice.result.now after c.as_mut_slice.ensures.value led in
     let closed : AreClosed (map (λ (one : Back). one.0) backs) after =
     subst (AreClosed (map (λ (one : Back). one.0) backs)) lines_are c.in-Ok-close_all.ensures.closed in
     record {
@@ -115,7 +79,7 @@ returns-clause-begun g c = λ rules fits.
           c.lead-led.new.judge.forgetting.front ws c.in-Ok-close_all.stops.items) (sym c.in-Ok-close_all.ensures.writers)
           (subst (λ (ss : List (Option Refused)). IsAfter rules gave ring scripts led.bounds c.lead-led.new.judge.forgetting.reader
           c.lead-led.new.judge.forgetting.front (map (λ (one : Back). one.0.writer) backs) ss) (sym c.in-Ok-close_all.ensures.stops)
-          (is_after-gathered gave ring scripts rules led.bounds c.lead-led.new.judge.forgetting.front writers workers lines after backs opened led_to count all on
+          (is_after-gathered gave ring scripts rules led.bounds front writers workers lines after backs opened to count all on
           closed c.lead-led.new.judge.forgetting.reader c.in-Ok-led.ensures.reader c.requires.writers));
     }
 
@@ -130,42 +94,25 @@ returns-clause-over g c = λ fewer.
     let workers = c.in-Ok.workers.items in
     let lines = c.in-Ok.lines.items in
     let after = c.lead-led.new.lines in
+    let front = c.lead-led.new.judge.forgetting.front in
     let backs = c.in-Ok-join_promised.back.items in
-    let handles = c.in-Ok-start_all.handles.items in
     let opened = c.in-Ok.ensures in
     let started = c.in-Ok-start_all.ensures in
     let joined = c.in-Ok-join_promised.ensures in
-    let threads : length handles ≡ length workers = started.count in
-    let worker_count = opened.worker_count in
-    let all : length backs ≡ length writers =
-    (let one = joined.len in
-    let two = c.in-Ok-join_promised.back.ok.0 in
-    let three = c.in-Ok-start_all.handles.ok.0 in
-    omega (arith, one, two, three, threads, worker_count)) in
     let count : length writers ≡ length scripts = c.requires.count ∙ sym (length-map c.args.stage.scripts.now script_of) in
-    let on : (place : ℕ) (d : Back) → place < length writers
-    → HasPlayedOn gave ring (script_at scripts place) (get_or workers place d.0) (get_or backs place d).1 (get_or backs place d).0
-    = λ place d low.
-    let kept = (joined.each place d (let three = c.in-Ok-start_all.handles.ok.0 in omega (arith, three, threads, worker_count, low))).1 in
-    let promise : IsPromised ring scripts workers place kept.handle.promise.ring.now (calls_of kept.handle.promise.script.now)
-    kept.handle.promise.before.value =
-    subst (λ (h : Handle g.row.J.Denot). IsPromised ring scripts workers place h.promise.ring.now (calls_of h.promise.script.now) h.promise.before.value)
-    (sym {A = Handle g.row.J.Denot} kept.handle_is) (started.promised place kept.handle (omega (arith, threads, worker_count, low))) in
-    promised_at gave ring scripts workers place kept.handle.promise.ring.now (calls_of kept.handle.promise.script.now)
-    kept.handle.promise.before.value (get_or backs place d) d promise kept.kept in
+    let all = back_count gave ring scripts writers workers lines c.in-Ok-start_all.handles c.in-Ok-join_promised.back _ opened started.count
+    started.promised joined.len joined.each in
+    let on = come_back gave ring scripts writers workers lines c.in-Ok-start_all.handles c.in-Ok-join_promised.back _ opened started.count
+    started.promised joined.len joined.each (λ handle back kept. kept) in
     let led = c.in-Ok-led.ensures.led rules fits in
-    let led_to : HasLedTo rules (length led.bounds + 1) led.bounds c.lead-led.new.judge.forgetting.front lines after =
-    subst (λ (l : List Line). HasLedTo rules (length led.bounds + 1) led.bounds c.lead-led.new.judge.forgetting.front l after) c.as_mut_slice.ensures.value
-    (subst (λ (n : ℕ). HasLedTo rules n led.bounds c.lead-led.new.judge.forgetting.front c.as_mut_slice.result.now after) led.counted led.led) in
-    let lines_are : take c.in-Ok.lines.len (after ++ drop (length after) lines) ≡ after =
-    written_back c.in-Ok.lines.len after lines
-    (let one = led_to.line_count in let two = c.in-Ok.lines.ok.0 in omega (arith, one, two)) in
+    let to = led_to rules c.in-Ok-led.rounds front c.in-Ok.lines c.as_mut_slice.result.now after c.as_mut_slice.ensures.value led in
+    let lines_are = given_back rules c.in-Ok-led.rounds front c.in-Ok.lines c.as_mut_slice.result.now after c.as_mut_slice.ensures.value led in
     let closed : AreClosed (map (λ (one : Back). one.0) backs) after =
     subst (AreClosed (map (λ (one : Back). one.0) backs)) lines_are c.in-Ok-close_all.ensures.closed in
     elim (c.in-Ok-led.ensures.over fewer) [
       | inl some ↦
           inl (subst SomeStop (sym c.in-Ok-close_all.ensures.stops)
-          (some_stop-gathered gave ring scripts rules led.bounds c.lead-led.new.judge.forgetting.front writers workers lines after backs opened led_to count all on
+          (some_stop-gathered gave ring scripts rules led.bounds front writers workers lines after backs opened to count all on
           closed (subst (λ (l : List Line). SomeToldStop (length l) after) c.as_mut_slice.ensures.value some)))
       | inr other ↦ inr other
     ]
