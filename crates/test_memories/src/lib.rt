@@ -12,4 +12,6 @@ mod drive;
 #[cfg(test)]
 mod memories;
 #[cfg(test)]
+mod told;
+#[cfg(test)]
 mod work;
