@@ -12,7 +12,7 @@ use tmw_events::{Event, Kind, Registers};
 use tmw_monitor::Bounds;
 use tmw_ring::{Refused, RingFault};
 use tmw_tm::Did;
-use tmw_workloads::{Workload, read_workload};
+use tmw_workloads::Workload;
 
 mod at_once;
 mod hunting;
@@ -22,6 +22,7 @@ mod progress;
 mod rounds;
 
 use crate::counting::Counting;
+use crate::told::told;
 use memories::{Holding, Overlapping, Overtaken, Waiting};
 
 const ONE: Registers = Registers { number: 1 };
@@ -52,11 +53,6 @@ const fn settings(cells: u64, limit: u64, patience: u64, rounds: u64) -> Setting
             states: 64,
         },
     }
-}
-
-/// The workload of this text.
-fn told(alloc: Global, text: &str) -> Result<Workload, Fail> {
-    Ok(read_workload(alloc, text.as_bytes())?)
 }
 
 /// One thread makes this transaction so many times.

@@ -1,40 +1,39 @@
 //! What the contract leaves open: that there is memory, which calls the memory gets, and that workloads are driven as their
 //! readers expect.
+use std::alloc::Global;
 use std::test::Fail;
 use test_support::{FIRST, one};
 use tmw_defs::Verdict;
-use tmw_drive::{DriveFault, Ending, drive};
+use tmw_drive::{DriveFault, Ending, Outcome, drive};
 use tmw_events::{Kind, Registers};
 use tmw_monitor::Bounds;
-use tmw_tm::Did;
-use tmw_workloads::Workload;
+use tmw_tm::{Did, Tm};
 
 mod memories;
 mod norec;
 
 use crate::counting::Counting;
+use crate::told::told;
 use memories::Marking;
 
 const ONE: Registers = Registers { number: 1 };
-
-const TWO: Registers = Registers { number: 2 };
 
 const WIDEST: Bounds = Bounds {
     window: 8,
     states: 64,
 };
 
+/// What this memory makes of the workload of this text.
+fn driven(alloc: Global, memory: &(dyn Tm + Sync), text: &str) -> Result<Outcome, Fail> {
+    let workload = told(alloc, text)?;
+    Ok(drive(alloc, memory, &workload, WIDEST)?)
+}
+
 #[test]
 fn each_call_is_made_once(rt: HostRuntime) -> Result<(), Fail> {
-    let alloc = rt.alloc();
-    let calls = vec![in alloc; Kind::R(FIRST), Kind::R(FIRST), Kind::T]?;
-    let workload = Workload {
-        registers: ONE,
-        scripts: vec![in alloc; vec![in alloc; calls]?]?,
-        order: vec![in alloc; 0, 0, 0]?,
-    };
     let memory = Counting::new(ONE, Did::Done, 7);
-    let outcome = drive(alloc, &memory, &workload, WIDEST)?;
+    let text = r#"{"order": [0, 0, 0], "registers": 1, "scripts": [[["R 0", "R 0", "T"]]]}"#;
+    let outcome = driven(rt.alloc(), &memory, text)?;
     let log = [
         one(Kind::R(FIRST)),
         one(Kind::V(7)),
@@ -52,15 +51,9 @@ fn each_call_is_made_once(rt: HostRuntime) -> Result<(), Fail> {
 
 #[test]
 fn an_order_that_runs_out_leaves_a_transaction_open(rt: HostRuntime) -> Result<(), Fail> {
-    let alloc = rt.alloc();
-    let calls = vec![in alloc; Kind::R(FIRST), Kind::T]?;
-    let workload = Workload {
-        registers: ONE,
-        scripts: vec![in alloc; vec![in alloc; calls]?]?,
-        order: vec![in alloc; 0]?,
-    };
     let memory = Counting::new(ONE, Did::Done, 7);
-    let outcome = drive(alloc, &memory, &workload, WIDEST)?;
+    let text = r#"{"order": [0], "registers": 1, "scripts": [[["R 0", "T"]]]}"#;
+    let outcome = driven(rt.alloc(), &memory, text)?;
     let log = [one(Kind::R(FIRST)), one(Kind::V(7))];
     assert_eq!(rt; outcome.log.as_slice(), log.as_slice());
     assert_eq!(rt; outcome.ends.as_slice(), [Ending::Left].as_slice());
@@ -70,16 +63,9 @@ fn an_order_that_runs_out_leaves_a_transaction_open(rt: HostRuntime) -> Result<(
 
 #[test]
 fn no_call_is_made_in_a_transaction_that_did_not_begin(rt: HostRuntime) -> Result<(), Fail> {
-    let alloc = rt.alloc();
-    let reading = vec![in alloc; Kind::R(FIRST), Kind::T]?;
-    let aborting = vec![in alloc; Kind::X]?;
-    let workload = Workload {
-        registers: ONE,
-        scripts: vec![in alloc; vec![in alloc; reading, aborting]?]?,
-        order: vec![in alloc; 0, 0, 0]?,
-    };
     let memory = Counting::new(ONE, Did::Abort, 7);
-    let outcome = drive(alloc, &memory, &workload, WIDEST)?;
+    let text = r#"{"order": [0, 0, 0], "registers": 1, "scripts": [[["R 0", "T"], ["X"]]]}"#;
+    let outcome = driven(rt.alloc(), &memory, text)?;
     let log = [
         one(Kind::R(FIRST)),
         one(Kind::A),
@@ -95,16 +81,9 @@ fn no_call_is_made_in_a_transaction_that_did_not_begin(rt: HostRuntime) -> Resul
 
 #[test]
 fn each_transaction_has_a_new_tx(rt: HostRuntime) -> Result<(), Fail> {
-    let alloc = rt.alloc();
-    let reading = vec![in alloc; Kind::R(FIRST), Kind::T]?;
-    let writing = vec![in alloc; Kind::W(FIRST, 1), Kind::T]?;
-    let aborting = vec![in alloc; Kind::W(FIRST, 1), Kind::X]?;
-    let workload = Workload {
-        registers: ONE,
-        scripts: vec![in alloc; vec![in alloc; reading, writing, aborting]?]?,
-        order: vec![in alloc; 0, 0, 0, 0]?,
-    };
-    let outcome = drive(alloc, &Marking { registers: ONE }, &workload, WIDEST)?;
+    let text =
+        r#"{"order": [0, 0, 0, 0], "registers": 1, "scripts": [[["R 0", "T"], ["W 0 1", "T"], ["W 0 1", "X"]]]}"#;
+    let outcome = driven(rt.alloc(), &Marking { registers: ONE }, text)?;
     let log = [
         one(Kind::R(FIRST)),
         one(Kind::A),
@@ -124,12 +103,8 @@ fn each_transaction_has_a_new_tx(rt: HostRuntime) -> Result<(), Fail> {
 #[test]
 fn a_memory_may_lack_registers(rt: HostRuntime) -> Result<(), Fail> {
     let alloc = rt.alloc();
-    let calls = vec![in alloc; Kind::R(FIRST), Kind::T]?;
-    let workload = Workload {
-        registers: TWO,
-        scripts: vec![in alloc; vec![in alloc; calls]?]?,
-        order: vec![in alloc; 0]?,
-    };
+    let text = r#"{"order": [0], "registers": 2, "scripts": [[["R 0", "T"]]]}"#;
+    let workload = told(alloc, text)?;
     let memory = Counting::new(ONE, Did::Done, 7);
     let fault = drive(alloc, &memory, &workload, WIDEST).err();
     assert_eq!(rt; fault, Some(DriveFault::Registers));

@@ -14,4 +14,6 @@ mod memories;
 #[cfg(test)]
 mod refused;
 #[cfg(test)]
+mod told;
+#[cfg(test)]
 mod work;

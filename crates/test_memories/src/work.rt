@@ -1,4 +1,8 @@
 //! What the contract of a worker leaves open: which calls the memory gets, and that a thread stops where its ring lets it.
+ghost use Rattle.std.specs.Prelude.{ℕ, IsTrue};
+ghost use Rattle.tmw_drive.specs.Playing.{calls_of};
+ghost use Rattle.tmw_runs.specs.Scripts.{are_transactions};
+
 use crate::counting::Counting;
 use std::alloc::Global;
 use std::test::Fail;
@@ -10,6 +14,20 @@ use tmw_ring::{Refused, ring};
 use tmw_tm::Did;
 
 const ONE: Registers = Registers { number: 1 };
+
+/// Where a thread of this script has stopped, by a ring of four cells and so many places that nobody pumps.
+fn stop_of(
+    alloc: Global,
+    memory: &Counting,
+    script: &[Vec<Kind>],
+    limit: u64,
+) -> Result<Option<Refused>, Fail>
+    requires { (registers : ℕ) × IsTrue (are_transactions registers (calls_of script.now)) }
+{
+    let (ring, mut writers, _reader) = ring(alloc, 4, 1, limit)?;
+    let stop = work(memory, &ring, &mut writers[0], script, 1, &Signals::new());
+    Ok(stop)
+}
 
 /// What a thread has left: the refusal at which it stopped, the first events in the ring, and how many begins, reads, writes, adds,
 /// commits and aborts there were.
@@ -111,10 +129,9 @@ fn a_thread_stops_at_once_where_nobody_will_pump(rt: HostRuntime) -> Result<(), 
 #[test]
 fn a_transaction_that_the_memory_has_ended_is_not_aborted(rt: HostRuntime) -> Result<(), Fail> {
     let alloc = rt.alloc();
-    let (ring, mut writers, _reader) = ring(alloc, 4, 1, 3)?;
     let script = vec![in alloc; vec![in alloc; Kind::W(FIRST, 5), Kind::T]?]?;
     let memory = Counting::aborting(ONE);
-    let stop = work(&memory, &ring, &mut writers[0], &script, 1, &Signals::new());
+    let stop = stop_of(alloc, &memory, &script, 3)?;
     assert_eq!(rt; stop, Some(Refused::Spent { tail: 3 }));
     assert_eq!(rt; memory.counts(), [1, 0, 1, 0, 1, 0]);
     Ok(())
@@ -123,12 +140,11 @@ fn a_transaction_that_the_memory_has_ended_is_not_aborted(rt: HostRuntime) -> Re
 #[test]
 fn a_transaction_that_has_not_begun_is_not_aborted(rt: HostRuntime) -> Result<(), Fail> {
     let alloc = rt.alloc();
-    let (ring, mut writers, _reader) = ring(alloc, 4, 1, 4)?;
     let writing = vec![in alloc; Kind::W(FIRST, 5), Kind::T]?;
     let reading = vec![in alloc; Kind::R(FIRST), Kind::T]?;
     let script = vec![in alloc; writing, reading]?;
     let memory = Counting::new(ONE, Did::Done, 7);
-    let stop = work(&memory, &ring, &mut writers[0], &script, 1, &Signals::new());
+    let stop = stop_of(alloc, &memory, &script, 4)?;
     assert_eq!(rt; stop, Some(Refused::Spent { tail: 4 }));
     assert_eq!(rt; memory.counts(), [1, 0, 1, 0, 1, 0]);
     Ok(())
@@ -137,10 +153,9 @@ fn a_transaction_that_has_not_begun_is_not_aborted(rt: HostRuntime) -> Result<()
 #[test]
 fn a_transaction_is_aborted_once(rt: HostRuntime) -> Result<(), Fail> {
     let alloc = rt.alloc();
-    let (ring, mut writers, _reader) = ring(alloc, 4, 1, 3)?;
     let script = vec![in alloc; vec![in alloc; Kind::W(FIRST, 5), Kind::X]?]?;
     let memory = Counting::new(ONE, Did::Done, 7);
-    let stop = work(&memory, &ring, &mut writers[0], &script, 1, &Signals::new());
+    let stop = stop_of(alloc, &memory, &script, 3)?;
     assert_eq!(rt; stop, Some(Refused::Spent { tail: 3 }));
     assert_eq!(rt; memory.counts(), [1, 0, 1, 0, 0, 1]);
     Ok(())

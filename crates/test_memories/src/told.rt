@@ -1,0 +1,9 @@
+//! Workloads that tests tell by their texts.
+use std::alloc::Global;
+use std::test::Fail;
+use tmw_workloads::{Workload, read_workload};
+
+/// The workload of this text.
+pub fn told(alloc: Global, text: &str) -> Result<Workload, Fail> {
+    Ok(read_workload(alloc, text.as_bytes())?)
+}
