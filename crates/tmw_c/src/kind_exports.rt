@@ -2,6 +2,7 @@
 ghost use Rattle.tmw_c.specs.Recording.{IsRecordingUntold};
 ghost use Rattle.tmw_c.specs.Statuses.{Tells};
 
+// Bodies name letters by these; clauses have their numbers, which nothing in the program can change.
 use crate::kinds::{A, C, K, N, R, T, V, W, X};
 use crate::record::record_untold;
 use std::alloc::Global;
@@ -10,7 +11,7 @@ use tmw_handles::RecorderHandle;
 /// Records the call of a read of this register.
 #[unsafe(no_mangle)]
 pub extern "C" fn tmwatch_read(alloc: Global, recorder: &mut RecorderHandle, register: u64) -> u32
-    ensures { Tells result (IsRecordingUntold R register 0 recorder.old.slot.held
+    ensures { Tells result (IsRecordingUntold 82 register 0 recorder.old.slot.held
         recorder.new.slot.held) }
 {
     record_untold(alloc, recorder, R, register, 0).number()
@@ -19,7 +20,7 @@ pub extern "C" fn tmwatch_read(alloc: Global, recorder: &mut RecorderHandle, reg
 /// Records the answer of a read or an add: the value that the register had.
 #[unsafe(no_mangle)]
 pub extern "C" fn tmwatch_value(alloc: Global, recorder: &mut RecorderHandle, value: u64) -> u32
-    ensures { Tells result (IsRecordingUntold V 0 value recorder.old.slot.held
+    ensures { Tells result (IsRecordingUntold 86 0 value recorder.old.slot.held
         recorder.new.slot.held) }
 {
     record_untold(alloc, recorder, V, 0, value).number()
@@ -33,7 +34,7 @@ pub extern "C" fn tmwatch_write(
     register: u64,
     value: u64,
 ) -> u32
-    ensures { Tells result (IsRecordingUntold W register value recorder.old.slot.held
+    ensures { Tells result (IsRecordingUntold 87 register value recorder.old.slot.held
         recorder.new.slot.held) }
 {
     record_untold(alloc, recorder, W, register, value).number()
@@ -42,7 +43,7 @@ pub extern "C" fn tmwatch_write(
 /// Records the answer of a write.
 #[unsafe(no_mangle)]
 pub extern "C" fn tmwatch_stored(alloc: Global, recorder: &mut RecorderHandle) -> u32
-    ensures { Tells result (IsRecordingUntold K 0 0 recorder.old.slot.held
+    ensures { Tells result (IsRecordingUntold 75 0 0 recorder.old.slot.held
         recorder.new.slot.held) }
 {
     record_untold(alloc, recorder, K, 0, 0).number()
@@ -56,7 +57,7 @@ pub extern "C" fn tmwatch_add(
     register: u64,
     value: u64,
 ) -> u32
-    ensures { Tells result (IsRecordingUntold N register value recorder.old.slot.held
+    ensures { Tells result (IsRecordingUntold 78 register value recorder.old.slot.held
         recorder.new.slot.held) }
 {
     record_untold(alloc, recorder, N, register, value).number()
@@ -65,7 +66,7 @@ pub extern "C" fn tmwatch_add(
 /// Records the call to commit.
 #[unsafe(no_mangle)]
 pub extern "C" fn tmwatch_commit(alloc: Global, recorder: &mut RecorderHandle) -> u32
-    ensures { Tells result (IsRecordingUntold T 0 0 recorder.old.slot.held
+    ensures { Tells result (IsRecordingUntold 84 0 0 recorder.old.slot.held
         recorder.new.slot.held) }
 {
     record_untold(alloc, recorder, T, 0, 0).number()
@@ -74,7 +75,7 @@ pub extern "C" fn tmwatch_commit(alloc: Global, recorder: &mut RecorderHandle) -
 /// Records that the transaction has committed.
 #[unsafe(no_mangle)]
 pub extern "C" fn tmwatch_committed(alloc: Global, recorder: &mut RecorderHandle) -> u32
-    ensures { Tells result (IsRecordingUntold C 0 0 recorder.old.slot.held
+    ensures { Tells result (IsRecordingUntold 67 0 0 recorder.old.slot.held
         recorder.new.slot.held) }
 {
     record_untold(alloc, recorder, C, 0, 0).number()
@@ -83,7 +84,7 @@ pub extern "C" fn tmwatch_committed(alloc: Global, recorder: &mut RecorderHandle
 /// Records the call to abort.
 #[unsafe(no_mangle)]
 pub extern "C" fn tmwatch_abort(alloc: Global, recorder: &mut RecorderHandle) -> u32
-    ensures { Tells result (IsRecordingUntold X 0 0 recorder.old.slot.held
+    ensures { Tells result (IsRecordingUntold 88 0 0 recorder.old.slot.held
         recorder.new.slot.held) }
 {
     record_untold(alloc, recorder, X, 0, 0).number()
@@ -92,7 +93,7 @@ pub extern "C" fn tmwatch_abort(alloc: Global, recorder: &mut RecorderHandle) ->
 /// Records that the transaction has aborted.
 #[unsafe(no_mangle)]
 pub extern "C" fn tmwatch_aborted(alloc: Global, recorder: &mut RecorderHandle) -> u32
-    ensures { Tells result (IsRecordingUntold A 0 0 recorder.old.slot.held
+    ensures { Tells result (IsRecordingUntold 65 0 0 recorder.old.slot.held
         recorder.new.slot.held) }
 {
     record_untold(alloc, recorder, A, 0, 0).number()
