@@ -16,7 +16,8 @@ pub struct Returning<'a> {
 }
 
 impl<'a> Promise<Writer> for Returning<'a> {
-    ghost kept_by = { λ promise writer. WriterOf promise.ring.now writer × (writer.number ≡ promise.number) };
+    ghost kept_by = { λ promise writer. WriterOf promise.ring.now writer
+        × (writer.number ≡ promise.number) };
 }
 
 /// Gives each writer a thread in which it does the job, if there are threads for all. The job gives the writer back.
@@ -33,10 +34,10 @@ pub fn start_all<'s, E, F: Fn(Writer) -> Writer + Copy + Send + 's>(
     requires returns { (writer : _) (back : _) → WriterOf ring.now writer → F.post job writer back
         → WriterOf ring.now back × (back.number ≡ writer.number) }
     ensures count { IfSome result (λ handles. length handles.items ≡ length writers.items) }
-    ensures of_ring { IfSome result
-        (λ handles. All (λ handle. handle.promise.ring.now ≡ ring.now) handles.items) }
-    ensures order { IfSome result
-        (λ handles. (place : ℕ) (fallback : _) → place < length handles.items
+    ensures of_ring { IfSome result (λ handles. All (λ handle. handle.promise.ring.now ≡ ring.now)
+        handles.items) }
+    ensures order { IfSome result (λ handles. (place : ℕ) (fallback : _)
+        → place < length handles.items
         → (get_or handles.items place fallback).promise.number.number ≡ place) }
 {
     let mut handles = Vec::new(alloc);

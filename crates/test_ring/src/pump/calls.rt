@@ -190,7 +190,7 @@ fn pump_all(ring: &Ring, pump: &mut Pump) -> bool
     pump.judged().len() == 4
 }
 
-/// The same, of a settled ring.
+/// Judges what a settled ring has left, three events at a time, and tells whether each answer was as it should be.
 fn judge_rest(rest: &mut Rest) -> bool {
     for _ in 0..8 {
         let before = rest.judged().len();
@@ -213,7 +213,7 @@ fn a_refused_growth_loses_no_event(rt: HostRuntime) -> Result<(), Fail> {
     Ok(())
 }
 
-/// The same of what a settled ring has left.
+/// Also of what a settled ring has left no event is lost where any one growth is refused, as tests/refused.sh does.
 #[test]
 fn a_refused_growth_loses_nothing_that_was_left(rt: HostRuntime) -> Result<(), Fail> {
     let (ring, mut writers, reader) = ring(rt.alloc(), 8, 2, 100)?;

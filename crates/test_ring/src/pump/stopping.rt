@@ -55,12 +55,20 @@ fn record_tried(ring: &Ring, writer: &mut Writer, kind: Kind, tries: u64) -> Res
     ring.record(writer, kind)
 }
 
+/// A run of threads: how it goes, and what its writers have told of it.
+#[derive(Clone, Copy)]
+struct Course<'a> {
+    trial: &'a Trial,
+    told: &'a Told,
+}
+
 /// Records a writer's events until it stops, and gives it back.
-fn record_some(trial: &Trial, told: &Told, ring: &Ring, mut writer: Writer) -> Writer
+fn record_some(course: Course<'_>, ring: &Ring, mut writer: Writer) -> Writer
     requires { WriterOf ring.now writer }
     ensures of_ring { WriterOf ring.now result }
     ensures number { result.number ≡ writer.number }
 {
+    let Course { trial, told } = course;
     let number = writer.number();
     for count in 0..trial.most_of(number) {
         let kind = trial.nth(number, count);
@@ -145,8 +153,7 @@ impl Ended {
 fn run_dropped<R: Threads + Wait + Sync>(
     rt: &R,
     alloc: Global,
-    trial: &Trial,
-    told: &Told,
+    course: Course<'_>,
     ring: Ring,
     writers: Vec<Writer>,
     pump: Pump,
@@ -155,6 +162,7 @@ fn run_dropped<R: Threads + Wait + Sync>(
     requires writers { All (WriterOf ring) writers.items }
     requires order { AreInOrder writers.items }
 {
+    let Course { trial, told } = course;
     let shared = &ring;
     let back = thread::scope(
         thread::scope_env(),
@@ -163,9 +171,9 @@ fn run_dropped<R: Threads + Wait + Sync>(
             requires reader { ReaderOf shared.now pump.forgetting.reader }
             requires writers { All (WriterOf shared.now) writers.items }
             requires order { AreInOrder writers.items }
-            ensures reader { IfSome result
-                (λ back. ReaderOf shared.entry.now back.1.forgetting.reader) }
-        { run_away(scope, alloc, trial, told, shared, pump, writers) },
+            ensures reader { IfSome result (λ back. ReaderOf shared.entry.now
+                back.1.forgetting.reader) }
+        { run_away(scope, alloc, Course { trial, told }, shared, pump, writers) },
     );
     let Some((meanwhile, mut pump)) = back else {
         return None;
@@ -181,8 +189,7 @@ fn run_dropped<R: Threads + Wait + Sync>(
 fn run_away<'s, E>(
     scope: &Scope<'s, E>,
     alloc: Global,
-    trial: &'s Trial,
-    told: &'s Told,
+    course: Course<'s>,
     ring: &'s Ring,
     mut pump: Pump,
     writers: Vec<Writer>,
@@ -193,9 +200,9 @@ fn run_away<'s, E>(
     ensures reader { IfSome result (λ back. ReaderOf ring.now back.1.forgetting.reader) }
 {
     start_all(scope, alloc, ring, writers, move |writer| {
-        record_some(trial, told, ring, writer)
+        record_some(course, ring, writer)
     })?;
-    let meanwhile = pump_some(ring, &mut pump, trial.max, trial.calls);
+    let meanwhile = pump_some(ring, &mut pump, course.trial.max, course.trial.calls);
     Some((meanwhile, pump))
 }
 
@@ -203,8 +210,7 @@ fn run_away<'s, E>(
 fn run_settled<R: Threads + Wait + Sync>(
     rt: &R,
     alloc: Global,
-    trial: &Trial,
-    told: &Told,
+    course: Course<'_>,
     ring: Ring,
     writers: Vec<Writer>,
     pump: Pump,
@@ -214,6 +220,7 @@ fn run_settled<R: Threads + Wait + Sync>(
     requires count { length writers.items ≡ ring.size.writers }
     requires order { AreInOrder writers.items }
 {
+    let Course { trial, told } = course;
     let shared = &ring;
     let back = thread::scope(
         thread::scope_env(),
@@ -222,12 +229,15 @@ fn run_settled<R: Threads + Wait + Sync>(
             requires reader { ReaderOf shared.now pump.forgetting.reader }
             requires writers { All (WriterOf shared.now) writers.items }
             requires order { AreInOrder writers.items }
-            ensures reader { IfSome result
-                (λ back. ReaderOf shared.entry.now back.1.forgetting.reader) }
+            ensures reader { IfSome result (λ back. ReaderOf shared.entry.now
+                back.1.forgetting.reader) }
             ensures writers { IfSome result (λ back. All (WriterOf shared.entry.now) back.2.items) }
             ensures count { IfSome result (λ back. length back.2.items ≡ length writers.items) }
             ensures order { IfSome result (λ back. AreInOrder back.2.items) }
-        { run_and_return(rt, scope, alloc, trial, told, shared, pump, writers) },
+        {
+            let course = Course { trial, told };
+            run_and_return(rt, scope, alloc, course, shared, pump, writers)
+        },
     );
     let Some((meanwhile, pump, writers)) = back else {
         return None;
@@ -251,8 +261,7 @@ fn run_and_return<'s, E, R: Threads + Wait + Sync>(
     rt: &'s R,
     scope: &Scope<'s, E>,
     alloc: Global,
-    trial: &'s Trial,
-    told: &'s Told,
+    course: Course<'s>,
     ring: &'s Ring,
     mut pump: Pump,
     writers: Vec<Writer>,
@@ -266,9 +275,9 @@ fn run_and_return<'s, E, R: Threads + Wait + Sync>(
     ensures order { IfSome result (λ back. AreInOrder back.2.items) }
 {
     let handles = start_all(scope, alloc, ring, writers, move |writer| {
-        record_some(trial, told, ring, writer)
+        record_some(course, ring, writer)
     })?;
-    let meanwhile = pump_some(ring, &mut pump, trial.max, trial.calls);
+    let meanwhile = pump_some(ring, &mut pump, course.trial.max, course.trial.calls);
     let Ok(writers) = thread::join_promised(rt, handles) else {
         return None;
     };
@@ -285,10 +294,11 @@ fn run_trial<R: Threads + Wait + Sync>(
     let (ring, writers, reader) = ring(alloc, trial.cells, trial.writers, trial.limit).ok()?;
     let monitor = Monitor::new(alloc, Trial::REGISTERS, trial.bounds).ok()?;
     let pump = Pump::new(alloc, reader, monitor);
+    let course = Course { trial, told };
     if trial.drops {
-        run_dropped(rt, alloc, trial, told, ring, writers, pump)
+        run_dropped(rt, alloc, course, ring, writers, pump)
     } else {
-        run_settled(rt, alloc, trial, told, ring, writers, pump)
+        run_settled(rt, alloc, course, ring, writers, pump)
     }
 }
 

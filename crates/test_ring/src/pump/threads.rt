@@ -116,17 +116,23 @@ fn pump_running(ring: &Ring, pump: &mut Pump)
     }
 }
 
+/// What the threads of a run share beside the ring: the memory, and where they are told to give up.
+#[derive(Clone, Copy)]
+struct Shared<'a> {
+    memory: &'a Memory,
+    given_up: &'a AtomicBool,
+}
+
 /// Lets the writers record while their events are judged, and gives all back when the threads have ended. Where a thread cannot
 /// be started, those that were give up.
 fn run<'s, E, R: Threads + Wait + Sync>(
     rt: &'s R,
     scope: &Scope<'s, E>,
     alloc: Global,
-    memory: &'s Memory,
     ring: &'s Ring,
     mut pump: Pump,
     writers: Vec<Writer>,
-    given_up: &'s AtomicBool,
+    shared: Shared<'s>,
 ) -> Option<(Pump, Vec<Writer>)>
     requires reader { ReaderOf ring.now pump.forgetting.reader }
     requires writers { All (WriterOf ring.now) writers.items }
@@ -136,6 +142,7 @@ fn run<'s, E, R: Threads + Wait + Sync>(
     ensures count { IfSome result (λ back. length back.1.items ≡ length writers.items) }
     ensures order { IfSome result (λ back. AreInOrder back.1.items) }
 {
+    let Shared { memory, given_up } = shared;
     let started = start_all(scope, alloc, ring, writers, move |writer| {
         record_run(rt, memory, ring, writer, given_up)
     });
@@ -197,12 +204,18 @@ fn judged_run<R: Threads + Wait + Sync>(
             requires reader { ReaderOf shared.now pump.forgetting.reader }
             requires writers { All (WriterOf shared.now) writers.items }
             requires order { AreInOrder writers.items }
-            ensures reader { IfSome result
-                (λ back. ReaderOf shared.entry.now back.0.forgetting.reader) }
+            ensures reader { IfSome result (λ back. ReaderOf shared.entry.now
+                back.0.forgetting.reader) }
             ensures writers { IfSome result (λ back. All (WriterOf shared.entry.now) back.1.items) }
             ensures count { IfSome result (λ back. length back.1.items ≡ length writers.items) }
             ensures order { IfSome result (λ back. AreInOrder back.1.items) }
-        { run(rt, scope, alloc, within, shared, pump, writers, given_up) },
+        {
+            let beside = Shared {
+                memory: within,
+                given_up,
+            };
+            run(rt, scope, alloc, shared, pump, writers, beside)
+        },
     );
     let Some((pump, writers)) = back else {
         return None;

@@ -72,6 +72,14 @@ fn take_all(ring: &Ring, reader: &mut Reader, count: u64, given_up: &AtomicBool)
     came
 }
 
+/// How many events each writer of a run records, how many are taken meanwhile, and where its threads are told to give up.
+#[derive(Clone, Copy)]
+struct Amounts<'a> {
+    each: u64,
+    taken: u64,
+    given_up: &'a AtomicBool,
+}
+
 /// Lets each writer record so many events while some are taken, and gives the ends back when all threads have ended. Where a
 /// thread cannot be started, those that were give up.
 fn run<'s, E, R: Threads>(
@@ -81,9 +89,7 @@ fn run<'s, E, R: Threads>(
     ring: &'s Ring,
     mut reader: Reader,
     writers: Vec<Writer>,
-    each: u64,
-    taken: u64,
-    given_up: &'s AtomicBool,
+    amounts: Amounts<'s>,
 ) -> Option<(Came, Reader, Vec<Writer>)>
     requires reader { ReaderOf ring.now reader }
     requires writers { All (WriterOf ring.now) writers.items }
@@ -93,6 +99,11 @@ fn run<'s, E, R: Threads>(
     ensures count { IfSome result (λ back. length back.2.items ≡ length writers.items) }
     ensures order { IfSome result (λ back. AreInOrder back.2.items) }
 {
+    let Amounts {
+        each,
+        taken,
+        given_up,
+    } = amounts;
     let started = start_all(scope, alloc, ring, writers, move |writer| {
         record_all(ring, writer, each, given_up)
     });
@@ -188,9 +199,12 @@ fn seven_writers_come_back_and_the_ring_is_settled(rt: HostRuntime) -> Result<()
             ensures count { IfSome result (λ back. length back.2.items ≡ length writers.items) }
             ensures order { IfSome result (λ back. AreInOrder back.2.items) }
         {
-            run(
-                &rt, scope, alloc, shared, reader, writers, 10_000, 69_998, given_up,
-            )
+            let amounts = Amounts {
+                each: 10_000,
+                taken: 69_998,
+                given_up,
+            };
+            run(&rt, scope, alloc, shared, reader, writers, amounts)
         },
     );
     let Some((mut came, reader, writers)) = back else {

@@ -284,7 +284,7 @@ fn a_refused_growth_loses_no_event_of_a_watch(rt: HostRuntime) -> Result<(), Fai
     Ok(())
 }
 
-/// The same of what is judged at the end alone.
+/// Also of what is judged at the end alone no event is lost where any one growth is refused, as tests/refused.sh does.
 #[test]
 #[tactic(auto, using(crate::proofs::Pairs::of_ring_two))]
 fn a_refused_growth_loses_no_event_of_the_end(rt: HostRuntime) -> Result<(), Fail> {

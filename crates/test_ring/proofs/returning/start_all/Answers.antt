@@ -1,9 +1,10 @@
-use Rattle.std.proofs.Common.{◌≡◌, ◌<◌, ◌+◌, ◌++◌, ℕ, zero, suc, List, [], ◌∷◌, length, get_or, sym, ap, ◌∙◌, subst, append_assoc, arith}
+use Rattle.std.proofs.Common.{◌≡◌, ◌<◌, ◌+◌, ◌++◌, ℕ, List, [], ◌∷◌, length, get_or, sym, ap, ◌∙◌, subst, append_assoc, arith}
 use Rattle.std.proofs.Math.Seq.{get_or-append_seam}
 use Rattle.std.proofs.lemmas.List.{length_push}
 use Rattle.std.specs.Vec.Iter.{into_iter_items}
 use Rattle.std.specs.declared.thread.PromisedHandle.{PromisedHandle}
 use Rattle.tmw_events.specs.declared.ix.Ix.{Ix}
+use Rattle.tmw_ring.proofs.InOrder.{one_more, shorter}
 use Rattle.tmw_ring.specs.Ends.{WriterIs}
 use Rattle.tmw_ring.specs.Settling.{AreInOrder}
 use Rattle.tmw_ring.specs.declared.ends.Writer.{Writer}
@@ -12,20 +13,6 @@ use Rattle.test_ring.proofs.returning.start_all.Goals as goal
 
 abbrev Handle : Type 0
 Handle = PromisedHandle Writer Returning
-
--- What holds of each item at its place still does when one more is put behind them.
-one_more : {A : Type 0} (P : ℕ → A → Type 0) (items : List A) (item : A)
-    → ((place : ℕ) (fallback : A) → place < length items → P place (get_or items place fallback)) → P (length items) item
-    → (place : ℕ) (fallback : A) → place < length (items ++ item ∷ []) → P place (get_or (items ++ item ∷ []) place fallback)
-one_more P [] item each last zero fallback low = last
-one_more P [] item each last (suc place) fallback low = absurd (omega (arith, low))
-one_more P (first ∷ items) item each last zero fallback low = each zero fallback (omega arith)
-one_more P (first ∷ items) item each last (suc place) fallback low =
-    one_more (λ n. P (suc n)) items item (λ n d below. each (suc n) d (omega (arith, below))) last place fallback (omega (arith, low))
-
-shorter : (before : List WriterIs) (writer : WriterIs) (after : List WriterIs) → length before < length (before ++ writer ∷ after)
-shorter [] writer after = omega arith
-shorter (first ∷ before) writer after = let rest = shorter before writer after in omega (arith, rest)
 
 -- The number of a writer is that of the writers before it.
 numbered : (writers before after : List WriterIs) (writer : WriterIs) → AreInOrder writers → before ++ writer ∷ after ≡ writers
