@@ -148,7 +148,7 @@ verdict-many rules S c h e sums formed fits cut many =
     })
 
 -- where the event makes no cut, the last cut stays
-IsLastCut-open : (c : ℕ) (h : List Event) (e : Event) → IsLastCut h c → IsFalse (is_cut (drop c h ++ e ∷ []))
+pub IsLastCut-open : (c : ℕ) (h : List Event) (e : Event) → IsLastCut h c → IsFalse (is_cut (drop c h ++ e ∷ []))
     → IsLastCut (h ++ e ∷ []) c
 IsLastCut-open c h e last uncut = record {
   is = IsCutAt-push h e c last.is;

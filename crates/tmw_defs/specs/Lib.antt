@@ -1,3 +1,4 @@
+pub mod Counts
 pub mod Criteria
 pub mod CriteriaLaw
 pub mod Cuts

@@ -3,6 +3,7 @@
 #![tactic(auto)]
 
 mod both_criteria;
+mod counts;
 mod criterion;
 mod cuts;
 mod op;
@@ -12,6 +13,7 @@ mod texts;
 mod verdict;
 
 pub use both_criteria::law_criteria;
+pub use counts::Counts;
 pub use criterion::{Asked, Criterion};
 pub use cuts::law_1;
 pub use op::Op;

@@ -1,4 +1,4 @@
 pub mod TextSteps
 pub mod HistorySteps
 pub mod Deciding
-mod Tracking
+pub mod Tracking

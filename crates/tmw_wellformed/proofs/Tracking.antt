@@ -35,7 +35,7 @@ live_is_open registers thread history formed t is =
     record { formed = text; unended = not-true (is_ended t.text) (and_parts (t.thread == thread) _ live).1 }
 
 -- the history is well-formed with the event exactly where the pending call lets it go on
-is_well_formed-push : (registers : ℕ) (history : List Event) (e : Event) → IsTrue (is_well_formed registers history)
+pub is_well_formed-push : (registers : ℕ) (history : List Event) (e : Event) → IsTrue (is_well_formed registers history)
     → is_well_formed registers (history ++ e ∷ []) ≡ goes_on registers (pending_call e.thread.number history) e.kind
 is_well_formed-push registers history e formed =
     let live = live_of e.thread.number (transactions history) in

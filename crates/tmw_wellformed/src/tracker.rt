@@ -1,7 +1,8 @@
-ghost use Rattle.std.specs.Prelude.{◌≡◌, ℕ, List, [], ◌∷◌, ◌++◌, ◌↔◌, IfOk, IfErr, IfSome, OnErr, Ok, IsTrue, IsFalse, true, false, slice_index_or};
+ghost use Rattle.std.specs.Prelude.{◌≡◌, ℕ, List, [], ◌∷◌, ◌++◌, ◌↔◌, IfOk, IfErr, IfSome, OnErr, Ok, IsTrue, IsFalse, true, false, slice_index_or, Some};
 ghost use Rattle.tmw_events.specs.declared.event.Event.{Event};
+ghost use Rattle.tmw_events.specs.declared.event.Kind.TheVariants.{X};
 ghost use Rattle.tmw_defs.specs.Cuts.{is_cut};
-ghost use Rattle.tmw_wellformed.specs.Pending.{live_count};
+ghost use Rattle.tmw_wellformed.specs.Pending.{live_count, pending_call};
 ghost use Rattle.tmw_wellformed.specs.Notes.{Notes};
 ghost use Rattle.tmw_wellformed.specs.Faults.{lacks_register, Refuses};
 ghost use Rattle.tmw_wellformed.specs.GoingOn.{TakesAs};
@@ -13,7 +14,7 @@ use crate::malformed::Malformed;
 use crate::note::{Note, end_of};
 use crate::phase::Phase;
 use crate::phases::Phases;
-use tmw_events::{Event, Kind, Registers};
+use tmw_events::{Event, Ix, Kind, Registers};
 
 /// Takes a history event by event, and refuses each event that would make it ill-formed. It holds no event.
 #[derive(Clone, Copy, PartialEq, Eq, Debug)]
@@ -114,6 +115,15 @@ impl Tracker {
         }
         self.phases.set(event.thread, next);
         true
+    }
+
+    /// Tells whether the thread's pending call is an abort request.
+    #[inline(always)]
+    pub fn asks_abort(&self, thread: Ix) -> bool
+        ensures { (registers : ℕ) (history : List Event) → Tracks registers history self.now
+            → IsTrue result ↔ (pending_call thread.number history ≡ Some X) }
+    {
+        self.phases.get(thread) == Phase::Aborting
     }
 
     /// The phase of the event's thread, and the one to which the event leads, where the history stays well-formed with it.

@@ -1,0 +1,164 @@
+-- How many transactions have ended in which way, with one event more.
+use Rattle.std.proofs.Common.{◌≡◌, ◌==◌, ◌&&◌, ◌+◌, ◌-◌, ◌++◌, ◌≤◌, ◌↔◌, ℕ, zero, suc, Bool, true, false, not, List, [], ◌∷◌, length, Option, Some, None, IsTrue, refl, sym, ap, ◌∙◌, inl, inr, arith, length-append}
+use Rattle.std.specs.Prelude.{count_by, slice_get, is_some, option_and_then}
+use Rattle.std.proofs.lemmas.Bool.{cases_Bool, and_parts, both_ways}
+use Rattle.tmw_events.specs.declared.event.Event.{Event}
+use Rattle.tmw_events.specs.declared.event.Kind.{Kind}
+use Rattle.tmw_events.specs.declared.event.Kind.TheVariants.{R, V, W, K, T, C, X, A, N}
+use Rattle.tmw_defs.specs.declared.status.Status.{Status}
+use Rattle.tmw_defs.specs.declared.status.Status.TheVariants.{Live, Pending, Committed, Aborted}
+use Rattle.tmw_defs.specs.Counts.{is_committed, is_aborted, is_request, is_unasked}
+use Rattle.tmw_defs.specs.History.{Txn, add_event, is_ended, is_over, status_after, status_of}
+use Rattle.tmw_defs.proofs.OneMore.{joins, begun, longer, add_event_here, add_event_past}
+use Rattle.tmw_defs.proofs.TextsProof.{slice_get_end}
+use Rattle.tmw_wellformed.specs.Pending.{call_of, live_of}
+use Rattle.tmw_wellformed.specs.Notes.{end_of}
+use Rattle.tmw_wellformed.proofs.HistorySteps.{found, text_of}
+use Rattle.tmw_counts.specs.Counting.{aborts, commits, one_if}
+use Rattle.tmw_counts.proofs.Sums.{count-cons}
+
+-- the text with the event counts in place of the live one's
+pub count_text-add : (p : List Kind → Bool) → p [] ≡ false → (place : ℕ) (e : Event) (ts : List Txn)
+    → count_by (λ t. p t.text) (add_event place e ts) + one_if (p (text_of (live_of e.thread.number ts)))
+    ≡ count_by (λ t. p t.text) ts + one_if (p (text_of (live_of e.thread.number ts) ++ e.kind ∷ []))
+count_text-add p empty place e [] =
+    omega (arith, count-cons (λ t. p t.text) (begun place e) [], ap one_if empty)
+count_text-add p empty place e (t ∷ ts) =
+    elim (cases_Bool (joins e t)) [
+      | inl here ↦
+          rw (add_event_here place e t ts here, here)
+          (omega (arith, count-cons (λ u. p u.text) (longer place e t) ts, count-cons (λ u. p u.text) t ts))
+      | inr past ↦
+          rw (add_event_past place e t ts past, past)
+          (omega (arith, count-cons (λ u. p u.text) t (add_event place e ts), count-cons (λ u. p u.text) t ts,
+          count_text-add p empty place e ts))
+    ]
+
+pub status_of-push : (text : List Kind) (k : Kind) → status_of (text ++ k ∷ []) ≡ status_after (Some k)
+status_of-push text k =
+    let last : length (text ++ k ∷ []) - 1 ≡ length text = omega (arith, length-append text (k ∷ [])) in
+    rw (last, slice_get_end text k) refl
+
+pub committed-after : (k : Kind) → is_committed (status_after (Some k)) ≡ commits (end_of k)
+committed-after C = refl
+committed-after A = refl
+committed-after T = refl
+committed-after _ = refl
+
+pub aborted-after : (k : Kind) → is_aborted (status_after (Some k)) ≡ aborts (end_of k)
+aborted-after C = refl
+aborted-after A = refl
+aborted-after T = refl
+aborted-after _ = refl
+
+not_committed : (s : Status) → is_over s ≡ false → is_committed s ≡ false
+not_committed Committed lasts = absurd (cc)
+not_committed _ lasts = refl
+
+not_aborted : (s : Status) → is_over s ≡ false → is_aborted s ≡ false
+not_aborted Aborted lasts = absurd (cc)
+not_aborted _ lasts = refl
+
+-- a thread's live transaction has not ended
+pub text_of_live : (thread : ℕ) (ts : List Txn) → is_ended (text_of (live_of thread ts)) ≡ false
+text_of_live thread [] = refl
+text_of_live thread (t ∷ ts) =
+    elim (cases_Bool ((t.thread == thread) && not (is_ended t.text))) [
+      | inl here ↦ rw here (open_from (is_ended t.text) (and_parts (t.thread == thread) _ here).1)
+      | inr past ↦ rw past (text_of_live thread ts)
+    ]
+  where
+    open_from : (b : Bool) → not b ≡ true → b ≡ false
+    open_from true is = absurd (cc)
+    open_from false is = refl
+
+pub committed-add : (place : ℕ) (e : Event) (ts : List Txn)
+    → count_by (λ t. is_committed (status_of t.text)) (add_event place e ts)
+    ≡ count_by (λ t. is_committed (status_of t.text)) ts + one_if (commits (end_of e.kind))
+committed-add place e ts =
+    let text = text_of (live_of e.thread.number ts) in
+    let old = ap one_if (not_committed (status_of text) (text_of_live e.thread.number ts)) in
+    let new = ap one_if (ap is_committed (status_of-push text e.kind) ∙ committed-after e.kind) in
+    let all = count_text-add (λ ks. is_committed (status_of ks)) refl place e ts in
+    omega (arith, all, old, new)
+
+pub aborted-add : (place : ℕ) (e : Event) (ts : List Txn)
+    → count_by (λ t. is_aborted (status_of t.text)) (add_event place e ts)
+    ≡ count_by (λ t. is_aborted (status_of t.text)) ts + one_if (aborts (end_of e.kind))
+aborted-add place e ts =
+    let text = text_of (live_of e.thread.number ts) in
+    let old = ap one_if (not_aborted (status_of text) (text_of_live e.thread.number ts)) in
+    let new = ap one_if (ap is_aborted (status_of-push text e.kind) ∙ aborted-after e.kind) in
+    let all = count_text-add (λ ks. is_aborted (status_of ks)) refl place e ts in
+    omega (arith, all, old, new)
+
+-- the pending call is the text's last event
+last_call : (text : List Kind) (c : Kind) → call_of text ≡ Some c → slice_get text (length text - 1) ≡ Some c
+last_call [] c is = absurd (cc)
+last_call (d ∷ []) c is = is
+last_call (d ∷ a ∷ []) c is = absurd (cc)
+last_call (d ∷ a ∷ b ∷ more) c is =
+    let at : length (d ∷ a ∷ b ∷ more) - 1 ≡ suc (suc (length (b ∷ more) - 1)) = omega arith in
+    rw at (last_call (b ∷ more) c is)
+
+get_front : (text : List Kind) (k : Kind) (i : ℕ) → suc i ≤ length text → slice_get (text ++ k ∷ []) i ≡ slice_get text i
+get_front [] k i within = absurd (omega (arith, within))
+get_front (c ∷ text) k zero within = refl
+get_front (c ∷ text) k (suc i) within = get_front text k i (omega (arith, within))
+
+-- where a call is pending, the last but one event of its text and the answer is the call
+pub asked-push : (text : List Kind) (c k : Kind) → call_of text ≡ Some c
+    → slice_get (text ++ k ∷ []) (length (text ++ k ∷ []) - 2) ≡ Some c
+asked-push text c k is =
+    let some : suc (length text - 1) ≤ length text = has_some text is in
+    let at : length (text ++ k ∷ []) - 2 ≡ length text - 1 = omega (arith, length-append text (k ∷ [])) in
+    rw at (get_front text k (length text - 1) some ∙ last_call text c is)
+  where
+    has_some : (text : List Kind) {c : Kind} → call_of text ≡ Some c → suc (length text - 1) ≤ length text
+    has_some [] is = absurd (cc)
+    has_some (d ∷ text) is = omega arith
+
+request_is : (c : Kind) (asked : Bool) → (IsTrue asked ↔ (Some c ≡ Some X)) → is_request (Some c) ≡ asked
+request_is c asked tells =
+    elim (cases_Bool asked) [
+      | inl holds ↦ ap is_request (tells.0 holds) ∙ sym holds
+      | inr fails ↦ elim (cases_Bool (is_request (Some c))) [
+        | inl request ↦ absurd (both_ways asked fails (tells.1 (ap Some (only_X c request))))
+        | inr other ↦ other ∙ sym fails
+      ]
+    ]
+  where
+    only_X : (c : Kind) → is_request (Some c) ≡ true → c ≡ X
+    only_X X is = refl
+    only_X _ is = absurd (cc)
+
+-- An abort event answers the pending call.
+pub unasked-after : (text : List Kind) (k : Kind) (asked : Bool)
+    → (aborts (end_of k) ≡ true → is_some (call_of text) ≡ true)
+    → (IsTrue asked ↔ (call_of text ≡ Some X))
+    → is_unasked (text ++ k ∷ []) ≡ (aborts (end_of k) && not asked)
+unasked-after text k asked answers tells =
+    let aborted : is_aborted (status_of (text ++ k ∷ [])) ≡ aborts (end_of k) = ap is_aborted (status_of-push text k) ∙ aborted-after k in
+    elim (cases_Bool (aborts (end_of k))) [
+      | inl holds ↦ rw (aborted, holds) (ap not (by_call (call_of text) refl (answers holds)))
+      | inr fails ↦ rw (aborted, fails) refl
+    ]
+  where
+    by_call : (pending : Option Kind) → call_of text ≡ pending → is_some (call_of text) ≡ true
+        → is_request (slice_get (text ++ k ∷ []) (length (text ++ k ∷ []) - 2)) ≡ asked
+    by_call None is some = absurd (let bad : false ≡ true = rw is at some in cc)
+    by_call (Some c) is some =
+        rw (asked-push text c k is) (request_is c asked (λ holds. sym is ∙ tells.0 holds, λ same. tells.1 (is ∙ same)))
+
+pub unasked-add : (place : ℕ) (e : Event) (ts : List Txn) (asked : Bool)
+    → (aborts (end_of e.kind) ≡ true → is_some (call_of (text_of (live_of e.thread.number ts))) ≡ true)
+    → (IsTrue asked ↔ (call_of (text_of (live_of e.thread.number ts)) ≡ Some X))
+    → count_by (λ t. is_unasked t.text) (add_event place e ts)
+    ≡ count_by (λ t. is_unasked t.text) ts + one_if (aborts (end_of e.kind) && not asked)
+unasked-add place e ts asked answers tells =
+    let text = text_of (live_of e.thread.number ts) in
+    let lasts : is_aborted (status_of text) ≡ false = not_aborted (status_of text) (text_of_live e.thread.number ts) in
+    let old : is_unasked text ≡ false = rw lasts refl in
+    let new = ap one_if (unasked-after text e.kind asked answers tells) in
+    let all = count_text-add is_unasked refl place e ts in
+    omega (arith, all, ap one_if old, new)

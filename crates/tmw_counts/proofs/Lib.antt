@@ -1,0 +1,5 @@
+mod Sums
+mod Ended
+mod Overlaps
+mod Windows
+mod Counting

@@ -1,0 +1,118 @@
+-- The cuts and the widest window of a history, with one event more.
+use Rattle.std.proofs.Common.{◌≡◌, ◌+◌, ◌-◌, ◌++◌, ◌<◌, ◌≤◌, ◌↔◌, ◌⊎◌, ℕ, List, [], ◌∷◌, length, map, max, IsTrue, IsFalse, refl, sym, ap, subst, ◌∙◌, inl, inr, arith}
+use Rattle.std.specs.Prelude.{count_by, take, drop}
+use Rattle.std.proofs.lemmas.Bool.{cases_lt}
+use Rattle.std.proofs.lemmas.List.{map-append, take_all}
+use Rattle.tmw_events.specs.declared.event.Event.{Event}
+use Rattle.tmw_defs.specs.Counts.{prefixes}
+use Rattle.tmw_defs.specs.Cuts.{is_cut}
+use Rattle.tmw_defs.specs.History.{transactions}
+use Rattle.tmw_defs.specs.Summary.{IsLastCut}
+use Rattle.tmw_defs.specs.Windows.{IsCutAt, between, HasWide, IsWindow}
+use Rattle.tmw_defs.proofs.OneMore.{transactions-push}
+use Rattle.tmw_defs.proofs.VerdictProof.{IsLastCut-open}
+use Rattle.tmw_defs.proofs.WindowsProof.{length-push, take-append-drop-push, take-push, take_all-push, IsCutAt-push, IsCutAt_push, is_cut-push, HasWide-open, HasWide_push}
+use Rattle.tmw_wellformed.proofs.HistorySteps.{length-add, flag}
+use Rattle.tmw_counts.specs.Counting.{one_if}
+use Rattle.tmw_counts.proofs.Sums.{count-append, count-one, one_if-le}
+use Rattle.std.specs.Prelude.{is_some}
+use Rattle.tmw_wellformed.specs.Pending.{live_of}
+use Rattle.tmw_cuts.proofs.AcrossCuts.{length-transactions_cut}
+
+prefixes-push : (h : List Event) (e : Event) → prefixes (h ++ e ∷ []) ≡ prefixes h ++ (h ++ e ∷ []) ∷ []
+prefixes-push [] e = refl
+prefixes-push (x ∷ xs) e =
+    ap (λ (ps : List (List Event)). (x ∷ []) ∷ map (λ es. x ∷ es) ps) (prefixes-push xs e)
+    ∙ ap (λ (ps : List (List Event)). (x ∷ []) ∷ ps) (map-append (λ (es : List Event). x ∷ es) (prefixes xs) ((xs ++ e ∷ []) ∷ []))
+
+pub cuts-push : (h : List Event) (e : Event)
+    → count_by is_cut (prefixes (h ++ e ∷ [])) ≡ count_by is_cut (prefixes h) + one_if (is_cut (h ++ e ∷ []))
+cuts-push h e =
+    ap (count_by is_cut) (prefixes-push h e) ∙ count-append is_cut (prefixes h) ((h ++ e ∷ []) ∷ [])
+    ∙ ap (λ n. count_by is_cut (prefixes h) + n) (count-one is_cut (h ++ e ∷ []))
+
+-- a history has no fewer transactions with one event more, and at most one more
+pub transactions-more : (h : List Event) (e : Event) → length (transactions h) ≤ length (transactions (h ++ e ∷ []))
+transactions-more h e =
+    let grown = ap length (transactions-push h e) in
+    let counted = length-add (length h) e (transactions h) in
+    omega (arith, grown, counted, one_if-le (is_some (live_of e.thread.number (transactions h))))
+
+-- the open window's transactions, with the event
+pub open-count : (c : ℕ) (h : List Event) (e : Event) → IsLastCut h c
+    → length (transactions (h ++ e ∷ [])) ≡ length (transactions (take c h)) + length (transactions (drop c h ++ e ∷ []))
+open-count c h e last =
+    ap (λ (xs : List Event). length (transactions xs)) (sym (parts c h e))
+    ∙ length-transactions_cut (take c h) (drop c h ++ e ∷ []) last.is.1
+  where
+    parts : (c : ℕ) (h : List Event) (e : Event) → take c h ++ (drop c h ++ e ∷ []) ≡ h ++ e ∷ []
+    parts c h e = take-append-drop-push c h e
+
+-- a window that a cut closes is one of the longer history
+HasWide-closed : (most : ℕ) (h : List Event) (e : Event) (w : HasWide most h) → IsCutAt h w.upto → HasWide most (h ++ e ∷ [])
+HasWide-closed most h e w cut = record {
+  from = w.from;
+  upto = w.upto;
+  window = record {
+    order = w.window.order;
+    opens = IsCutAt-push h e w.from w.window.opens;
+    inside = λ at after before is. w.window.inside at after before (let within = cut.0 in IsCutAt_push h e at (omega (arith, within, before)) is);
+    closes = inr (IsCutAt-push h e w.upto cut);
+  };
+  wide = rw (take-push w.upto h e cut.0) w.wide;
+}
+
+-- the open one begins at the last cut, or there is nothing in it and a cut closes it
+HasWide-end : (most c : ℕ) (h : List Event) (e : Event) → IsLastCut h c → (w : HasWide most h) → w.upto ≡ length h → HasWide most (h ++ e ∷ [])
+HasWide-end most c h e last w end =
+    let within = last.is.0 in
+    elim (cases_lt c (length h)) [
+      | inr full ↦
+          let at : c ≡ length h = omega (arith, full, within) in
+          HasWide-closed most h e w (subst (λ (n : ℕ). IsCutAt h n) (at ∙ sym end) last.is)
+      | inl lasts ↦
+          let order = w.window.order in
+          let from : w.from ≡ c = elim (cases_lt c w.from) [
+            | inl later ↦ absurd (last.last w.from later w.window.opens)
+            | inr least ↦ elim (cases_lt w.from c) [
+              | inl earlier ↦ absurd (w.window.inside c earlier (omega (arith, end, lasts)) last.is)
+              | inr greatest ↦ omega (arith, least, greatest)
+            ]
+          ] in
+          let all : take (length h) h ≡ h = take_all (length h) h (omega arith) in
+          let wide : most < length (transactions (drop c h)) = rw (end, from, all) at w.wide in
+          let more = transactions-more (drop c h) e in
+          HasWide-open most c h e last (omega (arith, wide, more))
+    ]
+
+HasWide-push : (most c : ℕ) (h : List Event) (e : Event) → IsLastCut h c → HasWide most h → HasWide most (h ++ e ∷ [])
+HasWide-push most c h e last w = elim w.window.closes [
+  | inl end ↦ HasWide-end most c h e last w end
+  | inr cut ↦ HasWide-closed most h e w cut
+]
+
+-- the widest window of the longer history is the widest so far, or the open one
+pub widest-push : (w c : ℕ) (h : List Event) (e : Event) → IsLastCut h c → ((most : ℕ) → HasWide most h ↔ most < w)
+    → (most : ℕ) → HasWide most (h ++ e ∷ []) ↔ most < max w (length (transactions (h ++ e ∷ [])) - length (transactions (take c h)))
+widest-push w c h e last is most =
+    let lasts = open-count c h e last in
+    (
+      λ wide. elim (HasWide_push most c h e last wide) [
+        | inl before ↦ (let less = (is most).0 before in omega (arith, less))
+        | inr now ↦ omega (arith, now, lasts)
+      ],
+      λ less. elim (cases_lt most w) [
+        | inl before ↦ HasWide-push most c h e last ((is most).1 before)
+        | inr past ↦ HasWide-open most c h e last (omega (arith, less, past, lasts))
+      ],
+    )
+
+-- the last cut with the event
+pub last-uncut : (c : ℕ) (h : List Event) (e : Event) → IsLastCut h c → IsFalse (is_cut (h ++ e ∷ [])) → IsLastCut (h ++ e ∷ []) c
+last-uncut c h e last uncut = IsLastCut-open c h e last (sym (is_cut-push c h e last.is) ∙ uncut)
+
+pub last-cut : (h : List Event) (e : Event) → IsTrue (is_cut (h ++ e ∷ [])) → IsLastCut (h ++ e ∷ []) (length h + 1)
+last-cut h e cut = record {
+  is = ((let same = length-push h e in omega (arith, same)), rw (take_all-push h e) cut);
+  last = λ at after is. (let within = is.0 in let same = length-push h e in omega (arith, within, same, after));
+}
