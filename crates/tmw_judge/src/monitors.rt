@@ -4,6 +4,7 @@ ghost use Rattle.tmw_defs.specs.Verdict.{Rules};
 ghost use Rattle.tmw_defs.specs.declared.criterion.Asked.{Asked};
 ghost use Rattle.tmw_events.specs.declared.event.Event.{Event};
 ghost use Rattle.tmw_monitor.specs.Fitting.{Fits};
+ghost use Rattle.tmw_monitor.specs.Monitor.{fed_of};
 ghost use Rattle.tmw_monitor.specs.declared.bounds.Bounds.{Bounds};
 ghost use Rattle.tmw_trace.specs.declared.header.Header.{Header};
 ghost use Rattle.tmw_judge.specs.ByCriterion.{Each};
@@ -60,7 +61,7 @@ fn monitor_for(
 /// for it is made part of the reading of each kind's line, so that an event is no value in memory.
 #[inline(always)]
 pub fn feed_each(monitors: &mut ByCriterion<Monitor>, event: Event) -> Result<(), AllocError>
-    requires { Each (λ _ monitor. monitor.count < 2 ^ 40) monitors.old }
+    requires { Each (λ _ monitor. fed_of monitor < 2 ^ 40) monitors.old }
     ensures fed { OnOk result
         ((header : Header) (bounds : Bounds) (asked : Asked) (history : List Event)
         → AreFed header bounds asked history monitors.old
@@ -89,7 +90,7 @@ pub fn feed_each(monitors: &mut ByCriterion<Monitor>, event: Event) -> Result<()
 /// Feeds the event to each monitor, apart from the callers that mostly have one.
 #[inline(never)]
 fn feed_others(monitors: &mut ByCriterion<Monitor>, event: Event) -> Result<(), AllocError>
-    requires { Each (λ _ monitor. monitor.count < 2 ^ 40) monitors.old }
+    requires { Each (λ _ monitor. fed_of monitor < 2 ^ 40) monitors.old }
     ensures fed { OnOk result
         ((header : Header) (bounds : Bounds) (asked : Asked) (history : List Event)
         → AreFed header bounds asked history monitors.old

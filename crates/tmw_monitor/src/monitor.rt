@@ -1,7 +1,6 @@
 ghost use Rattle.std.specs.Prelude.{◌≡◌, ◌↔◌, ◌<◌, ◌^◌, List, [], ◌∷◌, ◌++◌, IfOk, OnOk, OnErr, Ok, IsOk, IsTrue, length};
 ghost use Rattle.tmw_events.specs.declared.event.Event.{Event};
 ghost use Rattle.tmw_defs.specs.declared.criterion.Criterion.TheVariants.{Opacity};
-ghost use Rattle.tmw_defs.specs.Criteria.{so_far};
 ghost use Rattle.tmw_cuts.specs.Members.{members};
 ghost use Rattle.tmw_defs.specs.Cuts.{is_cut};
 ghost use Rattle.tmw_defs.specs.Opaque.{zeros};
@@ -35,13 +34,14 @@ pub struct Monitor {
 impl Monitor {
     ghost use Rattle.tmw_monitor.specs.Fitting.{Fits, rules_for, rules_of};
     ghost use Rattle.tmw_monitor.specs.Holding.{AreLastOutcomes, KeepsOnlyOpen};
+    ghost use Rattle.tmw_monitor.specs.Monitor.{IsOpen, criterion_of, fed_of, verdict_of};
 
     /// A monitor that judges by opacity a run whose registers all begin at 0, before its first event.
     pub fn new(alloc: Global, registers: Registers, bounds: Bounds) -> Result<Monitor, AllocError>
         ensures fits { IfOk result (λ monitor. Fits (rules_of registers zeros bounds) [] monitor) }
         ensures keeps { IfOk result (λ monitor. KeepsOnlyOpen (rules_of registers zeros bounds) []
             monitor) }
-        ensures criterion { IfOk result (λ monitor. monitor.criterion ≡ Opacity) }
+        ensures criterion { IfOk result (λ monitor. criterion_of monitor ≡ Opacity) }
     {
         Monitor::new_from(alloc, registers, [0; 8], bounds)
     }
@@ -56,7 +56,7 @@ impl Monitor {
         ensures fits { IfOk result (λ monitor. Fits (rules_of registers start bounds) [] monitor) }
         ensures keeps { IfOk result (λ monitor. KeepsOnlyOpen (rules_of registers start bounds) []
             monitor) }
-        ensures criterion { IfOk result (λ monitor. monitor.criterion ≡ Opacity) }
+        ensures criterion { IfOk result (λ monitor. criterion_of monitor ≡ Opacity) }
     {
         Monitor::for_criterion(alloc, Criterion::Opacity, registers, start, bounds)
     }
@@ -74,7 +74,7 @@ impl Monitor {
             monitor) }
         ensures keeps { IfOk result (λ monitor. KeepsOnlyOpen
             (rules_for criterion registers start bounds) [] monitor) }
-        ensures criterion { IfOk result (λ monitor. monitor.criterion ≡ criterion) }
+        ensures criterion { IfOk result (λ monitor. criterion_of monitor ≡ criterion) }
     {
         let states = States::only(alloc, start)?;
         let mut witness = Witness::new(start);
@@ -100,15 +100,14 @@ impl Monitor {
     /// from then on each call succeeds. Where memory is refused, the event is not taken.
     #[inline(always)]
     pub fn feed(&mut self, event: Event) -> Result<Verdict, AllocError>
-        requires room { self.old.count < 2 ^ 40 }
+        requires room { fed_of self.old < 2 ^ 40 }
         ensures ok { IfOk result (λ verdict. (rules : Rules) (history : List Event)
             → Fits rules history self.old → Fits rules (history ++ event ∷ []) self.new) }
-        ensures verdict { IfOk result (λ verdict. verdict ≡ self.new.verdict) }
+        ensures verdict { IfOk result (λ verdict. verdict ≡ verdict_of self.new) }
         ensures err { OnErr result ((rules : Rules) (history : List Event)
             → Fits rules history self.old → Fits rules history self.new) }
-        ensures stays { (self.old.verdict ≡ so_far self.old.criterion → ⊥)
-            → result ≡ Ok self.old.verdict }
-        ensures criterion { self.new.criterion ≡ self.old.criterion }
+        ensures stays { (IsOpen self.old → ⊥) → result ≡ Ok (verdict_of self.old) }
+        ensures criterion { criterion_of self.new ≡ criterion_of self.old }
 
         // What is kept, whether the event was taken or not.
         ensures keeps { IfOk result (λ verdict. (rules : Rules) (history : List Event)
@@ -135,14 +134,14 @@ impl Monitor {
     /// Takes the next event, whatever it needs. What the verdict is then, the monitor knows.
     #[inline(never)]
     fn take(&mut self, event: Event) -> Result<(), AllocError>
-        requires room { self.old.count < 2 ^ 40 }
+        requires room { fed_of self.old < 2 ^ 40 }
         ensures ok { OnOk result ((rules : Rules) (history : List Event)
             → Fits rules history self.old → Fits rules (history ++ event ∷ []) self.new) }
         ensures err { OnErr result ((rules : Rules) (history : List Event)
             → Fits rules history self.old → Fits rules history self.new) }
-        ensures stays { (self.old.verdict ≡ so_far self.old.criterion → ⊥)
-            → IsOk result × (self.new.verdict ≡ self.old.verdict) }
-        ensures criterion { self.new.criterion ≡ self.old.criterion }
+        ensures stays { (IsOpen self.old → ⊥)
+            → IsOk result × (verdict_of self.new ≡ verdict_of self.old) }
+        ensures criterion { criterion_of self.new ≡ criterion_of self.old }
         ensures keeps { OnOk result ((rules : Rules) (history : List Event)
             → Fits rules history self.old → KeepsOnlyOpen rules (history ++ event ∷ []) self.new) }
         ensures keeps_err { OnErr result ((rules : Rules) (history : List Event)
@@ -171,7 +170,7 @@ impl Monitor {
 
     /// What the history is judged by.
     pub fn criterion(&self) -> Criterion
-        ensures shown { result ≡ self.now.criterion }
+        ensures shown { result ≡ criterion_of self.now }
         ensures fits { (rules : Rules) (history : List Event) → Fits rules history self.now
             → result ≡ rules.criterion }
     {
@@ -180,7 +179,7 @@ impl Monitor {
 
     /// How many events were taken.
     pub fn fed(&self) -> u64
-        ensures shown { result ≡ self.now.count }
+        ensures shown { result ≡ fed_of self.now }
         ensures fits { (rules : Rules) (history : List Event) → Fits rules history self.now
             → result ≡ length history }
     {
@@ -189,7 +188,7 @@ impl Monitor {
 
     /// The verdict on the events taken.
     pub fn verdict(&self) -> Verdict
-        ensures shown { result ≡ self.now.verdict }
+        ensures shown { result ≡ verdict_of self.now }
         ensures fits { (rules : Rules) (history : List Event) → Fits rules history self.now
             → IsVerdict rules history result }
     {
@@ -199,7 +198,7 @@ impl Monitor {
     /// Whether nothing is wrong with the events taken, so that what follows is judged too.
     #[inline(always)]
     pub fn is_open(&self) -> bool
-        ensures { IsTrue result ↔ (self.now.verdict ≡ so_far self.now.criterion) }
+        ensures { IsTrue result ↔ IsOpen self.now }
     {
         is_so_far(self.criterion, self.verdict)
     }
@@ -207,8 +206,7 @@ impl Monitor {
     /// Whether each transaction of the history has ended, where nothing is wrong with it.
     pub fn is_at_cut(&self) -> bool
         ensures { (rules : Rules) (history : List Event) → Fits rules history self.now
-            → self.now.verdict ≡ so_far self.now.criterion
-            → (IsTrue result ↔ IsTrue (is_cut history)) }
+            → IsOpen self.now → (IsTrue result ↔ IsTrue (is_cut history)) }
     {
         self.kept.tracker.live() == 0
     }
@@ -216,10 +214,9 @@ impl Monitor {
     /// The history's outcomes at its last cut, in rising order, at most 64. After a final verdict there are none.
     pub fn outcomes(&self) -> &States
         ensures last { (rules : Rules) (history : List Event) → Fits rules history self.now
-            → self.now.verdict ≡ so_far self.now.criterion
-            → AreLastOutcomes rules history (members result.now) }
+            → IsOpen self.now → AreLastOutcomes rules history (members result.now) }
         ensures none { (rules : Rules) (history : List Event) → Fits rules history self.now
-            → (self.now.verdict ≡ so_far self.now.criterion → ⊥) → members result.now ≡ [] }
+            → (IsOpen self.now → ⊥) → members result.now ≡ [] }
     {
         &self.kept.states
     }
