@@ -100,7 +100,7 @@ impl Txn {
     pub fn fits_answer(&self, state: &State, value: u64) -> bool
         ensures { IsTrue (reads_hold state.now self.now.ops.items)
             → result ≡ reads_hold state.now
-            (self.now.ops.items ++ answered_ops self.now.call (V value)) }
+            (self.now.ops.items ++ answered_ops (view self.now).call (V value)) }
     {
         match self.call {
             Some(Kind::R(register)) => self.effect.value_after(state, register) == value,

@@ -56,7 +56,7 @@ impl Window {
     ghost use Rattle.tmw_defs.specs.History.{transactions};
     ghost use Rattle.tmw_wellformed.specs.Notes.{Notes};
     ghost use Rattle.tmw_wellformed.specs.declared.note.Note.{Note};
-    ghost use Rattle.tmw_cuts.specs.Marking.{Marks};
+    ghost use Rattle.tmw_cuts.specs.Marking.{Marks, thread_of};
     ghost use Rattle.tmw_cuts.specs.Standing.{StandsFor, views, views_of, count_of};
 
     /// The window of no event.
@@ -178,7 +178,7 @@ impl Window {
 
     /// Notes what the next event of the thread will change, so that it can be taken back.
     pub fn mark(&self, thread: Ix) -> Mark
-        ensures thread { result.thread ≡ thread }
+        ensures thread { thread_of result ≡ thread }
         ensures marks { (events : List Event) → StandsFor self.now events
             → Marks result (views_of events) }
     {
@@ -193,7 +193,7 @@ impl Window {
 
     /// Takes back the last event, before which the mark was made.
     pub fn take_back(&mut self, mark: Mark)
-        ensures stands { (events : List Event) (event : Event) → event.thread ≡ mark.thread
+        ensures stands { (events : List Event) (event : Event) → event.thread ≡ thread_of mark
             → Marks mark (views_of events) → StandsFor self.old (events ++ event ∷ [])
             → StandsFor self.new events }
         ensures registers { self.new.registers ≡ self.old.registers }

@@ -1,7 +1,7 @@
 ghost use Rattle.std.specs.Prelude.{◌≡◌, ◌≢◌, ◌≤◌, length, vec_capacity, IfErr, OnOk};
 ghost use Rattle.tmw_lines.specs.ItemsGiven.{GivesAll};
 ghost use Rattle.tmw_lines.specs.ItemsRead.{HasBegunToRead, ReadsItems};
-ghost use Rattle.tmw_lines.specs.Lines.{IsOver, HasFailed};
+ghost use Rattle.tmw_lines.specs.Lines.{IsOver, HasFailed, items_given};
 ghost use Rattle.tmw_lines.specs.TextFault.{failures_after};
 ghost use Rattle.tmw_lines.specs.declared.text_fault.TextFault.TheVariants.{Memory};
 
@@ -20,7 +20,7 @@ pub fn give_items<F: LineFormat, S: Source, T: Taker<F::Item>>(
     taker: &mut T,
 ) -> Result<(), TextFault>
     requires begun { HasBegunToRead F.grammar lines.old }
-    requires counted { T.counts taker.old lines.old.count }
+    requires counted { T.counts taker.old (items_given lines.old) }
     ensures gives { GivesAll F.grammar S.from (S.from.ended source.new) T.takes T.lacks source.old
         source.new lines.old
         lines.new taker.old taker.new result }

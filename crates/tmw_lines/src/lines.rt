@@ -40,7 +40,7 @@ pub struct Lines<F> {
 
 impl<F: LineFormat> Lines<F> {
     ghost use Rattle.tmw_lines.specs.Given.{GivesItems, LacksLast};
-    ghost use Rattle.tmw_lines.specs.Lines.{IsNew, IsReading, IsOver, HasFailed, HasRead, unread, GivesItem, GivesEnd, FailsAtLine, GivesFault};
+    ghost use Rattle.tmw_lines.specs.Lines.{IsNew, IsReading, IsOver, HasFailed, HasRead, items_given, unread, GivesItem, GivesEnd, FailsAtLine, GivesFault};
 
     /// Nothing is read.
     pub const fn new() -> Lines<F>
@@ -87,10 +87,10 @@ impl<F: LineFormat> Lines<F> {
     /// answered `None` or a fault was answered, it gives nothing and changes nothing.
     #[inline(always)]
     pub fn give_held<T: Taker<F::Item>>(&mut self, taker: &mut T) -> Result<(), AllocError>
-        requires { T.counts taker.old self.old.count }
+        requires { T.counts taker.old (items_given self.old) }
         ensures gives { OnOk result
             (GivesItems F.grammar T.takes self.old self.new taker.old taker.new) }
-        ensures counted { OnOk result (T.counts taker.new self.new.count) }
+        ensures counted { OnOk result (T.counts taker.new (items_given self.new)) }
         ensures lacks { OnErr result
             (LacksLast F.grammar T.takes T.lacks self.old self.new taker.old taker.new) }
         ensures fewer { unread self.new ≤ unread self.old }

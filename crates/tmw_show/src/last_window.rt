@@ -1,9 +1,9 @@
 ghost use Rattle.std.specs.Prelude.{◌≡◌, ◌<◌, ◌^◌, List, [], ◌∷◌, ◌++◌, IfOk, IsOk, OnOk, OnErr, length};
 ghost use Rattle.tmw_events.specs.declared.event.Event.{Event};
-ghost use Rattle.tmw_defs.specs.Criteria.{so_far};
 ghost use Rattle.tmw_defs.specs.Verdict.{Rules, IsVerdict};
 ghost use Rattle.tmw_cuts.specs.Members.{members};
 ghost use Rattle.tmw_monitor.specs.Fitting.{rules_for};
+ghost use Rattle.tmw_monitor.specs.Monitor.{IsOpen, fed_of};
 
 use crate::kept_window::KeptWindow;
 use crate::showing::Showing;
@@ -22,7 +22,8 @@ pub struct LastWindow {
 
 impl LastWindow {
     ghost use Rattle.tmw_show.specs.Showing.{IsShowing};
-    ghost use Rattle.tmw_show.specs.Watching.{Watches};
+    ghost use Rattle.tmw_show.specs.Keeping.{events_of, from_of, states_of};
+    ghost use Rattle.tmw_show.specs.Watching.{Watches, monitor_of, window_of};
 
     /// Before the first event of a run whose registers begin with these values. Those that the run does not have are to be 0.
     pub fn new(
@@ -42,7 +43,7 @@ impl LastWindow {
 
     /// Takes the next event. Where memory is refused, the event is not taken.
     pub fn feed(&mut self, event: Event) -> Result<(), AllocError>
-        requires room { self.old.monitor.count < 2 ^ 40 }
+        requires room { fed_of (monitor_of self.old) < 2 ^ 40 }
         ensures ok { OnOk result
             ((rules : Rules) (history : List Event) → Watches rules history self.old
             → Watches rules (history ++ event ∷ []) self.new) }
@@ -51,8 +52,7 @@ impl LastWindow {
             → Watches rules history self.new) }
 
         // After a verdict that something is wrong each call succeeds.
-        ensures stays { (self.old.monitor.verdict ≡ so_far self.old.monitor.criterion → ⊥)
-            → IsOk result }
+        ensures stays { (IsOpen (monitor_of self.old) → ⊥) → IsOk result }
     {
         let next = self.kept.make_room(&self.monitor)?;
         self.monitor.feed(event)?;
@@ -62,28 +62,28 @@ impl LastWindow {
 
     /// How many events stand before the window that is shown.
     pub fn from(&self) -> u64
-        ensures { result ≡ self.now.kept.from }
+        ensures { result ≡ from_of (window_of self.now) }
     {
         self.kept.from()
     }
 
     /// The states from which that window begins, in rising order, 1 to 64.
     pub fn states(&self) -> &States
-        ensures { members result.now ≡ members self.now.kept.states }
+        ensures { members result.now ≡ members (states_of (window_of self.now)) }
     {
         self.kept.states()
     }
 
     /// The events of that window: up to the one at which something is wrong, or else all.
     pub fn events(&self) -> &[Event]
-        ensures { result.now ≡ self.now.kept.events.items }
+        ensures { result.now ≡ events_of (window_of self.now) }
     {
         self.kept.events()
     }
 
     /// How many events were taken.
     pub fn fed(&self) -> u64
-        ensures shown { result ≡ self.now.monitor.count }
+        ensures shown { result ≡ fed_of (monitor_of self.now) }
         ensures fits { (rules : Rules) (history : List Event) → Watches rules history self.now
             → result ≡ length history }
     {

@@ -18,11 +18,13 @@ pub struct StdSink<W> {
 }
 
 impl<W: Write> StdSink<W> {
+    ghost use Rattle.tmw_streams.specs.Std.{failed_writes, taken_count, writer_of};
+
     /// A sink that writes to the writer.
     pub fn new(writer: W) -> StdSink<W>
-        ensures writer { result.writer ≡ writer }
-        ensures taken { result.taken ≡ 0 }
-        ensures failures { result.failures ≡ 0 }
+        ensures writer { writer_of result ≡ writer }
+        ensures taken { taken_count result ≡ 0 }
+        ensures failures { failed_writes result ≡ 0 }
     {
         StdSink {
             writer,
@@ -33,10 +35,12 @@ impl<W: Write> StdSink<W> {
 }
 
 impl<W: Write> Sink for StdSink<W> {
+    ghost use Rattle.tmw_streams.specs.Std.{failed_writes, taken_count, writer_of};
+
     ghost to = { record {
-      took = λ sink bytes. sink.taken ≡ min (length bytes) (2 ^ 64 - 1);
-      holds = λ sink. W.contents sink.writer;
-      failures = λ sink. sink.failures;
+      took = λ sink bytes. taken_count sink ≡ min (length bytes) (2 ^ 64 - 1);
+      holds = λ sink. W.contents (writer_of sink);
+      failures = failed_writes;
     } };
 
     fn put(&mut self, bytes: &[u8]) -> Result<usize, IoFault> {
@@ -49,7 +53,7 @@ impl<W: Write> Sink for StdSink<W> {
         Ok(count)
     }
 
-    ghost took_some = { λ sink. (replicate sink.taken 0, Prim.search (rules, common_steps)) };
+    ghost took_some = { λ sink. (replicate (taken_count sink) 0, Prim.search (rules, common_steps)) };
 }
 
 /// One write, tried again where a signal interrupts it. A write that takes none of some bytes has failed.
