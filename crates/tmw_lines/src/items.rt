@@ -11,9 +11,9 @@ use crate::taker::Taker;
 use crate::text_fault::TextFault;
 use tmw_streams::Source;
 
-/// Reads the lines that are left, up to the source's end or the first fault, and gives the taker each item as its line is read.
-/// The reader then answers that end or fault again. `Memory` answers want of memory for the item of the line that was read last:
-/// nothing was read after that line.
+/// Reads the remaining lines, up to the source's end or the first fault, and gives the taker each item as its line is
+/// read. The reader then returns that end or fault again. `Memory` follows a failed allocation for the item of the
+/// line read last: nothing was read after that line.
 pub fn give_items<F: LineFormat, S: Source, T: Taker<F::Item>>(
     lines: &mut Lines<F>,
     source: &mut S,
@@ -46,10 +46,10 @@ pub fn give_items<F: LineFormat, S: Source, T: Taker<F::Item>>(
     }
 }
 
-/// Reads the lines that are left, up to the source's end or the first fault, and holds their items behind those that are there.
-/// The reader then answers that end or fault again. `Memory` answers want of memory: the item of the line that was read last is
-/// not held, and nothing was read after that line. It comes only where the items fill the room that there was at first; only
-/// tests show that a growth was refused.
+/// Reads the remaining lines, up to the source's end or the first fault, and appends their items to `items`. The
+/// reader then returns that end or fault again. `Memory` follows a failed allocation: the item of the line read last
+/// is not held, and nothing was read after that line. It comes only if the items fill the room that there was at
+/// first; only tests show that an allocation failed.
 pub fn read_items<F: LineFormat, S: Source>(
     lines: &mut Lines<F>,
     source: &mut S,

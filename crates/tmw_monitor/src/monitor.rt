@@ -18,9 +18,9 @@ use tmw_events::{Event, Registers};
 use tmw_wellformed::Tracker;
 use tmw_witness::Witness;
 
-/// Judges a history as its events come, by the definition of its criterion at each of its prefixes: opacity (Guerraoui and Kapalka
-/// 2008, section 5) or strict serializability (Papadimitriou 1979). It keeps no event: only the outcomes at the last cut and the
-/// transactions since, and neither after a final verdict.
+/// A judge of a history as its events come, by the definition of its criterion at each of its prefixes: opacity
+/// (Guerraoui and Kapalka 2008, section 5) or strict serializability (Papadimitriou 1979). It keeps no event: only
+/// the outcomes at the last cut and the transactions since, and neither after a final verdict.
 #[derive(Debug, Drop)]
 pub struct Monitor {
     alloc: Global,
@@ -36,7 +36,7 @@ impl Monitor {
     ghost use Rattle.tmw_monitor.specs.Holding.{AreLastOutcomes, KeepsOnlyOpen};
     ghost use Rattle.tmw_monitor.specs.Monitor.{IsOpen, criterion_of, fed_of, verdict_of};
 
-    /// A monitor that judges by opacity a run whose registers all begin at 0, before its first event.
+    /// Makes a monitor that judges by opacity a run whose registers all begin at 0, before its first event.
     pub fn new(alloc: Global, registers: Registers, bounds: Bounds) -> Result<Monitor, AllocError>
         ensures fits { IfOk result (λ monitor. Fits (rules_of registers zeros bounds) [] monitor) }
         ensures keeps { IfOk result (λ monitor. KeepsOnlyOpen (rules_of registers zeros bounds) []
@@ -46,7 +46,8 @@ impl Monitor {
         Monitor::new_from(alloc, registers, [0; 8], bounds)
     }
 
-    /// A monitor that judges by opacity a run whose registers begin with these values. Those that the run does not have are to be 0.
+    /// Makes a monitor that judges by opacity a run whose registers begin with these values, before its first event.
+    /// Those that the run does not have are to be 0.
     pub fn new_from(
         alloc: Global,
         registers: Registers,
@@ -61,8 +62,8 @@ impl Monitor {
         Monitor::for_criterion(alloc, Criterion::Opacity, registers, start, bounds)
     }
 
-    /// A monitor that judges by this criterion a run whose registers begin with these values. Those that the run does not have are
-    /// to be 0.
+    /// Makes a monitor that judges by this criterion a run whose registers begin with these values, before its first
+    /// event. Those that the run does not have are to be 0.
     pub fn for_criterion(
         alloc: Global,
         criterion: Criterion,
@@ -96,8 +97,8 @@ impl Monitor {
         })
     }
 
-    /// Takes the next event, and answers the verdict on all events so far. A verdict that something is wrong stays for good, and
-    /// from then on each call succeeds. Where memory is refused, the event is not taken.
+    /// Takes the next event and returns the verdict on all events so far. A verdict that something is wrong is final,
+    /// and from then on each call succeeds. After a failed allocation the event is not taken: feed it again.
     #[inline(always)]
     pub fn feed(&mut self, event: Event) -> Result<Verdict, AllocError>
         requires room { fed_of self.old < 2 ^ 40 }
@@ -131,7 +132,7 @@ impl Monitor {
         Ok(self.verdict)
     }
 
-    /// Takes the next event, whatever it needs. What the verdict is then, the monitor knows.
+    /// Takes the next event, whatever it needs. The verdict is then in the monitor.
     #[inline(never)]
     fn take(&mut self, event: Event) -> Result<(), AllocError>
         requires room { fed_of self.old < 2 ^ 40 }
@@ -148,6 +149,7 @@ impl Monitor {
             → Fits rules history self.old → KeepsOnlyOpen rules history self.new) }
     {
         let at = self.count + 1;
+        // Each prefix is judged, so a verdict that something is wrong is final. Later events are only counted.
         if !is_so_far(self.criterion, self.verdict) {
             self.count = at;
             return Ok(());
@@ -162,13 +164,14 @@ impl Monitor {
         )?;
         self.count = at;
         if let Some(verdict) = wrong {
+            // After a final verdict no event needs what was kept, so its memory is freed.
             self.kept.forget(self.alloc);
             self.verdict = verdict;
         }
         Ok(())
     }
 
-    /// What the history is judged by.
+    /// Returns what the history is judged by.
     pub fn criterion(&self) -> Criterion
         ensures shown { result ≡ criterion_of self.now }
         ensures fits { (rules : Rules) (history : List Event) → Fits rules history self.now
@@ -177,7 +180,7 @@ impl Monitor {
         self.criterion
     }
 
-    /// How many events were taken.
+    /// Returns how many events were taken.
     pub fn fed(&self) -> u64
         ensures shown { result ≡ fed_of self.now }
         ensures fits { (rules : Rules) (history : List Event) → Fits rules history self.now
@@ -186,7 +189,7 @@ impl Monitor {
         self.count
     }
 
-    /// The verdict on the events taken.
+    /// Returns the verdict on the events taken.
     pub fn verdict(&self) -> Verdict
         ensures shown { result ≡ verdict_of self.now }
         ensures fits { (rules : Rules) (history : List Event) → Fits rules history self.now
@@ -195,7 +198,7 @@ impl Monitor {
         self.verdict
     }
 
-    /// Whether nothing is wrong with the events taken, so that what follows is judged too.
+    /// Tells whether nothing is wrong with the events taken, so that what follows is judged too.
     #[inline(always)]
     pub fn is_open(&self) -> bool
         ensures { IsTrue result ↔ IsOpen self.now }
@@ -203,7 +206,8 @@ impl Monitor {
         is_so_far(self.criterion, self.verdict)
     }
 
-    /// Whether each transaction of the history has ended, where nothing is wrong with it.
+    /// Tells whether each transaction of the history has ended. The result counts only if nothing is wrong with the
+    /// history.
     pub fn is_at_cut(&self) -> bool
         ensures { (rules : Rules) (history : List Event) → Fits rules history self.now
             → IsOpen self.now → (IsTrue result ↔ IsTrue (is_cut history)) }
@@ -211,7 +215,8 @@ impl Monitor {
         self.kept.tracker.live() == 0
     }
 
-    /// The history's outcomes at its last cut, in rising order, at most 64. After a final verdict there are none.
+    /// Returns the history's outcomes at its last cut, in rising order, at most 64. After a final verdict there are
+    /// none.
     pub fn outcomes(&self) -> &States
         ensures last { (rules : Rules) (history : List Event) → Fits rules history self.now
             → IsOpen self.now → AreLastOutcomes rules history (members result.now) }

@@ -88,7 +88,8 @@ fn goes_on(
     }
 }
 
-/// Whether these transactions have a serial order, with a completion, that keeps the real-time order and is legal from the state.
+/// Tells whether these transactions have a serial order, with a completion, that keeps the real-time order and is
+/// legal from the state.
 #[cycle(orders)]
 pub fn has_order(
     alloc: Global,
@@ -105,7 +106,8 @@ pub fn has_order(
     Ok(waiting.is_empty())
 }
 
-/// Whether the transactions of a list that owns them have a serial order, with a completion, as `has_order` asks.
+/// Tells whether the transactions of a list that owns them have a serial order, with a completion, as `has_order`
+/// asks.
 pub fn is_explained(
     alloc: Global,
     list: &[Transaction],

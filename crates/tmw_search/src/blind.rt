@@ -25,8 +25,8 @@ fn is_blind(criterion: Criterion, item: &Txn) -> bool
     }
 }
 
-/// Whether all of them have ended and do nothing but write, and each serial order of the criterion has all of them: each is then
-/// legal.
+/// Tells whether all of them have ended and do nothing but write, and each serial order of the criterion has all of
+/// them. Each order is then legal.
 pub fn are_blind(criterion: Criterion, items: &[Txn]) -> bool
     ensures { result ≡ list_all (λ item. shows_blind criterion (view item)) items.now }
 {
@@ -69,7 +69,7 @@ fn agree_outside(written: u8, one: &State, other: &State) -> bool
     true
 }
 
-/// The states in which the transactions can end that began in one of these, where all are blind.
+/// Finds the states in which the transactions can end from one of these, where all are blind.
 pub fn find_blind_ends(
     alloc: Global,
     items: &[Txn],

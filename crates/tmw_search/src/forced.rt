@@ -113,8 +113,8 @@ fn are_settled(items: &[Txn], registers: u8) -> bool
     true
 }
 
-/// Whether each register that two committed transactions write is not written blindly, or is settled: all their orders then end in one
-/// state.
+/// Tells whether each register that two committed transactions write is not written blindly, or is settled. All their
+/// orders then end in one state.
 pub fn is_forced(items: &[Txn]) -> bool
     requires { length items.now ≤ 8 }
     ensures { IsTrue result → AreForced (map view items.now) }
@@ -126,8 +126,8 @@ pub fn is_forced(items: &[Txn]) -> bool
     shared == 0 || are_settled(items, shared)
 }
 
-/// The states in which the transactions can end that began in one of these, where those from one state all end in one: the
-/// ends that a search finds, where it finds one from each.
+/// Finds the states in which the transactions can end from one of these, where all orders from one state end in one.
+/// `None` if the search finds no order from one of them.
 pub fn find_ends(
     criterion: Criterion,
     alloc: Global,

@@ -7,8 +7,8 @@ use crate::io_fault::IoFault;
 use crate::sink::Sink;
 use std::io::{ErrorKind, Write};
 
-/// A sink over a std writer, which holds what the sink took. A failure is what it answers as one: no contract knows which
-/// of the writer's calls failed. It doesn't flush, which no clause says either.
+/// A sink over a std writer. A failure is what the sink returns as one: no contract knows which of the writer's calls
+/// failed. The sink doesn't flush; no clause says so either.
 #[derive(Drop)]
 pub struct StdSink<W> {
     writer: W,
@@ -20,7 +20,7 @@ pub struct StdSink<W> {
 impl<W: Write> StdSink<W> {
     ghost use Rattle.tmw_streams.specs.Std.{failed_writes, taken_count, writer_of};
 
-    /// A sink that writes to the writer.
+    /// Makes a sink that writes to the writer.
     pub fn new(writer: W) -> StdSink<W>
         ensures writer { writer_of result ≡ writer }
         ensures taken { taken_count result ≡ 0 }
@@ -56,7 +56,7 @@ impl<W: Write> Sink for StdSink<W> {
     ghost took_some = { λ sink. (replicate (taken_count sink) 0, Prim.search (rules, common_steps)) };
 }
 
-/// One write, tried again where a signal interrupts it. A write that takes none of some bytes has failed.
+/// Writes once, and again after a signal has interrupted it. A write that takes none of some bytes has failed.
 fn write_again<W: Write>(writer: &mut W, bytes: &[u8]) -> Option<usize>
     ensures within { IfSome result (λ count. count ≤ length bytes.now) }
     ensures some { IfSome result (λ count. 0 < length bytes.now → 0 < count) }

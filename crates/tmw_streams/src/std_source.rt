@@ -13,9 +13,9 @@ use std::io::{ErrorKind, Read};
 /// The most bytes that a source over a std reader tells.
 const MOST_TOLD: u64 = 1 << 60;
 
-/// A source over a std reader. It tells what the reader gives, remembers the reader's end and asks no more after it.
-/// Once it has told 2^60 bytes each read into a buffer that isn't empty fails, and it has no end. A failure is what it answers as one: no contract knows
-/// which of the reader's calls failed.
+/// A source over a std reader. It returns what the reader gives, remembers the reader's end and reads no more after
+/// it. After 2^60 bytes each read into a buffer that isn't empty fails, and the source has no end. A failure is what
+/// the source returns as one: no contract knows which of the reader's calls failed.
 #[derive(Drop)]
 pub struct StdSource<R: Read> {
     reader: R,
@@ -30,7 +30,7 @@ pub struct StdSource<R: Read> {
 impl<R: Read> StdSource<R> {
     ghost use Rattle.tmw_streams.specs.Std.{failed_reads, is_over, reader_of, told_count};
 
-    /// A source of all that the reader still has.
+    /// Makes a source of all that the reader still has.
     pub fn new(reader: R) -> StdSource<R>
         ensures reader { reader_of result ≡ reader }
         ensures told { told_count result ≡ 0 }
@@ -88,7 +88,7 @@ impl<R: Read> Source for StdSource<R> {
     ghost none_left = { λ source over. source.at_end over };
 }
 
-/// One read, tried again where a signal interrupts it.
+/// Reads once, and again after a signal has interrupted it.
 fn read_again<R: Read>(reader: &mut R, buffer: &mut [u8]) -> Option<usize>
     ensures within { IfSome result (λ count. count ≤ length buffer.old) }
     ensures gives { IfSome result (λ count.
