@@ -24,7 +24,7 @@ pub struct Window {
     completed: u8,
 }
 
-/// Whether each of them has committed or aborted.
+/// Tells whether each of these transactions has committed or aborted.
 fn are_over(txns: &[Txn]) -> bool
     ensures { result ≡ list_all (λ txn. is_over txn.status) txns.now }
 {

@@ -14,7 +14,7 @@ use std::alloc::{AllocError, Global};
 use tmw_cuts::{State, States, Txn};
 use tmw_defs::{Criterion, Status};
 
-/// Whether it has ended and does nothing but write, and each serial order of the criterion has it.
+/// Tells whether the transaction has ended and does nothing but write, and each serial order of the criterion has it.
 fn is_blind(criterion: Criterion, item: &Txn) -> bool
     ensures { result ≡ shows_blind criterion (view item.now) }
 {
@@ -45,7 +45,7 @@ fn written_by_any(lasts: &[Last; 8]) -> u8
     written
 }
 
-/// How many registers there are up to the mask's last.
+/// Returns how many registers there are up to the mask's last.
 fn registers_upto(written: u8) -> usize
     ensures few { result ≤ 8 }
     ensures none { (r : ℕ) → result ≤ r → r < 8 → bit_at written r ≡ 0 }

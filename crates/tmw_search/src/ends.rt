@@ -44,7 +44,7 @@ pub fn layer(
     )
 }
 
-/// All of the window's transactions, as a mask, with each state in which they may end that began in one of the states.
+/// Pairs all of the window's transactions, as a mask, with each state in which they may end from one of the states.
 fn last_of(
     criterion: Criterion,
     alloc: Global,

@@ -80,7 +80,7 @@ impl<'a> MemorySource<'a> {
         self.rest().len().min(room).min(self.most.max(1))
     }
 
-    /// What it still has to tell.
+    /// Returns the bytes that the source has not read yet.
     fn rest(&self) -> &'a [u8]
         ensures { result.now ≡ drop self.now.at (source_bytes self.now) }
     {
