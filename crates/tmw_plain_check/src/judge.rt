@@ -35,8 +35,9 @@ pub fn judge_whole_from(
 
 /// Judges a history whose registers begin with these values, by search over each of its prefixes, shortest first. The
 /// result is of the shortest prefix that is ill-formed, has more than eight transactions, or breaks the criterion:
-/// the first of these that it is. By opacity it breaks it if it is not final-state opaque (Guerraoui and Kapalka
-/// 2008, section 5), else if it is not final-state strict. `Memory` comes only after a failed allocation.
+/// the first of these that it is. A prefix breaks opacity if it is not final-state opaque (Guerraoui and Kapalka
+/// 2008, section 5), and strict serializability if it is not final-state strict. `Memory` comes only after a failed
+/// allocation.
 pub fn judge_whole_for(
     criterion: Criterion,
     alloc: Global,
