@@ -36,22 +36,22 @@ pub const ASKS: Call = (Kind::T, None);
 
 pub const COMMITS: Call = (Kind::T, Some(Kind::C));
 
-/// A read that was answered this value.
+/// Makes a read that was answered this value.
 pub const fn read(register: Ix, value: u64) -> Call {
     (Kind::R(register), Some(Kind::V(value)))
 }
 
-/// A write of this value.
+/// Makes a write of this value.
 pub const fn write(register: Ix, value: u64) -> Call {
     (Kind::W(register, value), Some(Kind::K))
 }
 
-/// The state with these values in the first two registers and 0 in the others.
+/// Makes the state with these values in the first two registers and 0 in the others.
 pub const fn holding(first: u64, second: u64) -> State {
     [first, second, 0, 0, 0, 0, 0, 0]
 }
 
-/// The window of these events, where they are a well-formed history of at most eight transactions.
+/// Makes the window of these events, if they are a well-formed history of at most eight transactions.
 pub fn window_of(
     alloc: Global,
     registers: Registers,
@@ -100,7 +100,7 @@ fn push(events: &mut Vec<Event>, thread: Ix, call: Call) -> Result<(), AllocErro
     Ok(())
 }
 
-/// The window of these calls, one after another.
+/// Makes the window of these calls, one after another.
 pub fn window_of_calls(
     alloc: Global,
     registers: Registers,
@@ -113,7 +113,7 @@ pub fn window_of_calls(
     Ok(window_of(alloc, registers, &events)?.ok_or("a history that is not well-formed")?)
 }
 
-/// The members of what was found, where they are few.
+/// Returns the members of what was found, if they are few.
 pub fn few(found: &Option<EndStates>) -> Option<&[State]> {
     match found {
         Some(EndStates::Few(states)) => Some(states.states()),

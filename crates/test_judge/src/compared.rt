@@ -28,7 +28,7 @@ fn draw_event(seed: &mut Seed, threads: u64, ones: u64) -> Event {
     Event { thread, kind }
 }
 
-/// A history of `length` events, which is well-formed but for its last event where that is asked for.
+/// Draws a history of `length` events, which is well-formed but for its last event if that is requested.
 pub(crate) fn draw_events(
     alloc: Global,
     seed: &mut Seed,
@@ -51,7 +51,7 @@ pub(crate) fn draw_events(
     Ok(events)
 }
 
-/// What the plain check answers, as a verdict, where it decides.
+/// Returns what the plain check finds, as a verdict, if it decides.
 pub(crate) fn plain(whole: Result<Whole, WholeFault>) -> Option<Verdict> {
     match whole {
         Ok(Whole::Opaque) => Some(Verdict::OpaqueSoFar),
@@ -73,7 +73,7 @@ pub(crate) struct Met {
 }
 
 impl Met {
-    /// Before the first.
+    /// Makes the counts before the first answer.
     pub(crate) const fn none() -> Met {
         Met {
             right: 0,
@@ -83,7 +83,7 @@ impl Met {
         }
     }
 
-    /// With one more.
+    /// Counts one more answer.
     pub(crate) fn with(self, answer: Option<Verdict>) -> Met {
         match answer {
             None => Met {

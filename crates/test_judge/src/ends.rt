@@ -19,7 +19,7 @@ fn states_below(alloc: Global, count: u64) -> Result<States, AllocError> {
     Ok(states)
 }
 
-/// The ends, asked for at most so many.
+/// Finds the ends, at most so many.
 fn ends_of(
     alloc: Global,
     states: &States,

@@ -1,4 +1,4 @@
-//! `judge` where a read or a write fails, at each byte of a text and of an answer, by one criterion and by both.
+//! `judge` after a failed read or write, at each byte of a text and of a report, by one criterion and by both.
 use std::process::Abort;
 use tmw_defs::Asked;
 use tmw_judge::run_judge;

@@ -1,4 +1,4 @@
-//! That the readers of numbers and of kinds succeed, and that what is no text of either is refused.
+//! That the readers of numbers and of kinds succeed, and refuse what is no text of either.
 use tmw_events::{Ix, Kind, kind_of, number_of};
 
 #[test]

@@ -1,5 +1,5 @@
-//! Tests of the judge and of the crates that it stands on, among them seeded histories that the monitor, the plain check and `judge`
-//! answer alike: no part of the product.
+//! Tests of the judge and of the crates below it, among them seeded histories on which the monitor, the plain check and
+//! `judge` agree: no part of the product.
 #![tactic(auto)]
 
 #[cfg(test)]

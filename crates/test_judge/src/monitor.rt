@@ -1,4 +1,4 @@
-//! What the contracts leave open: that there is memory for the calls, and that their answers are those which users expect.
+//! What the contracts leave open: that there is memory for the calls, and that they return what users expect.
 use std::alloc::{AllocError, Global};
 use std::test::Fail;
 use test_support::{FIRST, dirty_read, one, other};
@@ -12,7 +12,7 @@ pub(crate) const WIDEST: Bounds = Bounds {
     states: 64,
 };
 
-/// The first writes 1 and the second 2, both at once.
+/// Makes a history in which the first writes 1 and the second 2, both at once.
 pub(crate) const fn writers() -> [Event; 8] {
     [
         one(Kind::W(FIRST, 1)),
@@ -26,7 +26,7 @@ pub(crate) const fn writers() -> [Event; 8] {
     ]
 }
 
-/// The verdicts of a monitor for the criterion after each of the events.
+/// Returns the verdicts of a monitor for the criterion after each of the events.
 pub(crate) fn verdicts(
     alloc: Global,
     criterion: Criterion,

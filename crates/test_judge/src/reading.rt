@@ -57,7 +57,7 @@ fn a_failure_at_each_call_is_told(rt: HostRuntime) -> Result<(), Fail> {
     Ok(())
 }
 
-/// Says something only where a growth is refused: no byte is lost then.
+/// Says something only if a growth is refused: no byte is lost then.
 #[test]
 fn a_refused_growth_loses_no_byte(rt: HostRuntime) -> Result<(), Fail> {
     const TEXT: &[u8] = &[7; 10_000];

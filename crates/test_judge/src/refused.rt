@@ -1,4 +1,4 @@
-//! The command `judge` where a growth of memory is refused.
+//! The command `judge` after a failed allocation.
 use tmw_defs::Asked;
 use tmw_judge::run_judge;
 use tmw_monitor::Bounds;
@@ -27,7 +27,7 @@ fn judge_into(rt: &impl AllocGlobal, room: &mut [u8]) -> u8 {
     run_judge(rt.alloc(), &mut source, &mut sink, bounds, Asked::Opacity)
 }
 
-/// Also where the growth of memory that `rt try --test --fail-alloc` chooses is refused.
+/// Passes also under `rt try --test --fail-alloc`, which refuses one growth of memory.
 #[test]
 fn a_refused_growth_is_answered_by_judge_with_memory_alone(rt: HostRuntime) {
     let mut room = [b'-'; 43];

@@ -69,7 +69,7 @@ fn draw_event(seed: &mut Seed, header: &Header, threads: u64) -> Event {
     Event { thread, kind }
 }
 
-/// A history of at most so many events, which is well-formed but for its last event where that is asked for.
+/// A history of at most so many events, which is well-formed but for its last event if that is requested.
 fn draw_events(
     alloc: Global,
     seed: &mut Seed,

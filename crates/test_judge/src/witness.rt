@@ -1,4 +1,4 @@
-//! What the contracts leave open: that an order stays known where one can be had, and is forgotten where none is found.
+//! What the contracts leave open: that an order stays known while one exists, and is forgotten if none is found.
 use std::alloc::{AllocError, Global};
 use std::test::Fail;
 use test_support::{FIRST, SECOND, dirty_read, one, other};

@@ -6,7 +6,7 @@ pub const SECOND: Ix = Ix { number: 1 };
 
 pub const THIRD: Ix = Ix { number: 2 };
 
-/// An event of the first thread.
+/// Makes an event of the first thread.
 pub const fn one(kind: Kind) -> Event {
     Event {
         thread: FIRST,
@@ -14,7 +14,7 @@ pub const fn one(kind: Kind) -> Event {
     }
 }
 
-/// An event of the second thread.
+/// Makes an event of the second thread.
 pub const fn other(kind: Kind) -> Event {
     Event {
         thread: SECOND,
@@ -22,7 +22,7 @@ pub const fn other(kind: Kind) -> Event {
     }
 }
 
-/// The second reads what the first has written before it asks to commit.
+/// Makes a history in which the second thread reads what the first has written before that asks to commit.
 pub const fn dirty_read() -> [Event; 8] {
     [
         one(Kind::W(FIRST, 1)),

@@ -7,13 +7,14 @@ pub struct Seed {
 }
 
 impl Seed {
+    /// Begins the sequence.
     pub const fn new() -> Seed {
         Seed {
             number: 88172645463325252,
         }
     }
 
-    /// The next number.
+    /// Returns the next number.
     pub fn draw(&mut self) -> u64 {
         let mut number = self.number;
         number ^= number << 13;
@@ -23,7 +24,7 @@ impl Seed {
         number >> 8
     }
 
-    /// The name of one of so many threads or registers, at most four.
+    /// Draws the name of one of so many threads or registers, at most four.
     pub fn draw_name(&mut self, count: u64) -> Ix {
         match self.draw() % count.max(1) {
             0 => Ix { number: 0 },

@@ -10,6 +10,14 @@ abbrev pub IsOpen : Ix → List View → Option (ℕ × Txn) → Type 0
 IsOpen thread vs None = position (is_open_for thread.number) vs ≡ None
 IsOpen thread vs (Some held) = (position (is_open_for thread.number) vs ≡ Some held.0) × (slice_get vs held.0 ≡ Some (view held.1))
 
+-- The thread whose next event it was made for.
+abbrev pub thread_of : Mark → Ix
+thread_of mark = mark.thread
+
+-- The thread's open transaction and its place, if it had one.
+abbrev pub held_by : Mark → Option (ℕ × Txn)
+held_by mark = mark.held
+
 -- The mark tells which transaction is open for its thread, as it is.
 abbrev pub Marks : Mark → List View → Type 0
-Marks mark vs = IsOpen mark.thread vs mark.held
+Marks mark vs = IsOpen (thread_of mark) vs (held_by mark)

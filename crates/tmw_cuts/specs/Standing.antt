@@ -41,8 +41,16 @@ shown place = if nat_lt place 8 then Some place else None
 abbrev pub open_at : List ℕ → ℕ → Option ℕ
 open_at places thread = shown (slice_index places thread)
 
+-- What it notes of each thread: the place of its open transaction.
+abbrev pub places_of : Window → List ℕ
+places_of window = window.places
+
+-- What it notes of its transactions: those that have completed, as a mask.
+abbrev pub completed_of : Window → ℕ
+completed_of window = window.completed
+
 pub record StandsFor (window : Window) (events : List Event) : Type 0 where
   pub shows : views window ≡ views_of events
   -- what it notes of each thread, and of those that have completed, is so
-  pub opens : (thread : ℕ) → thread < 8 → open_at window.places thread ≡ position (is_open_for thread) (views_of events)
-  pub masks : window.completed ≡ completed_mask (views_of events)
+  pub opens : (thread : ℕ) → thread < 8 → open_at (places_of window) thread ≡ position (is_open_for thread) (views_of events)
+  pub masks : completed_of window ≡ completed_mask (views_of events)

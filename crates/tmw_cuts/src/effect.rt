@@ -41,7 +41,7 @@ fn has_register(mask: u8, register: usize) -> bool
 impl Effect {
     ghost use Rattle.tmw_cuts.specs.Effects.{IsEffectOf, tells, leaves_none};
 
-    /// The effect of no operation.
+    /// Makes the effect of no operation.
     pub fn new() -> Effect
         ensures { IsEffectOf result [] }
     {
@@ -101,7 +101,7 @@ impl Effect {
         self.write(register, value.wrapping_add(added));
     }
 
-    /// Takes an operation more.
+    /// Adds an operation.
     #[inline(always)]
     pub fn add(&mut self, op: Op)
         ensures { (ops : List Op) → IsEffectOf self.old ops → IsEffectOf self.new (ops ++ op ∷ []) }
@@ -141,7 +141,7 @@ impl Effect {
         end
     }
 
-    /// Whether each of the operations was answered what the registers held then.
+    /// Tells whether each of the operations was answered what the registers held then.
     #[inline(always)]
     pub fn fits(&self, state: &State) -> bool
         ensures { (ops : List Op) → IsEffectOf self.now ops → result ≡ reads_hold state.now ops }
@@ -149,7 +149,8 @@ impl Effect {
         self.agrees && self.is_met(state)
     }
 
-    /// What the registers hold after the operations, if each of them was answered what the registers held then.
+    /// Returns what the registers hold after the operations, if each of them was answered what the registers held
+    /// then.
     #[inline(always)]
     pub fn after(&self, state: &State) -> Option<State>
         ensures { (ops : List Op) → IsEffectOf self.now ops → Replays state.now ops result }
@@ -161,7 +162,7 @@ impl Effect {
         }
     }
 
-    /// What the register holds after the operations.
+    /// Returns what the register holds after the operations.
     #[inline(always)]
     pub fn value_after(&self, state: &State, register: Ix) -> u64
         ensures { (ops : List Op) → IsEffectOf self.now ops
@@ -177,7 +178,7 @@ impl Effect {
         }
     }
 
-    /// Whether a register that is needed has the needed value in the one state and not in the other.
+    /// Tells whether a register that is needed has the needed value in the one state and not in the other.
     pub fn reads_one(&self, has: &State, has_not: &State) -> bool
         ensures { result ≡ tells self.now has.now has_not.now }
     {
@@ -188,35 +189,35 @@ impl Effect {
         })
     }
 
-    /// Whether no register is written or added to.
+    /// Tells whether no register is written or added to.
     pub fn only_reads(&self) -> bool
         ensures { result ≡ leaves_none self.now }
     {
         self.left == 0
     }
 
-    /// Whether each of the operations is a write.
+    /// Tells whether each of the operations is a write.
     pub fn only_writes(&self) -> bool
         ensures { (ops : List Op) → IsEffectOf self.now ops → result ≡ list_all is_write ops }
     {
         self.only_writes
     }
 
-    /// The registers that the operations write or add to, as a mask.
+    /// Returns the registers that the operations write or add to, as a mask.
     pub fn written(&self) -> u8
         ensures { (ops : List Op) → IsEffectOf self.now ops → result ≡ written_by 0 ops }
     {
         self.left
     }
 
-    /// The registers that the operations write before they read or add to them, as a mask.
+    /// Returns the registers that the operations write before they read or add to them, as a mask.
     pub fn blind(&self) -> u8
         ensures { (ops : List Op) → IsEffectOf self.now ops → result ≡ blind_by ops }
     {
         self.left & !self.needed
     }
 
-    /// What the operations leave in the register, where they write or add to it.
+    /// Returns what the operations leave in the register, if they write or add to it.
     pub fn left_in(&self, register: usize) -> Option<u64>
         requires { register < 8 }
         ensures { (ops : List Op) → IsEffectOf self.now ops → result ≡ left_by register None ops }

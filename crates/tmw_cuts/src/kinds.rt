@@ -4,7 +4,7 @@ ghost use Rattle.tmw_defs.specs.History.{is_over, operation, status_after};
 use tmw_defs::{Op, Status};
 use tmw_events::Kind;
 
-/// The operation that a call and its answer make, if they make one.
+/// Returns the operation that a call and its answer make, if they make one.
 pub fn operation(call: Kind, answer: Kind) -> Option<Op>
     ensures { MatchOption result
         (operation call answer ≡ []) (λ op. operation call answer ≡ op ∷ []) }
@@ -17,7 +17,7 @@ pub fn operation(call: Kind, answer: Kind) -> Option<Op>
     }
 }
 
-/// The status of a transaction whose last event is of this kind.
+/// Returns the status of a transaction whose last event is of this kind.
 pub fn status_after(last: Kind) -> Status
     ensures { result ≡ status_after (Some last) }
 {
@@ -29,7 +29,7 @@ pub fn status_after(last: Kind) -> Status
     }
 }
 
-/// Whether a transaction is over with an event of this kind.
+/// Tells whether a transaction is over with an event of this kind.
 #[inline(always)]
 pub fn ends(last: Kind) -> bool
     ensures { result ≡ is_over (status_after (Some last)) }

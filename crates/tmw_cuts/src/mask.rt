@@ -3,7 +3,7 @@ ghost use Rattle.tmw_cuts.specs.Views.{view, completed_mask};
 
 use crate::txn::Txn;
 
-/// The bits of those that have committed or aborted.
+/// Returns the transactions that have committed or aborted, as a mask.
 pub fn completed_mask(txns: &[Txn]) -> u8
     requires { length txns.now ≤ 8 }
     ensures { result ≡ completed_mask (map view txns.now) }

@@ -19,7 +19,7 @@ impl Model for Operations {
 }
 
 impl Operations {
-    /// No operation.
+    /// Makes the list of no operation.
     #[inline(always)]
     pub(crate) fn new() -> Operations
         ensures { result.items ≡ [] }
@@ -27,7 +27,7 @@ impl Operations {
         Operations {}
     }
 
-    /// These and one more, if one is given.
+    /// Returns these operations and one more, if one is given.
     #[inline(always)]
     pub(crate) fn then(&self, _op: &Option<Op>) -> Operations
         ensures { result.items ≡ self.now.items ++ option_to_list _op.now }

@@ -23,7 +23,7 @@ pub struct States {
 impl States {
     ghost use Rattle.tmw_cuts.specs.Members.{members, AddsMember};
 
-    /// The set of no state.
+    /// Makes the set of no state.
     pub fn empty(alloc: Global) -> States
         ensures { members result ≡ [] }
     {
@@ -32,14 +32,14 @@ impl States {
         }
     }
 
-    /// The set of the state in which each register holds 0.
+    /// Makes the set of the state in which each register holds 0.
     pub fn zeros(alloc: Global) -> Result<States, AllocError>
         ensures { IfOk result (λ states. members states ≡ zeros ∷ []) }
     {
         States::only(alloc, [0; 8])
     }
 
-    /// The set of this state.
+    /// Makes the set of this state.
     pub fn only(alloc: Global, state: State) -> Result<States, AllocError>
         ensures { IfOk result (λ states. members states ≡ state ∷ []) }
     {
@@ -48,21 +48,21 @@ impl States {
         Ok(States { items: one })
     }
 
-    /// How many states.
+    /// Returns how many states it has.
     pub fn len(&self) -> usize
         ensures { result ≡ length (members self.now) }
     {
         self.items.len()
     }
 
-    /// Whether it has no state.
+    /// Tells whether it has no state.
     pub fn is_empty(&self) -> bool
         ensures { IsTrue result ↔ (members self.now ≡ []) }
     {
         self.items.is_empty()
     }
 
-    /// The states, in rising order.
+    /// Returns the states, in rising order.
     pub fn states(&self) -> &[State]
         ensures members { result.now ≡ members self.now }
         ensures rising { IsStrictlySortedBy (slice_cmp nat_cmp) result.now }
@@ -70,14 +70,14 @@ impl States {
         self.items.as_slice()
     }
 
-    /// The state at this place in the rising order.
+    /// Returns the state at this place in the rising order, if there is one.
     pub fn get(&self, index: usize) -> Option<State>
         ensures { result ≡ slice_get (members self.now) index }
     {
         self.items.get(index).copied()
     }
 
-    /// Whether the state is one of the set.
+    /// Tells whether the state is one of the set.
     pub fn contains(&self, state: &State) -> bool
         ensures { IsTrue result ↔ Contains (members self.now) state.now }
     {
@@ -97,7 +97,7 @@ impl States {
         matches!(items[items.len() - 1].cmp(state), Ordering::Less)
     }
 
-    /// Adds the state, where the set does not have it. Where memory is refused the set stays as it was.
+    /// Adds the state, unless the set has it. A failed allocation changes nothing.
     pub fn insert(&mut self, state: State) -> Result<(), AllocError>
         ensures ok { OnOk result (AddsMember (members self.old) (members self.new) state) }
         ensures err { OnErr result (members self.new ≡ members self.old) }
@@ -113,7 +113,7 @@ impl States {
         Ok(())
     }
 
-    /// Puts this state in the place of the only one.
+    /// Replaces the only state by this one.
     pub fn put_only(&mut self, state: State)
         requires { length (members self.old) ≡ 1 }
         ensures { members self.new ≡ state ∷ [] }
@@ -121,7 +121,7 @@ impl States {
         self.items[0] = state;
     }
 
-    /// A set of the same states.
+    /// Makes a set of the same states.
     pub fn copy(&self) -> Result<States, AllocError>
         ensures { IfOk result (λ states. members states ≡ members self.now) }
     {

@@ -32,7 +32,7 @@ pub struct Txn {
 impl Txn {
     ghost use Rattle.tmw_cuts.specs.Views.{view, effect_of, new_view, next_view, awaits_commit_of, answered_ops};
 
-    /// A transaction that begins with this event, where those in the mask have completed.
+    /// Makes a transaction that begins with this event, where those in the mask have completed.
     #[inline(always)]
     pub(crate) fn new(event: Event, before: u8) -> Txn
         ensures { view result ≡ new_view event.thread.number event.kind before }
@@ -47,7 +47,7 @@ impl Txn {
         }
     }
 
-    /// Whether it has committed or aborted.
+    /// Tells whether it has committed or aborted.
     pub(crate) fn is_over(&self) -> bool
         ensures { result ≡ is_over self.now.status }
     {
@@ -71,14 +71,14 @@ impl Txn {
         self.status = status_after(kind);
     }
 
-    /// Whether it is the thread's, and commit-pending.
+    /// Tells whether it is the thread's, and commit-pending.
     pub(crate) fn awaits_commit(&self, thread: Ix) -> bool
         ensures { result ≡ awaits_commit_of thread.number (view self.now) }
     {
         self.thread == thread && self.status == Status::Pending
     }
 
-    /// Whether each of its operations was answered what the registers held then.
+    /// Tells whether each of its operations was answered what the registers held then.
     #[inline(always)]
     pub fn fits(&self, state: &State) -> bool
         ensures { result ≡ reads_hold state.now self.now.ops.items }
@@ -86,7 +86,8 @@ impl Txn {
         self.effect.fits(state)
     }
 
-    /// What the registers hold after its operations, if each of them was answered what the registers held then.
+    /// Returns what the registers hold after its operations, if each of them was answered what the registers held
+    /// then.
     #[inline(always)]
     pub fn after(&self, state: &State) -> Option<State>
         ensures { Replays state.now self.now.ops.items result }
@@ -94,13 +95,13 @@ impl Txn {
         self.effect.after(state)
     }
 
-    /// Whether each of its operations was answered what the registers held then, its pending call too, where that is answered this
-    /// value. Said where each of them was so far.
+    /// Tells whether each of its operations was answered what the registers held then, its pending call too if that
+    /// is answered this value. The result counts only if each was without that call.
     #[inline(always)]
     pub fn fits_answer(&self, state: &State, value: u64) -> bool
         ensures { IsTrue (reads_hold state.now self.now.ops.items)
             → result ≡ reads_hold state.now
-            (self.now.ops.items ++ answered_ops self.now.call (V value)) }
+            (self.now.ops.items ++ answered_ops (view self.now).call (V value)) }
     {
         match self.call {
             Some(Kind::R(register)) => self.effect.value_after(state, register) == value,
@@ -109,15 +110,15 @@ impl Txn {
         }
     }
 
-    /// Whether its operations need a value of a register that the register has in the one state and not in the other. Said of
-    /// operations that some state answers as they were answered; of others the answer is left open.
+    /// Tells whether its operations need a value of a register that the register has in the one state and not in the
+    /// other. The result counts only for operations that some state answers as they were answered.
     pub fn reads_one(&self, has: &State, has_not: &State) -> bool
         ensures { result ≡ tells (effect_of self.now) has.now has_not.now }
     {
         self.effect.reads_one(has, has_not)
     }
 
-    /// Whether its operations write nothing.
+    /// Tells whether its operations write nothing.
     #[inline(always)]
     pub fn only_reads(&self) -> bool
         ensures shown { result ≡ leaves_none (effect_of self.now) }
@@ -127,28 +128,28 @@ impl Txn {
         self.effect.only_reads()
     }
 
-    /// Whether each of its operations is a write.
+    /// Tells whether each of its operations is a write.
     pub fn only_writes(&self) -> bool
         ensures { result ≡ list_all is_write self.now.ops.items }
     {
         self.effect.only_writes()
     }
 
-    /// The registers that its operations write or add to, as a mask.
+    /// Returns the registers that its operations write or add to, as a mask.
     pub fn written(&self) -> u8
         ensures { result ≡ written_by 0 self.now.ops.items }
     {
         self.effect.written()
     }
 
-    /// The registers that its operations write before they read or add to them, as a mask.
+    /// Returns the registers that its operations write before they read or add to them, as a mask.
     pub fn blind(&self) -> u8
         ensures { result ≡ blind_by self.now.ops.items }
     {
         self.effect.blind()
     }
 
-    /// What its operations leave in the register, where they write or add to it.
+    /// Returns what its operations leave in the register, if they write or add to it.
     pub fn left_in(&self, register: usize) -> Option<u64>
         requires { register < 8 }
         ensures { result ≡ left_by register None self.now.ops.items }
@@ -156,7 +157,7 @@ impl Txn {
         self.effect.left_in(register)
     }
 
-    /// One that shows the same.
+    /// Makes a transaction that shows the same.
     pub(crate) fn copy(&self) -> Txn
         ensures { view result ≡ view self.now }
     {

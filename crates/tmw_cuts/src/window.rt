@@ -24,7 +24,7 @@ pub struct Window {
     completed: u8,
 }
 
-/// Whether each of them has committed or aborted.
+/// Tells whether each of these transactions has committed or aborted.
 fn are_over(txns: &[Txn]) -> bool
     ensures { result ≡ list_all (λ txn. is_over txn.status) txns.now }
 {
@@ -56,10 +56,10 @@ impl Window {
     ghost use Rattle.tmw_defs.specs.History.{transactions};
     ghost use Rattle.tmw_wellformed.specs.Notes.{Notes};
     ghost use Rattle.tmw_wellformed.specs.declared.note.Note.{Note};
-    ghost use Rattle.tmw_cuts.specs.Marking.{Marks};
+    ghost use Rattle.tmw_cuts.specs.Marking.{Marks, thread_of};
     ghost use Rattle.tmw_cuts.specs.Standing.{StandsFor, views, views_of, count_of};
 
-    /// The window of no event.
+    /// Makes the window of no event.
     pub fn open(registers: Registers) -> Window
         ensures stands { StandsFor result [] }
         ensures registers { result.registers ≡ registers }
@@ -72,7 +72,7 @@ impl Window {
         }
     }
 
-    /// How many transactions it has.
+    /// Returns how many transactions it has.
     pub fn count(&self) -> u8
         ensures shown { result ≡ count_of self.now }
         ensures stands { (events : List Event) → StandsFor self.now events
@@ -81,14 +81,14 @@ impl Window {
         self.txns.len() as u8
     }
 
-    /// Whether each transaction has committed or aborted.
+    /// Tells whether each transaction has committed or aborted.
     pub fn is_cut(&self) -> bool
         ensures { (events : List Event) → StandsFor self.now events → result ≡ is_cut events }
     {
         are_over(self.txns.as_slice())
     }
 
-    /// The transactions, in the order of their first events.
+    /// Returns the transactions, in the order of their first events.
     pub fn transactions(&self) -> &[Txn]
         ensures shown { map view result.now ≡ views self.now }
         ensures stands { (events : List Event) → StandsFor self.now events
@@ -98,7 +98,7 @@ impl Window {
         self.txns.as_slice()
     }
 
-    /// Takes the next event of a well-formed history, whose note tells whether it begins a transaction.
+    /// Takes the next event of a well-formed history. The note says whether it begins a transaction.
     #[inline(always)]
     pub fn push(&mut self, event: Event, note: Note)
         requires room { IsTrue note.begins → count_of self.old < 8 }
@@ -127,7 +127,8 @@ impl Window {
         self.note(event.thread, place, ends(event.kind));
     }
 
-    /// Takes the next event of a well-formed history, that of the transaction at this place, which is open for its thread.
+    /// Takes the next event of a well-formed history, that of the transaction at this place, which is open for its
+    /// thread.
     #[inline(always)]
     pub fn push_at(&mut self, place: usize, event: Event)
         requires within { place < count_of self.old }
@@ -161,7 +162,8 @@ impl Window {
         }
     }
 
-    /// The place of the transaction to which the thread's next event belongs, if it has one that has not ended.
+    /// Returns the place of the transaction to which the thread's next event belongs, if the thread has one that has
+    /// not ended.
     #[inline(always)]
     pub fn open_place(&self, thread: Ix) -> Option<usize>
         ensures within { IfSome result (λ place. place < count_of self.now) }
@@ -178,7 +180,7 @@ impl Window {
 
     /// Notes what the next event of the thread will change, so that it can be taken back.
     pub fn mark(&self, thread: Ix) -> Mark
-        ensures thread { result.thread ≡ thread }
+        ensures thread { thread_of result ≡ thread }
         ensures marks { (events : List Event) → StandsFor self.now events
             → Marks result (views_of events) }
     {
@@ -193,7 +195,7 @@ impl Window {
 
     /// Takes back the last event, before which the mark was made.
     pub fn take_back(&mut self, mark: Mark)
-        ensures stands { (events : List Event) (event : Event) → event.thread ≡ mark.thread
+        ensures stands { (events : List Event) (event : Event) → event.thread ≡ thread_of mark
             → Marks mark (views_of events) → StandsFor self.old (events ++ event ∷ [])
             → StandsFor self.new events }
         ensures registers { self.new.registers ≡ self.old.registers }
@@ -224,8 +226,8 @@ impl Window {
         self.completed = completed_mask(self.txns.as_slice());
     }
 
-    /// Whether the event can't break the criterion: it answers no commit request, and where the criterion is opacity it is no value
-    /// that answers a read or an add either.
+    /// Tells whether the event can't break the criterion. Such an event answers no commit request; by opacity it is
+    /// no value either, which answers a read or an add.
     #[inline(always)]
     pub fn is_quiet(&self, criterion: Criterion, event: Event) -> bool
         ensures { (events : List Event) → StandsFor self.now events
@@ -249,7 +251,7 @@ impl Window {
         self.completed = 0;
     }
 
-    /// A window that stands for the same events.
+    /// Makes a window that stands for the same events.
     pub fn copy(&self) -> Window
         ensures shown { views result ≡ views self.now }
         ensures stands { (events : List Event) → StandsFor self.now events

@@ -15,7 +15,7 @@ pub enum Criterion {
 impl Criterion {
     ghost use Rattle.tmw_defs.specs.Criteria.{so_far};
 
-    /// The verdict on a history in which nothing is wrong.
+    /// Returns the verdict on a history in which nothing is wrong.
     pub const fn so_far(self) -> Verdict
         ensures { result ≡ so_far self }
     {

@@ -1,10 +1,11 @@
 ghost use Rattle.tmw_defs.specs.Cuts.{CutLaw};
 
-/// Compositionality: opacity and strict serializability are judged window by window.
+/// Proves compositionality: opacity and strict serializability are judged window by window.
 ///
-/// At a cut, a length at which each transaction has ended, the past is summed up by its outcomes, the states in which it may
-/// have ended: a well-formed history is final-state opaque, or final-state strict, exactly when what follows the cut, as a history of its own, has an
-/// end state from those outcomes; and at a cut these end states are the history's outcomes.
+/// A cut is a length at which each transaction has ended. There the past is summed up by its outcomes, the states in
+/// which it may have ended. A well-formed history is final-state opaque, or final-state strict, exactly if what
+/// follows the cut has an end state from those outcomes. What follows is taken as a history of its own. At a cut
+/// these end states are the history's outcomes.
 pub fn law_1()
     ensures { CutLaw }
 {}

@@ -1,10 +1,10 @@
 ghost use Rattle.tmw_defs.specs.QuietLaw.{QuietLaw};
 
-/// Preservation: which events can't break opacity, and which can't break strict serializability.
+/// Proves preservation: which events can't break opacity, and which can't break strict serializability.
 ///
-/// A history that is final-state opaque stays so under every event but a value, which answers a read or an add, and the answer of
-/// a commit request, as long as it stays well-formed. One that is final-state strict stays so under every event but the answer of
-/// a commit request.
+/// A final-state opaque history stays so, as long as it stays well-formed, under every event but a value and the
+/// answer of a commit request. A value answers a read or an add. A final-state strict history stays so under every
+/// event but the answer of a commit request.
 pub fn law_2()
     ensures { QuietLaw }
 {}

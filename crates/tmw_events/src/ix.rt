@@ -9,7 +9,7 @@ pub struct Ix {
 }
 
 impl Ix {
-    /// The thread or register of this number, where it is below 8.
+    /// Returns the thread or register of this number, if it is below 8.
     pub const fn new(number: u8) -> Option<Ix>
         ensures range { IsSome result ↔ (number < 8) }
         ensures value { IfSome result (λ ix. ix.number ≡ number) }
@@ -21,7 +21,7 @@ impl Ix {
         }
     }
 
-    /// The number, below 8.
+    /// Returns the number, below 8.
     pub const fn get(&self) -> u8
         ensures value { result ≡ self.now.number }
         ensures below { result < 8 }

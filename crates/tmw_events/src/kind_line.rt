@@ -7,8 +7,8 @@ use crate::event::Kind;
 use crate::ix::Ix;
 use crate::number::number_of;
 
-/// The kind that these bytes are the text of: a trace's line without its thread and its line feed. `None` for all
-/// other bytes.
+/// Returns the kind whose text these bytes are, and `None` for all other bytes. The text is a trace's line without
+/// its thread and its line feed.
 pub fn kind_of(bytes: &[u8]) -> Option<Kind>
     ensures some { IfSome result (λ kind. bytes.now ≡ kind_text kind) }
     ensures fits { IfSome result FitsKind }
@@ -54,7 +54,7 @@ pub fn kind_of(bytes: &[u8]) -> Option<Kind>
     }
 }
 
-/// The thread or register that this byte is the digit of. `None` for all other bytes.
+/// Returns the thread or register whose digit this byte is, and `None` for all other bytes.
 pub fn ix_of(byte: u8) -> Option<Ix>
     ensures some { IfSome result (λ ix. byte ≡ digit ix) }
     ensures none { IfNone result ((ix : Ix) → byte ≡ digit ix → ⊥) }

@@ -2,8 +2,8 @@ ghost use Rattle.std.specs.Prelude.{◌≡◌, ℕ, ◌<◌, ◌^◌, IfSome, If
 ghost use Rattle.std.specs.Str.Parse.{AllDigits, digits_value};
 ghost use Rattle.std.specs.Fmt.{decimal};
 
-/// The number of 64 bits that these bytes write in decimal, without sign and without leading zeros; `None` for all
-/// other bytes.
+/// Returns the 64-bit number that these bytes write in decimal, without sign and without leading zeros. `None` for
+/// all other bytes.
 pub fn number_of(bytes: &[u8]) -> Option<u64>
     ensures some { IfSome result (λ number. bytes.now ≡ decimal number) }
     ensures none { IfNone result ((number : ℕ) → number < 2 ^ 64 → bytes.now ≡ decimal number → ⊥) }

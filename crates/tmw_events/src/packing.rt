@@ -7,9 +7,9 @@ ghost use Rattle.tmw_events.specs.declared.event.Kind.{Kind};
 use crate::event::{Event, Kind};
 use crate::ix::Ix;
 
-/// The event as two words, a header and a value. The header has the register in its lowest three bits, the thread in
-/// the three above, and then the kind: R 0, V 1, W 2, K 3, T 4, C 5, X 6, A 7, N 8. A register or a value that the
-/// kind has not is 0.
+/// Packs the event into two words, a header and a value. The header has the register in its lowest three bits, the
+/// thread in the three above, and then the kind: R 0, V 1, W 2, K 3, T 4, C 5, X 6, A 7, N 8. A register or a value
+/// that the kind lacks is 0.
 pub const fn pack(event: Event) -> (u64, u64)
     ensures value { result ≡ pack event }
     ensures small { IsHeader result.0 }
@@ -37,7 +37,7 @@ const fn parts_of(kind: Kind) -> (u64, u64, u64)
     }
 }
 
-/// The event that `pack` makes these two words of. `None` for all other words.
+/// Returns the event that `pack` makes these two words of, and `None` for all other words.
 pub fn unpack(header: u64, value: u64) -> Option<Event>
     ensures some { IfSome result (λ event. pack event ≡ (header, value)) }
     ensures fits { IfSome result (λ event. FitsKind event.kind) }
@@ -81,7 +81,7 @@ fn kind_from(code: u64, register: Ix, value: u64) -> Option<Kind>
     }
 }
 
-/// One word of a place and a header: the place, counted from 1, above the header's ten bits.
+/// Joins a place and a header into one word: the place, counted from 1, above the header's ten bits.
 pub const fn join(place: u64, header: u64) -> u64
     requires place { place < 2 ^ 40 }
     requires header { IsHeader header }
@@ -90,7 +90,7 @@ pub const fn join(place: u64, header: u64) -> u64
     (place + 1) * 1024 + header
 }
 
-/// The parts of a word that `join` made: the place counted from 1, and the header.
+/// Splits a word that `join` made into the place, counted from 1, and the header.
 pub const fn split(word: u64) -> (u64, u64)
     ensures { result ≡ (stamp_of word, header_of word) }
 {

@@ -9,7 +9,7 @@ pub struct Registers {
 }
 
 impl Registers {
-    /// This many registers, where they are 1 to 8.
+    /// Returns this many registers, if they are 1 to 8.
     pub const fn new(number: u8) -> Option<Registers>
         ensures range { IsSome result ↔ ((0 < number) × (number ≤ 8)) }
         ensures value { IfSome result (λ registers. registers.number ≡ number) }
@@ -21,7 +21,7 @@ impl Registers {
         }
     }
 
-    /// How many, 1 to 8.
+    /// Returns how many registers there are, 1 to 8.
     pub const fn get(&self) -> u8
         ensures value { result ≡ self.now.number }
         ensures some { 0 < result }

@@ -1,4 +1,4 @@
-/// What is had for each of the criteria that are asked for.
+/// One value for each of the requested criteria.
 #[derive(Debug, Drop)]
 pub enum ByCriterion<T> {
     Opacity(T),

@@ -33,9 +33,9 @@ impl Taker<Event> for ByCriterion<Monitor> {
         (more header bounds asked (history ++ xs) (taken header bounds asked history fed)) };
 }
 
-/// Reads the events that are left, up to the source's end or the first fault, and feeds each to the monitors as its line is read.
-/// The reader then answers that end or fault again. `Memory` answers want of memory for the event that was read last: nothing was
-/// read after its line.
+/// Reads the remaining events, up to the source's end or the first fault, and feeds each to the monitors as its line
+/// is read. The reader then returns that end or fault again. `Memory` follows a failed allocation for the event read
+/// last: nothing was read after its line.
 pub fn feed_events<S: Source>(
     lines: &mut TraceLines,
     source: &mut S,

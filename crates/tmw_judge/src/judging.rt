@@ -18,9 +18,9 @@ use tmw_report::{Fault, fault_of};
 use tmw_streams::Source;
 use tmw_trace::TraceLines;
 
-/// Reads a trace up to the source's end, and judges each event as its line is read, by each criterion that is asked for. No event
-/// is kept, so the memory depends on the transactions since the last cut and not on the trace's length. Where memory is refused,
-/// nothing is read after it.
+/// Reads a trace up to the source's end, and judges each event as its line is read, by each requested criterion. No
+/// event is kept, so the memory depends on the transactions since the last cut and not on the trace's length. After a
+/// failed allocation nothing more is read.
 pub fn judge<S: Source>(
     alloc: Global,
     source: &mut S,
@@ -43,8 +43,8 @@ pub fn judge<S: Source>(
     }
 }
 
-/// Reads a trace's first line, and makes the monitors for its history. `Memory` answers want of memory for them: nothing was read
-/// after that line.
+/// Reads a trace's first line, and makes the monitors for its history. `Memory` follows a failed allocation for them:
+/// nothing was read after that line.
 fn begin<S: Source>(
     alloc: Global,
     lines: &mut TraceLines,

@@ -1,5 +1,5 @@
-//! The command `judge`: a trace, read from its text and judged event by event, by opacity, by strict serializability or by both,
-//! and the lines that answer it.
+//! The command `judge`: reads a trace, judges it event by event, by opacity, by strict serializability or by both, and
+//! writes a report line for each.
 #![tactic(auto)]
 
 mod by_criterion;

@@ -7,7 +7,7 @@ use crate::report::Report;
 use std::alloc::{AllocError, Global};
 use tmw_report::{both_status, report_strict, report_text, status_of};
 
-/// The lines that tell what was found, a line for each report, and that by opacity first.
+/// Makes the lines that report what was found, a line for each report, and that by opacity first.
 pub fn report_lines(alloc: Global, reports: &ByCriterion<Report>) -> Result<String, AllocError>
     requires { Each IsOwnVerdict reports.now }
     ensures { IfOk result (λ lines. string_bytes lines ≡ report_lines reports.now) }
@@ -24,7 +24,7 @@ pub fn report_lines(alloc: Global, reports: &ByCriterion<Report>) -> Result<Stri
     }
 }
 
-/// The exit status that goes with them.
+/// Returns the exit status of the reports.
 pub const fn status_of_reports(reports: &ByCriterion<Report>) -> u8
     ensures { result ≡ report_status reports.now }
 {

@@ -1,9 +1,10 @@
-//! The monitors that a trace is judged by: for each criterion that is asked for one.
+//! The monitors that judge a trace: one for each requested criterion.
 ghost use Rattle.std.specs.Prelude.{◌<◌, ◌^◌, List, [], ◌∷◌, ◌++◌, IfOk, OnOk, OnErr};
 ghost use Rattle.tmw_defs.specs.Verdict.{Rules};
 ghost use Rattle.tmw_defs.specs.declared.criterion.Asked.{Asked};
 ghost use Rattle.tmw_events.specs.declared.event.Event.{Event};
 ghost use Rattle.tmw_monitor.specs.Fitting.{Fits};
+ghost use Rattle.tmw_monitor.specs.Monitor.{fed_of};
 ghost use Rattle.tmw_monitor.specs.declared.bounds.Bounds.{Bounds};
 ghost use Rattle.tmw_trace.specs.declared.header.Header.{Header};
 ghost use Rattle.tmw_judge.specs.ByCriterion.{Each};
@@ -18,7 +19,7 @@ use tmw_events::Event;
 use tmw_monitor::{Bounds, Monitor};
 use tmw_trace::Header;
 
-/// Monitors for the history of a trace with this header, before its first event.
+/// Makes the monitors for the history of a trace with this header, before its first event.
 pub fn monitors_for(
     alloc: Global,
     header: Header,
@@ -44,7 +45,7 @@ pub fn monitors_for(
     }
 }
 
-/// The one for this criterion.
+/// Makes the monitor for this criterion.
 fn monitor_for(
     alloc: Global,
     criterion: Criterion,
@@ -56,11 +57,12 @@ fn monitor_for(
     Monitor::for_criterion(alloc, criterion, header.registers, header.initial, bounds)
 }
 
-/// Feeds an event to each of them. Where memory is refused none has taken it, or of two the first alone. Where opacity alone is asked
-/// for it is made part of the reading of each kind's line, so that an event is no value in memory.
+/// Feeds an event to each monitor. After a failed allocation none has taken it, or of two the first alone. Where
+/// opacity alone is requested it is inlined into the reading of each kind's line, so that an event is no value in
+/// memory.
 #[inline(always)]
 pub fn feed_each(monitors: &mut ByCriterion<Monitor>, event: Event) -> Result<(), AllocError>
-    requires { Each (λ _ monitor. monitor.count < 2 ^ 40) monitors.old }
+    requires { Each (λ _ monitor. fed_of monitor < 2 ^ 40) monitors.old }
     ensures fed { OnOk result
         ((header : Header) (bounds : Bounds) (asked : Asked) (history : List Event)
         → AreFed header bounds asked history monitors.old
@@ -89,7 +91,7 @@ pub fn feed_each(monitors: &mut ByCriterion<Monitor>, event: Event) -> Result<()
 /// Feeds the event to each monitor, apart from the callers that mostly have one.
 #[inline(never)]
 fn feed_others(monitors: &mut ByCriterion<Monitor>, event: Event) -> Result<(), AllocError>
-    requires { Each (λ _ monitor. monitor.count < 2 ^ 40) monitors.old }
+    requires { Each (λ _ monitor. fed_of monitor < 2 ^ 40) monitors.old }
     ensures fed { OnOk result
         ((header : Header) (bounds : Bounds) (asked : Asked) (history : List Event)
         → AreFed header bounds asked history monitors.old
@@ -114,7 +116,7 @@ fn feed_others(monitors: &mut ByCriterion<Monitor>, event: Event) -> Result<(), 
     Ok(())
 }
 
-/// What they report of the history that they have been fed.
+/// Returns what the monitors report of the history that they were fed.
 pub fn reports_of(monitors: &ByCriterion<Monitor>) -> ByCriterion<Report>
     ensures { (header : Header) (bounds : Bounds) (asked : Asked) (history : List Event)
         → AreFed header bounds asked history monitors.now
@@ -129,7 +131,7 @@ pub fn reports_of(monitors: &ByCriterion<Monitor>) -> ByCriterion<Report>
     }
 }
 
-/// What one reports.
+/// Returns what one monitor reports.
 fn report_of(monitor: &Monitor) -> Report
     ensures { (rules : Rules) (history : List Event) → Fits rules history monitor.now
         → IsReportOn rules history result }

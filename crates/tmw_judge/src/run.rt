@@ -15,10 +15,10 @@ use tmw_monitor::Bounds;
 use tmw_report::{FAULT_STATUS, Fault, answer_fault};
 use tmw_streams::{Sink, Source, put_all};
 
-/// Judges the trace that the source tells within these bounds, by the criteria that are asked for, and writes the line that
-/// answers it, or the two lines, opacity's first. The trace is read once. The result is the exit status: 0 for a history that is
-/// opaque so far, or strict so far, 1 for one that is violated, 2 for one that is undecided, 3 for one that is malformed, 4 for
-/// any fault. Of two verdicts malformed comes first, then violated, then undecided.
+/// Judges the trace that the source has, within these bounds and by the requested criteria. It reads the trace once
+/// and writes a report line for each criterion, opacity's first, or one fault line. Returns the exit status: 0 for
+/// opaque so far and for strict so far, 1 for violated, 2 for undecided, 3 for malformed, 4 for any fault. Of two
+/// verdicts malformed comes first, then violated, then undecided.
 pub fn run_judge<S: Source, K: Sink>(
     alloc: Global,
     source: &mut S,
@@ -35,8 +35,8 @@ pub fn run_judge<S: Source, K: Sink>(
     }
 }
 
-/// Writes the reports' lines and answers their exit status. The lines are made before any goes out: where memory for one is
-/// refused, that fault stands in the place of all.
+/// Writes the reports' lines and returns their exit status. The lines are made before any goes out: after a failed
+/// allocation for one, that fault's line is written instead.
 fn answer_reports<K: Sink>(alloc: Global, sink: &mut K, reports: ByCriterion<Report>) -> u8
     requires { Each IsOwnVerdict reports }
     ensures { IsPut K.to sink.old sink.new (report_lines reports) (report_status reports) result

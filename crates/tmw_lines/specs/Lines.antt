@@ -5,41 +5,58 @@ use Rattle.tmw_lines.specs.Held.{bytes_of}
 use Rattle.tmw_lines.specs.LineRead.{HasLineFault}
 use Rattle.tmw_lines.specs.TextFault.{HasTextFault}
 use Rattle.tmw_lines.specs.declared.lines.Lines.{Lines}
+use Rattle.tmw_lines.specs.declared.lines.State.{State}
 use Rattle.tmw_lines.specs.declared.lines.State.TheVariants.{New, Reading, Over, Failed}
 use Rattle.tmw_lines.specs.declared.text_fault.TextFault.{TextFault}
 
+-- how far it has come
+abbrev pub state_of : {F : Type 0} → Lines F → State
+state_of lines = lines.state
+
+-- the format by which it reads its items
+abbrev pub format_by : {F : Type 0} → Lines F → F
+format_by lines = lines.format
+
+-- how many items it has given
+abbrev pub items_given : {F : Type 0} → Lines F → ℕ
+items_given lines = lines.count
+
+-- the bytes that it has read and not used
+abbrev pub unread_bytes : {F : Type 0} → Lines F → List ℕ
+unread_bytes lines = bytes_of lines.held
+
 -- it has read nothing
 pub record IsNew {F : Type 0} (lines : Lines F) : Type 0 where
-  pub state : lines.state ≡ New
-  pub none : lines.count ≡ 0
-  pub nothing : bytes_of lines.held ≡ []
+  pub state : state_of lines ≡ New
+  pub none : items_given lines ≡ 0
+  pub nothing : unread_bytes lines ≡ []
 
 -- it has given its header, and answered no fault and not the end
 abbrev pub IsReading : {F : Type 0} → Lines F → Type 0
-IsReading lines = lines.state ≡ Reading
+IsReading lines = state_of lines ≡ Reading
 
 -- it has answered that the text has ended, or, before the header, that there is no item
 abbrev pub IsOver : {F : Type 0} → Lines F → Type 0
-IsOver lines = lines.state ≡ Over
+IsOver lines = state_of lines ≡ Over
 
 -- it has answered this fault
 abbrev pub HasFailed : {F : Type 0} → Lines F → TextFault → Type 0
-HasFailed lines fault = lines.state ≡ Failed fault
+HasFailed lines fault = state_of lines ≡ Failed fault
 
 -- how many bytes it has read and not used
 abbrev pub unread : {F : Type 0} → Lines F → ℕ
-unread lines = length (bytes_of lines.held)
+unread lines = length (unread_bytes lines)
 
 -- it has given its header, and answered no fault and not the end, and the bytes read are the header's line, the lines of the
 -- items given, and at most 4,096 bytes that it holds
 pub record HasRead {F H E : Type 0} (grammar : Grammar F H E) (lines : Lines F) (header : H) (items : List E)
     (bytes : List ℕ) : Type 0 where
-  pub reading : lines.state ≡ Reading
-  pub format : lines.format ≡ grammar.format_of header
-  pub counted : lines.count ≡ length items
+  pub reading : IsReading lines
+  pub format : format_by lines ≡ grammar.format_of header
+  pub counted : items_given lines ≡ length items
   pub are_lines : AreLines grammar header items
-  pub text : bytes ≡ lines_text grammar header items ++ bytes_of lines.held
-  pub few : length (bytes_of lines.held) ≤ 4096
+  pub text : bytes ≡ lines_text grammar header items ++ unread_bytes lines
+  pub few : unread lines ≤ 4096
 
 -- whatever it had read before, it now has given this item more, and read these bytes more
 abbrev pub GivesItem : {F H E : Type 0} → Grammar F H E → Lines F → Lines F → List ℕ → E → Type 0
@@ -54,7 +71,7 @@ GivesEnd grammar Ended old bytes = (header : _) (items : List _) (before : List 
 -- where it had given its header, and answered no fault and not the end, the line behind those given has this fault, whatever is behind that line
 abbrev pub FailsAtLine : {F H E : Type 0} → Grammar F H E → Type 0 → Lines F → List ℕ → TextFault → Type 0
 FailsAtLine grammar Ended old bytes fault =
-    IsReading old → HasLineFault grammar Ended old.format old.count (bytes_of old.held ++ bytes) fault
+    IsReading old → HasLineFault grammar Ended (format_by old) (items_given old) (unread_bytes old ++ bytes) fault
 
 -- whatever it had read before, all bytes told have this fault
 abbrev pub GivesFault : {F H E : Type 0} → Grammar F H E → Type 0 → Lines F → List ℕ → TextFault → Type 0

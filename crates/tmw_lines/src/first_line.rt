@@ -11,7 +11,7 @@ use crate::piece::{Piece, next_piece};
 use crate::text_fault::TextFault;
 use tmw_streams::Source;
 
-/// Reads the first line of a text: its header, or its fault.
+/// Reads the first line of a text and returns its header, or its fault.
 pub fn first_line<F: LineFormat, S: Source>(
     held: &mut Held,
     source: &mut S,

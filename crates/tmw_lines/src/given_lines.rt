@@ -17,8 +17,9 @@ pub struct Run {
     pub refused: bool,
 }
 
-/// Gives the taker the items of the lines that these bytes begin with, behind so many items' lines, as far as the format tells
-/// them in one pass. Most lines are read here: it is made part of its caller, and what it counts stays in registers.
+/// Gives the taker the items of the lines that these bytes begin with, as far as the format reads them in one pass.
+/// So many items' lines came before them. Most lines are read here: it is inlined into its caller, and what it counts
+/// stays in registers.
 #[inline(always)]
 pub fn give_lines<F: LineFormat, T: Taker<F::Item>>(
     format: F,

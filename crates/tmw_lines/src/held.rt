@@ -19,7 +19,7 @@ pub struct Held {
 impl Held {
     ghost use Rattle.tmw_lines.specs.Held.{bytes_of};
 
-    /// Nothing is held.
+    /// Makes an empty buffer.
     pub const fn new() -> Held
         ensures { bytes_of result ≡ [] }
     {
@@ -30,7 +30,7 @@ impl Held {
         }
     }
 
-    /// The bytes that are held, in the order in which they were read.
+    /// Returns the bytes held, in the order in which they were read.
     pub fn bytes(&self) -> &[u8]
         ensures value { result.now ≡ bytes_of self.now }
         ensures few { length result.now ≤ 4096 }
@@ -38,7 +38,7 @@ impl Held {
         &self.buffer[self.start..self.end]
     }
 
-    /// Lets go of the first bytes.
+    /// Drops the first `count` bytes.
     pub fn consume(&mut self, count: usize)
         requires { count ≤ length (bytes_of self.old) }
         ensures { bytes_of self.new ≡ drop count (bytes_of self.old) }
@@ -46,7 +46,7 @@ impl Held {
         self.start += count;
     }
 
-    /// Lets go of all bytes.
+    /// Drops all bytes.
     pub fn clear(&mut self)
         ensures { bytes_of self.new ≡ [] }
     {
@@ -54,7 +54,7 @@ impl Held {
         self.end = 0;
     }
 
-    /// Reads once, into the room behind the bytes, and tells how many came: none at the source's end alone.
+    /// Reads once, into the room after the bytes held, and returns how many came: 0 only at the source's end.
     pub fn read<S: Source>(&mut self, source: &mut S) -> Result<usize, IoFault>
         requires room { length (bytes_of self.old) < 4096 }
         ensures more { IfOk result

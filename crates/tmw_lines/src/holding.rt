@@ -4,7 +4,7 @@ ghost use Rattle.std.proofs.Common.{◌∙◌, ap, append_assoc, arith, rules};
 use crate::taker::Taker;
 use std::alloc::AllocError;
 
-/// A list takes items by holding them behind those that it holds.
+/// A list takes items by holding them after those that it holds.
 impl<I: Copy> Taker<I> for Vec<I> {
     ghost takes = { λ old items new. (new.items ≡ old.items ++ items) × (vec_capacity old ≤ vec_capacity new) };
 

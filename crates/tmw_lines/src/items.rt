@@ -1,7 +1,7 @@
 ghost use Rattle.std.specs.Prelude.{◌≡◌, ◌≢◌, ◌≤◌, length, vec_capacity, IfErr, OnOk};
 ghost use Rattle.tmw_lines.specs.ItemsGiven.{GivesAll};
 ghost use Rattle.tmw_lines.specs.ItemsRead.{HasBegunToRead, ReadsItems};
-ghost use Rattle.tmw_lines.specs.Lines.{IsOver, HasFailed};
+ghost use Rattle.tmw_lines.specs.Lines.{IsOver, HasFailed, items_given};
 ghost use Rattle.tmw_lines.specs.TextFault.{failures_after};
 ghost use Rattle.tmw_lines.specs.declared.text_fault.TextFault.TheVariants.{Memory};
 
@@ -11,16 +11,16 @@ use crate::taker::Taker;
 use crate::text_fault::TextFault;
 use tmw_streams::Source;
 
-/// Reads the lines that are left, up to the source's end or the first fault, and gives the taker each item as its line is read.
-/// The reader then answers that end or fault again. `Memory` answers want of memory for the item of the line that was read last:
-/// nothing was read after that line.
+/// Reads the remaining lines, up to the source's end or the first fault, and gives the taker each item as its line is
+/// read. The reader then returns that end or fault again. `Memory` follows a failed allocation for the item of the
+/// line read last: nothing was read after that line.
 pub fn give_items<F: LineFormat, S: Source, T: Taker<F::Item>>(
     lines: &mut Lines<F>,
     source: &mut S,
     taker: &mut T,
 ) -> Result<(), TextFault>
     requires begun { HasBegunToRead F.grammar lines.old }
-    requires counted { T.counts taker.old lines.old.count }
+    requires counted { T.counts taker.old (items_given lines.old) }
     ensures gives { GivesAll F.grammar S.from (S.from.ended source.new) T.takes T.lacks source.old
         source.new lines.old
         lines.new taker.old taker.new result }
@@ -46,10 +46,10 @@ pub fn give_items<F: LineFormat, S: Source, T: Taker<F::Item>>(
     }
 }
 
-/// Reads the lines that are left, up to the source's end or the first fault, and holds their items behind those that are there.
-/// The reader then answers that end or fault again. `Memory` answers want of memory: the item of the line that was read last is
-/// not held, and nothing was read after that line. It comes only where the items fill the room that there was at first; only
-/// tests show that a growth was refused.
+/// Reads the remaining lines, up to the source's end or the first fault, and appends their items to `items`. The
+/// reader then returns that end or fault again. `Memory` follows a failed allocation: the item of the line read last
+/// is not held, and nothing was read after that line. It comes only if the items fill the room that there was at
+/// first; only tests show that an allocation failed.
 pub fn read_items<F: LineFormat, S: Source>(
     lines: &mut Lines<F>,
     source: &mut S,

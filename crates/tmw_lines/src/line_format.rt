@@ -5,8 +5,8 @@ ghost use Rattle.tmw_lines.specs.Grammar.{Grammar, IsNaming, IsNoHeader, IsNoIte
 use crate::given::Given;
 use crate::taker::Taker;
 
-/// What the lines of a text tell: the first a header, and each other an item. A value is the format of the lines behind a
-/// header, and says which items these may be.
+/// What the lines of a text are: the first a header, and each other an item. A value is the format of the lines after
+/// a header, and says which items these may be.
 pub trait LineFormat: Copy {
     /// What the first line tells.
     type Header: Copy;
@@ -19,24 +19,27 @@ pub trait LineFormat: Copy {
     /// The texts of headers and items, and which of them a text may have.
     ghost grammar: { Grammar Self Self.Header Self.Item };
 
-    /// The format of the lines behind this header.
+    /// Returns the format of the lines after this header.
     fn behind(header: &Self::Header) -> Self
         ensures { result ≡ grammar.format_of header.now };
 
-    /// The header that these bytes are the text of: a first line without its line feed. `None` for all other bytes.
+    /// Returns the header whose text these bytes are, and `None` for all other bytes. The text is a first line
+    /// without its line feed.
     fn header_of(bytes: &[u8]) -> Option<Self::Header>
         ensures some { IfSome result (λ header. bytes.now ≡ grammar.header_text header) }
         ensures fits { IfSome result grammar.FitsHeader }
         ensures none { IfNone result (IsNoHeader grammar bytes.now) };
 
-    /// The item of this format that these bytes are the text of: a line without its line feed. `None` for all other bytes.
+    /// Returns the item of this format whose text these bytes are, and `None` for all other bytes. The text is a line
+    /// without its line feed.
     fn item_of(self, bytes: &[u8]) -> Option<Self::Item>
         ensures some { IfSome result (λ item. bytes.now ≡ grammar.item_text item) }
         ensures fits { IfSome result (grammar.FitsItem self) }
         ensures none { IfNone result (IsNoItem grammar self bytes.now) };
 
-    /// Gives the taker the item of this format whose line, with its line feed, these bytes begin with. A format that can tell it
-    /// in one pass does so here. `Nothing` says nothing of the bytes: the line's end is then looked for, and `item_of` asked.
+    /// Gives the taker the item of this format whose line, with its line feed, these bytes begin with. A format that
+    /// can read the line in one pass does so here. `Nothing` says nothing about the bytes: the reader then looks for
+    /// the line's end and calls `item_of`.
     fn give_first<T: Taker<Self::Item>>(self, bytes: &[u8], taker: &mut T) -> Given
         requires { (count : ℕ) × (count < 2 ^ 40) × T.counts taker.old count }
         ensures { IsGiven grammar T.takes T.lacks T.counts self bytes.now taker.old taker.new

@@ -20,15 +20,15 @@ pub enum State {
     New,
     /// The header was given, and a line may follow.
     Reading,
-    /// The text has ended, or an item was asked for before the header.
+    /// The text has ended, or an item was requested before the header.
     Over,
     /// A fault was found, which stays.
     Failed(TextFault),
 }
 
-/// Reads a text line by line, and holds at most 4,096 bytes of it. First `header` is called once; where that is `Ok`,
-/// `next` gives one item after another, and none before. All calls take the same source, which nobody else reads meanwhile.
-/// It allocates nothing, so `Memory` is not among its faults.
+/// A reader of a text, line by line, which holds at most 4,096 bytes of it. Call `header` once; if it returns `Ok`,
+/// each call of `next` returns one item. All calls take the same source, which nobody else reads meanwhile. The
+/// reader allocates nothing, so `Memory` is not among its faults.
 #[derive(Drop)]
 pub struct Lines<F> {
     held: Held,
@@ -40,9 +40,9 @@ pub struct Lines<F> {
 
 impl<F: LineFormat> Lines<F> {
     ghost use Rattle.tmw_lines.specs.Given.{GivesItems, LacksLast};
-    ghost use Rattle.tmw_lines.specs.Lines.{IsNew, IsReading, IsOver, HasFailed, HasRead, unread, GivesItem, GivesEnd, FailsAtLine, GivesFault};
+    ghost use Rattle.tmw_lines.specs.Lines.{IsNew, IsReading, IsOver, HasFailed, HasRead, items_given, unread, GivesItem, GivesEnd, FailsAtLine, GivesFault};
 
-    /// Nothing is read.
+    /// Makes a reader that has read nothing.
     pub const fn new() -> Lines<F>
         ensures { IsNew result }
     {
@@ -54,7 +54,7 @@ impl<F: LineFormat> Lines<F> {
         }
     }
 
-    /// Reads the first line: the header, or the line's fault.
+    /// Reads the first line and returns the header, or the line's fault.
     pub fn header<S: Source>(&mut self, source: &mut S) -> Result<F::Header, TextFault>
         requires { IsNew self.old }
         ensures header { IfOk result (λ header. (bytes : List ℕ)
@@ -82,15 +82,15 @@ impl<F: LineFormat> Lines<F> {
         }
     }
 
-    /// Gives the taker the items of lines that the bytes held begin with, of none of them or of more, as the format tells them in one
-    /// pass, and reads nothing. Where memory is refused for one, that item's line is the last that was read. Before the header, and once `next`
-    /// answered `None` or a fault was answered, it gives nothing and changes nothing.
+    /// Gives the taker the items of lines that the bytes held begin with, and reads nothing. It gives none or more:
+    /// as many as the format reads in one pass. After a failed allocation for an item, that item's line is the last
+    /// that was read. Before the header, and after `None` or a fault, it gives nothing and changes nothing.
     #[inline(always)]
     pub fn give_held<T: Taker<F::Item>>(&mut self, taker: &mut T) -> Result<(), AllocError>
-        requires { T.counts taker.old self.old.count }
+        requires { T.counts taker.old (items_given self.old) }
         ensures gives { OnOk result
             (GivesItems F.grammar T.takes self.old self.new taker.old taker.new) }
-        ensures counted { OnOk result (T.counts taker.new self.new.count) }
+        ensures counted { OnOk result (T.counts taker.new (items_given self.new)) }
         ensures lacks { OnErr result
             (LacksLast F.grammar T.takes T.lacks self.old self.new taker.old taker.new) }
         ensures fewer { unread self.new ≤ unread self.old }
@@ -111,9 +111,9 @@ impl<F: LineFormat> Lines<F> {
         if run.refused { Err(AllocError) } else { Ok(()) }
     }
 
-    /// Reads the next line: its item, `None` where the text has ended, or the fault of all bytes told. Once it
-    /// answered `None` or a fault, it answers so again and reads nothing. Before the header it answers `None` too and reads
-    /// nothing, and the header can then be asked for no more.
+    /// Reads the next line and returns its item, `None` at the end of the text, or the fault of all bytes read. After
+    /// `None` or a fault each call returns the same and reads nothing. A call before the header also returns `None`
+    /// and reads nothing; the header can then no longer be read.
     pub fn next<S: Source>(&mut self, source: &mut S) -> Result<Option<F::Item>, TextFault>
         ensures item { IfOk result (λ found. IfSome found (λ item. (bytes : List ℕ)
             × Tells S.from source.old bytes source.new

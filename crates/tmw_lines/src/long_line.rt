@@ -17,8 +17,8 @@ pub enum LineEnd {
     Failed,
 }
 
-/// Reads on to the end of a line that is longer than can be held. What is held belongs to it, and is let go of. Where its line feed
-/// comes, the bytes read last are held, and it is among them; else none is held.
+/// Reads on to the end of a line that is longer than can be held. What is held belongs to the line, and is dropped.
+/// If its line feed comes, the bytes read last are held, and the line feed is among them; else none is held.
 pub fn skip_line<S: Source>(held: &mut Held, source: &mut S) -> LineEnd
     ensures skips { Skips S.from (S.from.ended source.new) source.old source.new (bytes_of held.new)
         result }

@@ -13,7 +13,7 @@ use tmw_streams::Source;
 /// The greatest number of items' lines in a text.
 pub const MOST_ITEMS: u64 = 1 << 40;
 
-/// Reads the line that follows so many items' lines: its item, nothing at the source's end, or its fault.
+/// Reads the line after so many items' lines and returns its item, nothing at the source's end, or its fault.
 pub fn next_line<F: LineFormat, S: Source>(
     held: &mut Held,
     source: &mut S,

@@ -11,7 +11,8 @@ pub trait Taker<I> {
     /// The state allows that so many items were taken before. One that needs no bound on their number allows each.
     ghost counts: { Self → ℕ → Type 0 };
 
-    /// Takes an item, or is refused memory for it. The state has to allow that fewer than 2^40 were taken before.
+    /// Takes an item, or fails after a failed allocation for it. The state has to allow that fewer than 2^40 were
+    /// taken before.
     fn take(&mut self, item: I) -> Result<(), AllocError>
         requires { (count : ℕ) × (count < 2 ^ 40) × counts self.old count }
         ensures taken { OnOk result (takes self.old (item ∷ []) self.new) }

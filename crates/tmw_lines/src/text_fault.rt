@@ -16,7 +16,7 @@ pub enum TextFault {
     /// The last piece of the text, which would be this line, has no line feed, whatever it holds.
     #[error("line {0} has no line feed")]
     Cut(u64),
-    /// A growth was refused.
+    /// An allocation failed.
     #[error("out of memory")]
     Memory,
     /// The source failed in the call.

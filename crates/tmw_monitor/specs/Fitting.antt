@@ -17,6 +17,7 @@ use Rattle.tmw_witness.specs.Witnessing.{Witnesses}
 use Rattle.tmw_monitor.specs.declared.bounds.Bounds.{Bounds}
 use Rattle.tmw_monitor.specs.declared.monitor.Monitor.{Monitor}
 use Rattle.tmw_monitor.specs.declared.open.Open.{Open}
+use Rattle.tmw_monitor.specs.Monitor.{IsOpen, bounds_of, criterion_of, fed_of, kept_of, verdict_of}
 
 -- What a history is judged by, where the run has so many registers, which begin with these values.
 abbrev pub rules_for : Criterion → Registers → State → Bounds → Rules
@@ -54,10 +55,10 @@ pub record KeepsNothing (kept : Open) : Type 0 where
 -- The history fits the monitor: its length and its verdict are the monitor's, and where nothing is wrong with it, the monitor has
 -- kept of it what it needs to judge what follows, and else nothing.
 pub record Fits (rules : Rules) (history : List Event) (monitor : Monitor) : Type 0 where
-  pub criterion : monitor.criterion ≡ rules.criterion
-  pub window : monitor.bounds.window ≡ rules.window
-  pub states : monitor.bounds.states ≡ rules.states
-  pub counted : monitor.count ≡ length history
-  pub judged : IsVerdict rules history monitor.verdict
-  pub keeps : monitor.verdict ≡ so_far monitor.criterion → Keeps rules history monitor.kept
-  pub forgets : (monitor.verdict ≡ so_far monitor.criterion → ⊥) → KeepsNothing monitor.kept
+  pub criterion : criterion_of monitor ≡ rules.criterion
+  pub window : (bounds_of monitor).window ≡ rules.window
+  pub states : (bounds_of monitor).states ≡ rules.states
+  pub counted : fed_of monitor ≡ length history
+  pub judged : IsVerdict rules history (verdict_of monitor)
+  pub keeps : IsOpen monitor → Keeps rules history (kept_of monitor)
+  pub forgets : (IsOpen monitor → ⊥) → KeepsNothing (kept_of monitor)

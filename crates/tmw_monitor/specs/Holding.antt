@@ -5,7 +5,7 @@ use Rattle.std.specs.List.{Contains}
 use Rattle.std.specs.List.Sorted.{IsStrictlySortedBy}
 use Rattle.std.specs.Ordering.{nat_cmp}
 use Rattle.tmw_events.specs.declared.event.Event.{Event}
-use Rattle.tmw_defs.specs.Criteria.{outcomes_by, so_far}
+use Rattle.tmw_defs.specs.Criteria.{outcomes_by}
 use Rattle.tmw_defs.specs.Opaque.{State}
 use Rattle.tmw_defs.specs.Summary.{IsLastCut}
 use Rattle.tmw_defs.specs.Verdict.{Rules}
@@ -13,6 +13,7 @@ use Rattle.tmw_cuts.specs.Members.{members}
 use Rattle.tmw_cuts.specs.Standing.{views, views_of}
 use Rattle.tmw_monitor.specs.declared.monitor.Monitor.{Monitor}
 use Rattle.tmw_monitor.specs.declared.open.Open.{Open}
+use Rattle.tmw_monitor.specs.Monitor.{IsOpen, kept_of}
 
 -- It holds the history's outcomes at its last cut, no more of them than the bound, and the transactions of the open window, which
 -- are those of the events since. It holds none of their operations: the list that a transaction shows is for clauses alone.
@@ -30,8 +31,8 @@ pub record HoldsNone (kept : Open) : Type 0 where
 
 -- The monitor keeps of the history only its open window and the outcomes before it, and neither after a final verdict.
 pub record KeepsOnlyOpen (rules : Rules) (history : List Event) (monitor : Monitor) : Type 0 where
-  pub holds : monitor.verdict ≡ so_far monitor.criterion → HoldsOpen rules history monitor.kept
-  pub ended : (monitor.verdict ≡ so_far monitor.criterion → ⊥) → HoldsNone monitor.kept
+  pub holds : IsOpen monitor → HoldsOpen rules history (kept_of monitor)
+  pub ended : (IsOpen monitor → ⊥) → HoldsNone (kept_of monitor)
 
 -- These states are the history's outcomes at its last cut, in rising order and no more of them than the bound.
 pub record AreLastOutcomes (rules : Rules) (history : List Event) (states : List State) : Type 0 where

@@ -1,4 +1,4 @@
-//! The way that most events go: few steps, nothing searched and no memory taken.
+//! The way that most events take: few steps, no search and no memory.
 ghost use Rattle.std.specs.Prelude.{◌≡◌, ◌<◌, None, Some, IsTrue, IsFalse};
 ghost use Rattle.tmw_cuts.specs.Standing.{count_of};
 ghost use Rattle.tmw_monitor.specs.AtOnce.{IsOpenAt, StaysFine};
@@ -8,8 +8,8 @@ use crate::open::Open;
 use tmw_defs::Criterion;
 use tmw_events::Event;
 
-/// Takes the next event, where nothing has to be searched to see that nothing is wrong with it by opacity. Else it answers no and
-/// changes nothing. It is made part of its callers, which mostly know the kind of their event.
+/// Takes the next event if no search is needed to see that nothing is wrong with it by opacity. Else it returns
+/// `false` and changes nothing. It is inlined into its callers, which mostly know the kind of their event.
 #[inline(always)]
 pub fn take_at_once(kept: &mut Open, bounds: Bounds, event: Event) -> bool
     ensures taken { IsTrue result → StaysFine bounds event kept.old kept.new }

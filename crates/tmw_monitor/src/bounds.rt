@@ -27,7 +27,7 @@ pub enum BadBounds {
 }
 
 impl Bounds {
-    /// Bounds of 1 to 8 transactions in a window and 1 to 64 outcomes at a cut.
+    /// Makes bounds of 1 to 8 transactions in a window and 1 to 64 outcomes at a cut. Any other number is an error.
     pub const fn new(window: u8, states: u8) -> Result<Bounds, BadBounds>
         ensures ok { IfOk result (λ bounds. (bounds.window ≡ window) × (bounds.states ≡ states)) }
         ensures err { IfErr result (IsBad window states) }

@@ -10,7 +10,7 @@ use tmw_cuts::State;
 use tmw_defs::{Criterion, Verdict};
 use tmw_events::{Event, Registers};
 
-/// The verdict by opacity on a history of at most 2^40 events, whose registers all begin at 0.
+/// Judges by opacity a history of at most 2^40 events whose registers all begin at 0.
 pub fn judge(
     alloc: Global,
     registers: Registers,
@@ -23,7 +23,8 @@ pub fn judge(
     judge_from(alloc, registers, &[0; 8], bounds, events)
 }
 
-/// The verdict by opacity on a history whose registers begin with these values. Those that the run does not have are to be 0.
+/// Judges by opacity a history of at most 2^40 events whose registers begin with these values. Those that the run
+/// does not have are to be 0.
 pub fn judge_from(
     alloc: Global,
     registers: Registers,
@@ -37,7 +38,8 @@ pub fn judge_from(
     judge_for(alloc, Criterion::Opacity, registers, start, bounds, events)
 }
 
-/// The verdict by this criterion on a history whose registers begin with these values.
+/// Judges by this criterion a history of at most 2^40 events whose registers begin with these values. Those that the
+/// run does not have are to be 0.
 pub fn judge_for(
     alloc: Global,
     criterion: Criterion,

@@ -1,7 +1,6 @@
 ghost use Rattle.std.specs.Prelude.{◌≡◌, ◌↔◌, ◌<◌, ◌^◌, List, [], ◌∷◌, ◌++◌, IfOk, OnOk, OnErr, Ok, IsOk, IsTrue, length};
 ghost use Rattle.tmw_events.specs.declared.event.Event.{Event};
 ghost use Rattle.tmw_defs.specs.declared.criterion.Criterion.TheVariants.{Opacity};
-ghost use Rattle.tmw_defs.specs.Criteria.{so_far};
 ghost use Rattle.tmw_cuts.specs.Members.{members};
 ghost use Rattle.tmw_defs.specs.Cuts.{is_cut};
 ghost use Rattle.tmw_defs.specs.Opaque.{zeros};
@@ -19,9 +18,9 @@ use tmw_events::{Event, Registers};
 use tmw_wellformed::Tracker;
 use tmw_witness::Witness;
 
-/// Judges a history as its events come, by the definition of its criterion at each of its prefixes: opacity (Guerraoui and Kapalka
-/// 2008, section 5) or strict serializability (Papadimitriou 1979). It keeps no event: only the outcomes at the last cut and the
-/// transactions since, and neither after a final verdict.
+/// A judge of a history as its events come, by the definition of its criterion at each of its prefixes: opacity
+/// (Guerraoui and Kapalka 2008, section 5) or strict serializability (Papadimitriou 1979). It keeps no event: only
+/// the outcomes at the last cut and the transactions since, and neither after a final verdict.
 #[derive(Debug, Drop)]
 pub struct Monitor {
     alloc: Global,
@@ -35,18 +34,20 @@ pub struct Monitor {
 impl Monitor {
     ghost use Rattle.tmw_monitor.specs.Fitting.{Fits, rules_for, rules_of};
     ghost use Rattle.tmw_monitor.specs.Holding.{AreLastOutcomes, KeepsOnlyOpen};
+    ghost use Rattle.tmw_monitor.specs.Monitor.{IsOpen, criterion_of, fed_of, verdict_of};
 
-    /// A monitor that judges by opacity a run whose registers all begin at 0, before its first event.
+    /// Makes a monitor that judges by opacity a run whose registers all begin at 0, before its first event.
     pub fn new(alloc: Global, registers: Registers, bounds: Bounds) -> Result<Monitor, AllocError>
         ensures fits { IfOk result (λ monitor. Fits (rules_of registers zeros bounds) [] monitor) }
         ensures keeps { IfOk result (λ monitor. KeepsOnlyOpen (rules_of registers zeros bounds) []
             monitor) }
-        ensures criterion { IfOk result (λ monitor. monitor.criterion ≡ Opacity) }
+        ensures criterion { IfOk result (λ monitor. criterion_of monitor ≡ Opacity) }
     {
         Monitor::new_from(alloc, registers, [0; 8], bounds)
     }
 
-    /// A monitor that judges by opacity a run whose registers begin with these values. Those that the run does not have are to be 0.
+    /// Makes a monitor that judges by opacity a run whose registers begin with these values, before its first event.
+    /// Those that the run does not have are to be 0.
     pub fn new_from(
         alloc: Global,
         registers: Registers,
@@ -56,13 +57,13 @@ impl Monitor {
         ensures fits { IfOk result (λ monitor. Fits (rules_of registers start bounds) [] monitor) }
         ensures keeps { IfOk result (λ monitor. KeepsOnlyOpen (rules_of registers start bounds) []
             monitor) }
-        ensures criterion { IfOk result (λ monitor. monitor.criterion ≡ Opacity) }
+        ensures criterion { IfOk result (λ monitor. criterion_of monitor ≡ Opacity) }
     {
         Monitor::for_criterion(alloc, Criterion::Opacity, registers, start, bounds)
     }
 
-    /// A monitor that judges by this criterion a run whose registers begin with these values. Those that the run does not have are
-    /// to be 0.
+    /// Makes a monitor that judges by this criterion a run whose registers begin with these values, before its first
+    /// event. Those that the run does not have are to be 0.
     pub fn for_criterion(
         alloc: Global,
         criterion: Criterion,
@@ -74,7 +75,7 @@ impl Monitor {
             monitor) }
         ensures keeps { IfOk result (λ monitor. KeepsOnlyOpen
             (rules_for criterion registers start bounds) [] monitor) }
-        ensures criterion { IfOk result (λ monitor. monitor.criterion ≡ criterion) }
+        ensures criterion { IfOk result (λ monitor. criterion_of monitor ≡ criterion) }
     {
         let states = States::only(alloc, start)?;
         let mut witness = Witness::new(start);
@@ -96,19 +97,18 @@ impl Monitor {
         })
     }
 
-    /// Takes the next event, and answers the verdict on all events so far. A verdict that something is wrong stays for good, and
-    /// from then on each call succeeds. Where memory is refused, the event is not taken.
+    /// Takes the next event and returns the verdict on all events so far. A verdict that something is wrong is final,
+    /// and from then on each call succeeds. After a failed allocation the event is not taken: feed it again.
     #[inline(always)]
     pub fn feed(&mut self, event: Event) -> Result<Verdict, AllocError>
-        requires room { self.old.count < 2 ^ 40 }
+        requires room { fed_of self.old < 2 ^ 40 }
         ensures ok { IfOk result (λ verdict. (rules : Rules) (history : List Event)
             → Fits rules history self.old → Fits rules (history ++ event ∷ []) self.new) }
-        ensures verdict { IfOk result (λ verdict. verdict ≡ self.new.verdict) }
+        ensures verdict { IfOk result (λ verdict. verdict ≡ verdict_of self.new) }
         ensures err { OnErr result ((rules : Rules) (history : List Event)
             → Fits rules history self.old → Fits rules history self.new) }
-        ensures stays { (self.old.verdict ≡ so_far self.old.criterion → ⊥)
-            → result ≡ Ok self.old.verdict }
-        ensures criterion { self.new.criterion ≡ self.old.criterion }
+        ensures stays { (IsOpen self.old → ⊥) → result ≡ Ok (verdict_of self.old) }
+        ensures criterion { criterion_of self.new ≡ criterion_of self.old }
 
         // What is kept, whether the event was taken or not.
         ensures keeps { IfOk result (λ verdict. (rules : Rules) (history : List Event)
@@ -132,23 +132,24 @@ impl Monitor {
         Ok(self.verdict)
     }
 
-    /// Takes the next event, whatever it needs. What the verdict is then, the monitor knows.
+    /// Takes the next event, whatever it needs. The verdict is then in the monitor.
     #[inline(never)]
     fn take(&mut self, event: Event) -> Result<(), AllocError>
-        requires room { self.old.count < 2 ^ 40 }
+        requires room { fed_of self.old < 2 ^ 40 }
         ensures ok { OnOk result ((rules : Rules) (history : List Event)
             → Fits rules history self.old → Fits rules (history ++ event ∷ []) self.new) }
         ensures err { OnErr result ((rules : Rules) (history : List Event)
             → Fits rules history self.old → Fits rules history self.new) }
-        ensures stays { (self.old.verdict ≡ so_far self.old.criterion → ⊥)
-            → IsOk result × (self.new.verdict ≡ self.old.verdict) }
-        ensures criterion { self.new.criterion ≡ self.old.criterion }
+        ensures stays { (IsOpen self.old → ⊥)
+            → IsOk result × (verdict_of self.new ≡ verdict_of self.old) }
+        ensures criterion { criterion_of self.new ≡ criterion_of self.old }
         ensures keeps { OnOk result ((rules : Rules) (history : List Event)
             → Fits rules history self.old → KeepsOnlyOpen rules (history ++ event ∷ []) self.new) }
         ensures keeps_err { OnErr result ((rules : Rules) (history : List Event)
             → Fits rules history self.old → KeepsOnlyOpen rules history self.new) }
     {
         let at = self.count + 1;
+        // Each prefix is judged, so a verdict that something is wrong is final. Later events are only counted.
         if !is_so_far(self.criterion, self.verdict) {
             self.count = at;
             return Ok(());
@@ -163,63 +164,64 @@ impl Monitor {
         )?;
         self.count = at;
         if let Some(verdict) = wrong {
+            // After a final verdict no event needs what was kept, so its memory is freed.
             self.kept.forget(self.alloc);
             self.verdict = verdict;
         }
         Ok(())
     }
 
-    /// What the history is judged by.
+    /// Returns what the history is judged by.
     pub fn criterion(&self) -> Criterion
-        ensures shown { result ≡ self.now.criterion }
+        ensures shown { result ≡ criterion_of self.now }
         ensures fits { (rules : Rules) (history : List Event) → Fits rules history self.now
             → result ≡ rules.criterion }
     {
         self.criterion
     }
 
-    /// How many events were taken.
+    /// Returns how many events were taken.
     pub fn fed(&self) -> u64
-        ensures shown { result ≡ self.now.count }
+        ensures shown { result ≡ fed_of self.now }
         ensures fits { (rules : Rules) (history : List Event) → Fits rules history self.now
             → result ≡ length history }
     {
         self.count
     }
 
-    /// The verdict on the events taken.
+    /// Returns the verdict on the events taken.
     pub fn verdict(&self) -> Verdict
-        ensures shown { result ≡ self.now.verdict }
+        ensures shown { result ≡ verdict_of self.now }
         ensures fits { (rules : Rules) (history : List Event) → Fits rules history self.now
             → IsVerdict rules history result }
     {
         self.verdict
     }
 
-    /// Whether nothing is wrong with the events taken, so that what follows is judged too.
+    /// Tells whether nothing is wrong with the events taken, so that what follows is judged too.
     #[inline(always)]
     pub fn is_open(&self) -> bool
-        ensures { IsTrue result ↔ (self.now.verdict ≡ so_far self.now.criterion) }
+        ensures { IsTrue result ↔ IsOpen self.now }
     {
         is_so_far(self.criterion, self.verdict)
     }
 
-    /// Whether each transaction of the history has ended, where nothing is wrong with it.
+    /// Tells whether each transaction of the history has ended. The result counts only if nothing is wrong with the
+    /// history.
     pub fn is_at_cut(&self) -> bool
         ensures { (rules : Rules) (history : List Event) → Fits rules history self.now
-            → self.now.verdict ≡ so_far self.now.criterion
-            → (IsTrue result ↔ IsTrue (is_cut history)) }
+            → IsOpen self.now → (IsTrue result ↔ IsTrue (is_cut history)) }
     {
         self.kept.tracker.live() == 0
     }
 
-    /// The history's outcomes at its last cut, in rising order, at most 64. After a final verdict there are none.
+    /// Returns the history's outcomes at its last cut, in rising order, at most 64. After a final verdict there are
+    /// none.
     pub fn outcomes(&self) -> &States
         ensures last { (rules : Rules) (history : List Event) → Fits rules history self.now
-            → self.now.verdict ≡ so_far self.now.criterion
-            → AreLastOutcomes rules history (members result.now) }
+            → IsOpen self.now → AreLastOutcomes rules history (members result.now) }
         ensures none { (rules : Rules) (history : List Event) → Fits rules history self.now
-            → (self.now.verdict ≡ so_far self.now.criterion → ⊥) → members result.now ≡ [] }
+            → (IsOpen self.now → ⊥) → members result.now ≡ [] }
     {
         &self.kept.states
     }

@@ -10,8 +10,9 @@ use std::alloc::{AllocError, Global};
 use tmw_defs::{Criterion, Verdict, Why};
 use tmw_events::Event;
 
-/// The verdict on a history of length `at` whose last event this is, where nothing was wrong before it and something is with it. Where
-/// nothing is, what is kept then is what is kept of the longer history. Where memory is refused it is as before.
+/// Takes the next event, after which the history has length `at`, and returns the verdict if something is wrong with
+/// it. Nothing was wrong before it. If nothing is, what is kept is then that of the longer history. After a failed
+/// allocation it is as before.
 #[inline(always)]
 pub fn next_wrong(
     alloc: Global,

@@ -3,7 +3,8 @@ ghost use Rattle.tmw_defs.specs.Criteria.{so_far};
 
 use tmw_defs::{Criterion, Verdict};
 
-/// Whether the verdict is that of a history in which nothing is wrong by this criterion. Few steps, since it is asked at each event.
+/// Tells whether the verdict is that of a history in which nothing is wrong by this criterion. It takes few steps,
+/// since each event asks it.
 #[inline(always)]
 pub fn is_so_far(criterion: Criterion, verdict: Verdict) -> bool
     ensures { IsTrue result ↔ (verdict ≡ so_far criterion) }

@@ -18,9 +18,9 @@ use tmw_defs::Criterion;
 use tmw_events::Event;
 use tmw_wellformed::Note;
 
-/// Takes the next event of a well-formed history into its window, and weighs the window's events from the outcomes at its
-/// beginning. Told is whether they are at a cut with it. Where memory is refused, all is as before, but that a serial order may be
-/// known no more.
+/// Takes the next event of a well-formed history into its window, and weighs the window's events from the outcomes at
+/// its beginning. `cut` says whether they are at a cut with it. After a failed allocation all is as before, but a
+/// known serial order may be forgotten.
 #[inline(always)]
 pub fn take_event(
     criterion: Criterion,
@@ -73,7 +73,7 @@ fn take_quiet(kept: &mut Open, event: Event, note: Note) -> Result<Weighed, Allo
     Ok(Weighed::Outcome)
 }
 
-/// Takes any other event: the window is weighed with it, and where memory is refused the event is taken back.
+/// Takes any other event: weighs the window with it, and takes the event back after a failed allocation.
 #[inline(never)]
 fn take_weighed(
     criterion: Criterion,

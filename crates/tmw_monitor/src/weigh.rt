@@ -19,9 +19,9 @@ use tmw_defs::Criterion;
 use tmw_search::{possible, replace_by_outcomes};
 use tmw_witness::Witness;
 
-/// Weighs the events of a window from the outcomes at its beginning. Told is whether they are at a cut: the set then becomes that
-/// of the outcomes there, where these are at most `cap`, and the window is cleared. Elsewhere a serial order is looked for where none is
-/// known, and is kept where one is found.
+/// Weighs the events of a window from the outcomes at its beginning. `cut` says whether they are at a cut: the set
+/// then becomes that of the outcomes there, if these are at most `cap`, and the window is cleared. Elsewhere a serial
+/// order is looked for if none is known, and is kept if one is found.
 pub fn weigh(
     criterion: Criterion,
     alloc: Global,

@@ -15,7 +15,8 @@ pub enum Weighed {
 }
 
 impl Weighed {
-    /// The verdict on a history of this length, where this was found of its last window and something is wrong with it.
+    /// Returns the verdict on a history of this length, if this was found of its last window and something is wrong
+    /// with it.
     pub fn wrong(self, at: u64) -> Option<Verdict>
         ensures { result ≡ wrong_of at self }
     {

@@ -8,7 +8,8 @@ use crate::transaction::Transaction;
 use std::alloc::{AllocError, Global};
 use tmw_defs::Status;
 
-/// Whether what some completion of these transactions holds has a legal serial order of its own, from the start.
+/// Tells whether the transactions that some completion of these holds have a legal serial order of their own, from
+/// the start.
 pub fn has_completion(
     alloc: Global,
     list: &[Transaction],

@@ -33,10 +33,11 @@ pub fn judge_whole_from(
     judge_whole_for(Criterion::Opacity, alloc, registers, start, events)
 }
 
-/// Judges a history whose registers begin with these values, by search over each of its prefixes, shortest first. The answer
-/// is of the shortest prefix that is ill-formed, has more than eight transactions, or is not final-state opaque (Guerraoui
-/// and Kapalka 2008, section 5), or not final-state strict where that is the criterion: the first of these that it is. `Memory`
-/// comes only where an allocation was refused.
+/// Judges a history whose registers begin with these values, by search over each of its prefixes, shortest first. The
+/// result is of the shortest prefix that is ill-formed, has more than eight transactions, or breaks the criterion:
+/// the first of these that it is. A prefix breaks opacity if it is not final-state opaque (Guerraoui and Kapalka
+/// 2008, section 5), and strict serializability if it is not final-state strict. `Memory` comes only after a failed
+/// allocation.
 pub fn judge_whole_for(
     criterion: Criterion,
     alloc: Global,

@@ -16,7 +16,7 @@ fn precedes(one: &Transaction, other: &Transaction) -> bool
     is_ended(&one.text) && one.last < other.first
 }
 
-/// Whether none of the others precedes it in real time.
+/// Tells whether none of the others precedes the transaction in real time.
 fn is_free(transaction: &Transaction, others: &[&Transaction]) -> bool
     ensures { result ≡ is_free (txn_of transaction.now) (shown others.now) }
 {
@@ -28,7 +28,7 @@ fn is_free(transaction: &Transaction, others: &[&Transaction]) -> bool
     true
 }
 
-/// All of these but the one at the index.
+/// Returns all of these transactions but the one at the index.
 fn without<'a>(
     alloc: Global,
     list: &[&'a Transaction],
@@ -88,7 +88,8 @@ fn goes_on(
     }
 }
 
-/// Whether these transactions have a serial order, with a completion, that keeps the real-time order and is legal from the state.
+/// Tells whether these transactions have a serial order, with a completion, that keeps the real-time order and is
+/// legal from the state.
 #[cycle(orders)]
 pub fn has_order(
     alloc: Global,
@@ -105,7 +106,8 @@ pub fn has_order(
     Ok(waiting.is_empty())
 }
 
-/// Whether the transactions of a list that owns them have a serial order, with a completion, as `has_order` asks.
+/// Tells whether the transactions of a list that owns them have a serial order, with a completion, as `has_order`
+/// asks.
 pub fn is_explained(
     alloc: Global,
     list: &[Transaction],

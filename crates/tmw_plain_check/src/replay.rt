@@ -6,7 +6,7 @@ use tmw_cuts::operation;
 use tmw_defs::Op;
 use tmw_events::Kind;
 
-/// What the registers hold after the operation, if it was answered what they held before.
+/// Returns what the registers hold after the operation, if it was answered what they held before.
 pub fn after_one(op: Op, state: &[u64; 8]) -> Option<[u64; 8]>
     ensures { Replays state.now (op ∷ []) result }
 {
@@ -28,7 +28,8 @@ pub fn after_one(op: Op, state: &[u64; 8]) -> Option<[u64; 8]>
     Some(after)
 }
 
-/// What the registers hold after a transaction's operations, if each of them was answered what the registers held then.
+/// Returns what the registers hold after a transaction's operations, if each of them was answered what the registers
+/// held then.
 pub fn replay(text: &[Kind], start: &[u64; 8]) -> Option<[u64; 8]>
     ensures { Replays start.now (operations text.now) result }
 {

@@ -5,14 +5,14 @@ use tmw_cuts::status_after;
 use tmw_defs::Status;
 use tmw_events::Kind;
 
-/// The status of a transaction with this text, by its last event.
+/// Returns the status of a transaction with this text, by its last event.
 pub fn status_of(text: &[Kind]) -> Status
     ensures { result ≡ status_of text.now }
 {
     text.last().map_or(Status::Live, |kind| status_after(*kind))
 }
 
-/// Whether a transaction with this text has committed or aborted.
+/// Tells whether a transaction with this text has committed or aborted.
 pub fn is_ended(text: &[Kind]) -> bool
     ensures { result ≡ is_ended text.now }
 {

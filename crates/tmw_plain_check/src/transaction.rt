@@ -53,7 +53,7 @@ fn add(
     Ok(())
 }
 
-/// The transactions of a history, in the order of their first events.
+/// Returns the transactions of a history, in the order of their first events.
 pub fn transactions(alloc: Global, events: &[Event]) -> Result<Vec<Transaction>, AllocError>
     ensures { IfOk result (λ list. txns_of list.items ≡ transactions events.now) }
 {

@@ -8,7 +8,7 @@ use crate::status::FAULT_STATUS;
 use tmw_lines::TextFault;
 use tmw_streams::Sink;
 
-/// Writes the fault's line and answers its exit status. It takes no memory.
+/// Writes the fault's line and returns its exit status. It takes no memory.
 pub fn answer_fault<K: Sink>(sink: &mut K, fault: Fault) -> u8
     ensures { IsPut K.to sink.old sink.new (fault_line fault) 4 result }
 {
@@ -16,7 +16,7 @@ pub fn answer_fault<K: Sink>(sink: &mut K, fault: Fault) -> u8
     FAULT_STATUS
 }
 
-/// The fault by which a fault of a text is answered.
+/// Returns the fault that reports a fault of a text.
 pub const fn fault_of(fault: TextFault) -> Fault
     ensures { result ≡ fault_of fault }
 {

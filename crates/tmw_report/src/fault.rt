@@ -24,13 +24,13 @@ pub enum Fault {
     /// The input is not JSON.
     #[error("the input is not JSON")]
     Json,
-    /// The input is JSON of another shape than was asked for.
+    /// The input is JSON of another shape than is needed.
     #[error("the JSON has another shape than was asked for")]
     Shape,
     /// The number of registers is out of its range.
     #[error("the number of registers is out of its range")]
     Registers,
-    /// No ring has the numbers of cells and of places that are asked for, and a writer for each thread.
+    /// No ring has the requested numbers of cells and of places, and a writer for each thread.
     #[error("there is no ring of this size for so many threads")]
     Ring,
     /// A thread could not be started.

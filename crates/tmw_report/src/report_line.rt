@@ -8,8 +8,8 @@ use serde_json::{Value, json};
 use std::alloc::{AllocError, Global};
 use tmw_defs::{Verdict, Why};
 
-/// The line that reports a verdict on a history of `events` events, where the criterion is opacity: an object in compact JSON,
-/// with its keys in byte order and then a line feed. It fails only where memory is refused.
+/// Makes the line that reports a verdict by opacity on a history of `events` events: an object in compact JSON, with
+/// its keys in byte order, and then a line feed. It fails only after a failed allocation.
 pub fn report_text(alloc: Global, events: u64, verdict: &Verdict) -> Result<String, AllocError>
     requires { verdict.now ≢ StrictSoFar }
     ensures { IfOk result (λ line. string_bytes line ≡ report_text events verdict.now) }
@@ -54,7 +54,7 @@ fn undecided_object(alloc: Global, events: u64, at: u64, why: Why) -> Result<Val
     json!(in alloc; {"at": at, "events": events, "verdict": "undecided", "why": reason_of(why)})
 }
 
-/// The word that the object has for the bound that was passed.
+/// Returns the word that the object has for the bound that was passed.
 pub const fn reason_of(why: Why) -> &'static str
     ensures { result.now ≡ reason_text why }
 {

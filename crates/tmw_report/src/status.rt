@@ -6,8 +6,8 @@ use tmw_defs::Verdict;
 /// The exit status of each fault.
 pub const FAULT_STATUS: u8 = 4;
 
-/// The exit status that goes with a verdict: 0 for opaque so far and for strict so far, 1 for violated, 2 for undecided, 3 for
-/// malformed.
+/// Returns the exit status of a verdict: 0 for opaque so far and for strict so far, 1 for violated, 2 for undecided,
+/// 3 for malformed.
 pub const fn status_of(verdict: &Verdict) -> u8
     ensures { result ≡ verdict_status verdict.now }
 {
@@ -19,8 +19,8 @@ pub const fn status_of(verdict: &Verdict) -> u8
     }
 }
 
-/// The exit status that goes with the two verdicts by both criteria: 3 where either is malformed, else 1 where either is
-/// violated, else 2 where either is undecided, else 0.
+/// Returns the exit status of the two verdicts by both criteria: 3 if either is malformed, else 1 if either is
+/// violated, else 2 if either is undecided, else 0.
 pub const fn both_status(opacity: &Verdict, strict: &Verdict) -> u8
     ensures { result ≡ both_status opacity.now strict.now }
 {

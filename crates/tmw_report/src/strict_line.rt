@@ -9,8 +9,8 @@ use serde_json::{Value, json};
 use std::alloc::{AllocError, Global};
 use tmw_defs::{Verdict, Why};
 
-/// The line that reports a verdict on a history of `events` events, where the criterion is strict serializability: as
-/// `report_text`, with the criterion's name.
+/// Makes the line that reports a verdict by strict serializability on a history of `events` events: as `report_text`,
+/// with the criterion's name.
 pub fn report_strict(alloc: Global, events: u64, verdict: &Verdict) -> Result<String, AllocError>
     requires { verdict.now ≢ OpaqueSoFar }
     ensures { IfOk result (λ line. string_bytes line ≡ strict_text events verdict.now) }

@@ -33,7 +33,8 @@ fn none_holds(items: &[Txn]) -> Aside
     Aside { mask, count }
 }
 
-/// The transactions to be set aside: for opacity none, and for strict serializability those that no completion holds.
+/// Returns the transactions to set aside: by opacity none, and by strict serializability those that no completion
+/// holds.
 pub fn set_aside(criterion: Criterion, items: &[Txn]) -> Aside
     requires { length items.now ≤ 8 }
     ensures within { result.count ≤ length items.now }

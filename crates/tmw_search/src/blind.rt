@@ -14,7 +14,7 @@ use std::alloc::{AllocError, Global};
 use tmw_cuts::{State, States, Txn};
 use tmw_defs::{Criterion, Status};
 
-/// Whether it has ended and does nothing but write, and each serial order of the criterion has it.
+/// Tells whether the transaction has ended and does nothing but write, and each serial order of the criterion has it.
 fn is_blind(criterion: Criterion, item: &Txn) -> bool
     ensures { result ≡ shows_blind criterion (view item.now) }
 {
@@ -25,8 +25,8 @@ fn is_blind(criterion: Criterion, item: &Txn) -> bool
     }
 }
 
-/// Whether all of them have ended and do nothing but write, and each serial order of the criterion has all of them: each is then
-/// legal.
+/// Tells whether all of them have ended and do nothing but write, and each serial order of the criterion has all of
+/// them. Each order is then legal.
 pub fn are_blind(criterion: Criterion, items: &[Txn]) -> bool
     ensures { result ≡ list_all (λ item. shows_blind criterion (view item)) items.now }
 {
@@ -45,7 +45,7 @@ fn written_by_any(lasts: &[Last; 8]) -> u8
     written
 }
 
-/// How many registers there are up to the mask's last.
+/// Returns how many registers there are up to the mask's last.
 fn registers_upto(written: u8) -> usize
     ensures few { result ≤ 8 }
     ensures none { (r : ℕ) → result ≤ r → r < 8 → bit_at written r ≡ 0 }
@@ -69,7 +69,7 @@ fn agree_outside(written: u8, one: &State, other: &State) -> bool
     true
 }
 
-/// The states in which the transactions can end that began in one of these, where all are blind.
+/// Finds the states in which the transactions can end from one of these, where all are blind.
 pub fn find_blind_ends(
     alloc: Global,
     items: &[Txn],

@@ -24,8 +24,9 @@ fn least(lasts: &[Last; 8], register: usize, mask: u8) -> usize
     least
 }
 
-/// Adds the ends in which the registers below this one hold what this state does, and each from it on what the last of its writers
-/// leaves: each writer that comes before no other of them is taken for the last. Whether all were added: they are at most `cap`.
+/// Adds the ends in which each register from this one on holds what the last of its writers leaves, and those below
+/// what this state holds. Each writer that comes before no other of them is taken for the last. Returns whether all
+/// were added: they are at most `cap`.
 pub fn add_ends(
     lasts: &[Last; 8],
     upto: usize,

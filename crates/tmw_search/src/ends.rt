@@ -18,9 +18,10 @@ use std::alloc::{AllocError, Global};
 use tmw_cuts::{State, States, Window};
 use tmw_defs::Criterion;
 
-/// What can be reached from the states by `k` of the window's transactions: in rising order and each once, the pairs of a set
-/// of `k` of them, as a mask whose bit j stands for transaction j, and a state in which some order of just that set ends. The
-/// order is legal for some completion, keeps the real-time order, and the set leaves out none that precedes a member.
+/// Finds what `k` of the window's transactions can reach from the states. A pair is a set of `k` of them, as a mask
+/// whose bit j stands for transaction j, and a state in which some order of just that set ends. The order is legal
+/// for some completion and keeps the real-time order, and the set leaves out none that precedes a member. The pairs
+/// are in rising order and each once.
 pub fn layer(
     alloc: Global,
     states: &States,
@@ -43,7 +44,7 @@ pub fn layer(
     )
 }
 
-/// All of the window's transactions, as a mask, with each state in which they may end that began in one of the states.
+/// Pairs all of the window's transactions, as a mask, with each state in which they may end from one of the states.
 fn last_of(
     criterion: Criterion,
     alloc: Global,
@@ -57,8 +58,8 @@ fn last_of(
     last_pairs(criterion, alloc, states.states(), items, &aside)
 }
 
-/// Whether the window's transactions have a legal serial order, for some completion, from one of the states: an order of all of
-/// them for opacity, and of those that the completion holds for strict serializability.
+/// Tells whether the window's transactions have a legal serial order, for some completion, from one of the states. By
+/// opacity the order has all of them, by strict serializability those that the completion holds.
 pub fn possible(
     criterion: Criterion,
     alloc: Global,
@@ -75,8 +76,8 @@ pub fn possible(
     Ok(!last.is_empty())
 }
 
-/// The states in which the window's transactions may end, over all legal serial orders and completions, from one of the
-/// states: `Few`, where they are at most `cap`.
+/// Finds the states in which the window's transactions may end, over all legal serial orders and completions, from
+/// one of the states. They are `Few` if they are at most `cap`.
 pub fn outcomes(
     criterion: Criterion,
     alloc: Global,
@@ -96,10 +97,12 @@ pub fn outcomes(
     if are_blind(criterion, items) {
         return find_blind_ends(alloc, items, states.states(), cap);
     }
+    // A set has its states in rising order, register 0 first, so the order of the search does not show.
     let mut ends = States::empty(alloc);
     let last = last_of(criterion, alloc, states, window)?;
     for (_all, state) in &last {
         ends.insert(*state)?;
+        // The first state past the cap settles it. At a cap of 0 any end is `Many`, and no end is `Few` of no state.
         if ends.len() > cap as usize {
             return Ok(EndStates::Many);
         }
@@ -107,8 +110,8 @@ pub fn outcomes(
     Ok(EndStates::Few(ends))
 }
 
-/// Puts in the place of the states those in which the window's transactions may end from one of them, where these are at most
-/// `cap`, and tells whether they are. `known` may be one of them: nothing is searched then where there can be no other.
+/// Replaces the states by the outcomes of the window's transactions from them, if these are at most `cap`, and tells
+/// whether they are. `known` may be one of them: if there can be no other, nothing is searched.
 pub fn replace_by_outcomes(
     criterion: Criterion,
     alloc: Global,

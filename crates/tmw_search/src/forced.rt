@@ -26,21 +26,21 @@ fn shared_by(items: &[Txn]) -> u8
     twice
 }
 
-/// Whether it has not committed, or writes none of these registers blindly.
+/// Tells whether the transaction has not committed, or writes none of these registers blindly.
 fn is_without_blind(item: &Txn, registers: u8) -> bool
     ensures { result ≡ is_without_blind registers (view item.now) }
 {
     item.status != Status::Committed || registers & item.blind() == 0
 }
 
-/// Whether none of them has committed and writes one of these registers blindly.
+/// Tells whether none of the transactions has committed and writes one of these registers blindly.
 fn are_without_blind(items: &[Txn], registers: u8) -> bool
     ensures { result ≡ list_all (λ item. is_without_blind registers (view item)) items.now }
 {
     items.iter().all(|item| is_without_blind(item, registers))
 }
 
-/// Whether it has committed and writes the register.
+/// Tells whether the transaction has committed and writes the register.
 fn is_writer(item: &Txn, register: usize) -> bool
     requires { register < 8 }
     ensures { result ≡ shows_writer register (view item.now) }
@@ -51,7 +51,7 @@ fn is_writer(item: &Txn, register: usize) -> bool
     }
 }
 
-/// The last of those that have committed and write the register, by their first events.
+/// Finds the last of the committed transactions that write the register, by their first events.
 fn last_writer(items: &[Txn], register: usize) -> Option<usize>
     requires { register < 8 }
     ensures within { IfSome result (λ place. place < length items.now) }
@@ -97,7 +97,7 @@ fn is_settled(items: &[Txn], register: usize) -> bool
     true
 }
 
-/// Whether each of these registers is written blindly by none that has committed, or is settled.
+/// Tells whether each of these registers is written blindly by no committed transaction, or is settled.
 fn are_settled(items: &[Txn], registers: u8) -> bool
     requires { length items.now ≤ 8 }
     ensures { IsTrue result → AreDecided registers (map view items.now) }
@@ -113,8 +113,8 @@ fn are_settled(items: &[Txn], registers: u8) -> bool
     true
 }
 
-/// Whether each register that two committed transactions write is not written blindly, or is settled: all their orders then end in one
-/// state.
+/// Tells whether each register that two committed transactions write is not written blindly, or is settled. All their
+/// orders then end in one state.
 pub fn is_forced(items: &[Txn]) -> bool
     requires { length items.now ≤ 8 }
     ensures { IsTrue result → AreForced (map view items.now) }
@@ -126,8 +126,8 @@ pub fn is_forced(items: &[Txn]) -> bool
     shared == 0 || are_settled(items, shared)
 }
 
-/// The states in which the transactions can end that began in one of these, where those from one state all end in one: the
-/// ends that a search finds, where it finds one from each.
+/// Finds the states in which the transactions can end from one of these, where all orders from one state end in one.
+/// `None` if the search finds no order from one of them.
 pub fn find_ends(
     criterion: Criterion,
     alloc: Global,

@@ -14,7 +14,7 @@ fn is_idle(item: &Txn) -> bool
     !may_hold(item.status, true) || item.written() == 0
 }
 
-/// Whether it may come next, leaves each state as it is, and read what the state has.
+/// Tells whether the transaction may come next, leaves each state as it is, and read what the state has.
 fn is_idle_next(item: &Txn, place: usize, reached: &Reached) -> bool
     requires { place < 8 }
     ensures { result ≡ is_idle_next (view item.now) place reached.now }

@@ -32,7 +32,7 @@ fn next_pairs(
     Ok(())
 }
 
-/// All of the transactions, as a mask, with each state in which they may end that began in one of these.
+/// Pairs all of the transactions, as a mask, with each state in which they may end from one of these.
 pub fn last_pairs(
     criterion: Criterion,
     alloc: Global,

@@ -33,7 +33,7 @@ fn last_of(item: &Txn) -> Last
     }
 }
 
-/// What each of the transactions leaves, where they do nothing but write.
+/// Returns what each of the transactions leaves, where they do nothing but write.
 pub fn lasts_of(items: &[Txn]) -> [Last; 8]
     requires { length items.now ≤ 8 }
     ensures { LeaveLasts (map view items.now) result }

@@ -11,7 +11,7 @@ use tmw_defs::{Criterion, Status};
 /// The transactions that were placed, as a mask, and the state that they have led to.
 pub type Reached = (u8, State);
 
-/// Whether a completion may hold a transaction of this status, or leave it out.
+/// Tells whether a completion may hold a transaction of this status, or leave it out if `held` is `false`.
 pub fn may_hold(status: Status, held: bool) -> bool
     ensures { result ≡ may_hold status held }
 {
@@ -22,7 +22,7 @@ pub fn may_hold(status: Status, held: bool) -> bool
     }
 }
 
-/// Whether the transaction at the place isn't placed, and no other that isn't precedes it.
+/// Tells whether the transaction at the place isn't placed, and no other that isn't placed precedes it.
 pub fn is_next(item: &Txn, place: usize, mask: u8) -> bool
     requires { place < 8 }
     ensures { result ≡ is_next (view item.now) place mask }
@@ -30,7 +30,8 @@ pub fn is_next(item: &Txn, place: usize, mask: u8) -> bool
     mask >> place & 1 == 0 && item.before & !mask == 0
 }
 
-/// The state in which it leaves the memory, held or left out, where what is asked of its reads holds.
+/// Returns the state in which the transaction leaves the memory, held or left out, if what is asked of its reads
+/// holds.
 pub fn end_of(criterion: Criterion, item: &Txn, held: bool, state: &State) -> Option<State>
     ensures { IfSome result (λ end. IsTrue (reads_asked criterion held state.now item.now.ops.items)
         × (end ≡ end_at (view item.now) state.now held)) }
@@ -63,8 +64,8 @@ fn push_next(
     push_ways(criterion, nexts, item, mask | 1 << place, &state)
 }
 
-/// Adds the states in which the transaction may leave the memory: held, where it read what the state has, and left out, where
-/// it did, or where nothing is asked of what it read then.
+/// Adds the states in which the transaction may leave the memory: held, if it read what the state has, and left out,
+/// if it did, or if what it read then may be anything.
 fn push_ways(
     criterion: Criterion,
     nexts: &mut Vec<Reached>,

@@ -13,7 +13,7 @@ pub struct Writers {
     pub before: u8,
 }
 
-/// For each of the transactions it and those that precede it, as a mask.
+/// Returns, for each of the transactions, it and those that precede it, as a mask.
 pub fn reach_of(items: &[Txn]) -> [u8; 8]
     requires { length items.now ≤ 8 }
     ensures { ShowsReach (map view items.now) result }
@@ -25,7 +25,7 @@ pub fn reach_of(items: &[Txn]) -> [u8; 8]
     reach
 }
 
-/// Who writes the register, and who comes before one of them.
+/// Finds the transactions that write the register, and those that come before one of them.
 pub fn writers_of(lasts: &[Last; 8], register: usize, reach: &[u8; 8]) -> Writers
     requires { register < 8 }
     ensures { AreWriters lasts.now register reach.now result }
@@ -41,7 +41,8 @@ pub fn writers_of(lasts: &[Last; 8], register: usize, reach: &[u8; 8]) -> Writer
     Writers { writers, before }
 }
 
-/// Who comes before whom, where these come before the one at the place too, and so before all that it comes before.
+/// Returns who comes before whom, if these also come before the one at the place, and so before all that it comes
+/// before.
 pub fn join(reach: &[u8; 8], place: usize, before: u8) -> [u8; 8]
     requires { place < 8 }
     ensures { Joins place before reach.now result }

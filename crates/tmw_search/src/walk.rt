@@ -43,13 +43,13 @@ pub struct Step {
 /// What a search has placed, and how many placings it may still make. It is a guess: nothing is claimed of it.
 #[derive(Clone, Copy, Debug)]
 pub struct Trail {
-    /// What was placed last where so many transactions were still left behind it.
+    /// Step n is the one with n transactions after it.
     pub steps: [Step; 8],
     fuel: u32,
 }
 
 impl Trail {
-    /// That of a search that may place so many transactions.
+    /// Makes the trail of a search that may place so many transactions.
     pub fn new(fuel: u32) -> Trail {
         Trail {
             steps: [Step {
@@ -60,7 +60,7 @@ impl Trail {
         }
     }
 
-    /// Notes that this transaction is placed, and that so many are left behind it.
+    /// Notes that this transaction is placed, and that so many come after it.
     fn note(&mut self, left: usize, step: Step) {
         if let Some(last) = self.steps.get_mut(left) {
             *last = step;
@@ -249,8 +249,8 @@ fn walk(
     )
 }
 
-/// A state in which the transactions can end that began in this one, where a search finds one that makes no more placings than the
-/// trail allows. The trail then has their order.
+/// Searches for a state in which the transactions can end from this one, by no more placings than the trail allows.
+/// If it finds one, the trail has their order.
 pub fn find_end(
     criterion: Criterion,
     items: &[Txn],
@@ -268,8 +268,8 @@ pub fn find_end(
     walk(criterion, items, progress, state, trail)
 }
 
-/// How a search has placed the transactions that began in this state, where it has placed all of them: that one which so many were
-/// left behind, for each number. It is to be checked by whoever takes it; told is only that there is such an order.
+/// Searches for an order of the transactions from this state. Step n of the result is the one with n steps after it.
+/// Check the order before use: the contract says only that there is one.
 pub fn find_order(items: &[Txn], state: &State) -> Option<[Step; 8]>
     requires { length items.now ≤ 8 }
     ensures { IfSome result (λ steps. (end : State)
@@ -282,7 +282,8 @@ pub fn find_order(items: &[Txn], state: &State) -> Option<[Step; 8]>
     Some(trail.steps)
 }
 
-/// Whether a search finds a state in which the transactions can end that began in one of these.
+/// Tells whether a search finds a state in which the transactions can end from one of these. After `false` there may
+/// still be one.
 pub fn finds_end(criterion: Criterion, items: &[Txn], states: &[State]) -> bool
     requires { length items.now ≤ 8 }
     ensures { IsTrue result → HaveEnd criterion (map view items.now) states.now }

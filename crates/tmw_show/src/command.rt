@@ -1,5 +1,5 @@
-//! The command `show`: a trace, read and judged event by event, and the place where it went wrong: its last window, drawn in columns,
-//! or as traces of its own.
+//! The command `show`: reads a trace, judges it event by event, and writes where it went wrong: its last window, drawn in
+//! columns, or as traces of its own.
 
 mod answer;
 mod kind_text;

@@ -3,6 +3,7 @@ ghost use Rattle.tmw_events.specs.declared.event.Event.{Event};
 ghost use Rattle.tmw_defs.specs.Verdict.{Rules, IsVerdict};
 ghost use Rattle.tmw_defs.specs.declared.verdict.Verdict.{Verdict};
 ghost use Rattle.tmw_monitor.specs.Fitting.{Fits};
+ghost use Rattle.tmw_monitor.specs.Monitor.{IsOpen, verdict_of};
 ghost use Rattle.tmw_monitor.specs.declared.monitor.Monitor.{Monitor};
 
 use crate::next_shown::NextShown;
@@ -12,8 +13,8 @@ use tmw_cuts::States;
 use tmw_events::Event;
 use tmw_monitor::Monitor;
 
-/// The last window of a history that a monitor judges, up to the event at which something is wrong. Beside it stand the states from
-/// which it begins. No event before it is kept.
+/// The last window of a history that a monitor judges, up to the event at which something is wrong, and the states
+/// from which it begins. No event before it is kept.
 #[derive(Debug, Drop)]
 pub struct KeptWindow {
     from: u64,
@@ -22,14 +23,14 @@ pub struct KeptWindow {
 }
 
 impl KeptWindow {
-    ghost use Rattle.tmw_show.specs.Keeping.{HasPlaceFor, IsNext, IsOpen, KeepsSame, KeepsShown};
+    ghost use Rattle.tmw_show.specs.Keeping.{HasPlaceFor, IsNext, KeepsSame, KeepsShown, events_of, from_of, states_of};
     ghost use Rattle.tmw_show.specs.Showing.{IsShowing};
 
-    /// Before the first event that the monitor is fed.
+    /// Makes what is kept before the first event that the monitor is fed.
     pub fn new(alloc: Global, monitor: &Monitor) -> Result<KeptWindow, AllocError>
         ensures { IfOk result
             (λ kept. (rules : Rules) → Fits rules [] monitor.now
-            → KeepsShown rules [] monitor.now.verdict kept) }
+            → KeepsShown rules [] (verdict_of monitor.now) kept) }
     {
         let states = monitor.outcomes().copy()?;
         Ok(KeptWindow {
@@ -39,8 +40,8 @@ impl KeptWindow {
         })
     }
 
-    /// Makes room for the event that the monitor takes next, and answers what that does with the window. Where something is wrong
-    /// already it succeeds.
+    /// Makes room for the event that the monitor takes next, and returns what that does with the window. If something
+    /// is wrong already it succeeds.
     pub fn make_room(&mut self, monitor: &Monitor) -> Result<NextShown, AllocError>
         ensures same { KeepsSame self.old self.new }
         ensures next { IfOk result (IsNext monitor.now) }
@@ -61,13 +62,13 @@ impl KeptWindow {
         })
     }
 
-    /// Goes on by the event that the monitor has taken, which is kept unless something was wrong before it.
+    /// Takes the event that the monitor has taken, and keeps it unless something was wrong before it.
     pub fn take(&mut self, next: NextShown, event: Event)
         requires { HasPlaceFor next self.old }
         ensures { (rules : Rules) (history : List Event) (before : Monitor) (verdict : Verdict)
             → IsNext before next
             → Fits rules history before → IsVerdict rules (history ++ event ∷ []) verdict
-            → KeepsShown rules history before.verdict self.old
+            → KeepsShown rules history (verdict_of before) self.old
             → KeepsShown rules (history ++ event ∷ []) verdict self.new }
     {
         match next {
@@ -82,31 +83,31 @@ impl KeptWindow {
         }
     }
 
-    /// How many events stand before the window.
+    /// Returns how many events stand before the window.
     pub fn from(&self) -> u64
-        ensures { result ≡ self.now.from }
+        ensures { result ≡ from_of self.now }
     {
         self.from
     }
 
-    /// The states from which it begins, in rising order, 1 to 64.
+    /// Returns the states from which the window begins, in rising order, 1 to 64.
     pub fn states(&self) -> &States
-        ensures { result.now ≡ self.now.states }
+        ensures { result.now ≡ states_of self.now }
     {
         &self.states
     }
 
-    /// Its events: up to the one at which something is wrong, or else all.
+    /// Returns the window's events: up to the one at which something is wrong, or else all.
     pub fn events(&self) -> &[Event]
-        ensures { result.now ≡ self.now.events.items }
+        ensures { result.now ≡ events_of self.now }
     {
         &self.events
     }
 
-    /// What is shown of the run that the monitor was fed, where no event follows.
+    /// Returns what is shown of the run that the monitor was fed, if no event follows.
     pub fn finish(self, monitor: &Monitor) -> Showing
         ensures { (rules : Rules) (history : List Event) → Fits rules history monitor.now
-            → KeepsShown rules history monitor.now.verdict self → IsShowing rules history result }
+            → KeepsShown rules history (verdict_of monitor.now) self → IsShowing rules history result }
     {
         Showing {
             fed: monitor.fed(),

@@ -1,9 +1,9 @@
 ghost use Rattle.std.specs.Prelude.{◌≡◌, ◌<◌, ◌^◌, List, [], ◌∷◌, ◌++◌, IfOk, IsOk, OnOk, OnErr, length};
 ghost use Rattle.tmw_events.specs.declared.event.Event.{Event};
-ghost use Rattle.tmw_defs.specs.Criteria.{so_far};
 ghost use Rattle.tmw_defs.specs.Verdict.{Rules, IsVerdict};
 ghost use Rattle.tmw_cuts.specs.Members.{members};
 ghost use Rattle.tmw_monitor.specs.Fitting.{rules_for};
+ghost use Rattle.tmw_monitor.specs.Monitor.{IsOpen, fed_of};
 
 use crate::kept_window::KeptWindow;
 use crate::showing::Showing;
@@ -12,8 +12,8 @@ use tmw_cuts::{State, States};
 use tmw_events::{Event, Registers};
 use tmw_monitor::{Bounds, Criterion, Monitor, Verdict};
 
-/// Judges a history as its events come, and keeps the last window, up to the event at which something is wrong, and the states
-/// from which that window begins. It keeps no event before them.
+/// A judge of a history as its events come, which keeps the last window, up to the event at which something is wrong,
+/// and the states from which that window begins. It keeps no event before them.
 #[derive(Drop)]
 pub struct LastWindow {
     monitor: Monitor,
@@ -22,9 +22,11 @@ pub struct LastWindow {
 
 impl LastWindow {
     ghost use Rattle.tmw_show.specs.Showing.{IsShowing};
-    ghost use Rattle.tmw_show.specs.Watching.{Watches};
+    ghost use Rattle.tmw_show.specs.Keeping.{events_of, from_of, states_of};
+    ghost use Rattle.tmw_show.specs.Watching.{Watches, monitor_of, window_of};
 
-    /// Before the first event of a run whose registers begin with these values. Those that the run does not have are to be 0.
+    /// Makes a judge of a run whose registers begin with these values, before its first event. Those that the run
+    /// does not have are to be 0.
     pub fn new(
         alloc: Global,
         criterion: Criterion,
@@ -40,9 +42,9 @@ impl LastWindow {
         Ok(LastWindow { monitor, kept })
     }
 
-    /// Takes the next event. Where memory is refused, the event is not taken.
+    /// Takes the next event. After a failed allocation the event is not taken: feed it again.
     pub fn feed(&mut self, event: Event) -> Result<(), AllocError>
-        requires room { self.old.monitor.count < 2 ^ 40 }
+        requires room { fed_of (monitor_of self.old) < 2 ^ 40 }
         ensures ok { OnOk result
             ((rules : Rules) (history : List Event) → Watches rules history self.old
             → Watches rules (history ++ event ∷ []) self.new) }
@@ -51,8 +53,7 @@ impl LastWindow {
             → Watches rules history self.new) }
 
         // After a verdict that something is wrong each call succeeds.
-        ensures stays { (self.old.monitor.verdict ≡ so_far self.old.monitor.criterion → ⊥)
-            → IsOk result }
+        ensures stays { (IsOpen (monitor_of self.old) → ⊥) → IsOk result }
     {
         let next = self.kept.make_room(&self.monitor)?;
         self.monitor.feed(event)?;
@@ -60,37 +61,37 @@ impl LastWindow {
         Ok(())
     }
 
-    /// How many events stand before the window that is shown.
+    /// Returns how many events stand before the window that is shown.
     pub fn from(&self) -> u64
-        ensures { result ≡ self.now.kept.from }
+        ensures { result ≡ from_of (window_of self.now) }
     {
         self.kept.from()
     }
 
-    /// The states from which that window begins, in rising order, 1 to 64.
+    /// Returns the states from which that window begins, in rising order, 1 to 64.
     pub fn states(&self) -> &States
-        ensures { members result.now ≡ members self.now.kept.states }
+        ensures { members result.now ≡ members (states_of (window_of self.now)) }
     {
         self.kept.states()
     }
 
-    /// The events of that window: up to the one at which something is wrong, or else all.
+    /// Returns the events of that window: up to the one at which something is wrong, or else all.
     pub fn events(&self) -> &[Event]
-        ensures { result.now ≡ self.now.kept.events.items }
+        ensures { result.now ≡ events_of (window_of self.now) }
     {
         self.kept.events()
     }
 
-    /// How many events were taken.
+    /// Returns how many events were taken.
     pub fn fed(&self) -> u64
-        ensures shown { result ≡ self.now.monitor.count }
+        ensures shown { result ≡ fed_of (monitor_of self.now) }
         ensures fits { (rules : Rules) (history : List Event) → Watches rules history self.now
             → result ≡ length history }
     {
         self.monitor.fed()
     }
 
-    /// The verdict on the events taken.
+    /// Returns the verdict on the events taken.
     pub fn verdict(&self) -> Verdict
         ensures { (rules : Rules) (history : List Event) → Watches rules history self.now
             → IsVerdict rules history result }
@@ -98,7 +99,7 @@ impl LastWindow {
         self.monitor.verdict()
     }
 
-    /// What is shown of the run, where no event follows.
+    /// Returns what is shown of the run, if no event follows.
     pub fn finish(self) -> Showing
         ensures { (rules : Rules) (history : List Event) → Watches rules history self
             → IsShowing rules history result }

@@ -1,4 +1,4 @@
-//! The place where a run went wrong: its last window, and the states from which that begins.
+//! The place where a run went wrong: its last window, and the states from which that window begins.
 #![tactic(auto)]
 
 mod command;

@@ -5,7 +5,7 @@ use tmw_cuts::States;
 pub enum NextShown {
     /// Nothing: something is wrong before it.
     None,
-    /// It begins a new one, behind so many events and from these states.
+    /// It begins a new one, after so many events and from these states.
     Begins { from: u64, states: States },
     /// It goes on with the one that there is.
     GoesOn,

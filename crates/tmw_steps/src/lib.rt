@@ -1,4 +1,4 @@
-//! The command `steps`: a list of a ring's steps, read from its text, made on a new ring's machine, and its replies' text.
+//! The command `steps`: reads a list of a ring's steps, makes them on a new ring's machine, and writes the replies.
 #![tactic(auto)]
 
 mod naming;

@@ -9,9 +9,10 @@ use std::alloc::Global;
 use tmw_lines::{TextFault, read_lines};
 use tmw_streams::Source;
 
-/// Reads a whole list of steps, up to the source's end. Lines are judged in order, each before any further read, and the
-/// first fault is answered; a whole bad line that was delivered before a failed read comes before `Io`. `Memory` answers
-/// want of memory, with at most 4,096 bytes read behind whole lines; only tests show that a growth was refused.
+/// Reads a whole list of steps, up to the source's end. Lines are judged in order, each before any further read, and
+/// the first fault is returned. A whole bad line that came before a failed read is reported, not `Io`. `Memory`
+/// follows a failed allocation, with at most 4,096 bytes read after whole lines; only tests show that an allocation
+/// failed.
 pub fn read_steps<S: Source>(alloc: Global, source: &mut S) -> Result<StepList, TextFault>
     // The bytes told, up to the end, are exactly the list's text.
     ensures text { IfOk result

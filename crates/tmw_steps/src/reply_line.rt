@@ -19,8 +19,8 @@ impl Texts<Reply> for ReplyTexts {
     }
 }
 
-/// Writes a line for each reply, and then the line that counts the places that were claimed, `log`, and the events that
-/// were taken. It takes no memory. After a failed write a beginning of the lines went out, and not all of them.
+/// Writes a line for each reply, and then the line that counts the claimed places, `log`, and the events taken. It
+/// takes no memory. After a failed write a beginning of the lines went out, and not all of them.
 pub fn put_replies<K: Sink>(
     sink: &mut K,
     replies: &[Reply],

@@ -19,9 +19,9 @@ pub struct Run {
     pub taken: u64,
 }
 
-/// Makes the steps that the source tells on a new ring's machine, and writes how each is answered, a line each, and the line
-/// `log L taken K`. The whole text is read first. For a fault its line alone is written. The result is the exit status: 0, or 4
-/// for any fault.
+/// Makes the source's steps on a new ring's machine, and writes the reply to each, a line each, and the line `log L
+/// taken K`. The whole text is read first. For a fault its line alone is written. The result is the exit status: 0,
+/// or 4 for any fault.
 pub fn run_steps<S: Source, K: Sink>(alloc: Global, source: &mut S, sink: &mut K) -> u8
     ensures { RunsSteps S.from K.to
         source.old source.new sink.old sink.new result }

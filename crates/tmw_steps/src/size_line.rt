@@ -13,8 +13,8 @@ pub struct SizeLine {
     pub limit: u64,
 }
 
-/// The size that these bytes are the text of: the first line without its line feed. `None` for all other bytes. Whether a
-/// ring may have this size is not asked.
+/// Returns the size whose text these bytes are, and `None` for all other bytes. The text is the first line without
+/// its line feed. Whether a ring may have this size is tested elsewhere.
 pub fn size_of(bytes: &[u8]) -> Option<SizeLine>
     ensures some { IfSome result (λ size. bytes.now ≡ size_text size) }
     ensures fits { IfSome result FitsSize }

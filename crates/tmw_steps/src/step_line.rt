@@ -7,7 +7,8 @@ ghost use Rattle.tmw_steps.specs.StepText.{step_text, FitsStep, IsNoStep};
 use tmw_events::{Ix, Kind, ix_of, kind_of};
 use tmw_ring_defs::Step;
 
-/// The step that these bytes are the text of: a line without its line feed. `None` for all other bytes.
+/// Returns the step whose text these bytes are, and `None` for all other bytes. The text is a line without its line
+/// feed.
 pub fn step_of(bytes: &[u8]) -> Option<Step>
     ensures some { IfSome result (λ step. bytes.now ≡ step_text step) }
     ensures fits { IfSome result FitsStep }

@@ -4,5 +4,6 @@ pub mod Lines
 pub mod Memory
 pub mod PassedOn
 pub mod Reading
+pub mod Std
 pub mod Streams
 pub mod Told

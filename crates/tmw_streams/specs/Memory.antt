@@ -63,26 +63,30 @@ sink_fails_at sink = sink.fails_at
 abbrev pub sink_calls : MemorySink → ℕ
 sink_calls sink = sink.calls
 
+-- for how many bytes the sink has room
+abbrev pub sink_room : MemorySink → ℕ
+sink_room sink = vec_capacity sink.bytes
+
 -- The source's next call, counted from 1, is the one at which it was to fail.
 abbrev pub SourceFails : MemorySource → Type 0
-SourceFails source = source.fails_at ≡ Some (one_more source.calls)
+SourceFails source = source_fails_at source ≡ Some (one_more (source_calls source))
 
 -- The sink's next call, counted from 1, is the one at which it was to fail.
 abbrev pub SinkFails : MemorySink → Type 0
-SinkFails sink = sink.fails_at ≡ Some (one_more sink.calls)
+SinkFails sink = sink_fails_at sink ≡ Some (one_more (sink_calls sink))
 
 -- So many bytes more are over the room that the sink has.
 abbrev pub SinkLacksRoom : MemorySink → ℕ → Type 0
-SinkLacksRoom sink count = vec_capacity sink.bytes < length sink.bytes.items + count
+SinkLacksRoom sink count = sink_room sink < length (held_bytes sink) + count
 
 -- One call more of the source was counted, and its limits are as they were.
 pub record SourceCalled (old new : MemorySource) : Type 0 where
-  pub counted : new.calls ≡ one_more old.calls
-  pub most : new.most ≡ old.most
-  pub fails_at : new.fails_at ≡ old.fails_at
+  pub counted : source_calls new ≡ one_more (source_calls old)
+  pub most : source_most new ≡ source_most old
+  pub fails_at : source_fails_at new ≡ source_fails_at old
 
 -- One call more of the sink was counted, and its limits are as they were.
 pub record SinkCalled (old new : MemorySink) : Type 0 where
-  pub counted : new.calls ≡ one_more old.calls
-  pub most : new.most ≡ old.most
-  pub fails_at : new.fails_at ≡ old.fails_at
+  pub counted : sink_calls new ≡ one_more (sink_calls old)
+  pub most : sink_most new ≡ sink_most old
+  pub fails_at : sink_fails_at new ≡ sink_fails_at old

@@ -9,8 +9,8 @@ use arrayvec::ArrayVec;
 /// The greatest number of bytes that a `BoundedSink` holds.
 const MOST_BYTES: usize = 4096;
 
-/// A sink that holds at most 4,096 bytes and takes no memory. It takes all the bytes of a call, or none where they don't
-/// fit, which is a failed write.
+/// A sink that holds at most 4,096 bytes and takes no memory. A call takes all its bytes; if they don't fit it takes
+/// none, which is a failed write.
 #[derive(Drop)]
 pub struct BoundedSink {
     bytes: ArrayVec<u8, MOST_BYTES>,
@@ -18,7 +18,7 @@ pub struct BoundedSink {
 }
 
 impl BoundedSink {
-    /// Nothing is held.
+    /// Makes an empty sink.
     pub fn new() -> BoundedSink
         ensures held { bounded_bytes result ≡ [] }
         ensures failures { to_bounded.failures result ≡ 0 }
@@ -29,21 +29,21 @@ impl BoundedSink {
         }
     }
 
-    /// The bytes that are held, in the order in which they were taken.
+    /// Returns the bytes held, in the order in which they were taken.
     pub fn bytes(&self) -> &[u8]
         ensures { result.now ≡ bounded_bytes self.now }
     {
         self.bytes.as_slice()
     }
 
-    /// How many bytes are held.
+    /// Returns how many bytes are held.
     pub fn len(&self) -> usize
         ensures { result ≡ length (bounded_bytes self.now) }
     {
         self.bytes.len()
     }
 
-    /// Keeps the first bytes alone, where there are more.
+    /// Keeps the first `count` bytes, or all if there are fewer.
     pub fn truncate(&mut self, count: usize)
         ensures held { bounded_bytes self.new ≡ take count (bounded_bytes self.old) }
         ensures failures { to_bounded.failures self.new ≡ to_bounded.failures self.old }
@@ -51,7 +51,7 @@ impl BoundedSink {
         self.bytes.truncate(count);
     }
 
-    /// Lets go of all bytes.
+    /// Drops all bytes.
     pub fn clear(&mut self)
         ensures held { bounded_bytes self.new ≡ [] }
         ensures failures { to_bounded.failures self.new ≡ to_bounded.failures self.old }

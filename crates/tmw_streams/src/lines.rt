@@ -19,8 +19,8 @@ pub trait Texts<I> {
         ensures { Puts K.to sink.old (text item.now) sink.new result };
 }
 
-/// Writes a line for each item, as many together as 4,096 bytes hold; a longer line goes out alone. It takes no memory. After a
-/// failed write a beginning of the lines went out, and not all of them.
+/// Writes a line for each item, as many together as 4,096 bytes hold; a longer line goes out alone. It takes no
+/// memory. After a failed write a beginning of the lines went out, and not all of them.
 pub fn put_lines<T: Texts<I>, I, K: Sink>(sink: &mut K, items: &[I]) -> Result<(), IoFault>
     ensures { Puts K.to sink.old (lines_of T.text items.now) sink.new result }
 {
@@ -31,7 +31,7 @@ pub fn put_lines<T: Texts<I>, I, K: Sink>(sink: &mut K, items: &[I]) -> Result<(
     put_all(sink, held.bytes())
 }
 
-/// Holds the item's line behind the bytes held. Where it doesn't fit, these and the line go out.
+/// Holds the item's line after the bytes held. If it doesn't fit, these and the line go out.
 fn pass_line<T: Texts<I>, I, K: Sink>(
     held: &mut BoundedSink,
     sink: &mut K,

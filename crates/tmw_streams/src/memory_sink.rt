@@ -6,8 +6,8 @@ use crate::io_fault::IoFault;
 use crate::sink::Sink;
 use std::alloc::Global;
 
-/// A sink that keeps its bytes in memory. It takes at most a chosen number of bytes a call, and may fail at one chosen
-/// call. A growth that is refused is a failed write.
+/// A sink that keeps its bytes in memory. It takes at most a chosen number of bytes a call, and may fail at one
+/// chosen call. A failed allocation is a failed write.
 #[derive(Debug, Drop)]
 pub struct MemorySink {
     bytes: Vec<u8>,
@@ -18,7 +18,7 @@ pub struct MemorySink {
 }
 
 impl MemorySink {
-    /// An empty sink that takes all the bytes of a call, and fails only where a growth is refused.
+    /// Makes an empty sink that takes all the bytes of a call, and fails only if it has no room and cannot grow.
     pub fn new(alloc: Global) -> MemorySink
         ensures held { held_bytes result ≡ [] }
         ensures failures { to_memory.failures result ≡ 0 }
@@ -28,8 +28,9 @@ impl MemorySink {
         MemorySink::limited(alloc, usize::MAX, None)
     }
 
-    /// An empty sink that takes at most `most` bytes a call, where 0 counts as 1, and fails at call `fails_at` alone, the
-    /// first being call 1. Calls are counted up to 2^64 - 1, where the count stays.
+    /// Makes an empty sink that takes at most `most` bytes a call, where 0 counts as 1. It fails at call `fails_at`,
+    /// and at another only if it cannot grow. The first call is 1. Calls are counted up to 2^64 - 1, where the count
+    /// stays.
     pub fn limited(alloc: Global, most: usize, fails_at: Option<u64>) -> MemorySink
         ensures held { held_bytes result ≡ [] }
         ensures failures { to_memory.failures result ≡ 0 }
@@ -45,7 +46,7 @@ impl MemorySink {
         }
     }
 
-    /// The bytes taken so far.
+    /// Returns the bytes taken so far.
     pub fn bytes(&self) -> &[u8]
         ensures { result.now ≡ held_bytes self.now }
     {

@@ -5,8 +5,8 @@ ghost use Rattle.tmw_streams.specs.Told.{Tells, one_more};
 use crate::io_fault::IoFault;
 use crate::source::Source;
 
-/// A source over bytes in memory. It tells at most a chosen number of bytes a call, and may fail at one chosen call.
-/// Once it has answered its end, calls aren't counted.
+/// A source over bytes in memory. A call reads at most a chosen number of bytes, and one chosen call may fail. After
+/// the source has returned its end, calls aren't counted.
 #[derive(Debug, Drop)]
 pub struct MemorySource<'a> {
     content: &'a [u8],
@@ -22,7 +22,7 @@ pub struct MemorySource<'a> {
 impl<'a> MemorySource<'a> {
     ghost use Rattle.tmw_streams.specs.Memory.{source_bytes, source_calls, source_fails_at, source_most, source_over, told_bytes, from_memory};
 
-    /// A source of these bytes that never fails. It tells as many a call as fit the buffer.
+    /// Makes a source of these bytes that never fails. A call reads as many bytes as fit the buffer.
     pub fn new(content: &'a [u8]) -> MemorySource<'a>
         ensures content { source_bytes result ≡ content.now }
         ensures told { told_bytes result ≡ [] }
@@ -34,8 +34,8 @@ impl<'a> MemorySource<'a> {
         MemorySource::limited(content, usize::MAX, None)
     }
 
-    /// A source of these bytes that tells at most `most` of them a call, where 0 counts as 1, and fails at call `fails_at`
-    /// alone, the first being call 1. Calls are counted up to 2^64 - 1, where the count stays.
+    /// Makes a source of these bytes of which a call reads at most `most`, where 0 counts as 1. It fails at call
+    /// `fails_at` alone. The first call is 1. Calls are counted up to 2^64 - 1, where the count stays.
     pub fn limited(content: &'a [u8], most: usize, fails_at: Option<u64>) -> MemorySource<'a>
         ensures content { source_bytes result ≡ content.now }
         ensures told { told_bytes result ≡ [] }
@@ -80,7 +80,7 @@ impl<'a> MemorySource<'a> {
         self.rest().len().min(room).min(self.most.max(1))
     }
 
-    /// What it still has to tell.
+    /// Returns the bytes that the source has not read yet.
     fn rest(&self) -> &'a [u8]
         ensures { result.now ≡ drop self.now.at (source_bytes self.now) }
     {

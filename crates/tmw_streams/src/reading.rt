@@ -9,9 +9,10 @@ use std::alloc::AllocError;
 /// The most bytes that one read may tell.
 const MOST_READ: usize = 4096;
 
-/// Reads all the bytes that the source has still to tell, up to its end, and holds them behind those that are there. Room is
-/// made before each read, so that `bytes` holds all that was told, whatever the answer: `Io` after a failed read, or `Memory` for
-/// want of memory, which comes only where `bytes` is full; only tests show that a growth was refused. Nothing is read after either.
+/// Reads all bytes that the source still has, up to its end, and appends them to `bytes`. Room is made before each
+/// read, so `bytes` holds all that was read, whatever the result. `Io` follows a failed read. `Memory` follows a
+/// failed allocation: it comes only if `bytes` is full, and only tests show that the allocation failed. Nothing is
+/// read after either.
 pub fn read_all<S: Source>(source: &mut S, bytes: &mut Vec<u8>) -> Result<(), ReadFault>
     // Each byte told is held, so that no read was made for which there was no memory.
     ensures held { Reads S.from source.old source.new bytes.old.items bytes.new.items }
@@ -36,7 +37,7 @@ pub fn read_all<S: Source>(source: &mut S, bytes: &mut Vec<u8>) -> Result<(), Re
     }
 }
 
-/// Makes room behind the bytes where there is none, and tells how much there is for one read.
+/// Makes room after the bytes if there is none, and returns how much there is for one read.
 fn room_for_more(bytes: &mut Vec<u8>) -> Result<usize, AllocError>
     ensures same { bytes.new.items ≡ bytes.old.items }
     ensures some { IfOk result (λ room. 0 < room) }

@@ -10,8 +10,8 @@ pub trait Sink {
     /// up to 2^64 - 1, where the count stays.
     ghost to: { ToSink Self };
 
-    /// Takes bytes from the front of `bytes` and tells how many: at least one where there is one.
-    /// A write that fails, or that would take none of some, takes nothing and is counted.
+    /// Takes bytes from the front of `bytes` and returns how many: at least one if there is one. A write that fails,
+    /// or that would take none of some, takes nothing and is counted.
     fn put(&mut self, bytes: &[u8]) -> Result<usize, IoFault>
         ensures within { IfOk result (λ count. count ≤ length bytes.now) }
         ensures some { IfOk result (λ count. 0 < length bytes.now → 0 < count) }

@@ -12,8 +12,8 @@ pub trait Source {
     /// count stays.
     ghost from: { FromSource Self };
 
-    /// Reads bytes to the front of `buffer` and tells how many. `Ok(0)` into a buffer that isn't empty is the end, and each
-    /// later read answers `Ok(0)` and changes nothing. A read that fails tells nothing, is counted, and is no end.
+    /// Reads bytes to the front of `buffer` and returns how many. `Ok(0)` into a buffer that isn't empty is the end;
+    /// each later read returns `Ok(0)` and changes nothing. A failed read reads nothing, is counted, and is no end.
     fn read(&mut self, buffer: &mut [u8]) -> Result<usize, IoFault>
         ensures within { IfOk result (λ count. count ≤ length buffer.old) }
         ensures tells { IfOk result

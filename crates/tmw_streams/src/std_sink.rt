@@ -7,8 +7,8 @@ use crate::io_fault::IoFault;
 use crate::sink::Sink;
 use std::io::{ErrorKind, Write};
 
-/// A sink over a std writer, which holds what the sink took. A failure is what it answers as one: no contract knows which
-/// of the writer's calls failed. It doesn't flush, which no clause says either.
+/// A sink over a std writer. A failure is what the sink returns as one: no contract knows which of the writer's calls
+/// failed. The sink doesn't flush; no clause says so either.
 #[derive(Drop)]
 pub struct StdSink<W> {
     writer: W,
@@ -18,11 +18,13 @@ pub struct StdSink<W> {
 }
 
 impl<W: Write> StdSink<W> {
-    /// A sink that writes to the writer.
+    ghost use Rattle.tmw_streams.specs.Std.{failed_writes, taken_count, writer_of};
+
+    /// Makes a sink that writes to the writer.
     pub fn new(writer: W) -> StdSink<W>
-        ensures writer { result.writer ≡ writer }
-        ensures taken { result.taken ≡ 0 }
-        ensures failures { result.failures ≡ 0 }
+        ensures writer { writer_of result ≡ writer }
+        ensures taken { taken_count result ≡ 0 }
+        ensures failures { failed_writes result ≡ 0 }
     {
         StdSink {
             writer,
@@ -33,10 +35,12 @@ impl<W: Write> StdSink<W> {
 }
 
 impl<W: Write> Sink for StdSink<W> {
+    ghost use Rattle.tmw_streams.specs.Std.{failed_writes, taken_count, writer_of};
+
     ghost to = { record {
-      took = λ sink bytes. sink.taken ≡ min (length bytes) (2 ^ 64 - 1);
-      holds = λ sink. W.contents sink.writer;
-      failures = λ sink. sink.failures;
+      took = λ sink bytes. taken_count sink ≡ min (length bytes) (2 ^ 64 - 1);
+      holds = λ sink. W.contents (writer_of sink);
+      failures = failed_writes;
     } };
 
     fn put(&mut self, bytes: &[u8]) -> Result<usize, IoFault> {
@@ -49,10 +53,10 @@ impl<W: Write> Sink for StdSink<W> {
         Ok(count)
     }
 
-    ghost took_some = { λ sink. (replicate sink.taken 0, Prim.search (rules, common_steps)) };
+    ghost took_some = { λ sink. (replicate (taken_count sink) 0, Prim.search (rules, common_steps)) };
 }
 
-/// One write, tried again where a signal interrupts it. A write that takes none of some bytes has failed.
+/// Writes once, and again after a signal has interrupted it. A write that takes none of some bytes has failed.
 fn write_again<W: Write>(writer: &mut W, bytes: &[u8]) -> Option<usize>
     ensures within { IfSome result (λ count. count ≤ length bytes.now) }
     ensures some { IfSome result (λ count. 0 < length bytes.now → 0 < count) }

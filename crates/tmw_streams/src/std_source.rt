@@ -13,9 +13,9 @@ use std::io::{ErrorKind, Read};
 /// The most bytes that a source over a std reader tells.
 const MOST_TOLD: u64 = 1 << 60;
 
-/// A source over a std reader. It tells what the reader gives, remembers the reader's end and asks no more after it.
-/// Once it has told 2^60 bytes each read into a buffer that isn't empty fails, and it has no end. A failure is what it answers as one: no contract knows
-/// which of the reader's calls failed.
+/// A source over a std reader. It returns what the reader gives, remembers the reader's end and reads no more after
+/// it. After 2^60 bytes each read into a buffer that isn't empty fails, and the source has no end. A failure is what
+/// the source returns as one: no contract knows which of the reader's calls failed.
 #[derive(Drop)]
 pub struct StdSource<R: Read> {
     reader: R,
@@ -28,12 +28,14 @@ pub struct StdSource<R: Read> {
 }
 
 impl<R: Read> StdSource<R> {
-    /// A source of all that the reader still has.
+    ghost use Rattle.tmw_streams.specs.Std.{failed_reads, is_over, reader_of, told_count};
+
+    /// Makes a source of all that the reader still has.
     pub fn new(reader: R) -> StdSource<R>
-        ensures reader { result.reader ≡ reader }
-        ensures told { result.told ≡ 0 }
-        ensures failures { result.failures ≡ 0 }
-        ensures over { result.over ≡ false }
+        ensures reader { reader_of result ≡ reader }
+        ensures told { told_count result ≡ 0 }
+        ensures failures { failed_reads result ≡ 0 }
+        ensures over { is_over result ≡ false }
     {
         StdSource {
             reader,
@@ -55,12 +57,14 @@ impl<R: Read> StdSource<R> {
 }
 
 impl<R: Read> Source for StdSource<R> {
+    ghost use Rattle.tmw_streams.specs.Std.{failed_reads, is_over, reader_of, told_count};
+
     ghost from = { record {
-      told = λ source bytes. length bytes ≡ source.told;
-      remaining = λ source. R.remaining source.reader;
-      ended = λ source. IsTrue source.over;
-      left = λ source. 2 ^ 60 - source.told;
-      failures = λ source. source.failures;
+      told = λ source bytes. length bytes ≡ told_count source;
+      remaining = λ source. R.remaining (reader_of source);
+      ended = λ source. IsTrue (is_over source);
+      left = λ source. 2 ^ 60 - told_count source;
+      failures = failed_reads;
     } };
 
     fn read(&mut self, buffer: &mut [u8]) -> Result<usize, IoFault> {
@@ -79,12 +83,12 @@ impl<R: Read> Source for StdSource<R> {
         Ok(count)
     }
 
-    ghost tells_some = { λ source. (replicate source.told 0, Prim.search (rules, common_steps)) };
+    ghost tells_some = { λ source. (replicate (told_count source) 0, Prim.search (rules, common_steps)) };
 
     ghost none_left = { λ source over. source.at_end over };
 }
 
-/// One read, tried again where a signal interrupts it.
+/// Reads once, and again after a signal has interrupted it.
 fn read_again<R: Read>(reader: &mut R, buffer: &mut [u8]) -> Option<usize>
     ensures within { IfSome result (λ count. count ≤ length buffer.old) }
     ensures gives { IfSome result (λ count.

@@ -5,8 +5,8 @@ use crate::io_fault::IoFault;
 use crate::sink::Sink;
 use itoa::Buffer;
 
-/// Writes all of the bytes, by as many calls of `put` as it takes. After a failed write a beginning of them went out, and
-/// not all. It takes no memory.
+/// Writes all of the bytes, by as many calls of `put` as it takes. After a failed write a beginning of them went out,
+/// and not all. It takes no memory.
 pub fn put_all<K: Sink>(sink: &mut K, bytes: &[u8]) -> Result<(), IoFault>
     ensures { Puts K.to sink.old bytes.now sink.new result }
 {

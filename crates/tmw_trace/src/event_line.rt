@@ -7,8 +7,8 @@ ghost use Rattle.tmw_trace.specs.Text.{trace_grammar, FitsEvent};
 use crate::version::Version;
 use tmw_events::{Event, Kind, ix_of, kind_of};
 
-/// The event of this version that these bytes are the text of: a trace's line without its line feed. `None` for all
-/// other bytes.
+/// Returns the event of this version whose text these bytes are, and `None` for all other bytes. The text is a
+/// trace's line without its line feed.
 pub fn event_of(version: Version, bytes: &[u8]) -> Option<Event>
     ensures some { IfSome result (λ event. bytes.now ≡ event_text event) }
     ensures fits { IfSome result (FitsEvent version) }
@@ -32,7 +32,7 @@ pub fn event_of(version: Version, bytes: &[u8]) -> Option<Event>
     }
 }
 
-/// Whether the version has this kind.
+/// Tells whether the version has this kind.
 #[inline(always)]
 pub fn speaks(version: Version, kind: Kind) -> bool
     ensures { result ≡ is_spoken version kind }

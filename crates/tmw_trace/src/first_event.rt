@@ -13,8 +13,9 @@ use tmw_lines::{Given, Taker};
 /// The length of the longest line of an event whose number has at most nineteen digits.
 const LONGEST: usize = 26;
 
-/// Gives the taker the event of this version whose line, with its line feed, these bytes begin with, read in one pass. `Nothing`
-/// says nothing: also a line of an event may be so near the end of the bytes, or have so large a number, that it isn't read.
+/// Gives the taker the event of this version whose line, with its line feed, these bytes begin with, read in one
+/// pass. `Nothing` says nothing about the bytes: the line of an event may be too near the end of the bytes to be read
+/// here, or have too large a number.
 #[inline(always)]
 pub fn give_event<T: Taker<Event>>(version: Version, bytes: &[u8], taker: &mut T) -> Given
     requires { (count : ℕ) × (count < 2 ^ 40) × T.counts taker.old count }

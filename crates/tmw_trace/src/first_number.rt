@@ -2,8 +2,8 @@ ghost use Rattle.std.specs.Prelude.{◌≡◌, ◌<◌, ◌≤◌, ◌++◌, len
 ghost use Rattle.std.specs.Fmt.{decimal};
 ghost use Rattle.tmw_lines.specs.Text.{line};
 
-/// The number that these bytes begin with, up to a line feed, and the length of both. A number of twenty digits, which may
-/// be too large for 64 bits, is left to `number_of`.
+/// Reads the number that these bytes begin with, up to a line feed, and returns it and the length of both. A number
+/// of twenty digits, which may be too large for 64 bits, is left to `number_of`.
 #[inline(always)]
 pub fn first_number(bytes: &[u8]) -> Option<(u64, usize)>
     requires long { 20 ≤ length bytes.now }

@@ -11,7 +11,8 @@ use crate::version::Version;
 use tmw_events::{Registers, number_of};
 use tmw_lines::length_before;
 
-/// The header that these bytes are the text of: a trace's first line without its line feed. `None` for all other bytes.
+/// Returns the header whose text these bytes are, and `None` for all other bytes. The text is a trace's first line
+/// without its line feed.
 pub fn header_of(bytes: &[u8]) -> Option<Header>
     ensures some { IfSome result (λ header. bytes.now ≡ header_text header) }
     ensures fits { IfSome result FitsHeader }
@@ -116,7 +117,8 @@ fn values_of(registers: Registers, bytes: &[u8]) -> Option<[u64; 8]>
     if rest.is_empty() { Some(values) } else { None }
 }
 
-/// The value after the space at the front, up to the next space or the end, and the length of both.
+/// Reads the value after the space at the front, up to the next space or the end, and returns it and the length of
+/// both.
 pub fn first_value(bytes: &[u8]) -> Option<(u64, usize)>
     ensures some { IfSome result (λ found. IsFirstValue found.0 found.1 bytes.now) }
     ensures none { IfNone result (IsNoFirstValue bytes.now) }

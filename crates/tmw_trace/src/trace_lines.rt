@@ -9,7 +9,7 @@ use crate::version::Version;
 use tmw_events::Event;
 use tmw_lines::{Given, LineFormat, Lines, Taker};
 
-/// Reads a trace line by line: its header, then one event after another.
+/// A reader of a trace, line by line: its header, then one event after another.
 pub type TraceLines = Lines<Version>;
 
 /// The header's version says which events may follow.

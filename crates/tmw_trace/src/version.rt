@@ -11,7 +11,7 @@ pub enum Version {
     Two,
 }
 
-/// The version that a trace of these events is written in: `One` where none is an add call, and else `Two`.
+/// Returns the version in which a trace of these events is written: `One` if none is an add call, else `Two`.
 pub fn version_of(events: &[Event]) -> Version
     ensures { result ≡ version_of events.now }
 {

@@ -1,4 +1,4 @@
-//! Whether a history is well-formed, told event by event in a few bytes of memory.
+//! Decides event by event whether a history is well-formed, in a few bytes of memory.
 #![tactic(auto)]
 
 mod malformed;

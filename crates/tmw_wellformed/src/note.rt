@@ -19,7 +19,7 @@ pub struct Note {
     pub ends: Option<End>,
 }
 
-/// How an event of this kind ends its transaction, if it does.
+/// Returns how an event of this kind ends its transaction, if it does.
 #[inline(always)]
 pub fn end_of(kind: Kind) -> Option<End>
     ensures { result ≡ end_of kind }

@@ -22,7 +22,7 @@ pub enum Phase {
 }
 
 impl Phase {
-    /// Whether a transaction of the thread is live.
+    /// Tells whether a transaction of the thread is live.
     #[inline(always)]
     pub fn is_live(self) -> bool
         ensures { result ≡ is_live self }
@@ -30,7 +30,8 @@ impl Phase {
         self != Phase::Between
     }
 
-    /// The phase after one event more of the thread. That a call's register is one of the run's is tested elsewhere.
+    /// Returns the phase after one more event of the thread, or the event's fault. Whether a call's register is one
+    /// of the run's is tested elsewhere.
     #[inline(always)]
     pub fn next(self, kind: Kind) -> Result<Phase, Malformed>
         ensures { result ≡ next_phase self kind }

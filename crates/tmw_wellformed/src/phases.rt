@@ -15,7 +15,7 @@ pub struct Phases {
 impl Phases {
     ghost use Rattle.tmw_wellformed.specs.declared.phase.Phase.TheVariants.{Between};
 
-    /// Each thread is between transactions.
+    /// Makes the phases of a history without events: each thread is between transactions.
     pub fn new() -> Phases
         ensures { result.by_thread ≡ replicate 8 Between }
     {
@@ -25,7 +25,7 @@ impl Phases {
         }
     }
 
-    /// The thread's phase.
+    /// Returns the thread's phase.
     #[inline(always)]
     pub fn get(&self, thread: Ix) -> Phase
         ensures { result ≡ slice_index_or self.now.by_thread thread.number Between }

@@ -16,7 +16,8 @@ use crate::phase::Phase;
 use crate::phases::Phases;
 use tmw_events::{Event, Ix, Kind, Registers};
 
-/// Takes a history event by event, and refuses each event that would make it ill-formed. It holds no event.
+/// A judge of well-formedness, which takes a history event by event and refuses each event that would make it
+/// ill-formed. It holds no event.
 #[derive(Clone, Copy, PartialEq, Eq, Debug)]
 pub struct Tracker {
     registers: Registers,
@@ -24,7 +25,7 @@ pub struct Tracker {
 }
 
 impl Tracker {
-    /// A tracker for a run with so many registers, before its first event.
+    /// Makes a tracker for a run with so many registers, before its first event.
     pub fn new(registers: Registers) -> Tracker
         ensures { Tracks registers.number [] result }
     {
@@ -34,8 +35,8 @@ impl Tracker {
         }
     }
 
-    /// Takes the next event where the history stays well-formed with it. A refusal changes nothing, and names the first of the
-    /// faults that the event has.
+    /// Takes the next event if the history stays well-formed with it. A refusal changes nothing, and names the first
+    /// of the faults that the event has.
     #[inline(always)]
     pub fn step(&mut self, event: Event) -> Result<Note, Malformed>
         ensures takes { IfOk result (λ _. (registers : ℕ) (history : List Event)
@@ -61,8 +62,8 @@ impl Tracker {
         })
     }
 
-    /// Takes the next event where it begins a transaction. Else it answers no and changes nothing, and `step` tells more. This and
-    /// the two below take most events, in few steps.
+    /// Takes the next event if it begins a transaction. Else it returns `false` and changes nothing, and `step` says
+    /// more. This and the two below take most events, in few steps.
     #[inline(always)]
     pub fn begin(&mut self, event: Event) -> bool
         ensures takes { IsTrue result → (registers : ℕ) (history : List Event)
@@ -80,8 +81,8 @@ impl Tracker {
         true
     }
 
-    /// Takes the next event where it goes on with a live transaction, and some transaction is live with it too. Else it answers no
-    /// and changes nothing.
+    /// Takes the next event if it goes on with a live transaction, and some transaction is live with it too. Else it
+    /// returns `false` and changes nothing.
     #[inline(always)]
     pub fn go_on(&mut self, event: Event) -> bool
         ensures takes { IsTrue result → (registers : ℕ) (history : List Event)
@@ -99,7 +100,7 @@ impl Tracker {
         true
     }
 
-    /// Takes the next event where it ends the only transaction that is live. Else it answers no and changes nothing.
+    /// Takes the next event if it ends the only live transaction. Else it returns `false` and changes nothing.
     #[inline(always)]
     pub fn end_last(&mut self, event: Event) -> bool
         ensures takes { IsTrue result → (registers : ℕ) (history : List Event)
@@ -144,7 +145,7 @@ impl Tracker {
         }
     }
 
-    /// How many transactions have not ended, those that are commit-pending included.
+    /// Returns how many transactions have not ended, commit-pending ones included.
     #[inline(always)]
     pub fn live(&self) -> u8
         ensures count { (registers : ℕ) (history : List Event) → Tracks registers history self.now

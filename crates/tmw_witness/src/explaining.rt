@@ -1,4 +1,4 @@
-//! Whether the order that is kept is one with the next event too, as it stands: told before the event is taken, in few steps.
+//! Decides in few steps, before an event is taken, whether the known order is one with it too, as it stands.
 ghost use Rattle.std.specs.Prelude.{◌≡◌, ◌<◌, ◌++◌, [], ◌∷◌, List, Some, IsTrue, position};
 ghost use Rattle.tmw_defs.specs.Opaque.{State, reads_hold, after_writes};
 ghost use Rattle.tmw_events.specs.declared.event.Kind.TheVariants.{V};
@@ -72,7 +72,8 @@ impl Witness {
         }
     }
 
-    /// Whether an order is known and is one with the next event too, as it stands. Where it answers no, it may be one all the same.
+    /// Tells whether an order is known and, as it stands, is one with the next event too. After `false` it may still
+    /// be one.
     #[inline(always)]
     pub fn explains(&self, window: &Window, event: Event) -> bool
         ensures known { IsTrue result → IsTrue self.now.known }
@@ -86,7 +87,8 @@ impl Witness {
         }
     }
 
-    /// Whether an order is known and stays one with an event of the transaction at this place, which is open for its thread.
+    /// Tells whether an order is known and stays one with an event of the transaction at this place, which is open
+    /// for its thread.
     #[inline(always)]
     pub fn explains_open(&self, window: &Window, place: usize, event: Event) -> bool
         requires { place < count_of window.now }

@@ -85,7 +85,8 @@ impl Witness {
         None
     }
 
-    /// Takes in that a read or an add of the transaction was answered: it stands where it stood, or at another rank.
+    /// Updates the order for an answer to a read or an add of the transaction: it stands where it stood, or at
+    /// another rank.
     fn answer(&mut self, item: &Txn, place: usize)
         ensures { (starts : List State) (xs ys : List View) (x : View)
             → TurnsAt xs ys place x (view item.now) → IsTrue (may_hold item.now.status false)
@@ -238,8 +239,8 @@ impl Witness {
         }
     }
 
-    /// Takes in the event that the window has taken last: that of the transaction at this place, which was open for its thread, or the
-    /// first of another.
+    /// Updates the order for the event that the window has taken last, or marks it unknown. The event is that of the
+    /// transaction at this place, which was open for its thread, or the first of another.
     #[inline(always)]
     pub fn follow(&mut self, window: &Window, place: Option<usize>, event: Event)
         ensures { (starts : List State) (events : List Event)
@@ -259,7 +260,8 @@ impl Witness {
         }
     }
 
-    /// Takes in the event that the window has taken last, the first of a transaction.
+    /// Updates the order for the event that the window has taken last, the first of a transaction, or marks it
+    /// unknown.
     #[inline(always)]
     pub fn follow_new(&mut self, window: &Window, event: Event)
         ensures { (starts : List State) (events : List Event)

@@ -1,4 +1,4 @@
-//! A serial order of the open window's transactions, kept as its events come, so that nothing is searched that is known.
+//! A serial order of the open window's transactions, updated by each event, so that a known order needs no search.
 #![tactic(auto)]
 
 mod explaining;

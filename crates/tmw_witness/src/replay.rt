@@ -16,7 +16,7 @@ impl Witness {
     ghost use Rattle.tmw_witness.specs.Witnessing.{Witnesses};
     ghost use Rattle.tmw_witness.specs.Placing.{PlacesThose};
 
-    /// Places a transaction behind those of the mask, where it can stand there. Told is the mask with it.
+    /// Places a transaction after those of the mask, if it can stand there, and returns the mask with it.
     fn place(&mut self, items: &[Txn], step: Step, mask: u8) -> Option<u8>
         requires { length items.now ≤ 8 }
         ensures known { self.new.known ≡ self.old.known }
@@ -46,7 +46,8 @@ impl Witness {
         Some(mask | 1 << place)
     }
 
-    /// Takes this order in, from this state: that which so many are behind, for each number. It is known where it is one of all.
+    /// Takes this order in, from this state: step n is the one with n steps after it. The order is known if it is one
+    /// of all transactions.
     fn take(&mut self, items: &[Txn], start: &State, steps: &[Step; 8])
         requires { length items.now ≤ 8 }
         ensures { (starts : List State) → Contains starts start.now
@@ -82,8 +83,8 @@ impl Witness {
         }
     }
 
-    /// Whether an order of the window's transactions is known, or is found where none is, by a walk that may miss one. What is found is
-    /// kept, and one that was known stays as it was.
+    /// Tells whether an order of the window's transactions is known. If none is, it looks for one, by a walk that may
+    /// miss one, and keeps what it finds. A known order stays as it was.
     pub fn finds(&mut self, starts: &States, window: &Window) -> bool
         ensures known { result ≡ self.new.known }
         ensures keeps { IsTrue self.old.known → self.new ≡ self.old }

@@ -27,7 +27,7 @@ pub struct Witness {
 impl Witness {
     ghost use Rattle.tmw_witness.specs.Witnessing.{Witnesses, state_of};
 
-    /// That of a window without a transaction, from this state.
+    /// Makes the order of a window without a transaction, from this state.
     pub fn new(start: State) -> Witness
         ensures known { IsTrue result.known }
         ensures witnesses { (starts : List State) → Contains starts start
@@ -53,7 +53,8 @@ impl Witness {
         self.top = 0;
     }
 
-    /// Begins anew, with a window without a transaction, from the state in which the order ends.
+    /// Begins anew, with a window without a transaction, from the state in which the order ends, and returns that
+    /// state.
     #[inline(always)]
     pub fn restart_at_end(&mut self) -> State
         requires { self.old.top < 9 }
@@ -75,7 +76,7 @@ impl Witness {
         self.known = false;
     }
 
-    /// Whether an order is known. Then the window's transactions have an end state.
+    /// Tells whether an order is known. If so, the window's transactions have an end state.
     pub fn is_known(&self) -> bool
         ensures shown { result ≡ self.now.known }
         ensures ends { (starts : List State) (events : List Event)
@@ -92,7 +93,7 @@ impl Witness {
         self.states.get(rank).copied()
     }
 
-    /// The state in which the order ends, where one is known.
+    /// Returns the state in which the order ends, if one is known.
     pub fn known_end(&self) -> Option<State>
         ensures shown { result
             ≡ (if self.now.known then slice_get self.now.states self.now.top else None) }

@@ -11,8 +11,8 @@ use tmw_defs::Criterion;
 use tmw_report::{FAULT_STATUS, Fault, answer_fault, status_of};
 use tmw_streams::{Sink, put_all};
 
-/// Writes what is shown, or the window's traces alone, where these are asked for, and answers the exit status. The text is made
-/// before any of it goes out: where memory for it is refused, that fault stands in the place of all.
+/// Writes what is shown, or the window's traces alone if these are requested, and returns the exit status. The text
+/// is made before any of it goes out: after a failed allocation for it, that fault's line is written instead.
 pub fn answer_shown<K: Sink>(
     alloc: Global,
     sink: &mut K,

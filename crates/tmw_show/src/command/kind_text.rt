@@ -36,7 +36,7 @@ fn push_call(text: &mut Vec<u8>, letter: u8, register: Ix, value: u64) -> Result
     Ok(())
 }
 
-/// The digit that names the thread or register.
+/// Returns the digit that names the thread or register.
 pub fn digit_of(ix: Ix) -> u8
     ensures { result ≡ digit ix }
 {

@@ -2,8 +2,9 @@ ghost use Rattle.tmw_show.specs.TracesLaw.{TracesLaw};
 
 use crate::{law_states, law_window};
 
-/// What `show --trace` writes is traces, which `judge` reads: one for each state from which the window begins, with just that state at its
-/// start and the window's events. The run is violated exactly when each of them is, at its end; a single one has the run's verdict.
+/// Proves that `show --trace` writes traces, which `judge` reads: one for each state from which the window begins,
+/// with just that state at its start and the window's events. The run is violated exactly if each of them is, at its
+/// end; a single one has the run's verdict.
 pub fn law_traces()
     ensures { TracesLaw }
 {

@@ -13,8 +13,8 @@ use tmw_report::{Fault, fault_of};
 use tmw_streams::Source;
 use tmw_trace::TraceLines;
 
-/// Reads a trace up to the source's end, and judges each event as its line is read, by this criterion. No event is kept that stands
-/// before the last window. Where memory is refused, nothing is read after it.
+/// Reads a trace up to the source's end, and judges each event as its line is read, by this criterion. No event
+/// before the last window is kept. After a failed allocation nothing more is read.
 pub fn show_trace<S: Source>(
     alloc: Global,
     source: &mut S,

@@ -8,12 +8,12 @@ use tmw_monitor::Bounds;
 use tmw_report::answer_fault;
 use tmw_streams::{Sink, Source};
 
-/// Judges the trace that the source tells by this criterion within these bounds, and writes where it went wrong: the line that
-/// `judge` answers it by; the states from which the last window begins, a line each; and the events of that window, up to the one
-/// at which something is wrong, a line each with its number, in a column for each thread. Where `trace` is asked for it writes the
-/// window alone, as traces of its own, one for each of the states. The trace is read once. The result is the exit status: 0 for a
-/// history in which nothing is wrong so far, 1 for one that is violated, 2 for one that is undecided, 3 for one that is malformed,
-/// 4 for any fault, whose line alone is written.
+/// Judges the trace that the source has, by this criterion within these bounds, and writes where it went wrong. First
+/// comes the line that `judge` writes; then a line for each state from which the last window begins. Then comes a
+/// line for each event of that window, up to the one at which something is wrong, with its number, in a column for
+/// each thread. If `trace` is set it writes the window alone, as traces of its own, one for each of the states. The
+/// trace is read once. Returns the exit status: 0 if nothing is wrong so far, 1 for violated, 2 for undecided, 3 for
+/// malformed, 4 for any fault, whose line alone is written.
 pub fn run_show<S: Source, K: Sink>(
     alloc: Global,
     source: &mut S,

@@ -9,8 +9,8 @@ use std::alloc::{AllocError, Global};
 use tmw_defs::{Criterion, Verdict};
 use tmw_report::{report_strict, report_text};
 
-/// The text of what is shown by this criterion, or of the window's traces, where these are asked for. It fails only where memory is
-/// refused.
+/// Makes the text of what is shown by this criterion, or of the window's traces if `trace` is set. It fails only
+/// after a failed allocation.
 pub fn shown_text(
     alloc: Global,
     criterion: Criterion,

@@ -3,7 +3,8 @@ ghost use Rattle.tmw_show.specs.Drawing.{told_text, undecided_text, violated_tex
 
 use tmw_defs::{Criterion, Verdict, Why};
 
-/// What is told of the event of this number: what is wrong there, where it is the verdict's, and else nothing.
+/// Returns what is printed beside the event of this number: what is wrong there if the verdict names it, else
+/// nothing.
 pub fn told_of(criterion: Criterion, verdict: Verdict, number: u64) -> &'static str
     ensures { result.now ≡ told_text criterion verdict number }
 {

@@ -9,7 +9,7 @@ use std::alloc::AllocError;
 use tmw_cuts::State;
 use tmw_events::{Event, Registers};
 
-/// Adds the traces of these events from each of these states, one behind the other.
+/// Adds the traces of these events from each of these states, one after the other.
 pub fn push_traces(
     text: &mut Vec<u8>,
     registers: Registers,

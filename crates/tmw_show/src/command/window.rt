@@ -114,7 +114,7 @@ fn push_row(text: &mut Vec<u8>, number: u64, event: Event) -> Result<(), AllocEr
     Ok(())
 }
 
-/// Adds what is told of an event, behind so many blanks and two more.
+/// Adds what is printed beside an event, after so many blanks and two more.
 fn push_beside(text: &mut Vec<u8>, gap: usize, told: &str) -> Result<(), AllocError>
     ensures { OnOk result (text.new.items ≡ text.old.items ++ beside gap told.now) }
 {

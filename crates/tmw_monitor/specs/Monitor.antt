@@ -1,0 +1,31 @@
+-- What a monitor tells, and what it keeps.
+use Rattle.std.specs.Prelude.{◌≡◌, ℕ}
+use Rattle.tmw_defs.specs.Criteria.{so_far}
+use Rattle.tmw_defs.specs.declared.criterion.Criterion.{Criterion}
+use Rattle.tmw_defs.specs.declared.verdict.Verdict.{Verdict}
+use Rattle.tmw_monitor.specs.declared.bounds.Bounds.{Bounds}
+use Rattle.tmw_monitor.specs.declared.monitor.Monitor.{Monitor}
+use Rattle.tmw_monitor.specs.declared.open.Open.{Open}
+
+-- what it judges by
+abbrev pub criterion_of : Monitor → Criterion
+criterion_of monitor = monitor.criterion
+
+abbrev pub bounds_of : Monitor → Bounds
+bounds_of monitor = monitor.bounds
+
+-- how many events it was fed
+abbrev pub fed_of : Monitor → ℕ
+fed_of monitor = monitor.count
+
+-- its verdict on them
+abbrev pub verdict_of : Monitor → Verdict
+verdict_of monitor = monitor.verdict
+
+-- what it keeps of them
+abbrev pub kept_of : Monitor → Open
+kept_of monitor = monitor.kept
+
+-- Nothing is wrong with the events that it was fed.
+abbrev pub IsOpen : Monitor → Type 0
+IsOpen monitor = verdict_of monitor ≡ so_far (criterion_of monitor)
