@@ -1,6 +1,7 @@
 //! What a closed ring has left to be judged.
 ghost use Rattle.std.specs.Prelude.{◌≡◌, IfOk, IfErr};
 ghost use Rattle.tmw_watch.specs.Closing.{IsJudged, IsUnjudged};
+ghost use Rattle.tmw_watch.specs.Shown.{rest_of};
 
 use crate::report::Report;
 use tmw_pump::ForgettingRest;
@@ -14,7 +15,7 @@ pub struct Closing {
 impl Closing {
     /// What was left when the ring ended.
     pub(crate) fn new(rest: ForgettingRest) -> Closing
-        ensures { result.rest ≡ rest }
+        ensures { rest_of result ≡ rest }
     {
         Closing { rest }
     }
@@ -22,8 +23,8 @@ impl Closing {
     /// Judges all that is left, and answers with the number of all events and the verdict on them. Where a growth of memory is
     /// refused, what was judged stays judged, nothing is lost, and it may be called again.
     pub fn finish(mut self) -> Result<Report, Closing>
-        ensures ok { IfOk result (IsJudged self.rest) }
-        ensures err { IfErr result (λ closing. IsUnjudged self.rest closing.rest) }
+        ensures ok { IfOk result (IsJudged (rest_of self)) }
+        ensures err { IfErr result (λ closing. IsUnjudged (rest_of self) (rest_of closing)) }
     {
         let Ok(_) = self.rest.pump(u64::MAX) else {
             return Err(self);

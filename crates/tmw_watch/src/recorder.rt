@@ -19,18 +19,20 @@ pub struct Recorder {
 }
 
 impl Recorder {
+    ghost use Rattle.tmw_watch.specs.Shown.{recorder_ring, writer_of};
+
     /// The recorder that records by this writer of the ring.
     pub(crate) fn new(ring: Arc<Ring, Global>, writer: Writer) -> Recorder
         requires { WriterOf ring.value writer }
-        ensures ring { result.ring ≡ ring }
-        ensures writer { result.writer ≡ writer }
+        ensures ring { recorder_ring result ≡ ring }
+        ensures writer { writer_of result ≡ writer }
     {
         Recorder { ring, writer }
     }
 
     /// The number of the thread whose events it records: 0 to 7, and below the number of the watch's recorders.
     pub fn number(&self) -> Ix
-        ensures { result ≡ self.now.writer.number }
+        ensures { result ≡ (writer_of self.now).number }
     {
         self.writer.number()
     }
@@ -40,11 +42,12 @@ impl Recorder {
     /// an event of each recorder; once the watch has pumped more, the same event may be tried again. `Spent`: fewer places than there are
     /// recorders are left up to the limit of events, and no later call of this recorder is given a place.
     pub fn record(&mut self, kind: Kind) -> Result<u64, Refused>
-        ensures ring { self.new.ring ≡ self.old.ring }
-        ensures number { self.new.writer.number ≡ self.old.writer.number }
-        ensures ok { IfOk result (λ place. HasRecorded kind place self.old.writer self.new.writer) }
-        ensures err { IfErr result (λ refused. IsRefusal kind self.old.writer refused
-            self.new.writer) }
+        ensures ring { recorder_ring self.new ≡ recorder_ring self.old }
+        ensures number { (writer_of self.new).number ≡ (writer_of self.old).number }
+        ensures ok { IfOk result (λ place. HasRecorded kind place (writer_of self.old)
+            (writer_of self.new)) }
+        ensures err { IfErr result (λ refused. IsRefusal kind (writer_of self.old) refused
+            (writer_of self.new)) }
     {
         self.ring.record(&mut self.writer, kind)
     }
@@ -55,10 +58,11 @@ impl Recorder {
     /// event of each other recorder; there never is where these are more than the cells. `Spent`: so many places, and one for each other
     /// recorder, are not left up to the limit of events, nor will they be. Fewer may find room yet.
     pub fn room(&mut self, records: u64) -> Result<(), Refused>
-        ensures ring { self.new.ring ≡ self.old.ring }
-        ensures ok { IfOk result (λ _. HasFoundRoom records self.old.writer self.new.writer) }
-        ensures err { IfErr result (λ refused. LacksRoom records self.old.writer refused
-            self.new.writer) }
+        ensures ring { recorder_ring self.new ≡ recorder_ring self.old }
+        ensures ok { IfOk result (λ _. HasFoundRoom records (writer_of self.old)
+            (writer_of self.new)) }
+        ensures err { IfErr result (λ refused. LacksRoom records (writer_of self.old) refused
+            (writer_of self.new)) }
     {
         self.ring.room(&mut self.writer, records)
     }
