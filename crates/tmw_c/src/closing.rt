@@ -2,6 +2,7 @@
 ghost use Rattle.std.specs.Prelude.{◌≡◌, ◌≤◌, ◌⊎◌, [], All, Some, IsSome, length, IfOk, IfErr, IsTrue, IsFalse, vec_capacity};
 ghost use Rattle.tmw_c.specs.Closing.{AreHeld, AreInPlace, AreOfWatch, IsClosing, IsUnended, WasClosed, WasFinished};
 ghost use Rattle.tmw_c.specs.Opening.{AreEmpty};
+ghost use Rattle.tmw_handles.specs.Held.{recorder_in, watch_in};
 ghost use Rattle.tmw_handles.specs.declared.held_watch.HeldWatch.TheVariants.{Open};
 
 use crate::status::Status;
@@ -62,7 +63,7 @@ fn room(
 
 /// What these handles hold.
 fn recorders_of(handles: Vec<RecorderHandle>, room: Vec<Recorder>) -> Vec<Recorder>
-    requires full { All (λ handle. IsSome handle.slot.held) handles.items }
+    requires full { All (λ handle. IsSome (recorder_in handle)) handles.items }
     requires empty { room.items ≡ [] }
     requires room { length handles.items ≤ vec_capacity room }
     ensures { AreHeld result.items handles.items }
@@ -135,9 +136,9 @@ pub fn close(
     recorders: &mut [RecorderHandle],
     told: &mut Told,
 ) -> Status
-    requires { AreOfWatch watch.old.slot.held recorders.old }
-    ensures { IsClosing watch.old.slot.held watch.new.slot.held recorders.old recorders.new told.old
-        told.new result }
+    requires { AreOfWatch (watch_in watch.old) recorders.old }
+    ensures { IsClosing (watch_in watch.old) (watch_in watch.new) recorders.old recorders.new
+        told.old told.new result }
 {
     let Some(mut place) = watch.take(alloc) else {
         return Status::NoHandle;

@@ -1,6 +1,7 @@
 //! Judging what was recorded, by a watch's handle.
 ghost use Rattle.std.specs.Prelude.{IfOk, IfErr, IfSome, IfNone};
 ghost use Rattle.tmw_c.specs.Judging.{IsNotOpen, IsPumping, IsReporting, WasNotPumped, WasPumped, WasReported};
+ghost use Rattle.tmw_handles.specs.Held.{watch_in};
 
 use crate::status::Status;
 use crate::told::Told;
@@ -24,7 +25,8 @@ fn pump_held(held: &mut HeldWatch, most: u64) -> Result<u64, Status>
 /// Judges up to so many events by what the handle holds, which it holds then again. The count is told where all was done, and else
 /// stays.
 pub fn pump(alloc: Global, watch: &mut WatchHandle, most: u64, judged: &mut u64) -> Status
-    ensures { IsPumping most watch.old.slot.held watch.new.slot.held judged.old judged.new result }
+    ensures { IsPumping most (watch_in watch.old) (watch_in watch.new) judged.old judged.new
+        result }
 {
     let Some(mut held) = watch.take(alloc) else {
         return Status::NoHandle;
@@ -53,7 +55,7 @@ fn report_held(held: &HeldWatch) -> Option<Told>
 
 /// Reports on what the handle holds, which it holds then again.
 pub fn report(alloc: Global, watch: &mut WatchHandle, out: &mut Told) -> Status
-    ensures { IsReporting watch.old.slot.held watch.new.slot.held out.old out.new result }
+    ensures { IsReporting (watch_in watch.old) (watch_in watch.new) out.old out.new result }
 {
     let Some(held) = watch.take(alloc) else {
         return Status::NoHandle;

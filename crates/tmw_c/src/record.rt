@@ -1,6 +1,7 @@
 //! Recording by a handle.
 ghost use Rattle.std.specs.Prelude.{IfOk, IfErr};
 ghost use Rattle.tmw_c.specs.Recording.{HasRecordedAsked, HasRefused, IsRecording, IsRecordingUntold};
+ghost use Rattle.tmw_handles.specs.Held.{recorder_in};
 
 use crate::kinds::asked;
 use crate::status::Status;
@@ -40,8 +41,8 @@ pub fn record(
     value: u64,
     place: &mut u64,
 ) -> Status
-    ensures { IsRecording letter register value recorder.old.slot.held recorder.new.slot.held
-        place.old place.new result }
+    ensures { IsRecording letter register value (recorder_in recorder.old)
+        (recorder_in recorder.new) place.old place.new result }
 {
     let Some(mut held) = recorder.take(alloc) else {
         return Status::NoHandle;
@@ -65,8 +66,8 @@ pub fn record_untold(
     register: u64,
     value: u64,
 ) -> Status
-    ensures { IsRecordingUntold letter register value recorder.old.slot.held recorder.new.slot.held
-        result }
+    ensures { IsRecordingUntold letter register value (recorder_in recorder.old)
+        (recorder_in recorder.new) result }
 {
     let mut place = 0;
     record(alloc, recorder, letter, register, value, &mut place)

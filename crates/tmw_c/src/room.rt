@@ -1,5 +1,6 @@
 //! Asking for room for several records by a handle.
 ghost use Rattle.tmw_c.specs.Rooms.{Finds, IsAsking};
+ghost use Rattle.tmw_handles.specs.Held.{recorder_in};
 
 use crate::status::Status;
 use std::alloc::Global;
@@ -19,7 +20,7 @@ fn ask_held(held: &mut HeldRecorder, records: u64) -> Status
 
 /// Whether so many records find room by what the handle holds, which it holds then again.
 pub fn ask(alloc: Global, recorder: &mut RecorderHandle, records: u64) -> Status
-    ensures { IsAsking records recorder.old.slot.held recorder.new.slot.held result }
+    ensures { IsAsking records (recorder_in recorder.old) (recorder_in recorder.new) result }
 {
     let Some(mut held) = recorder.take(alloc) else {
         return Status::NoHandle;
