@@ -9,7 +9,7 @@ use std::alloc::Global;
 use tmw_handles::{HeldRecorder, RecorderHandle};
 use tmw_ring::Refused;
 
-/// Records the event that is asked for, and answers with its place, or why not.
+/// Records the event that is asked for, and returns its place, or why not.
 fn record_held(
     held: &mut HeldRecorder,
     letter: u32,
@@ -31,8 +31,8 @@ fn record_held(
     }
 }
 
-/// Records an event by what the handle holds, which it holds then again. The place is told where the event was recorded, and else
-/// stays.
+/// Records an event by what the handle holds, which it holds again afterwards. `place` changes only if the event was
+/// recorded.
 pub fn record(
     alloc: Global,
     recorder: &mut RecorderHandle,
@@ -58,7 +58,7 @@ pub fn record(
     }
 }
 
-/// Records an event by what the handle holds, which it holds then again. The place is not told.
+/// Records an event by what the handle holds, which it holds again afterwards. The place is not told.
 pub fn record_untold(
     alloc: Global,
     recorder: &mut RecorderHandle,

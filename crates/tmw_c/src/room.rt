@@ -7,7 +7,7 @@ use std::alloc::Global;
 use tmw_handles::{HeldRecorder, RecorderHandle};
 use tmw_ring::Refused;
 
-/// Whether so many records find room.
+/// Tells whether so many records find room.
 fn ask_held(held: &mut HeldRecorder, records: u64) -> Status
     ensures { Finds records held.old held.new result }
 {
@@ -18,7 +18,7 @@ fn ask_held(held: &mut HeldRecorder, records: u64) -> Status
     }
 }
 
-/// Whether so many records find room by what the handle holds, which it holds then again.
+/// Tells whether so many records find room by what the handle holds, which it holds again afterwards.
 pub fn ask(alloc: Global, recorder: &mut RecorderHandle, records: u64) -> Status
     ensures { IsAsking records (recorder_in recorder.old) (recorder_in recorder.new) result }
 {

@@ -14,7 +14,7 @@ use std::mem;
 pub struct RecorderHandle {
     pub(crate) slot: RecorderSlot,
     pub(crate) full: bool,
-    // The number of the recorder that is held.
+    // The held recorder's number: a close sees by it whether each is in its place, before it takes anything.
     pub(crate) number: u8,
     pub ghost matches: { IsTrue full ↔ IsSome slot.held },
     pub ghost numbered: { ForSome slot.held
@@ -24,7 +24,7 @@ pub struct RecorderHandle {
 impl RecorderHandle {
     ghost use Rattle.tmw_handles.specs.Held.{HasNumber, recorder_in};
 
-    /// A handle that holds nothing.
+    /// Makes a handle that holds nothing.
     pub fn empty(alloc: Global) -> RecorderHandle
         ensures { recorder_in result ≡ None }
     {
@@ -35,7 +35,7 @@ impl RecorderHandle {
         }
     }
 
-    /// A handle that holds what the box does. It takes no memory.
+    /// Makes a handle that holds what the box does. It takes no memory.
     pub fn of(held: Box<HeldRecorder, Global>) -> RecorderHandle
         ensures { recorder_in result ≡ Some held.value }
     {
@@ -60,7 +60,7 @@ impl RecorderHandle {
         Some(held.slot.into_parts().into_box())
     }
 
-    /// What is held.
+    /// Returns what is held.
     pub fn into_held(self) -> Box<HeldRecorder, Global>
         requires { IsSome (recorder_in self) }
         ensures { recorder_in self ≡ Some result.value }
@@ -68,7 +68,7 @@ impl RecorderHandle {
         self.slot.into_parts().into_box()
     }
 
-    /// The number of the recorder that is held, if one is.
+    /// Returns the number of the held recorder, if any.
     pub fn number(&self) -> Option<u8>
         ensures some { IfSome result (λ number. HasNumber number (recorder_in self.now)) }
         ensures none { IfNone result (recorder_in self.now ≡ None) }
@@ -76,7 +76,7 @@ impl RecorderHandle {
         if self.full { Some(self.number) } else { None }
     }
 
-    /// Whether it holds anything.
+    /// Tells whether the handle holds anything.
     pub fn is_full(&self) -> bool
         ensures { IsTrue result ↔ IsSome (recorder_in self.now) }
     {

@@ -18,7 +18,7 @@ pub struct WatchHandle {
 impl WatchHandle {
     ghost use Rattle.tmw_handles.specs.Held.{watch_in};
 
-    /// A handle that holds nothing.
+    /// Makes a handle that holds nothing.
     pub fn empty(alloc: Global) -> WatchHandle
         ensures { watch_in result ≡ None }
     {
@@ -28,7 +28,7 @@ impl WatchHandle {
         }
     }
 
-    /// A handle that holds what the box does. It takes no memory.
+    /// Makes a handle that holds what the box does. It takes no memory.
     pub fn of(held: Box<HeldWatch, Global>) -> WatchHandle
         ensures { watch_in result ≡ Some held.value }
     {
@@ -51,7 +51,7 @@ impl WatchHandle {
         Some(held.slot.into_parts().into_box())
     }
 
-    /// Whether it holds anything.
+    /// Tells whether the handle holds anything.
     pub fn is_full(&self) -> bool
         ensures { IsTrue result ↔ IsSome (watch_in self.now) }
     {

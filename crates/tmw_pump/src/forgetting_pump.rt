@@ -17,15 +17,15 @@ use tmw_events::Event;
 use tmw_monitor::Monitor;
 use tmw_ring::{Reader, Ring, Writer};
 
-/// Takes events from a running ring and judges them, by the definition of opacity (Guerraoui and Kapalka 2008, section 5) at each
-/// prefix. What it has judged is a beginning of the ring's one log: what its reader has taken, less the event that is held, if
-/// any: one for which memory was refused, or that `next` has told. It keeps no event but that one, so its memory is the monitor's,
-/// however long the run.
+/// A pump that takes events from a running ring and judges them, by the definition of opacity (Guerraoui and Kapalka
+/// 2008, section 5) at each prefix. What it has judged is a beginning of the ring's one log: what its reader has
+/// taken, less the held event, if any. An event is held after a failed allocation, or once `next` has returned it.
+/// The pump keeps no other event, so its memory is the monitor's, however long the run.
 #[derive(Drop)]
 pub struct ForgettingPump {
     reader: Reader,
     front: Front,
-    // The reader has taken what was judged, and behind it the event that is held.
+    // The reader has taken what was judged, and after it the held event.
     pub ghost all: { front.judged.items ++ listed front.held ≡ reader.taken },
 }
 
@@ -35,8 +35,7 @@ impl ForgettingPump {
     ghost use Rattle.tmw_pump.specs.Pumping.{HasTakenAll, HasPumped, IsPumped, pump_front, reader_of};
     ghost use Rattle.tmw_pump.specs.Resting.{all_of, left_of, rest_front};
 
-    /// A pump that takes by a reader that has taken nothing, and judges by a monitor whose criterion is opacity and that was fed
-    /// nothing.
+    /// Makes a pump of a reader that has taken nothing, and a monitor by opacity that was fed nothing.
     pub fn new(reader: Reader, monitor: Monitor) -> ForgettingPump
         requires taken { reader.taken ≡ [] }
         requires opacity { JudgesOpacity monitor }
@@ -52,8 +51,9 @@ impl ForgettingPump {
         }
     }
 
-    /// Takes and judges up to `max` events: fewer only where the next place is not published. Where a growth of memory is refused,
-    /// the event that was to be judged is held, and is judged first by the next call; those judged before it in this call stay judged.
+    /// Takes and judges up to `max` events: fewer only if the next place is not published. After a failed allocation
+    /// the event to be judged is held, and the next call judges it first; events judged before it in this call stay
+    /// judged.
     pub fn pump(&mut self, ring: &Ring, max: u64) -> Result<Pumped, AllocError>
         requires { ReaderOf ring.now (reader_of self.old) }
         ensures of_ring { ReaderOf ring.now (reader_of self.new) }
@@ -68,8 +68,8 @@ impl ForgettingPump {
         Ok(self.pumped(judged))
     }
 
-    /// The event to be judged next: the one that is held, or else the next of the ring, which is held from now on. `None` where the
-    /// next place is not published.
+    /// Returns the event to be judged next: the held one, or else the next of the ring, which is held from then on.
+    /// `None` if the next place is not published.
     pub fn next(&mut self, ring: &Ring) -> Option<Event>
         requires { ReaderOf ring.now (reader_of self.old) }
         ensures of_ring { ReaderOf ring.now (reader_of self.new) }
@@ -88,7 +88,7 @@ impl ForgettingPump {
         Some(event)
     }
 
-    /// Judges the event that is held. Where memory is refused, it is still held. After a final verdict it succeeds.
+    /// Judges the held event. After a failed allocation it is still held. After a final verdict the call succeeds.
     pub fn judge(&mut self, event: Event) -> Result<(), AllocError>
         requires { held_of (pump_front self.old) ≡ Some event }
         ensures reader { reader_of self.new ≡ reader_of self.old }
@@ -105,43 +105,43 @@ impl ForgettingPump {
         self.front.judge(event)
     }
 
-    /// The answer of a call to pump that has judged so many events.
+    /// Returns the answer of a call to `pump` that has judged so many events.
     pub(crate) fn pumped(&self, judged: u64) -> Pumped
         ensures { result ≡ record { judged = judged; verdict = self.now.front.monitor.verdict } }
     {
         self.front.pumped(judged)
     }
 
-    /// The monitor that judges.
+    /// Returns the monitor that judges.
     pub fn monitor(&self) -> &Monitor
         ensures { result.now ≡ monitor_of (pump_front self.now) }
     {
         self.front.monitor()
     }
 
-    /// How many events were judged.
+    /// Returns how many events were judged.
     pub fn fed(&self) -> u64
         ensures { result ≡ length (judged_of (pump_front self.now)) }
     {
         self.front.fed()
     }
 
-    /// Whether an event was taken that is not judged yet.
+    /// Tells whether an event has come that is not judged yet.
     pub fn held(&self) -> bool
         ensures { IsTrue result ↔ IsSome (held_of (pump_front self.now)) }
     {
         self.front.held().is_some()
     }
 
-    /// The verdict on the judged front.
+    /// Returns the verdict on the judged front.
     pub fn verdict(&self) -> Verdict
         ensures { TellsVerdict (pump_front self.now) result }
     {
         self.front.verdict()
     }
 
-    /// The reader meets a writer: the writer's next event comes after all that both had seen. Nothing is judged, and a held event
-    /// stays held.
+    /// Lets the reader meet a writer: the writer's next event comes after all that both had seen. Nothing is judged,
+    /// and a held event stays held.
     pub fn meet(&mut self, ring: &Ring, writer: &mut Writer)
         requires reader { ReaderOf ring.now (reader_of self.old) }
         requires writer { WriterOf ring.now writer.old }
@@ -153,7 +153,8 @@ impl ForgettingPump {
         ring.meet(writer, &mut self.reader);
     }
 
-    /// Ends the ring, once all its writers have come back, with writer i at place i. What was not taken is left to be judged.
+    /// Ends the ring once all its writers have come back, writer i at place i. What was not taken is left to be
+    /// judged.
     pub fn settle(self, ring: Ring, writers: Vec<Writer>) -> ForgettingRest
         requires reader { ReaderOf ring (reader_of self) }
         requires writers { All (WriterOf ring) writers.items }

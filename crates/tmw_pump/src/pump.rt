@@ -16,7 +16,8 @@ use tmw_events::Event;
 use tmw_monitor::Monitor;
 use tmw_ring::{Reader, Ring, Writer};
 
-/// Takes events from a running ring, judges them as a pump that forgets does, and keeps those that it has judged.
+/// A pump that takes events from a running ring, judges them as a `ForgettingPump` does, and keeps those that it has
+/// judged.
 #[derive(Drop)]
 pub struct Pump {
     forgetting: ForgettingPump,
@@ -31,8 +32,7 @@ impl Pump {
     ghost use Rattle.tmw_pump.specs.Pumping.{HasPumped, IsPumped, pump_front, pump_in, reader_of};
     ghost use Rattle.tmw_pump.specs.Resting.{all_of, left_of, rest_front, rest_in};
 
-    /// A pump that takes by a reader that has taken nothing, and judges by a monitor whose criterion is opacity and that was fed
-    /// nothing.
+    /// Makes a pump of a reader that has taken nothing, and a monitor by opacity that was fed nothing.
     pub fn new(alloc: Global, reader: Reader, monitor: Monitor) -> Pump
         requires taken { reader.taken ≡ [] }
         requires opacity { JudgesOpacity monitor }
@@ -48,8 +48,9 @@ impl Pump {
         }
     }
 
-    /// Takes and judges up to `max` events: fewer only where the next place is not published. Where a growth of memory is refused,
-    /// the event that was to be judged is held, and is judged first by the next call; those judged before it in this call stay judged.
+    /// Takes and judges up to `max` events: fewer only if the next place is not published. After a failed allocation
+    /// the event to be judged is held, and the next call judges it first; events judged before it in this call stay
+    /// judged.
     pub fn pump(&mut self, ring: &Ring, max: u64) -> Result<Pumped, AllocError>
         requires { ReaderOf ring.now (reader_of (pump_in self.old)) }
         ensures of_ring { ReaderOf ring.now (reader_of (pump_in self.new)) }
@@ -67,29 +68,29 @@ impl Pump {
         Ok(self.forgetting.pumped(judged))
     }
 
-    /// The judged front: the events that were judged, in the order of the log.
+    /// Returns the judged front: the events that were judged, in the order of the log.
     pub fn judged(&self) -> &[Event]
         ensures { result.now ≡ judged_of (pump_front (pump_in self.now)) }
     {
         &self.judged
     }
 
-    /// Whether an event was taken that is not judged yet, since memory was refused.
+    /// Tells whether an event has come that is not judged yet, after a failed allocation.
     pub fn held(&self) -> bool
         ensures { IsTrue result ↔ IsSome (held_of (pump_front (pump_in self.now))) }
     {
         self.forgetting.held()
     }
 
-    /// The verdict on the judged front.
+    /// Returns the verdict on the judged front.
     pub fn verdict(&self) -> Verdict
         ensures { TellsVerdict (pump_front (pump_in self.now)) result }
     {
         self.forgetting.verdict()
     }
 
-    /// The reader meets a writer: the writer's next event comes after all that both had seen. Nothing is judged, and a held event
-    /// stays held.
+    /// Lets the reader meet a writer: the writer's next event comes after all that both had seen. Nothing is judged,
+    /// and a held event stays held.
     pub fn meet(&mut self, ring: &Ring, writer: &mut Writer)
         requires reader { ReaderOf ring.now (reader_of (pump_in self.old)) }
         requires writer { WriterOf ring.now writer.old }
@@ -102,7 +103,8 @@ impl Pump {
         self.forgetting.meet(ring, writer);
     }
 
-    /// Ends the ring, once all its writers have come back, with writer i at place i. What was not taken is left to be judged.
+    /// Ends the ring once all its writers have come back, writer i at place i. What was not taken is left to be
+    /// judged.
     pub fn settle(self, ring: Ring, writers: Vec<Writer>) -> Rest
         requires reader { ReaderOf ring (reader_of (pump_in self)) }
         requires writers { All (WriterOf ring) writers.items }

@@ -8,7 +8,7 @@ use std::alloc::AllocError;
 use tmw_defs::Verdict;
 use tmw_events::Event;
 
-/// Judges what a settled ring has left, behind what a pump has judged of it, and keeps what was judged.
+/// What a settled ring has left, to be judged after what a pump has judged of it. Judged events are kept.
 #[derive(Drop)]
 pub struct Rest {
     forgetting: ForgettingRest,
@@ -22,7 +22,7 @@ impl Rest {
     ghost use Rattle.tmw_pump.specs.Fronts.{KeepsFit, TellsVerdict, WasRefusedMemory, held_of, judged_of, verdict_on};
     ghost use Rattle.tmw_pump.specs.Resting.{HasRested, IsRested, all_of, rest_front, rest_in};
 
-    /// What is left when the ring of a pump is settled, behind what the pump has judged.
+    /// Makes the rest of a pump's settled ring, of what is left and what was judged.
     pub(crate) fn new(forgetting: ForgettingRest, judged: Vec<Event>) -> Rest
         requires { judged.items ≡ forgetting.front.judged.items }
         ensures { result.forgetting ≡ forgetting }
@@ -30,8 +30,8 @@ impl Rest {
         Rest { forgetting, judged }
     }
 
-    /// Judges up to `max` events: fewer only where all are judged. Where a growth of memory is refused, the event that was to be
-    /// judged is held, and is judged first by the next call; those judged before it in this call stay judged.
+    /// Judges up to `max` events: fewer only if all are judged. After a failed allocation the event to be judged is
+    /// held, and the next call judges it first; events judged before it in this call stay judged.
     pub fn pump(&mut self, max: u64) -> Result<Pumped, AllocError>
         ensures ok { IfOk result (λ pumped. IsRested max pumped (rest_in self.old)
             (rest_in self.new)) }
@@ -47,28 +47,28 @@ impl Rest {
         Ok(self.forgetting.pumped(judged))
     }
 
-    /// The judged front: the events that were judged, in the order of the log.
+    /// Returns the judged front: the events that were judged, in the order of the log.
     pub fn judged(&self) -> &[Event]
         ensures { result.now ≡ judged_of (rest_front (rest_in self.now)) }
     {
         &self.judged
     }
 
-    /// Whether an event was taken that is not judged yet, since memory was refused.
+    /// Tells whether an event has come that is not judged yet, after a failed allocation.
     pub fn held(&self) -> bool
         ensures { IsTrue result ↔ IsSome (held_of (rest_front (rest_in self.now))) }
     {
         self.forgetting.held()
     }
 
-    /// The verdict on the judged front.
+    /// Returns the verdict on the judged front.
     pub fn verdict(&self) -> Verdict
         ensures { TellsVerdict (rest_front (rest_in self.now)) result }
     {
         self.forgetting.verdict()
     }
 
-    /// The judged front and the verdict on it. What was not judged is given up.
+    /// Returns the judged front and the verdict on it. Events not judged are given up.
     pub fn finish(self) -> (Vec<Event>, Verdict)
         ensures judged { result.0.items ≡ judged_of (rest_front (rest_in self)) }
         ensures verdict { result.1 ≡ verdict_on (rest_front (rest_in self)) }

@@ -21,8 +21,8 @@ use tmw_ring::Ring;
 /// So many events are judged at once before it is asked whether threads still record.
 const TURN: u64 = 64;
 
-/// Judges the events of the running ring as they come, until so many threads have ended and the next place is not published.
-/// Where a growth of memory is refused, the event that was to be judged is held; those judged before it stay judged.
+/// Judges the events of the running ring as they come, until so many threads have ended and the next place is not
+/// published. After a failed allocation the event to be judged is held; those judged before it stay judged.
 pub fn pump_running<R: Wait>(
     rt: &R,
     ring: &Ring,
@@ -54,7 +54,7 @@ pub fn pump_running<R: Wait>(
     unreachable!()
 }
 
-/// Judges all that the settled ring has left, and gives all events with the verdict on them.
+/// Judges all that the settled ring has left, and returns all events with the verdict on them.
 pub fn judge_rest(mut rest: Rest) -> Result<(Vec<Event>, Verdict), AllocError>
     ensures all { IfOk result (λ judged. judged.0.items ≡ all_of (rest_in rest)) }
     ensures verdict { IfOk result (λ judged. (by : Rules)

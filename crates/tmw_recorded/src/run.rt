@@ -26,8 +26,8 @@ use tmw_ring::{Refused, Ring, Writer, ring};
 /// What the threads have left: the pump, the writers, and the refusals at which threads stopped.
 type Left = (Pump, Vec<Writer>, Vec<Option<Refused>>);
 
-/// Lets a thread for each list record events of the list's kinds, in their order, and judges meanwhile and to the end all that
-/// they record. Thread i records the list at place i.
+/// Records events of each list's kinds, in their order, in a thread for each list. Judges all that they record,
+/// meanwhile and to the end. Thread i records the list at place i.
 pub fn record_and_judge<R: Threads + Wait>(
     rt: &R,
     alloc: Global,

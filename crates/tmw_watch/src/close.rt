@@ -19,9 +19,9 @@ use std::sync::Arc;
 use tmw_ring::Writer;
 
 impl Watch {
-    /// Closes a watch with all its recorders, in any order, and answers with the number of all events that were recorded and the
-    /// verdict on them. The recorders that are given are to be this watch's. Where it can't, it gives back all that it was given, or what
-    /// is left to be judged of it.
+    /// Closes a watch with all its recorders, in any order, and returns how many events were recorded and the verdict
+    /// on them. The recorders must be this watch's. If it can't, it gives back all that it was given, or what is left
+    /// to be judged of it.
     pub fn close(self, recorders: Vec<Recorder>) -> Result<Report, CloseError>
         requires { AreOf (watch_ring self).value recorders.items }
         ensures ok { IfOk result (IsClosed self recorders.items) }
@@ -45,9 +45,9 @@ impl Watch {
         }
     }
 
-    /// Ends the ring with all its recorders, in the order of their numbers. What was recorded and not judged is left to be judged. It
-    /// takes no memory: the room is to be for what each of them records by. There is an error where the ring has an owner beside the
-    /// watch and these recorders. There is none, as no call makes one.
+    /// Ends the ring with all its recorders, in the order of their numbers. What was recorded and not judged is left
+    /// to be judged. It takes no memory: `room` is for the writers by which the recorders record. There is an error
+    /// if the ring has an owner beside the watch and these recorders, which no call makes.
     pub fn end(
         self,
         recorders: Vec<Recorder>,
@@ -66,7 +66,7 @@ impl Watch {
         self.settle(give_up(recorders, room))
     }
 
-    /// How many recorders the watch has.
+    /// Returns how many recorders the watch has.
     pub fn recorders(&self) -> u64
         ensures { result ≡ recorder_count self.now }
     {
@@ -106,7 +106,7 @@ impl Watch {
     }
 }
 
-/// The writers of these recorders, which own the ring no more.
+/// Takes the writers out of these recorders, which own the ring no more.
 fn give_up(recorders: Vec<Recorder>, writers: Vec<Writer>) -> Vec<Writer>
     requires { vec_len writers + length recorders.items ≤ vec_capacity writers }
     ensures { result.items ≡ writers.items ++ writers_of recorders.items }

@@ -27,9 +27,9 @@ pub struct Watch {
 impl Watch {
     ghost use Rattle.tmw_watch.specs.Shown.{watch_front, watch_pump, watch_ring};
 
-    /// Takes and judges up to `most` events, in the order of their places: fewer only where the next place has no event yet. It never
-    /// waits for one. Where a growth of memory is refused, what was judged stays judged, and the event that was to be judged next is held
-    /// and is judged first by the next call.
+    /// Takes and judges up to `most` events, in the order of their places: fewer only if the next place has no event
+    /// yet. It never waits for one. After a failed allocation the event to be judged is held, and the next call
+    /// judges it first. What was judged stays judged.
     pub fn pump(&mut self, most: u64) -> Result<Pumped, AllocError>
         ensures ring { watch_ring self.new ≡ watch_ring self.old }
         ensures ok { IfOk result (λ pumped. IsPumped most pumped (watch_pump self.old)
@@ -44,7 +44,7 @@ impl Watch {
         self.pump.pump(&self.ring, most)
     }
 
-    /// How many events were judged so far, and the verdict on them.
+    /// Returns how many events were judged so far, and the verdict on them.
     pub fn report(&self) -> Report
         ensures events { result.events ≡ length (judged_of (watch_front self.now)) }
         ensures verdict { TellsVerdict (watch_front self.now) result.verdict }
@@ -58,7 +58,7 @@ impl Watch {
         }
     }
 
-    /// Whether an event was taken that is not judged yet, since a growth of memory was refused.
+    /// Tells whether an event was taken that is not judged yet, after a failed allocation.
     pub fn held(&self) -> bool
         ensures { IsTrue result ↔ IsSome (held_of (watch_front self.now)) }
     {
