@@ -11,8 +11,8 @@ pub struct Plan {
     pub ghost few: { share ≤ 2 ^ 39 },
 }
 
-/// The plan of a command line, of which the first word is the program's name: its numbers of cells, writers and events, and a
-/// small plan where there are none. No more events than a ring has places.
+/// Reads the plan of a command line, whose first word is the program's name: its numbers of cells, writers and
+/// events, or a small plan if there are none. There are no more events than a ring has places.
 pub fn plan_of(words: &[String]) -> Option<Plan> {
     let (cells, writers, events) = match words {
         [_] => (16, 3, 3000),

@@ -12,7 +12,7 @@ use std::thread;
 use std::thread::{Scope, Threads};
 use tmw_ring::{Reader, Refused, Ring, RingFault, Writer, ring};
 
-/// Runs the plan, and answers with the number of events that were taken, and with the reader that took them.
+/// Runs the plan, and returns the number of events that were taken and the reader that took them.
 pub fn run<R: Threads + Wait + Sync>(
     rt: &R,
     alloc: Global,

@@ -54,7 +54,7 @@ module _ {K : Type 0} (keeps : Rules → List Event → Verdict → K → Type 0
     judged = judged-came count event old mid new done.judged come;
     kept = λ rules was.
         subst (λ (m : Monitor). keeps rules new.judged.items m.verdict kept) (sym come.monitor)
-        (subst (λ (l : List Event). keeps rules l mid.monitor.verdict kept) (ap (λ v. v.items) (sym come.judged)) (done.kept rules was));
+        (subst (λ (l : List Event). keeps rules l mid.monitor.verdict kept) (sym come.judged) (done.kept rules was));
   }
 
   -- an event that is judged is kept

@@ -6,13 +6,14 @@ use Rattle.tmw_c.specs.Opening.{AreEmpty}
 use Rattle.tmw_c.specs.declared.status.Status.{Status}
 use Rattle.tmw_c.specs.declared.status.Status.TheVariants.{Done, NoHandle, Missing, Memory, Closing}
 use Rattle.tmw_c.specs.declared.told.Told.{Told}
-use Rattle.tmw_handles.specs.Held.{HasNumber}
+use Rattle.tmw_handles.specs.Held.{HasNumber, recorder_in}
 use Rattle.tmw_handles.specs.declared.held_recorder.HeldRecorder.{HeldRecorder}
 use Rattle.tmw_handles.specs.declared.held_watch.HeldWatch.{HeldWatch}
 use Rattle.tmw_handles.specs.declared.held_watch.HeldWatch.TheVariants.{Open, Left, Shared, Closed}
 use Rattle.tmw_handles.specs.declared.recorder_handle.RecorderHandle.{RecorderHandle}
 use Rattle.tmw_ring.specs.Ends.{RingIs, WriterIs}
 use Rattle.tmw_watch.specs.Closing.{IsClosed, IsJudged, IsLeft, IsUnjudged, writers_of}
+use Rattle.tmw_watch.specs.Shown.{recorder_count, recorder_ring, rest_of, watch_ring}
 use Rattle.tmw_watch.specs.declared.closing.Closing.{Closing as WhatIsLeft}
 use Rattle.tmw_watch.specs.declared.recorder.Recorder.{Recorder}
 use Rattle.tmw_watch.specs.declared.report.Report.{Report}
@@ -21,16 +22,16 @@ use Rattle.tmw_watch.specs.declared.watch.Watch.{Watch}
 -- There are so many handles, and each holds the recorder of the number that is its place.
 pub record AreInPlace (count : ℕ) (handles : List RecorderHandle) : Type 0 where
   pub counted : length handles ≡ count
-  pub each : (place : ℕ) (fallback : RecorderHandle) → place < length handles → HasNumber place (get_or handles place fallback).slot.held
+  pub each : (place : ℕ) (fallback : RecorderHandle) → place < length handles → HasNumber place (recorder_in (get_or handles place fallback))
 
 -- What is held, if anything, records into this ring.
 abbrev pub IsHeldOf : RingIs → Option HeldRecorder → Type 0
 IsHeldOf ring None = Unit {0}
-IsHeldOf ring (Some held) = held.recorder.ring.value ≡ ring
+IsHeldOf ring (Some held) = (recorder_ring held.recorder).value ≡ ring
 
 -- What these handles hold, if anything, are recorders of the watch, where it is open: this the program owes.
 abbrev pub AreOfWatch : Option HeldWatch → List RecorderHandle → Type 0
-AreOfWatch (Some (Open watch)) handles = All (λ (handle : RecorderHandle). IsHeldOf watch.ring.value handle.slot.held) handles
+AreOfWatch (Some (Open watch)) handles = All (λ (handle : RecorderHandle). IsHeldOf (watch_ring watch).value (recorder_in handle)) handles
 AreOfWatch _ handles = Unit {0}
 
 -- This recorder is held.
@@ -42,7 +43,7 @@ IsHeld recorder (Some held) = held.recorder ≡ recorder
 pub record AreHeld (recorders : List Recorder) (handles : List RecorderHandle) : Type 0 where
   pub counted : length handles ≡ length recorders
   pub each : (place : ℕ) (handle : RecorderHandle) (recorder : Recorder) → place < length handles
-      → IsHeld (get_or recorders place recorder) (get_or handles place handle).slot.held
+      → IsHeld (get_or recorders place recorder) (recorder_in (get_or handles place handle))
 
 -- The handles held just these recorders, in their order, and hold nothing now.
 pub record WereTaken (recorders : List Recorder) (olds news : List RecorderHandle) : Type 0 where
@@ -56,7 +57,7 @@ pub record WasClosed (held : HeldWatch) (olds news : List RecorderHandle) (repor
   pub watch : Watch
   pub opened : held ≡ Open watch
   pub recorders : List Recorder
-  pub placed : AreInPlace watch.recorders olds
+  pub placed : AreInPlace (recorder_count watch) olds
   pub taken : WereTaken recorders olds news
   pub closed : IsClosed watch recorders report
 
@@ -64,7 +65,7 @@ pub record WasClosed (held : HeldWatch) (olds news : List RecorderHandle) (repor
 pub record WasFinished (held : HeldWatch) (olds news : List RecorderHandle) (report : Report) : Type 0 where
   pub closing : WhatIsLeft
   pub left : held ≡ Left closing
-  pub judged : IsJudged closing.rest report
+  pub judged : IsJudged (rest_of closing) report
   pub same : news ≡ olds
 
 -- All is as it was.
@@ -76,14 +77,14 @@ pub record IsSame (old new : HeldWatch) (olds news : List RecorderHandle) : Type
 pub record LacksRecorders (old new : HeldWatch) (olds news : List RecorderHandle) : Type 0 where
   pub watch : Watch
   pub opened : old ≡ Open watch
-  pub lacks : AreInPlace watch.recorders olds → ⊥
+  pub lacks : AreInPlace (recorder_count watch) olds → ⊥
   pub same : IsSame old new olds news
 
 -- Memory was refused before anything was done. All is as it was.
 pub record HadNoRoom (old new : HeldWatch) (olds news : List RecorderHandle) : Type 0 where
   pub watch : Watch
   pub opened : old ≡ Open watch
-  pub all : AreInPlace watch.recorders olds
+  pub all : AreInPlace (recorder_count watch) olds
   pub same : IsSame old new olds news
 
 -- The ring of an open watch has ended with all its recorders, which the handles hold no more. Memory was refused before all that it
@@ -92,11 +93,11 @@ pub record WasLeft (old new : HeldWatch) (olds news : List RecorderHandle) : Typ
   pub watch : Watch
   pub opened : old ≡ Open watch
   pub recorders : List Recorder
-  pub placed : AreInPlace watch.recorders olds
+  pub placed : AreInPlace (recorder_count watch) olds
   pub taken : WereTaken recorders olds news
   pub closing : WhatIsLeft
   pub left : new ≡ Left closing
-  pub is_left : IsLeft watch recorders closing.rest
+  pub is_left : IsLeft watch recorders (rest_of closing)
 
 -- Of what an earlier call had left more may have been judged, and nothing was lost. Memory was refused again.
 pub record IsStillLeft (old new : HeldWatch) (olds news : List RecorderHandle) : Type 0 where
@@ -104,7 +105,7 @@ pub record IsStillLeft (old new : HeldWatch) (olds news : List RecorderHandle) :
   pub after : WhatIsLeft
   pub was_left : old ≡ Left before
   pub is_left : new ≡ Left after
-  pub on : IsUnjudged before.rest after.rest
+  pub on : IsUnjudged (rest_of before) (rest_of after)
   pub same : news ≡ olds
 
 -- The ring has an owner beside the watch and its recorders. There is none, as no call makes one. The handle of the watch holds it
@@ -113,7 +114,7 @@ pub record WasShared (old new : HeldWatch) (olds news : List RecorderHandle) : T
   pub watch : Watch
   pub opened : old ≡ Open watch
   pub recorders : List Recorder
-  pub placed : AreInPlace watch.recorders olds
+  pub placed : AreInPlace (recorder_count watch) olds
   pub taken : WereTaken recorders olds news
   pub writers : Vec WriterIs
   pub shared : new ≡ Shared watch writers

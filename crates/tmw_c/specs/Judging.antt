@@ -8,10 +8,11 @@ use Rattle.tmw_defs.specs.declared.verdict.Verdict.TheVariants.{OpaqueSoFar, Str
 use Rattle.tmw_defs.specs.declared.verdict.Why.TheVariants.{Transactions, States}
 use Rattle.tmw_handles.specs.declared.held_watch.HeldWatch.{HeldWatch}
 use Rattle.tmw_handles.specs.declared.held_watch.HeldWatch.TheVariants.{Open, Left, Shared, Closed}
-use Rattle.tmw_pump.specs.Fronts.{TellsVerdict, WasRefusedMemory}
+use Rattle.tmw_pump.specs.Fronts.{TellsVerdict, WasRefusedMemory, judged_of, verdict_on}
 use Rattle.tmw_pump.specs.Headline.{GivesHeadline}
-use Rattle.tmw_pump.specs.Pumping.{HasPumped, IsPumped}
+use Rattle.tmw_pump.specs.Pumping.{HasPumped, IsPumped, reader_of}
 use Rattle.tmw_pump.specs.declared.pumped.Pumped.{Pumped}
+use Rattle.tmw_watch.specs.Shown.{watch_front, watch_pump, watch_ring}
 use Rattle.tmw_watch.specs.declared.watch.Watch.{Watch}
 
 -- the number of a verdict; a watch judges by opacity alone, so that 4 is not told
@@ -55,8 +56,9 @@ IsNotOpen Closed = Unit {0}
 
 -- The ring is the same, and the headline holds of what is judged now.
 pub record IsOn (old new : Watch) : Type 0 where
-  pub ring : new.ring ≡ old.ring
-  pub headline : GivesHeadline old.pump.front new.pump.reader.taken new.pump.front.judged.items new.pump.front.monitor.verdict
+  pub ring : watch_ring new ≡ watch_ring old
+  pub headline : GivesHeadline (watch_front old) (reader_of (watch_pump new)).taken (judged_of (watch_front new))
+      (verdict_on (watch_front new))
 
 -- So many events were judged of up to this many.
 pub record WasPumped (most judged : ℕ) (old new : HeldWatch) : Type 0 where
@@ -67,7 +69,7 @@ pub record WasPumped (most judged : ℕ) (old new : HeldWatch) : Type 0 where
   pub on : IsOn before after
   pub pumped : Pumped
   pub count : judged ≡ pumped.judged
-  pub judging : IsPumped most pumped before.pump after.pump
+  pub judging : IsPumped most pumped (watch_pump before) (watch_pump after)
 
 -- A growth was refused: what was judged stays judged, and the next event is held.
 pub record WasPumpedPartly (most : ℕ) (old new : HeldWatch) : Type 0 where
@@ -76,7 +78,8 @@ pub record WasPumpedPartly (most : ℕ) (old new : HeldWatch) : Type 0 where
   pub opened : old ≡ Open before
   pub stays : new ≡ Open after
   pub on : IsOn before after
-  pub partly : WasRefusedMemory most (λ count. HasPumped count before.pump after.pump.reader after.pump.front) after.pump.front
+  pub partly : WasRefusedMemory most
+      (λ count. HasPumped count (watch_pump before) (reader_of (watch_pump after)) (watch_front after)) (watch_front after)
 
 abbrev pub WasNotPumped : ℕ → HeldWatch → HeldWatch → Status → Type 0
 WasNotPumped most old new Memory = WasPumpedPartly most old new
@@ -109,9 +112,9 @@ pub record WasReported (held : HeldWatch) (told : Told) : Type 0 where
   pub watch : Watch
   pub opened : held ≡ Open watch
   pub verdict : Verdict
-  pub is_told : IsTold (length watch.pump.front.judged.items) verdict told
-  pub tells : TellsVerdict watch.pump.front verdict
-  pub headline : GivesHeadline watch.pump.front watch.pump.reader.taken watch.pump.front.judged.items verdict
+  pub is_told : IsTold (length (judged_of (watch_front watch))) verdict told
+  pub tells : TellsVerdict (watch_front watch) verdict
+  pub headline : GivesHeadline (watch_front watch) (reader_of (watch_pump watch)).taken (judged_of (watch_front watch)) verdict
 
 -- what is told is of the watch that a handle holds
 pub record WasReportedHeld (old : Option HeldWatch) (told : Told) : Type 0 where

@@ -4,6 +4,7 @@ use Rattle.tmw_c.specs.declared.status.Status.{Status}
 use Rattle.tmw_c.specs.declared.status.Status.TheVariants.{Done, FullHandle, BadRegisters, BadStart, BadBounds, BadSize, BadLimit, Memory}
 use Rattle.tmw_c.specs.declared.wanted.Wanted.{Wanted}
 use Rattle.tmw_events.specs.declared.registers.Registers.{Registers}
+use Rattle.tmw_handles.specs.Held.{recorder_in, watch_in}
 use Rattle.tmw_handles.specs.declared.held_recorder.HeldRecorder.{HeldRecorder}
 use Rattle.tmw_handles.specs.declared.held_watch.HeldWatch.TheVariants.{Open}
 use Rattle.tmw_handles.specs.declared.recorder_handle.RecorderHandle.{RecorderHandle}
@@ -62,15 +63,15 @@ Holds registers recorder (Some held) = (held.recorder ≡ recorder) × (held.reg
 pub record AreHandlesOf (registers : Registers) (recorders : List Recorder) (handles : List RecorderHandle) : Type 0 where
   pub counted : length handles ≡ length recorders
   pub each : (place : ℕ) (handle : RecorderHandle) (recorder : Recorder) → place < length handles
-      → Holds registers (get_or recorders place recorder) (get_or handles place handle).slot.held
+      → Holds registers (get_or recorders place recorder) (recorder_in (get_or handles place handle))
 
 -- None of these handles holds anything.
 abbrev pub AreEmpty : List RecorderHandle → Type 0
-AreEmpty handles = All (λ (handle : RecorderHandle). handle.slot.held ≡ None) handles
+AreEmpty handles = All (λ (handle : RecorderHandle). recorder_in handle ≡ None) handles
 
 -- The handle of the watch holds nothing, and none of its recorders' handles does.
 pub record IsAllEmpty (watch : WatchHandle) (handles : List RecorderHandle) : Type 0 where
-  pub watch_empty : watch.slot.held ≡ None
+  pub watch_empty : watch_in watch ≡ None
   pub handles_empty : AreEmpty handles
 
 -- A new watch is held, by these settings, and each of its recorders by the handle at the place of its number.
@@ -80,7 +81,7 @@ pub record HasOpened (wanted : Wanted) (watch : WatchHandle) (handles : List Rec
   pub opened : Watch
   pub recorders : List Recorder
   pub new : IsOpened settings opened recorders
-  pub held : watch.slot.held ≡ Some (Open opened)
+  pub held : watch_in watch ≡ Some (Open opened)
   pub each : AreHandlesOf settings.registers recorders handles
 
 -- Why no watch was opened of what is wanted, with so many recorders: the first that is out of its range, or there was no memory.

@@ -7,6 +7,7 @@ use Rattle.tmw_events.specs.declared.event.Kind.{Kind}
 use Rattle.tmw_handles.specs.declared.held_recorder.HeldRecorder.{HeldRecorder}
 use Rattle.tmw_ring.specs.Recording.{HasRecorded, IsRefusal}
 use Rattle.tmw_ring.specs.declared.refused.Refused.TheVariants.{Full as IsFull, Spent as IsSpent}
+use Rattle.tmw_watch.specs.Shown.{recorder_ring, writer_of}
 
 -- The status says why no kind is asked for.
 abbrev pub IsUnasked : (registers letter register : ℕ) → Status → Type 0
@@ -16,8 +17,8 @@ IsUnasked registers letter register _ = ⊥
 
 -- The recorder of the same thread, of the same ring and the same memory.
 pub record IsSameEnd (old new : HeldRecorder) : Type 0 where
-  pub ring : new.recorder.ring ≡ old.recorder.ring
-  pub number : new.recorder.writer.number ≡ old.recorder.writer.number
+  pub ring : recorder_ring new.recorder ≡ recorder_ring old.recorder
+  pub number : (writer_of new.recorder).number ≡ (writer_of old.recorder).number
   pub registers : new.registers ≡ old.registers
 
 -- Just the event that is asked for was recorded, at this place of the one log.
@@ -25,7 +26,7 @@ pub record HasRecordedAsked (letter register value : ℕ) (old : HeldRecorder) (
   pub kind : Kind
   pub asked : AsksFor old.registers.number letter register value kind
   pub same : IsSameEnd old new
-  pub recorded : HasRecorded kind place old.recorder.writer new.recorder.writer
+  pub recorded : HasRecorded kind place (writer_of old.recorder) (writer_of new.recorder)
 
 -- The event that is asked for was refused, and nothing was claimed: the ring was full.
 pub record WasFull (letter register value : ℕ) (old new : HeldRecorder) : Type 0 where
@@ -34,7 +35,7 @@ pub record WasFull (letter register value : ℕ) (old new : HeldRecorder) : Type
   pub tail : ℕ
   pub asked : AsksFor old.registers.number letter register value kind
   pub same : IsSameEnd old new
-  pub refused : IsRefusal kind old.recorder.writer (IsFull front tail) new.recorder.writer
+  pub refused : IsRefusal kind (writer_of old.recorder) (IsFull front tail) (writer_of new.recorder)
 
 -- The event that is asked for was refused, and nothing was claimed: the ring's places were spent.
 pub record WasSpent (letter register value : ℕ) (old new : HeldRecorder) : Type 0 where
@@ -42,7 +43,7 @@ pub record WasSpent (letter register value : ℕ) (old new : HeldRecorder) : Typ
   pub tail : ℕ
   pub asked : AsksFor old.registers.number letter register value kind
   pub same : IsSameEnd old new
-  pub refused : IsRefusal kind old.recorder.writer (IsSpent tail) new.recorder.writer
+  pub refused : IsRefusal kind (writer_of old.recorder) (IsSpent tail) (writer_of new.recorder)
 
 -- why a recorder has recorded nothing, and what it is then
 abbrev pub HasRefused : (letter register value : ℕ) → HeldRecorder → HeldRecorder → Status → Type 0

@@ -6,24 +6,25 @@ use Rattle.tmw_c.specs.declared.status.Status.TheVariants.{Done, NoHandle, Full,
 use Rattle.tmw_handles.specs.declared.held_recorder.HeldRecorder.{HeldRecorder}
 use Rattle.tmw_ring.specs.Rooms.{HasFoundRoom, LacksRoom}
 use Rattle.tmw_ring.specs.declared.refused.Refused.TheVariants.{Full as IsFull, Spent as IsSpent}
+use Rattle.tmw_watch.specs.Shown.{writer_of}
 
 -- So many records find room.
 pub record FindsRoom (records : ℕ) (old new : HeldRecorder) : Type 0 where
   pub same : IsSameEnd old new
-  pub found : HasFoundRoom records old.recorder.writer new.recorder.writer
+  pub found : HasFoundRoom records (writer_of old.recorder) (writer_of new.recorder)
 
 -- The last of so many records would find the ring full.
 pub record FindsFull (records : ℕ) (old new : HeldRecorder) : Type 0 where
   pub same : IsSameEnd old new
   pub front : ℕ
   pub tail : ℕ
-  pub lacks : LacksRoom records old.recorder.writer (IsFull front tail) new.recorder.writer
+  pub lacks : LacksRoom records (writer_of old.recorder) (IsFull front tail) (writer_of new.recorder)
 
 -- The last of so many records would find the ring's places spent.
 pub record FindsSpent (records : ℕ) (old new : HeldRecorder) : Type 0 where
   pub same : IsSameEnd old new
   pub tail : ℕ
-  pub lacks : LacksRoom records old.recorder.writer (IsSpent tail) new.recorder.writer
+  pub lacks : LacksRoom records (writer_of old.recorder) (IsSpent tail) (writer_of new.recorder)
 
 -- what a recorder has found that was asked for room, by the status
 abbrev pub Finds : (records : ℕ) → HeldRecorder → HeldRecorder → Status → Type 0

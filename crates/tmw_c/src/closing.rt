@@ -2,6 +2,7 @@
 ghost use Rattle.std.specs.Prelude.{◌≡◌, ◌≤◌, ◌⊎◌, [], All, Some, IsSome, length, IfOk, IfErr, IsTrue, IsFalse, vec_capacity};
 ghost use Rattle.tmw_c.specs.Closing.{AreHeld, AreInPlace, AreOfWatch, IsClosing, IsUnended, WasClosed, WasFinished};
 ghost use Rattle.tmw_c.specs.Opening.{AreEmpty};
+ghost use Rattle.tmw_handles.specs.Held.{recorder_in, watch_in};
 ghost use Rattle.tmw_handles.specs.declared.held_watch.HeldWatch.TheVariants.{Open};
 
 use crate::status::Status;
@@ -12,7 +13,7 @@ use tmw_handles::{HeldRecorder, HeldWatch, RecorderHandle, WatchHandle};
 use tmw_ring::Writer;
 use tmw_watch::{Recorder, Report, Watch};
 
-/// Whether these are so many, and each holds the recorder of the number that is its place.
+/// Tells whether these are so many, and each holds the recorder of the number that is its place.
 fn are_in_place(handles: &[RecorderHandle], count: u64) -> bool
     ensures yes { IsTrue result → AreInPlace count handles.now }
     ensures no { IsFalse result → AreInPlace count handles.now → ⊥ }
@@ -31,7 +32,7 @@ fn are_in_place(handles: &[RecorderHandle], count: u64) -> bool
     true
 }
 
-/// So many handles that hold nothing.
+/// Makes so many handles that hold nothing.
 fn empty_handles(alloc: Global, count: usize) -> Result<Vec<RecorderHandle>, AllocError>
     ensures count { IfOk result (λ handles. length handles.items ≡ count) }
     ensures empty { IfOk result (λ handles. AreEmpty handles.items) }
@@ -43,7 +44,7 @@ fn empty_handles(alloc: Global, count: usize) -> Result<Vec<RecorderHandle>, All
     Ok(handles)
 }
 
-/// Room for what so many recorders' handles hold, and for what they record by, and as many handles that hold nothing.
+/// Makes room for what so many recorders' handles hold, and for their writers, and as many handles that hold nothing.
 fn room(
     alloc: Global,
     count: usize,
@@ -60,9 +61,9 @@ fn room(
     Ok((handles, recorders, writers))
 }
 
-/// What these handles hold.
+/// Takes the recorders out of these handles.
 fn recorders_of(handles: Vec<RecorderHandle>, room: Vec<Recorder>) -> Vec<Recorder>
-    requires full { All (λ handle. IsSome handle.slot.held) handles.items }
+    requires full { All (λ handle. IsSome (recorder_in handle)) handles.items }
     requires empty { room.items ≡ [] }
     requires room { length handles.items ≤ vec_capacity room }
     ensures { AreHeld result.items handles.items }
@@ -75,8 +76,8 @@ fn recorders_of(handles: Vec<RecorderHandle>, room: Vec<Recorder>) -> Vec<Record
     recorders
 }
 
-/// Closes an open watch with the recorders of these handles, and answers with the report of its whole log; or with what is to be held in
-/// its place, and why.
+/// Closes an open watch with the recorders of these handles, and returns the report of its whole log; or what is to
+/// be held in its place, and why.
 fn close_open(
     alloc: Global,
     watch: Watch,
@@ -90,6 +91,7 @@ fn close_open(
     if !are_in_place(handles, watch.recorders()) {
         return Err((HeldWatch::Open(watch), Status::Missing));
     }
+    // Before anything is given up, so that a failed allocation leaves each handle as it was.
     let Ok((mut taken, recorders, writers)) = room(alloc, handles.len()) else {
         return Err((HeldWatch::Open(watch), Status::Memory));
     };
@@ -104,7 +106,7 @@ fn close_open(
     }
 }
 
-/// Closes what is held, and answers as `close_open` does, also where it is a closing that was left.
+/// Closes what is held, and returns what `close_open` does, also if it is a closing that was left.
 fn end(
     alloc: Global,
     held: HeldWatch,
@@ -128,16 +130,17 @@ fn end(
     }
 }
 
-/// Closes what the watch's handle holds, which it holds no more then. Where it can't, the handle holds what there is to be closed.
+/// Closes what the watch's handle holds, and leaves the handle empty. If it can't, the handle holds what there is to
+/// be closed.
 pub fn close(
     alloc: Global,
     watch: &mut WatchHandle,
     recorders: &mut [RecorderHandle],
     told: &mut Told,
 ) -> Status
-    requires { AreOfWatch watch.old.slot.held recorders.old }
-    ensures { IsClosing watch.old.slot.held watch.new.slot.held recorders.old recorders.new told.old
-        told.new result }
+    requires { AreOfWatch (watch_in watch.old) recorders.old }
+    ensures { IsClosing (watch_in watch.old) (watch_in watch.new) recorders.old recorders.new
+        told.old told.new result }
 {
     let Some(mut place) = watch.take(alloc) else {
         return Status::NoHandle;

@@ -6,6 +6,7 @@ ghost use Rattle.tmw_c.specs.Opening.{IsOpening};
 ghost use Rattle.tmw_c.specs.Recording.{IsRecording};
 ghost use Rattle.tmw_c.specs.Rooms.{IsAsking};
 ghost use Rattle.tmw_c.specs.Statuses.{Tells};
+ghost use Rattle.tmw_handles.specs.Held.{recorder_in, watch_in};
 
 use crate::told::Told;
 use crate::wanted::Wanted;
@@ -35,8 +36,8 @@ pub extern "C" fn tmwatch_close(
     recorders: &mut [RecorderHandle],
     told: &mut Told,
 ) -> u32
-    requires { AreOfWatch watch.old.slot.held recorders.old }
-    ensures { Tells result (IsClosing watch.old.slot.held watch.new.slot.held recorders.old
+    requires { AreOfWatch (watch_in watch.old) recorders.old }
+    ensures { Tells result (IsClosing (watch_in watch.old) (watch_in watch.new) recorders.old
         recorders.new told.old told.new) }
 {
     closing::close(alloc, watch, recorders, told).number()
@@ -52,8 +53,8 @@ pub extern "C" fn tmwatch_record(
     value: u64,
     place: &mut u64,
 ) -> u32
-    ensures { Tells result (IsRecording letter register value recorder.old.slot.held
-        recorder.new.slot.held place.old place.new) }
+    ensures { Tells result (IsRecording letter register value (recorder_in recorder.old)
+        (recorder_in recorder.new) place.old place.new) }
 {
     record::record(alloc, recorder, letter, register, value, place).number()
 }
@@ -61,7 +62,8 @@ pub extern "C" fn tmwatch_record(
 /// Tells whether so many records find room.
 #[unsafe(no_mangle)]
 pub extern "C" fn tmwatch_room(alloc: Global, recorder: &mut RecorderHandle, records: u64) -> u32
-    ensures { Tells result (IsAsking records recorder.old.slot.held recorder.new.slot.held) }
+    ensures { Tells result (IsAsking records (recorder_in recorder.old)
+        (recorder_in recorder.new)) }
 {
     room::ask(alloc, recorder, records).number()
 }
@@ -74,7 +76,7 @@ pub extern "C" fn tmwatch_pump(
     most: u64,
     judged: &mut u64,
 ) -> u32
-    ensures { Tells result (IsPumping most watch.old.slot.held watch.new.slot.held judged.old
+    ensures { Tells result (IsPumping most (watch_in watch.old) (watch_in watch.new) judged.old
         judged.new) }
 {
     judge::pump(alloc, watch, most, judged).number()
@@ -83,7 +85,7 @@ pub extern "C" fn tmwatch_pump(
 /// Tells the verdict on what was judged so far.
 #[unsafe(no_mangle)]
 pub extern "C" fn tmwatch_report(alloc: Global, watch: &mut WatchHandle, out: &mut Told) -> u32
-    ensures { Tells result (IsReporting watch.old.slot.held watch.new.slot.held out.old out.new) }
+    ensures { Tells result (IsReporting (watch_in watch.old) (watch_in watch.new) out.old out.new) }
 {
     judge::report(alloc, watch, out).number()
 }
@@ -91,7 +93,7 @@ pub extern "C" fn tmwatch_report(alloc: Global, watch: &mut WatchHandle, out: &m
 /// Gives back all that the handle holds, and leaves it empty.
 #[unsafe(no_mangle)]
 pub extern "C" fn tmwatch_discard(alloc: Global, watch: &mut WatchHandle)
-    ensures { watch.new.slot.held ≡ None }
+    ensures { watch_in watch.new ≡ None }
 {
     drop(watch.take(alloc));
 }
@@ -99,7 +101,7 @@ pub extern "C" fn tmwatch_discard(alloc: Global, watch: &mut WatchHandle)
 /// Gives back all that the handle holds, and leaves it empty.
 #[unsafe(no_mangle)]
 pub extern "C" fn tmwatch_discard_recorder(alloc: Global, recorder: &mut RecorderHandle)
-    ensures { recorder.new.slot.held ≡ None }
+    ensures { recorder_in recorder.new ≡ None }
 {
     drop(recorder.take(alloc));
 }

@@ -1,13 +1,14 @@
 //! Judging what was recorded, by a watch's handle.
 ghost use Rattle.std.specs.Prelude.{IfOk, IfErr, IfSome, IfNone};
 ghost use Rattle.tmw_c.specs.Judging.{IsNotOpen, IsPumping, IsReporting, WasNotPumped, WasPumped, WasReported};
+ghost use Rattle.tmw_handles.specs.Held.{watch_in};
 
 use crate::status::Status;
 use crate::told::Told;
 use std::alloc::Global;
 use tmw_handles::{HeldWatch, WatchHandle};
 
-/// Judges up to `most` events, and answers with how many it has judged, or why not so many.
+/// Judges up to `most` events, and returns how many it has judged, or why not so many.
 fn pump_held(held: &mut HeldWatch, most: u64) -> Result<u64, Status>
     ensures ok { IfOk result (λ judged. WasPumped most judged held.old held.new) }
     ensures err { IfErr result (WasNotPumped most held.old held.new) }
@@ -21,10 +22,11 @@ fn pump_held(held: &mut HeldWatch, most: u64) -> Result<u64, Status>
     }
 }
 
-/// Judges up to so many events by what the handle holds, which it holds then again. The count is told where all was done, and else
-/// stays.
+/// Judges up to `most` events by what the handle holds, which it holds again afterwards. `judged` changes only if the
+/// call succeeds.
 pub fn pump(alloc: Global, watch: &mut WatchHandle, most: u64, judged: &mut u64) -> Status
-    ensures { IsPumping most watch.old.slot.held watch.new.slot.held judged.old judged.new result }
+    ensures { IsPumping most (watch_in watch.old) (watch_in watch.new) judged.old judged.new
+        result }
 {
     let Some(mut held) = watch.take(alloc) else {
         return Status::NoHandle;
@@ -40,7 +42,7 @@ pub fn pump(alloc: Global, watch: &mut WatchHandle, most: u64, judged: &mut u64)
     }
 }
 
-/// The verdict on what an open watch has judged.
+/// Returns the verdict on what an open watch has judged.
 fn report_held(held: &HeldWatch) -> Option<Told>
     ensures some { IfSome result (WasReported held.now) }
     ensures none { IfNone result (IsNotOpen held.now) }
@@ -51,9 +53,9 @@ fn report_held(held: &HeldWatch) -> Option<Told>
     Some(Told::of(watch.report()))
 }
 
-/// Reports on what the handle holds, which it holds then again.
+/// Reports on what the handle holds, which it holds again afterwards.
 pub fn report(alloc: Global, watch: &mut WatchHandle, out: &mut Told) -> Status
-    ensures { IsReporting watch.old.slot.held watch.new.slot.held out.old out.new result }
+    ensures { IsReporting (watch_in watch.old) (watch_in watch.new) out.old out.new result }
 {
     let Some(held) = watch.take(alloc) else {
         return Status::NoHandle;

@@ -1,6 +1,7 @@
 //! A function for each kind of event. It records as the function that takes a letter does, and tells no place.
 ghost use Rattle.tmw_c.specs.Recording.{IsRecordingUntold};
 ghost use Rattle.tmw_c.specs.Statuses.{Tells};
+ghost use Rattle.tmw_handles.specs.Held.{recorder_in};
 
 // Bodies name letters by these; clauses have their numbers, which nothing in the program can change.
 use crate::kinds::{A, C, K, N, R, T, V, W, X};
@@ -11,8 +12,8 @@ use tmw_handles::RecorderHandle;
 /// Records the call of a read of this register.
 #[unsafe(no_mangle)]
 pub extern "C" fn tmwatch_read(alloc: Global, recorder: &mut RecorderHandle, register: u64) -> u32
-    ensures { Tells result (IsRecordingUntold 82 register 0 recorder.old.slot.held
-        recorder.new.slot.held) }
+    ensures { Tells result (IsRecordingUntold 82 register 0 (recorder_in recorder.old)
+        (recorder_in recorder.new)) }
 {
     record_untold(alloc, recorder, R, register, 0).number()
 }
@@ -20,8 +21,8 @@ pub extern "C" fn tmwatch_read(alloc: Global, recorder: &mut RecorderHandle, reg
 /// Records the answer of a read or an add: the value that the register had.
 #[unsafe(no_mangle)]
 pub extern "C" fn tmwatch_value(alloc: Global, recorder: &mut RecorderHandle, value: u64) -> u32
-    ensures { Tells result (IsRecordingUntold 86 0 value recorder.old.slot.held
-        recorder.new.slot.held) }
+    ensures { Tells result (IsRecordingUntold 86 0 value (recorder_in recorder.old)
+        (recorder_in recorder.new)) }
 {
     record_untold(alloc, recorder, V, 0, value).number()
 }
@@ -34,8 +35,8 @@ pub extern "C" fn tmwatch_write(
     register: u64,
     value: u64,
 ) -> u32
-    ensures { Tells result (IsRecordingUntold 87 register value recorder.old.slot.held
-        recorder.new.slot.held) }
+    ensures { Tells result (IsRecordingUntold 87 register value (recorder_in recorder.old)
+        (recorder_in recorder.new)) }
 {
     record_untold(alloc, recorder, W, register, value).number()
 }
@@ -43,8 +44,8 @@ pub extern "C" fn tmwatch_write(
 /// Records the answer of a write.
 #[unsafe(no_mangle)]
 pub extern "C" fn tmwatch_stored(alloc: Global, recorder: &mut RecorderHandle) -> u32
-    ensures { Tells result (IsRecordingUntold 75 0 0 recorder.old.slot.held
-        recorder.new.slot.held) }
+    ensures { Tells result (IsRecordingUntold 75 0 0 (recorder_in recorder.old)
+        (recorder_in recorder.new)) }
 {
     record_untold(alloc, recorder, K, 0, 0).number()
 }
@@ -57,8 +58,8 @@ pub extern "C" fn tmwatch_add(
     register: u64,
     value: u64,
 ) -> u32
-    ensures { Tells result (IsRecordingUntold 78 register value recorder.old.slot.held
-        recorder.new.slot.held) }
+    ensures { Tells result (IsRecordingUntold 78 register value (recorder_in recorder.old)
+        (recorder_in recorder.new)) }
 {
     record_untold(alloc, recorder, N, register, value).number()
 }
@@ -66,8 +67,8 @@ pub extern "C" fn tmwatch_add(
 /// Records the call to commit.
 #[unsafe(no_mangle)]
 pub extern "C" fn tmwatch_commit(alloc: Global, recorder: &mut RecorderHandle) -> u32
-    ensures { Tells result (IsRecordingUntold 84 0 0 recorder.old.slot.held
-        recorder.new.slot.held) }
+    ensures { Tells result (IsRecordingUntold 84 0 0 (recorder_in recorder.old)
+        (recorder_in recorder.new)) }
 {
     record_untold(alloc, recorder, T, 0, 0).number()
 }
@@ -75,8 +76,8 @@ pub extern "C" fn tmwatch_commit(alloc: Global, recorder: &mut RecorderHandle) -
 /// Records that the transaction has committed.
 #[unsafe(no_mangle)]
 pub extern "C" fn tmwatch_committed(alloc: Global, recorder: &mut RecorderHandle) -> u32
-    ensures { Tells result (IsRecordingUntold 67 0 0 recorder.old.slot.held
-        recorder.new.slot.held) }
+    ensures { Tells result (IsRecordingUntold 67 0 0 (recorder_in recorder.old)
+        (recorder_in recorder.new)) }
 {
     record_untold(alloc, recorder, C, 0, 0).number()
 }
@@ -84,8 +85,8 @@ pub extern "C" fn tmwatch_committed(alloc: Global, recorder: &mut RecorderHandle
 /// Records the call to abort.
 #[unsafe(no_mangle)]
 pub extern "C" fn tmwatch_abort(alloc: Global, recorder: &mut RecorderHandle) -> u32
-    ensures { Tells result (IsRecordingUntold 88 0 0 recorder.old.slot.held
-        recorder.new.slot.held) }
+    ensures { Tells result (IsRecordingUntold 88 0 0 (recorder_in recorder.old)
+        (recorder_in recorder.new)) }
 {
     record_untold(alloc, recorder, X, 0, 0).number()
 }
@@ -93,8 +94,8 @@ pub extern "C" fn tmwatch_abort(alloc: Global, recorder: &mut RecorderHandle) ->
 /// Records that the transaction has aborted.
 #[unsafe(no_mangle)]
 pub extern "C" fn tmwatch_aborted(alloc: Global, recorder: &mut RecorderHandle) -> u32
-    ensures { Tells result (IsRecordingUntold 65 0 0 recorder.old.slot.held
-        recorder.new.slot.held) }
+    ensures { Tells result (IsRecordingUntold 65 0 0 (recorder_in recorder.old)
+        (recorder_in recorder.new)) }
 {
     record_untold(alloc, recorder, A, 0, 0).number()
 }

@@ -24,7 +24,7 @@ pub(crate) const A: u32 = 65;
 
 pub(crate) const N: u32 = 78;
 
-/// The register of this number, where the memory has it.
+/// Returns the register of this number, if the memory has it.
 fn register_of(registers: Registers, register: u64) -> Option<Ix>
     ensures some { IfSome result (λ ix. (ix.number ≡ register) × (register < registers.number)) }
     ensures none { IfNone result (registers.number ≤ register) }
@@ -35,7 +35,8 @@ fn register_of(registers: Registers, register: u64) -> Option<Ix>
     Ix::new(register as u8)
 }
 
-/// The kind that this letter, register and value ask for. What the kind does not have is not looked at.
+/// Returns the kind that this letter, register and value ask for. What the kind does not have is not read. `BadKind`:
+/// no kind has this letter. `BadRegister`: the memory has no such register.
 pub fn asked(registers: Registers, letter: u32, register: u64, value: u64) -> Result<Kind, Status>
     ensures ok { IfOk result (AsksFor registers.number letter register value) }
     ensures err { IfErr result (IsUnasked registers.number letter register) }

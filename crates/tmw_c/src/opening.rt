@@ -10,7 +10,7 @@ use tmw_handles::{HeldRecorder, HeldWatch, RecorderHandle, WatchHandle};
 use tmw_ring::RingFault;
 use tmw_watch::{Recorder, Watch};
 
-/// Whether none of these handles holds anything.
+/// Tells whether none of these handles holds anything.
 fn are_empty(handles: &[RecorderHandle]) -> bool
     ensures yes { IsTrue result → AreEmpty handles.now }
     ensures no { IsFalse result → AreEmpty handles.now → ⊥ }
@@ -23,7 +23,7 @@ fn are_empty(handles: &[RecorderHandle]) -> bool
     true
 }
 
-/// Gives back all that these handles hold. A handle that is let go while it is full would keep it for ever.
+/// Gives back all that these handles hold. Dropping a full handle leaks its recorder.
 fn discard(alloc: Global, handles: Vec<RecorderHandle>) {
     for handle in handles {
         let mut handle = handle;
@@ -31,7 +31,7 @@ fn discard(alloc: Global, handles: Vec<RecorderHandle>) {
     }
 }
 
-/// A handle for each recorder, in their order; nothing, where a growth of memory was refused.
+/// Makes a handle for each recorder, in their order, or returns `None` after a failed allocation.
 fn handles_of(
     alloc: Global,
     registers: Registers,

@@ -1,6 +1,7 @@
 //! Recording by a handle.
 ghost use Rattle.std.specs.Prelude.{IfOk, IfErr};
 ghost use Rattle.tmw_c.specs.Recording.{HasRecordedAsked, HasRefused, IsRecording, IsRecordingUntold};
+ghost use Rattle.tmw_handles.specs.Held.{recorder_in};
 
 use crate::kinds::asked;
 use crate::status::Status;
@@ -8,7 +9,7 @@ use std::alloc::Global;
 use tmw_handles::{HeldRecorder, RecorderHandle};
 use tmw_ring::Refused;
 
-/// Records the event that is asked for, and answers with its place, or why not.
+/// Records the event that is asked for, and returns its place, or why not.
 fn record_held(
     held: &mut HeldRecorder,
     letter: u32,
@@ -30,8 +31,8 @@ fn record_held(
     }
 }
 
-/// Records an event by what the handle holds, which it holds then again. The place is told where the event was recorded, and else
-/// stays.
+/// Records an event by what the handle holds, which it holds again afterwards. `place` changes only if the event was
+/// recorded.
 pub fn record(
     alloc: Global,
     recorder: &mut RecorderHandle,
@@ -40,8 +41,8 @@ pub fn record(
     value: u64,
     place: &mut u64,
 ) -> Status
-    ensures { IsRecording letter register value recorder.old.slot.held recorder.new.slot.held
-        place.old place.new result }
+    ensures { IsRecording letter register value (recorder_in recorder.old)
+        (recorder_in recorder.new) place.old place.new result }
 {
     let Some(mut held) = recorder.take(alloc) else {
         return Status::NoHandle;
@@ -57,7 +58,7 @@ pub fn record(
     }
 }
 
-/// Records an event by what the handle holds, which it holds then again. The place is not told.
+/// Records an event by what the handle holds, which it holds again afterwards. The place is not told.
 pub fn record_untold(
     alloc: Global,
     recorder: &mut RecorderHandle,
@@ -65,8 +66,8 @@ pub fn record_untold(
     register: u64,
     value: u64,
 ) -> Status
-    ensures { IsRecordingUntold letter register value recorder.old.slot.held recorder.new.slot.held
-        result }
+    ensures { IsRecordingUntold letter register value (recorder_in recorder.old)
+        (recorder_in recorder.new) result }
 {
     let mut place = 0;
     record(alloc, recorder, letter, register, value, &mut place)

@@ -1,12 +1,13 @@
 //! Asking for room for several records by a handle.
 ghost use Rattle.tmw_c.specs.Rooms.{Finds, IsAsking};
+ghost use Rattle.tmw_handles.specs.Held.{recorder_in};
 
 use crate::status::Status;
 use std::alloc::Global;
 use tmw_handles::{HeldRecorder, RecorderHandle};
 use tmw_ring::Refused;
 
-/// Whether so many records find room.
+/// Tells whether so many records find room.
 fn ask_held(held: &mut HeldRecorder, records: u64) -> Status
     ensures { Finds records held.old held.new result }
 {
@@ -17,9 +18,9 @@ fn ask_held(held: &mut HeldRecorder, records: u64) -> Status
     }
 }
 
-/// Whether so many records find room by what the handle holds, which it holds then again.
+/// Tells whether so many records find room by what the handle holds, which it holds again afterwards.
 pub fn ask(alloc: Global, recorder: &mut RecorderHandle, records: u64) -> Status
-    ensures { IsAsking records recorder.old.slot.held recorder.new.slot.held result }
+    ensures { IsAsking records (recorder_in recorder.old) (recorder_in recorder.new) result }
 {
     let Some(mut held) = recorder.take(alloc) else {
         return Status::NoHandle;

@@ -20,7 +20,7 @@ pub enum Status {
     BadSize,
     /// The limit of events is out of its range.
     BadLimit,
-    /// A growth of memory was refused.
+    /// An allocation failed.
     Memory,
     /// There was no room for an event of each recorder.
     Full,
@@ -37,7 +37,7 @@ pub enum Status {
 }
 
 impl Status {
-    /// The status as a number, 0 to 14.
+    /// Returns the status as a number, 0 to 14.
     pub const fn number(self) -> u32
         ensures { result ≡ number_of self }
     {

@@ -19,7 +19,7 @@ pub struct Told {
 }
 
 impl Told {
-    /// What a report is told by.
+    /// Returns what a C program is told of this report.
     pub fn of(report: Report) -> Told
         ensures { IsTold report.events report.verdict result }
     {

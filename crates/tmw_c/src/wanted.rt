@@ -26,7 +26,7 @@ pub struct Wanted {
 }
 
 impl Wanted {
-    /// How many registers the memory has, where they are 1 to 8.
+    /// Returns how many registers the memory has, if they are 1 to 8.
     fn registers(&self) -> Option<Registers>
         ensures some { IfSome result (λ registers. registers.number ≡ self.now.registers) }
         ensures none { IfNone result (HasRegisters self.now → ⊥) }
@@ -37,7 +37,7 @@ impl Wanted {
         Registers::new(self.registers as u8)
     }
 
-    /// Whether each register that the memory does not have is to be 0.
+    /// Tells whether each register that the memory does not have is to be 0.
     fn begins_well(&self) -> bool
         ensures yes { IsTrue result → BeginsWell self.now }
         ensures no { IsFalse result → BeginsWell self.now → ⊥ }
@@ -50,7 +50,7 @@ impl Wanted {
         true
     }
 
-    /// How far is judged, where both bounds are in their ranges.
+    /// Returns how far is judged, if both bounds are in their ranges.
     fn bounds(&self) -> Option<Bounds>
         ensures some { IfSome result (λ bounds. (bounds.window ≡ self.now.window)
             × (bounds.states ≡ self.now.states)) }
@@ -62,7 +62,8 @@ impl Wanted {
         Bounds::new(self.window as u8, self.states as u8).ok()
     }
 
-    /// The settings of a watch with so many recorders; or what is wrong, of the registers, the start and the bounds, in this order.
+    /// Returns the settings of a watch with so many recorders; or what is wrong, of the registers, the start and the
+    /// bounds, in this order.
     pub fn settings(&self, recorders: u64) -> Result<Settings, Status>
         ensures ok { IfOk result (AreSettings self.now recorders) }
         ensures wanted { IfOk result (λ settings. IsWanted self.now) }

@@ -6,10 +6,10 @@ use tmw_watch::{Closing, Watch};
 pub enum HeldWatch {
     /// A watch that is open.
     Open(Watch),
-    /// What a watch has still to judge whose ring has ended, since a growth of memory was refused.
+    /// What a watch has still to judge whose ring has ended, after a failed allocation.
     Left(Closing),
-    /// A watch whose ring has an owner beside it and its recorders, with what the recorders recorded by. There is none, as no call makes
-    /// one.
+    /// A watch whose ring has an owner beside it and its recorders, which no call makes, with what the recorders
+    /// recorded by.
     Shared(Watch, Vec<Writer>),
     /// Nothing more, while a call closes what was held.
     Closed,

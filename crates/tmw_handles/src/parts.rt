@@ -27,7 +27,7 @@ impl<T, A: Allocator> Parts<T, A> {
         Parts { at, alloc }
     }
 
-    /// Makes a box of them again.
+    /// Makes a box of these parts again.
     pub fn into_box(self) -> Box<T, A>
         ensures { result.value ≡ self.held }
     {
@@ -36,7 +36,7 @@ impl<T, A: Allocator> Parts<T, A> {
     }
 }
 
-/// A pointer to nothing.
+/// Returns a pointer to nothing.
 pub(crate) fn nowhere() -> *mut u8 {
     std::ptr::null_mut()
 }

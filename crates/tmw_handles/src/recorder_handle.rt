@@ -1,6 +1,6 @@
 ghost use Rattle.std.specs.Prelude.{◌≡◌, ◌↔◌, Option, None, Some, IsSome, IsTrue, IfSome, IfNone};
 ghost use Rattle.std.specs.Option.{ForSome};
-ghost use Rattle.tmw_handles.specs.Held.{HasNumber};
+ghost use Rattle.tmw_watch.specs.Shown.{writer_of};
 
 use crate::held_recorder::HeldRecorder;
 use crate::parts::Parts;
@@ -14,16 +14,19 @@ use std::mem;
 pub struct RecorderHandle {
     pub(crate) slot: RecorderSlot,
     pub(crate) full: bool,
-    // The number of the recorder that is held.
+    // The held recorder's number: a close sees by it whether each is in its place, before it takes anything.
     pub(crate) number: u8,
     pub ghost matches: { IsTrue full ↔ IsSome slot.held },
-    pub ghost numbered: { ForSome slot.held (λ held. held.recorder.writer.number.number ≡ number) },
+    pub ghost numbered: { ForSome slot.held
+        (λ held. (writer_of held.recorder).number.number ≡ number) },
 }
 
 impl RecorderHandle {
-    /// A handle that holds nothing.
+    ghost use Rattle.tmw_handles.specs.Held.{HasNumber, recorder_in};
+
+    /// Makes a handle that holds nothing.
     pub fn empty(alloc: Global) -> RecorderHandle
-        ensures { result.slot.held ≡ None }
+        ensures { recorder_in result ≡ None }
     {
         RecorderHandle {
             slot: RecorderSlot::empty(alloc),
@@ -32,9 +35,9 @@ impl RecorderHandle {
         }
     }
 
-    /// A handle that holds what the box does. It takes no memory.
+    /// Makes a handle that holds what the box does. It takes no memory.
     pub fn of(held: Box<HeldRecorder, Global>) -> RecorderHandle
-        ensures { result.slot.held ≡ Some held.value }
+        ensures { recorder_in result ≡ Some held.value }
     {
         let number = held.recorder.number().get();
         RecorderHandle {
@@ -46,9 +49,9 @@ impl RecorderHandle {
 
     /// Takes what is held, if anything, and leaves the handle empty.
     pub fn take(&mut self, alloc: Global) -> Option<Box<HeldRecorder, Global>>
-        ensures some { IfSome result (λ held. self.old.slot.held ≡ Some held.value) }
-        ensures none { IfNone result (self.old.slot.held ≡ None) }
-        ensures empty { self.new.slot.held ≡ None }
+        ensures some { IfSome result (λ held. recorder_in self.old ≡ Some held.value) }
+        ensures none { IfNone result (recorder_in self.old ≡ None) }
+        ensures empty { recorder_in self.new ≡ None }
     {
         if !self.full {
             return None;
@@ -57,25 +60,25 @@ impl RecorderHandle {
         Some(held.slot.into_parts().into_box())
     }
 
-    /// What is held.
+    /// Returns what is held.
     pub fn into_held(self) -> Box<HeldRecorder, Global>
-        requires { IsSome self.slot.held }
-        ensures { self.slot.held ≡ Some result.value }
+        requires { IsSome (recorder_in self) }
+        ensures { recorder_in self ≡ Some result.value }
     {
         self.slot.into_parts().into_box()
     }
 
-    /// The number of the recorder that is held, if one is.
+    /// Returns the number of the held recorder, if any.
     pub fn number(&self) -> Option<u8>
-        ensures some { IfSome result (λ number. HasNumber number self.now.slot.held) }
-        ensures none { IfNone result (self.now.slot.held ≡ None) }
+        ensures some { IfSome result (λ number. HasNumber number (recorder_in self.now)) }
+        ensures none { IfNone result (recorder_in self.now ≡ None) }
     {
         if self.full { Some(self.number) } else { None }
     }
 
-    /// Whether it holds anything.
+    /// Tells whether the handle holds anything.
     pub fn is_full(&self) -> bool
-        ensures { IsTrue result ↔ IsSome self.now.slot.held }
+        ensures { IsTrue result ↔ IsSome (recorder_in self.now) }
     {
         self.full
     }

@@ -21,14 +21,14 @@ impl Model for RecorderSlot {
 }
 
 impl RecorderSlot {
-    /// A pointer at which nothing is held.
+    /// Makes a slot of a pointer at which nothing is held.
     fn empty_at(at: *mut u8, alloc: Global) -> RecorderSlot
         ensures { result.held ≡ None }
     {
         RecorderSlot { at, alloc }
     }
 
-    /// Holds what the parts own.
+    /// Makes a slot that holds what the parts own.
     pub(crate) fn of_parts(parts: Parts<HeldRecorder, Global>) -> RecorderSlot
         ensures { result.held ≡ Some parts.held }
     {
@@ -47,7 +47,7 @@ impl RecorderSlot {
         Parts { at, alloc }
     }
 
-    /// Nothing.
+    /// Makes a slot that holds nothing.
     pub(crate) fn empty(alloc: Global) -> RecorderSlot
         ensures { result.held ≡ None }
     {

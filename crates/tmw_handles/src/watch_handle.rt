@@ -16,9 +16,11 @@ pub struct WatchHandle {
 }
 
 impl WatchHandle {
-    /// A handle that holds nothing.
+    ghost use Rattle.tmw_handles.specs.Held.{watch_in};
+
+    /// Makes a handle that holds nothing.
     pub fn empty(alloc: Global) -> WatchHandle
-        ensures { result.slot.held ≡ None }
+        ensures { watch_in result ≡ None }
     {
         WatchHandle {
             slot: WatchSlot::empty(alloc),
@@ -26,9 +28,9 @@ impl WatchHandle {
         }
     }
 
-    /// A handle that holds what the box does. It takes no memory.
+    /// Makes a handle that holds what the box does. It takes no memory.
     pub fn of(held: Box<HeldWatch, Global>) -> WatchHandle
-        ensures { result.slot.held ≡ Some held.value }
+        ensures { watch_in result ≡ Some held.value }
     {
         WatchHandle {
             slot: WatchSlot::of_parts(Parts::of_box(held)),
@@ -38,9 +40,9 @@ impl WatchHandle {
 
     /// Takes what is held, if anything, and leaves the handle empty.
     pub fn take(&mut self, alloc: Global) -> Option<Box<HeldWatch, Global>>
-        ensures some { IfSome result (λ held. self.old.slot.held ≡ Some held.value) }
-        ensures none { IfNone result (self.old.slot.held ≡ None) }
-        ensures empty { self.new.slot.held ≡ None }
+        ensures some { IfSome result (λ held. watch_in self.old ≡ Some held.value) }
+        ensures none { IfNone result (watch_in self.old ≡ None) }
+        ensures empty { watch_in self.new ≡ None }
     {
         if !self.full {
             return None;
@@ -49,9 +51,9 @@ impl WatchHandle {
         Some(held.slot.into_parts().into_box())
     }
 
-    /// Whether it holds anything.
+    /// Tells whether the handle holds anything.
     pub fn is_full(&self) -> bool
-        ensures { IsTrue result ↔ IsSome self.now.slot.held }
+        ensures { IsTrue result ↔ IsSome (watch_in self.now) }
     {
         self.full
     }

@@ -21,14 +21,14 @@ impl Model for WatchSlot {
 }
 
 impl WatchSlot {
-    /// A pointer at which nothing is held.
+    /// Makes a slot of a pointer at which nothing is held.
     fn empty_at(at: *mut u8, alloc: Global) -> WatchSlot
         ensures { result.held ≡ None }
     {
         WatchSlot { at, alloc }
     }
 
-    /// Holds what the parts own.
+    /// Makes a slot that holds what the parts own.
     pub(crate) fn of_parts(parts: Parts<HeldWatch, Global>) -> WatchSlot
         ensures { result.held ≡ Some parts.held }
     {
@@ -47,7 +47,7 @@ impl WatchSlot {
         Parts { at, alloc }
     }
 
-    /// Nothing.
+    /// Makes a slot that holds nothing.
     pub(crate) fn empty(alloc: Global) -> WatchSlot
         ensures { result.held ≡ None }
     {

@@ -35,7 +35,7 @@ came-more old new event held judged free =
 pub fits-came : (event : Option Event) (old new : Front) → HasCome event old new → KeepsFit old new
 fits-came event old new come by fits =
     subst (λ (m : Monitor). Fits by new.judged.items m) (sym come.monitor)
-    (subst (λ (l : List Event). Fits by l old.monitor) (ap (λ v. v.items) (sym come.judged)) fits)
+    (subst (λ (l : List Event). Fits by l old.monitor) (sym come.judged) fits)
 
 pub judged-none : (front : Front) → HasJudged 0 front front
 judged-none front = record { more = []; counted = refl; judged = sym (append-nil front.judged.items); fits = λ by fits. fits }
@@ -53,7 +53,7 @@ judged-same count old mid new done same keeps = record {
 pub judged-came : (count : ℕ) (event : Option Event) (old mid new : Front) → HasJudged count old mid → HasCome event mid new
     → HasJudged count old new
 judged-came count event old mid new done come =
-    judged-same count old mid new done (ap (λ v. v.items) come.judged) (fits-came event mid new come)
+    judged-same count old mid new done come.judged (fits-came event mid new come)
 
 pub judged-more : (count : ℕ) (old mid new : Front) (event : Event) → HasJudged count old mid
     → new.judged.items ≡ mid.judged.items ++ event ∷ [] → KeepsFit mid new → HasJudged (count + 1) old new

@@ -11,6 +11,7 @@ use Rattle.tmw_defs.specs.declared.verdict.Why.TheVariants.{Transactions, States
 use Rattle.tmw_monitor.specs.Fitting.{Fits}
 use Rattle.tmw_ring.specs.Ends.{WriterIs}
 use Rattle.tmw_ring.specs.Parts.{made_from}
+use Rattle.tmw_pump.specs.Fronts.{judged_of, monitor_of}
 use Rattle.tmw_pump.specs.declared.front.Front.{Front}
 
 -- One log: it begins with these events, and each of these writers has claimed the places of its own events there, and no other.
@@ -46,4 +47,4 @@ pub record Headline (rules : Rules) (log : List Event) (writers : List WriterIs)
 -- as the log has that a meeting or the end of the ring shows, the headline holds of what is judged now.
 abbrev pub GivesHeadline : Front → List Event → List Event → Verdict → Type 0
 GivesHeadline old taken judged verdict = (rules : Rules) (log : List Event) (writers : List WriterIs)
-    → Fits rules old.judged.items old.monitor → IsLogOf log writers taken → Headline rules log writers judged verdict
+    → Fits rules (judged_of old) (monitor_of old) → IsLogOf log writers taken → Headline rules log writers judged verdict

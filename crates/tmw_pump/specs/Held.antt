@@ -1,7 +1,8 @@
 -- The event that is held, and what a monitor was fed.
-use Rattle.std.specs.Prelude.{List, [], ◌∷◌, Option, Some, None}
+use Rattle.std.specs.Prelude.{◌≡◌, List, [], ◌∷◌, Option, Some, None}
 use Rattle.tmw_events.specs.declared.event.Event.{Event}
 use Rattle.tmw_defs.specs.Verdict.{Rules}
+use Rattle.tmw_defs.specs.declared.criterion.Criterion.TheVariants.{Opacity}
 use Rattle.tmw_monitor.specs.Fitting.{Fits}
 use Rattle.tmw_monitor.specs.declared.monitor.Monitor.{Monitor}
 
@@ -9,6 +10,10 @@ use Rattle.tmw_monitor.specs.declared.monitor.Monitor.{Monitor}
 abbrev pub listed : Option Event → List Event
 listed None = []
 listed (Some event) = event ∷ []
+
+-- The monitor judges by opacity.
+abbrev pub JudgesOpacity : Monitor → Type 0
+JudgesOpacity monitor = monitor.criterion ≡ Opacity
 
 -- By some rules the monitor has judged just these events.
 abbrev pub WasFed : List Event → Monitor → Type 0

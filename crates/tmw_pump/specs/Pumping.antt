@@ -3,10 +3,23 @@ use Rattle.std.specs.Prelude.{◌≡◌, ◌⊎◌, ◌<◌, ℕ, List, [], ◌�
 use Rattle.tmw_events.specs.declared.event.Event.{Event}
 use Rattle.tmw_ring.specs.Ends.{ReaderIs}
 use Rattle.tmw_ring.specs.Takes.{HasTaken, HasFoundNone}
-use Rattle.tmw_pump.specs.Fronts.{HasJudged}
+use Rattle.tmw_pump.specs.Fronts.{HasJudged, held_of, verdict_on}
 use Rattle.tmw_pump.specs.declared.front.Front.{Front}
 use Rattle.tmw_pump.specs.declared.forgetting_pump.ForgettingPump.{ForgettingPump}
+use Rattle.tmw_pump.specs.declared.pump.Pump.{Pump}
 use Rattle.tmw_pump.specs.declared.pumped.Pumped.{Pumped}
+
+-- the reader by which the pump takes events
+abbrev pub reader_of : ForgettingPump → ReaderIs
+reader_of pump = pump.reader
+
+-- the judged front of the pump
+abbrev pub pump_front : ForgettingPump → Front
+pump_front pump = pump.front
+
+-- the pump that forgets, in one that keeps what it judges
+abbrev pub pump_in : Pump → ForgettingPump
+pump_in pump = pump.forgetting
 
 -- The reader has taken these events one after another, and has found each of them published when it first asked.
 abbrev pub HasTakenAll : ReaderIs → List Event → ReaderIs → Type 0
@@ -16,21 +29,21 @@ HasTakenAll old (event ∷ events) new = (next : ReaderIs) × HasTaken old event
 -- So many events more were judged, and the reader has come so far.
 pub record HasPumped (count : ℕ) (old : ForgettingPump) (reader : ReaderIs) (new : Front) : Type 0 where
   pub fresh : List Event
-  pub taken : HasTakenAll old.reader fresh reader
-  pub judged : HasJudged count old.front new
+  pub taken : HasTakenAll (reader_of old) fresh reader
+  pub judged : HasJudged count (pump_front old) new
 
 -- So many events more were judged, and then the reader found that the next place was not published.
 pub record HasPumpedAll (count : ℕ) (old new : ForgettingPump) : Type 0 where
   pub last : ReaderIs
-  pub counted : HasPumped count old last new.front
-  pub none : HasFoundNone last new.reader
+  pub counted : HasPumped count old last (pump_front new)
+  pub none : HasFoundNone last (reader_of new)
 
 -- The call has judged as many events as it was to, or fewer, and then the reader last found that the next place was not published.
 -- It holds no event where it was to judge any, and has done nothing where it was to judge none.
 pub record IsPumped (max : ℕ) (pumped : Pumped) (old new : ForgettingPump) : Type 0 where
   pub last : ReaderIs
-  pub counted : HasPumped pumped.judged old last new.front
-  pub ended : ((pumped.judged ≡ max) × (new.reader ≡ last)) ⊎ ((pumped.judged < max) × HasFoundNone last new.reader)
-  pub verdict : pumped.verdict ≡ new.front.monitor.verdict
-  pub held : 0 < max → new.front.held ≡ None
+  pub counted : HasPumped pumped.judged old last (pump_front new)
+  pub ended : ((pumped.judged ≡ max) × (reader_of new ≡ last)) ⊎ ((pumped.judged < max) × HasFoundNone last (reader_of new))
+  pub verdict : pumped.verdict ≡ verdict_on (pump_front new)
+  pub held : 0 < max → held_of (pump_front new) ≡ None
   pub idle : max ≡ 0 → new ≡ old

@@ -1,30 +1,44 @@
 -- What a call to pump has done with what a settled ring has left.
 use Rattle.std.specs.Prelude.{◌≡◌, ◌++◌, ◌≤◌, ◌<◌, ℕ, List, [], None}
 use Rattle.tmw_events.specs.declared.event.Event.{Event}
-use Rattle.tmw_pump.specs.Fronts.{came, HasJudged}
+use Rattle.tmw_pump.specs.Fronts.{HasJudged, came, held_of, verdict_on}
+use Rattle.tmw_pump.specs.declared.front.Front.{Front}
 use Rattle.tmw_pump.specs.declared.pumped.Pumped.{Pumped}
 use Rattle.tmw_pump.specs.declared.forgetting_rest.ForgettingRest.{ForgettingRest}
+use Rattle.tmw_pump.specs.declared.rest.Rest.{Rest}
+
+-- the judged front of a rest
+abbrev pub rest_front : ForgettingRest → Front
+rest_front rest = rest.front
+
+-- the events of a rest that were not taken yet, in order
+abbrev pub left_of : ForgettingRest → List Event
+left_of rest = rest.settled
+
+-- the rest that forgets, in one that keeps what it judges
+abbrev pub rest_in : Rest → ForgettingRest
+rest_in rest = rest.forgetting
 
 -- all events of the ring's log: those judged, the one that is held, and those that are left
 abbrev pub all_of : ForgettingRest → List Event
-all_of rest = came rest.front ++ rest.settled
+all_of rest = came (rest_front rest) ++ left_of rest
 
 -- So many events more were judged, and none was lost.
 pub record HasRested (count : ℕ) (old new : ForgettingRest) : Type 0 where
   pub all : all_of new ≡ all_of old
-  pub judged : HasJudged count old.front new.front
+  pub judged : HasJudged count (rest_front old) (rest_front new)
 
 -- So many events more were judged, and none is left.
 pub record HasRestedAll (count : ℕ) (old new : ForgettingRest) : Type 0 where
   pub counted : HasRested count old new
-  pub none_left : new.settled ≡ []
+  pub none_left : left_of new ≡ []
 
 -- The call has judged up to so many events, and fewer only where none is left. It holds no event where it was to judge any, and has
 -- done nothing where it was to judge none.
 pub record IsRested (max : ℕ) (pumped : Pumped) (old new : ForgettingRest) : Type 0 where
   pub counted : HasRested pumped.judged old new
   pub within : pumped.judged ≤ max
-  pub verdict : pumped.verdict ≡ new.front.monitor.verdict
-  pub held : 0 < max → new.front.held ≡ None
+  pub verdict : pumped.verdict ≡ verdict_on (rest_front new)
+  pub held : 0 < max → held_of (rest_front new) ≡ None
   pub idle : max ≡ 0 → new ≡ old
-  pub none_left : pumped.judged < max → new.settled ≡ []
+  pub none_left : pumped.judged < max → left_of new ≡ []

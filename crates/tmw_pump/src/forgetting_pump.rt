@@ -1,9 +1,7 @@
 //! Judging the events of a running ring, and keeping none.
 ghost use Rattle.std.specs.Prelude.{◌≡◌, ◌++◌, List, [], ◌∷◌, length, All, Some, None, IfOk, OnOk, OnErr, IfSome, IfNone, IsOk, IsSome, IsTrue, ◌↔◌};
-ghost use Rattle.tmw_defs.specs.Criteria.{so_far};
-ghost use Rattle.tmw_defs.specs.declared.criterion.Criterion.TheVariants.{Opacity};
 ghost use Rattle.tmw_events.specs.declared.event.Event.{Event};
-ghost use Rattle.tmw_pump.specs.Held.{listed, WasFed};
+ghost use Rattle.tmw_pump.specs.Held.{JudgesOpacity, WasFed, listed};
 ghost use Rattle.tmw_ring.specs.Ends.{ReaderOf, WriterOf};
 ghost use Rattle.tmw_ring.specs.Meeting.{HaveMet};
 ghost use Rattle.tmw_ring.specs.Settling.{AreInOrder, IsSettled};
@@ -19,34 +17,33 @@ use tmw_events::Event;
 use tmw_monitor::Monitor;
 use tmw_ring::{Reader, Ring, Writer};
 
-/// Takes events from a running ring and judges them, by the definition of opacity (Guerraoui and Kapalka 2008, section 5) at each
-/// prefix. What it has judged is a beginning of the ring's one log: what its reader has taken, less the event that is held, if
-/// any: one for which memory was refused, or that `next` has told. It keeps no event but that one, so its memory is the monitor's,
-/// however long the run.
+/// A pump that takes events from a running ring and judges them, by the definition of opacity (Guerraoui and Kapalka
+/// 2008, section 5) at each prefix. What it has judged is a beginning of the ring's one log: what its reader has
+/// taken, less the held event, if any. An event is held after a failed allocation, or once `next` has returned it.
+/// The pump keeps no other event, so its memory is the monitor's, however long the run.
 #[derive(Drop)]
 pub struct ForgettingPump {
     reader: Reader,
     front: Front,
-    // The reader has taken what was judged, and behind it the event that is held.
+    // The reader has taken what was judged, and after it the held event.
     pub ghost all: { front.judged.items ++ listed front.held ≡ reader.taken },
 }
 
 impl ForgettingPump {
     ghost use Rattle.tmw_pump.specs.Headline.{IsLogOf, GivesHeadline};
-    ghost use Rattle.tmw_pump.specs.Fronts.{HasCome, KeepsFit, TellsVerdict, WasRefusedMemory};
-    ghost use Rattle.tmw_pump.specs.Pumping.{HasTakenAll, HasPumped, IsPumped};
-    ghost use Rattle.tmw_pump.specs.Resting.{all_of};
+    ghost use Rattle.tmw_pump.specs.Fronts.{HasCome, HasFinalVerdict, KeepsFit, TellsVerdict, WasRefusedMemory, held_of, judged_of, monitor_of, verdict_on};
+    ghost use Rattle.tmw_pump.specs.Pumping.{HasTakenAll, HasPumped, IsPumped, pump_front, reader_of};
+    ghost use Rattle.tmw_pump.specs.Resting.{all_of, left_of, rest_front};
 
-    /// A pump that takes by a reader that has taken nothing, and judges by a monitor whose criterion is opacity and that was fed
-    /// nothing.
+    /// Makes a pump of a reader that has taken nothing, and a monitor by opacity that was fed nothing.
     pub fn new(reader: Reader, monitor: Monitor) -> ForgettingPump
         requires taken { reader.taken ≡ [] }
-        requires opacity { monitor.criterion ≡ Opacity }
+        requires opacity { JudgesOpacity monitor }
         requires fed { WasFed [] monitor }
-        ensures reader { result.reader ≡ reader }
-        ensures judged { result.front.judged.items ≡ [] }
-        ensures held { result.front.held ≡ None }
-        ensures monitor { result.front.monitor ≡ monitor }
+        ensures reader { reader_of result ≡ reader }
+        ensures judged { judged_of (pump_front result) ≡ [] }
+        ensures held { held_of (pump_front result) ≡ None }
+        ensures monitor { monitor_of (pump_front result) ≡ monitor }
     {
         ForgettingPump {
             reader,
@@ -54,30 +51,32 @@ impl ForgettingPump {
         }
     }
 
-    /// Takes and judges up to `max` events: fewer only where the next place is not published. Where a growth of memory is refused,
-    /// the event that was to be judged is held, and is judged first by the next call; those judged before it in this call stay judged.
+    /// Takes and judges up to `max` events: fewer only if the next place is not published. After a failed allocation
+    /// the event to be judged is held, and the next call judges it first; events judged before it in this call stay
+    /// judged.
     pub fn pump(&mut self, ring: &Ring, max: u64) -> Result<Pumped, AllocError>
-        requires { ReaderOf ring.now self.old.reader }
-        ensures of_ring { ReaderOf ring.now self.new.reader }
+        requires { ReaderOf ring.now (reader_of self.old) }
+        ensures of_ring { ReaderOf ring.now (reader_of self.new) }
         ensures ok { IfOk result (λ pumped. IsPumped max pumped self.old self.new) }
         ensures err { OnErr result (WasRefusedMemory max
-            (λ count. HasPumped count self.old self.new.reader self.new.front) self.new.front) }
-        ensures headline { GivesHeadline self.old.front self.new.reader.taken
-            self.new.front.judged.items self.new.front.monitor.verdict }
+            (λ count. HasPumped count self.old (reader_of self.new) (pump_front self.new))
+            (pump_front self.new)) }
+        ensures headline { GivesHeadline (pump_front self.old) (reader_of self.new).taken
+            (judged_of (pump_front self.new)) (verdict_on (pump_front self.new)) }
     {
         let judged = judge_some(self, ring, max)?;
         Ok(self.pumped(judged))
     }
 
-    /// The event to be judged next: the one that is held, or else the next of the ring, which is held from now on. `None` where the
-    /// next place is not published.
+    /// Returns the event to be judged next: the held one, or else the next of the ring, which is held from then on.
+    /// `None` if the next place is not published.
     pub fn next(&mut self, ring: &Ring) -> Option<Event>
-        requires { ReaderOf ring.now self.old.reader }
-        ensures of_ring { ReaderOf ring.now self.new.reader }
-        ensures front { HasCome result self.old.front self.new.front }
+        requires { ReaderOf ring.now (reader_of self.old) }
+        ensures of_ring { ReaderOf ring.now (reader_of self.new) }
+        ensures front { HasCome result (pump_front self.old) (pump_front self.new) }
         ensures taken { IfSome result (λ _. (fresh : List Event)
-            × HasTakenAll self.old.reader fresh self.new.reader) }
-        ensures none { IfNone result (HasFoundNone self.old.reader self.new.reader) }
+            × HasTakenAll (reader_of self.old) fresh (reader_of self.new)) }
+        ensures none { IfNone result (HasFoundNone (reader_of self.old) (reader_of self.new)) }
     {
         if let Some(event) = self.front.held() {
             return Some(event);
@@ -89,77 +88,80 @@ impl ForgettingPump {
         Some(event)
     }
 
-    /// Judges the event that is held. Where memory is refused, it is still held. After a final verdict it succeeds.
+    /// Judges the held event. After a failed allocation it is still held. After a final verdict the call succeeds.
     pub fn judge(&mut self, event: Event) -> Result<(), AllocError>
-        requires { self.old.front.held ≡ Some event }
-        ensures reader { self.new.reader ≡ self.old.reader }
-        ensures fits { KeepsFit self.old.front self.new.front }
-        ensures judged { OnOk result (self.new.front.judged.items
-            ≡ self.old.front.judged.items ++ event ∷ []) }
-        ensures free { OnOk result (self.new.front.held ≡ None) }
-        ensures stays { OnErr result (self.new.front.judged.items ≡ self.old.front.judged.items) }
-        ensures held { OnErr result (self.new.front.held ≡ self.old.front.held) }
-        ensures after { (self.old.front.monitor.verdict
-            ≡ so_far self.old.front.monitor.criterion → ⊥) → IsOk result }
+        requires { held_of (pump_front self.old) ≡ Some event }
+        ensures reader { reader_of self.new ≡ reader_of self.old }
+        ensures fits { KeepsFit (pump_front self.old) (pump_front self.new) }
+        ensures judged { OnOk result (judged_of (pump_front self.new)
+            ≡ judged_of (pump_front self.old) ++ event ∷ []) }
+        ensures free { OnOk result (held_of (pump_front self.new) ≡ None) }
+        ensures stays { OnErr result (judged_of (pump_front self.new)
+            ≡ judged_of (pump_front self.old)) }
+        ensures held { OnErr result (held_of (pump_front self.new)
+            ≡ held_of (pump_front self.old)) }
+        ensures after { HasFinalVerdict (pump_front self.old) → IsOk result }
     {
         self.front.judge(event)
     }
 
-    /// The answer of a call to pump that has judged so many events.
+    /// Returns the answer of a call to `pump` that has judged so many events.
     pub(crate) fn pumped(&self, judged: u64) -> Pumped
         ensures { result ≡ record { judged = judged; verdict = self.now.front.monitor.verdict } }
     {
         self.front.pumped(judged)
     }
 
-    /// The monitor that judges.
+    /// Returns the monitor that judges.
     pub fn monitor(&self) -> &Monitor
-        ensures { result.now ≡ self.now.front.monitor }
+        ensures { result.now ≡ monitor_of (pump_front self.now) }
     {
         self.front.monitor()
     }
 
-    /// How many events were judged.
+    /// Returns how many events were judged.
     pub fn fed(&self) -> u64
-        ensures { result ≡ length self.now.front.judged.items }
+        ensures { result ≡ length (judged_of (pump_front self.now)) }
     {
         self.front.fed()
     }
 
-    /// Whether an event was taken that is not judged yet.
+    /// Tells whether an event has come that is not judged yet.
     pub fn held(&self) -> bool
-        ensures { IsTrue result ↔ IsSome self.now.front.held }
+        ensures { IsTrue result ↔ IsSome (held_of (pump_front self.now)) }
     {
         self.front.held().is_some()
     }
 
-    /// The verdict on the judged front.
+    /// Returns the verdict on the judged front.
     pub fn verdict(&self) -> Verdict
-        ensures { TellsVerdict self.now.front result }
+        ensures { TellsVerdict (pump_front self.now) result }
     {
         self.front.verdict()
     }
 
-    /// The reader meets a writer: the writer's next event comes after all that both had seen. Nothing is judged, and a held event
-    /// stays held.
+    /// Lets the reader meet a writer: the writer's next event comes after all that both had seen. Nothing is judged,
+    /// and a held event stays held.
     pub fn meet(&mut self, ring: &Ring, writer: &mut Writer)
-        requires reader { ReaderOf ring.now self.old.reader }
+        requires reader { ReaderOf ring.now (reader_of self.old) }
         requires writer { WriterOf ring.now writer.old }
-        ensures met { HaveMet writer.old writer.new self.old.reader self.new.reader }
-        ensures same { self.new.front ≡ self.old.front }
-        ensures one_log { (log : List Event) × IsLogOf log (writer.new ∷ []) self.new.reader.taken }
+        ensures met { HaveMet writer.old writer.new (reader_of self.old) (reader_of self.new) }
+        ensures same { pump_front self.new ≡ pump_front self.old }
+        ensures one_log { (log : List Event)
+            × IsLogOf log (writer.new ∷ []) (reader_of self.new).taken }
     {
         ring.meet(writer, &mut self.reader);
     }
 
-    /// Ends the ring, once all its writers have come back, with writer i at place i. What was not taken is left to be judged.
+    /// Ends the ring once all its writers have come back, writer i at place i. What was not taken is left to be
+    /// judged.
     pub fn settle(self, ring: Ring, writers: Vec<Writer>) -> ForgettingRest
-        requires reader { ReaderOf ring self.reader }
+        requires reader { ReaderOf ring (reader_of self) }
         requires writers { All (WriterOf ring) writers.items }
         requires count { length writers.items ≡ ring.size.writers }
         requires order { AreInOrder writers.items }
-        ensures settled { IsSettled self.reader writers.items result.settled }
-        ensures front { result.front ≡ self.front }
+        ensures settled { IsSettled (reader_of self) writers.items (left_of result) }
+        ensures front { rest_front result ≡ pump_front self }
         ensures one_log { IsLogOf (all_of result) writers.items (all_of result) }
     {
         let ForgettingPump { reader, front } = self;

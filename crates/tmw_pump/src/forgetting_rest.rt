@@ -1,6 +1,5 @@
 //! Judging what a settled ring has left, and keeping none of it.
 ghost use Rattle.std.specs.Prelude.{◌≡◌, ◌+◌, ◌++◌, [], ◌∷◌, ◌≤◌, ◌^◌, length, Some, None, IfOk, OnOk, OnErr, IfNone, IsOk, IsSome, IsTrue, ◌↔◌};
-ghost use Rattle.tmw_defs.specs.Criteria.{so_far};
 ghost use Rattle.tmw_pump.specs.Held.{listed};
 
 use crate::front::Front;
@@ -12,7 +11,7 @@ use tmw_events::Event;
 use tmw_monitor::Monitor;
 use tmw_ring::Settled;
 
-/// Judges what a settled ring has left, behind what a pump has judged of it. It keeps no event that it has judged.
+/// What a settled ring has left, to be judged after what a pump has judged of it. Judged events are not kept.
 #[derive(Drop)]
 pub struct ForgettingRest {
     settled: Settled,
@@ -23,10 +22,10 @@ pub struct ForgettingRest {
 
 impl ForgettingRest {
     ghost use Rattle.tmw_pump.specs.Headline.{GivesHeadline};
-    ghost use Rattle.tmw_pump.specs.Fronts.{HasCome, KeepsFit, TellsVerdict, WasRefusedMemory};
-    ghost use Rattle.tmw_pump.specs.Resting.{all_of, HasRested, IsRested};
+    ghost use Rattle.tmw_pump.specs.Fronts.{HasCome, HasFinalVerdict, KeepsFit, TellsVerdict, WasRefusedMemory, held_of, judged_of, monitor_of, verdict_on};
+    ghost use Rattle.tmw_pump.specs.Resting.{HasRested, IsRested, all_of, left_of, rest_front};
 
-    /// What is left when the ring of a pump is settled.
+    /// Makes the rest of a pump's settled ring.
     pub(crate) fn new(settled: Settled, front: Front) -> ForgettingRest
         requires { length front.judged.items + length (listed front.held) + length settled
             ≤ 2 ^ 40 }
@@ -36,25 +35,25 @@ impl ForgettingRest {
         ForgettingRest { settled, front }
     }
 
-    /// Judges up to `max` events: fewer only where all are judged. Where a growth of memory is refused, the event that was to be
-    /// judged is held, and is judged first by the next call; those judged before it in this call stay judged.
+    /// Judges up to `max` events: fewer only if all are judged. After a failed allocation the event to be judged is
+    /// held, and the next call judges it first; events judged before it in this call stay judged.
     pub fn pump(&mut self, max: u64) -> Result<Pumped, AllocError>
         ensures ok { IfOk result (λ pumped. IsRested max pumped self.old self.new) }
         ensures err { OnErr result (WasRefusedMemory max
-            (λ count. HasRested count self.old self.new) self.new.front) }
-        ensures headline { GivesHeadline self.old.front (all_of self.new)
-            self.new.front.judged.items self.new.front.monitor.verdict }
+            (λ count. HasRested count self.old self.new) (rest_front self.new)) }
+        ensures headline { GivesHeadline (rest_front self.old) (all_of self.new)
+            (judged_of (rest_front self.new)) (verdict_on (rest_front self.new)) }
     {
         let judged = judge_some(self, &(), max)?;
         Ok(self.pumped(judged))
     }
 
-    /// The event to be judged next: the one that is held, or else the next of what is left, which is held from now on. `None` where all
-    /// are judged.
+    /// Returns the event to be judged next: the held one, or else the next that is left, which is held from then on.
+    /// `None` if all are judged.
     pub fn next(&mut self) -> Option<Event>
-        ensures front { HasCome result self.old.front self.new.front }
+        ensures front { HasCome result (rest_front self.old) (rest_front self.new) }
         ensures all { all_of self.new ≡ all_of self.old }
-        ensures none { IfNone result (self.new.settled ≡ []) }
+        ensures none { IfNone result (left_of self.new ≡ []) }
     {
         if let Some(event) = self.front.held() {
             return Some(event);
@@ -66,62 +65,64 @@ impl ForgettingRest {
         Some(event)
     }
 
-    /// Judges the event that is held. Where memory is refused, it is still held. After a final verdict it succeeds.
+    /// Judges the held event. After a failed allocation it is still held. After a final verdict the call succeeds.
     pub fn judge(&mut self, event: Event) -> Result<(), AllocError>
-        requires { self.old.front.held ≡ Some event }
-        ensures settled { self.new.settled ≡ self.old.settled }
-        ensures fits { KeepsFit self.old.front self.new.front }
-        ensures judged { OnOk result (self.new.front.judged.items
-            ≡ self.old.front.judged.items ++ event ∷ []) }
-        ensures free { OnOk result (self.new.front.held ≡ None) }
-        ensures stays { OnErr result (self.new.front.judged.items ≡ self.old.front.judged.items) }
-        ensures held { OnErr result (self.new.front.held ≡ self.old.front.held) }
-        ensures after { (self.old.front.monitor.verdict
-            ≡ so_far self.old.front.monitor.criterion → ⊥) → IsOk result }
+        requires { held_of (rest_front self.old) ≡ Some event }
+        ensures settled { left_of self.new ≡ left_of self.old }
+        ensures fits { KeepsFit (rest_front self.old) (rest_front self.new) }
+        ensures judged { OnOk result (judged_of (rest_front self.new)
+            ≡ judged_of (rest_front self.old) ++ event ∷ []) }
+        ensures free { OnOk result (held_of (rest_front self.new) ≡ None) }
+        ensures stays { OnErr result (judged_of (rest_front self.new)
+            ≡ judged_of (rest_front self.old)) }
+        ensures held { OnErr result (held_of (rest_front self.new)
+            ≡ held_of (rest_front self.old)) }
+        ensures after { HasFinalVerdict (rest_front self.old) → IsOk result }
     {
         self.front.judge(event)
     }
 
-    /// The answer of a call to pump that has judged so many events.
+    /// Returns the answer of a call to `pump` that has judged so many events.
     pub(crate) fn pumped(&self, judged: u64) -> Pumped
         ensures { result ≡ record { judged = judged; verdict = self.now.front.monitor.verdict } }
     {
         self.front.pumped(judged)
     }
 
-    /// The monitor that judges.
+    /// Returns the monitor that judges.
     pub fn monitor(&self) -> &Monitor
-        ensures { result.now ≡ self.now.front.monitor }
+        ensures { result.now ≡ monitor_of (rest_front self.now) }
     {
         self.front.monitor()
     }
 
-    /// How many events were judged.
+    /// Returns how many events were judged.
     pub fn fed(&self) -> u64
-        ensures { result ≡ length self.now.front.judged.items }
+        ensures { result ≡ length (judged_of (rest_front self.now)) }
     {
         self.front.fed()
     }
 
-    /// Whether an event was taken that is not judged yet.
+    /// Tells whether an event has come that is not judged yet.
     pub fn held(&self) -> bool
-        ensures { IsTrue result ↔ IsSome self.now.front.held }
+        ensures { IsTrue result ↔ IsSome (held_of (rest_front self.now)) }
     {
         self.front.held().is_some()
     }
 
-    /// The verdict on the judged front.
+    /// Returns the verdict on the judged front.
     pub fn verdict(&self) -> Verdict
-        ensures { TellsVerdict self.now.front result }
+        ensures { TellsVerdict (rest_front self.now) result }
     {
         self.front.verdict()
     }
 
-    /// How many events were judged, and the verdict on them. What was not judged is given up.
+    /// Returns how many events were judged, and the verdict on them. Events not judged are given up.
     pub fn finish(self) -> (u64, Verdict)
-        ensures fed { result.0 ≡ length self.front.judged.items }
-        ensures verdict { result.1 ≡ self.front.monitor.verdict }
-        ensures headline { GivesHeadline self.front (all_of self) self.front.judged.items result.1 }
+        ensures fed { result.0 ≡ length (judged_of (rest_front self)) }
+        ensures verdict { result.1 ≡ verdict_on (rest_front self) }
+        ensures headline { GivesHeadline (rest_front self) (all_of self)
+            (judged_of (rest_front self)) result.1 }
     {
         (self.fed(), self.verdict())
     }

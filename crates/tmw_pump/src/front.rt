@@ -10,8 +10,8 @@ use tmw_defs::Verdict;
 use tmw_events::Event;
 use tmw_monitor::Monitor;
 
-/// The judged front, and at most one event that came behind it and is held. No event is kept but that one: the list of those that
-/// were judged is for clauses alone.
+/// The judged front, and at most one event after it, which is held. No other event is kept: the list of judged events
+/// is for clauses alone.
 #[derive(Drop)]
 pub struct Front {
     monitor: Monitor,
@@ -25,7 +25,7 @@ pub struct Front {
 impl Front {
     ghost use Rattle.tmw_pump.specs.Fronts.{HasCome, KeepsFit, TellsVerdict};
 
-    /// Before the first event, over a monitor that judges by opacity and was fed none.
+    /// Makes a front without events, over a monitor by opacity that was fed none.
     pub(crate) fn new(monitor: Monitor) -> Front
         requires opacity { monitor.criterion ≡ Opacity }
         requires fed { WasFed [] monitor }
@@ -40,7 +40,7 @@ impl Front {
         }
     }
 
-    /// Holds an event that came.
+    /// Holds an event that has come.
     pub(crate) fn hold(&mut self, event: Event)
         requires few { length self.old.judged.items < 2 ^ 40 }
         ensures { HasCome (Some event) self.old self.new }
@@ -48,7 +48,7 @@ impl Front {
         self.held = Some(event);
     }
 
-    /// Judges the event that came. Where memory is refused, the event is still held. After a final verdict it succeeds.
+    /// Judges the held event. After a failed allocation it is still held. After a final verdict the call succeeds.
     pub(crate) fn judge(&mut self, event: Event) -> Result<(), AllocError>
         requires { self.old.held ≡ Some event }
         ensures fits { KeepsFit self.old self.new }
@@ -65,35 +65,35 @@ impl Front {
         Ok(())
     }
 
-    /// The monitor that judges.
+    /// Returns the monitor that judges.
     pub(crate) fn monitor(&self) -> &Monitor
         ensures { result.now ≡ self.now.monitor }
     {
         &self.monitor
     }
 
-    /// How many events were judged.
+    /// Returns how many events were judged.
     pub(crate) fn fed(&self) -> u64
         ensures { result ≡ length self.now.judged.items }
     {
         self.monitor.fed()
     }
 
-    /// The event that is held, if any.
+    /// Returns the held event, if any.
     pub(crate) fn held(&self) -> Option<Event>
         ensures { result ≡ self.now.held }
     {
         self.held
     }
 
-    /// The verdict on the events that were judged.
+    /// Returns the verdict on the events that were judged.
     pub(crate) fn verdict(&self) -> Verdict
         ensures { TellsVerdict self.now result }
     {
         self.monitor.verdict()
     }
 
-    /// The answer of a call to pump that has judged so many events.
+    /// Returns the answer of a call to `pump` that has judged so many events.
     pub(crate) fn pumped(&self, judged: u64) -> Pumped
         ensures { result ≡ record { judged = judged; verdict = self.now.monitor.verdict } }
     {

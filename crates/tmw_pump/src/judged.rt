@@ -18,7 +18,7 @@ impl Model for Judged {
 }
 
 impl Judged {
-    /// No event.
+    /// Makes a list of no event.
     #[inline(always)]
     pub(crate) fn new() -> Judged
         ensures { result.items ≡ [] }
@@ -26,7 +26,7 @@ impl Judged {
         Judged {}
     }
 
-    /// These and one more.
+    /// Returns this list with one event more.
     #[inline(always)]
     pub(crate) fn then(&self, _event: &Event) -> Judged
         ensures { result.items ≡ self.now.items ++ _event.now ∷ [] }

@@ -8,7 +8,7 @@ use std::alloc::AllocError;
 use tmw_defs::Verdict;
 use tmw_events::Event;
 
-/// Judges what a settled ring has left, behind what a pump has judged of it, and keeps what was judged.
+/// What a settled ring has left, to be judged after what a pump has judged of it. Judged events are kept.
 #[derive(Drop)]
 pub struct Rest {
     forgetting: ForgettingRest,
@@ -19,10 +19,10 @@ pub struct Rest {
 
 impl Rest {
     ghost use Rattle.tmw_pump.specs.Headline.{GivesHeadline};
-    ghost use Rattle.tmw_pump.specs.Fronts.{KeepsFit, TellsVerdict, WasRefusedMemory};
-    ghost use Rattle.tmw_pump.specs.Resting.{all_of, HasRested, IsRested};
+    ghost use Rattle.tmw_pump.specs.Fronts.{KeepsFit, TellsVerdict, WasRefusedMemory, held_of, judged_of, verdict_on};
+    ghost use Rattle.tmw_pump.specs.Resting.{HasRested, IsRested, all_of, rest_front, rest_in};
 
-    /// What is left when the ring of a pump is settled, behind what the pump has judged.
+    /// Makes the rest of a pump's settled ring, of what is left and what was judged.
     pub(crate) fn new(forgetting: ForgettingRest, judged: Vec<Event>) -> Rest
         requires { judged.items ≡ forgetting.front.judged.items }
         ensures { result.forgetting ≡ forgetting }
@@ -30,48 +30,49 @@ impl Rest {
         Rest { forgetting, judged }
     }
 
-    /// Judges up to `max` events: fewer only where all are judged. Where a growth of memory is refused, the event that was to be
-    /// judged is held, and is judged first by the next call; those judged before it in this call stay judged.
+    /// Judges up to `max` events: fewer only if all are judged. After a failed allocation the event to be judged is
+    /// held, and the next call judges it first; events judged before it in this call stay judged.
     pub fn pump(&mut self, max: u64) -> Result<Pumped, AllocError>
-        ensures ok { IfOk result (λ pumped. IsRested max pumped self.old.forgetting
-            self.new.forgetting) }
+        ensures ok { IfOk result (λ pumped. IsRested max pumped (rest_in self.old)
+            (rest_in self.new)) }
         ensures idle { max ≡ 0 → self.new ≡ self.old }
         ensures err { OnErr result (WasRefusedMemory max
-            (λ count. HasRested count self.old.forgetting self.new.forgetting)
-            self.new.forgetting.front) }
-        ensures headline { GivesHeadline self.old.forgetting.front (all_of self.new.forgetting)
-            self.new.forgetting.front.judged.items self.new.forgetting.front.monitor.verdict }
+            (λ count. HasRested count (rest_in self.old) (rest_in self.new))
+            (rest_front (rest_in self.new))) }
+        ensures headline { GivesHeadline (rest_front (rest_in self.old)) (all_of (rest_in self.new))
+            (judged_of (rest_front (rest_in self.new)))
+            (verdict_on (rest_front (rest_in self.new))) }
     {
         let judged = judge_some(self, &(), max)?;
         Ok(self.forgetting.pumped(judged))
     }
 
-    /// The judged front: the events that were judged, in the order of the log.
+    /// Returns the judged front: the events that were judged, in the order of the log.
     pub fn judged(&self) -> &[Event]
-        ensures { result.now ≡ self.now.forgetting.front.judged.items }
+        ensures { result.now ≡ judged_of (rest_front (rest_in self.now)) }
     {
         &self.judged
     }
 
-    /// Whether an event was taken that is not judged yet, since memory was refused.
+    /// Tells whether an event has come that is not judged yet, after a failed allocation.
     pub fn held(&self) -> bool
-        ensures { IsTrue result ↔ IsSome self.now.forgetting.front.held }
+        ensures { IsTrue result ↔ IsSome (held_of (rest_front (rest_in self.now))) }
     {
         self.forgetting.held()
     }
 
-    /// The verdict on the judged front.
+    /// Returns the verdict on the judged front.
     pub fn verdict(&self) -> Verdict
-        ensures { TellsVerdict self.now.forgetting.front result }
+        ensures { TellsVerdict (rest_front (rest_in self.now)) result }
     {
         self.forgetting.verdict()
     }
 
-    /// The judged front and the verdict on it. What was not judged is given up.
+    /// Returns the judged front and the verdict on it. Events not judged are given up.
     pub fn finish(self) -> (Vec<Event>, Verdict)
-        ensures judged { result.0.items ≡ self.forgetting.front.judged.items }
-        ensures verdict { result.1 ≡ self.forgetting.front.monitor.verdict }
-        ensures headline { GivesHeadline self.forgetting.front (all_of self.forgetting)
+        ensures judged { result.0.items ≡ judged_of (rest_front (rest_in self)) }
+        ensures verdict { result.1 ≡ verdict_on (rest_front (rest_in self)) }
+        ensures headline { GivesHeadline (rest_front (rest_in self)) (all_of (rest_in self))
             result.0.items result.1 }
     {
         let Rest { forgetting, judged } = self;

@@ -20,7 +20,7 @@ pub(crate) trait Turns<S> {
     /// So many events more were judged since, and behind them none was found.
     ghost has_ended: { ℕ → Self → Self → Type 0 };
 
-    /// The event to be judged next, which is held from now on. `None` where there is none.
+    /// Returns the event to be judged next, which is held from then on, or `None` if there is none.
     fn give(&mut self, source: &S) -> Option<Event>
         requires { takes_from source.now self.old }
         ensures of_source { takes_from source.now self.new }
@@ -30,7 +30,7 @@ pub(crate) trait Turns<S> {
         ensures none { IfNone result ((count : ℕ) (first : Self)
             → has_judged count first self.old → has_ended count first self.new) };
 
-    /// Judges the event that is held. Where memory is refused, it is still held.
+    /// Judges the held event. After a failed allocation it is still held.
     fn judge_held(&mut self, event: Event) -> Result<(), AllocError>
         requires { holds self.old ≡ Some event }
         ensures of_source { (source : S) → takes_from source self.old → takes_from source self.new }
@@ -42,8 +42,8 @@ pub(crate) trait Turns<S> {
         ensures held { OnErr result (holds self.new ≡ holds self.old) };
 }
 
-/// Judges up to `max` events, and answers how many: fewer only where there is none. Where memory is refused, the event that was to be
-/// judged is held, and those judged before it stay judged.
+/// Judges up to `max` events and returns how many: fewer only if there are no more. After a failed allocation the
+/// event to be judged is held, and those judged before it stay judged.
 pub(crate) fn judge_some<S, T: Turns<S>>(
     turns: &mut T,
     source: &S,

@@ -1,7 +1,8 @@
 -- What is done while a ring runs: its reader looks for events, and its judged front goes on.
 use Rattle.std.specs.Prelude.{◌≡◌, ◌++◌, List, [], ◌∷◌, Option, Some, None}
 use Rattle.tmw_events.specs.declared.event.Event.{Event}
-use Rattle.tmw_pump.specs.Fronts.{KeepsFit}
+use Rattle.tmw_pump.specs.Fronts.{KeepsFit, held_of, judged_of}
+use Rattle.tmw_pump.specs.Pumping.{pump_front, reader_of}
 use Rattle.tmw_pump.specs.declared.front.Front.{Front}
 use Rattle.tmw_pump.specs.declared.forgetting_pump.ForgettingPump.{ForgettingPump}
 use Rattle.tmw_ring.specs.Ends.{ReaderIs}
@@ -10,7 +11,7 @@ use Rattle.tmw_ring.specs.Takes.{HasTaken, HasFoundNone}
 -- More events were judged, behind those before, and by the same rules.
 pub record GoesOn (old new : Front) : Type 0 where
   pub more : List Event
-  pub judged : new.judged.items ≡ old.judged.items ++ more
+  pub judged : judged_of new ≡ judged_of old ++ more
   pub fits : KeepsFit old new
 
 -- the events that were found by these looks
@@ -34,12 +35,12 @@ pub record HasTakenBy (looks : List (Option Event)) (old new : ReaderIs) : Type 
 -- The last look found that the next place was not published, and all that was taken is judged.
 pub record HasJudgedFound (old new : ForgettingPump) : Type 0 where
   pub looks : List (Option Event)
-  pub took : HasTakenBy (looks ++ None ∷ []) old.reader new.reader
-  pub held : new.front.held ≡ None
+  pub took : HasTakenBy (looks ++ None ∷ []) (reader_of old) (reader_of new)
+  pub held : held_of (pump_front new) ≡ None
 
 -- Memory was refused for this event, which is held: it was taken, and is not judged.
 pub record HoldsUnjudged (old new : ForgettingPump) : Type 0 where
   pub looks : List (Option Event)
-  pub took : HasTakenBy looks old.reader new.reader
+  pub took : HasTakenBy looks (reader_of old) (reader_of new)
   pub event : Event
-  pub held : new.front.held ≡ Some event
+  pub held : held_of (pump_front new) ≡ Some event

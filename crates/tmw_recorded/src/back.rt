@@ -4,7 +4,7 @@ ghost use Rattle.std.specs.Prelude.{◌≡◌, map, IfOk};
 use std::alloc::{AllocError, Global};
 use tmw_ring::{Refused, Writer};
 
-/// The writers that came back, and beside them the refusals at which their threads stopped.
+/// Separates the writers that came back from the refusals at which their threads stopped. Both stay in order.
 pub fn sort_back(
     alloc: Global,
     back: Vec<(Writer, Option<Refused>)>,

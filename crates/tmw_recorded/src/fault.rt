@@ -7,7 +7,7 @@ pub enum RecordFault {
     /// There is no ring of this size, or no memory for one.
     #[error("{0}")]
     Ring(RingFault),
-    /// A growth was refused.
+    /// An allocation failed.
     #[error("out of memory")]
     Memory,
     /// A thread could not be started.

@@ -8,7 +8,8 @@ use std::thread;
 use tmw_events::Kind;
 use tmw_ring::{Refused, Ring, Writer};
 
-/// Records an event. Where the ring lacks room it tries so often more, unless nobody pumps any more, and then answers so.
+/// Records an event and returns its place. If the ring is full it tries again, up to `tries` times and while somebody
+/// pumps, and then returns the refusal.
 pub fn record_soon(
     ring: &Ring,
     writer: &mut Writer,
@@ -34,7 +35,7 @@ pub fn record_soon(
     ring.record(writer, kind)
 }
 
-/// Records events of these kinds, one after another, and answers the refusal at which it stopped, if any.
+/// Records events of these kinds, one after another, and returns the refusal at which it stopped, if any.
 fn record_all(
     ring: &Ring,
     writer: &mut Writer,
@@ -56,8 +57,8 @@ fn record_all(
     None
 }
 
-/// Records what the list at the place of the writer's number tells, and gives the writer back with the refusal at which it
-/// stopped, if any. One more thread has then ended.
+/// Records the kinds of the list at the place of the writer's number. Returns the writer, with the refusal at which
+/// it stopped, if any. One more thread has then ended.
 pub fn record_list(
     ring: &Ring,
     mut writer: Writer,

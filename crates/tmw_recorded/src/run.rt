@@ -1,6 +1,7 @@
 //! From a new ring and a new monitor to the verdict on all that was recorded.
 ghost use Rattle.std.specs.Prelude.{◌≡◌, length, IfOk, IfErr};
 ghost use Rattle.tmw_pump.specs.Fronts.{KeepsFit};
+ghost use Rattle.tmw_pump.specs.Pumping.{pump_front, pump_in, reader_of};
 ghost use Rattle.tmw_recorded.specs.Recorded.{IsRecorded, IsNoRecord, IsOfThreads};
 ghost use Rattle.tmw_recorded.specs.Recording.{AreBack};
 ghost use Rattle.tmw_ring.specs.Ends.{ReaderOf};
@@ -25,8 +26,8 @@ use tmw_ring::{Refused, Ring, Writer, ring};
 /// What the threads have left: the pump, the writers, and the refusals at which threads stopped.
 type Left = (Pump, Vec<Writer>, Vec<Option<Refused>>);
 
-/// Lets a thread for each list record events of the list's kinds, in their order, and judges meanwhile and to the end all that
-/// they record. Thread i records the list at place i.
+/// Records events of each list's kinds, in their order, in a thread for each list. Judges all that they record,
+/// meanwhile and to the end. Thread i records the list at place i.
 pub fn record_and_judge<R: Threads + Wait>(
     rt: &R,
     alloc: Global,
@@ -67,11 +68,12 @@ fn record_in_threads<R: Threads + Wait>(
     lists: &[Vec<Kind>],
     tries: u64,
 ) -> Result<Left, RecordFault>
-    requires reader { ReaderOf ring.now pump.forgetting.reader }
+    requires reader { ReaderOf ring.now (reader_of (pump_in pump)) }
     requires writers { AreNewWriters ring.now writers.items }
     requires count { length writers.items ≡ length lists.now }
-    ensures reader { IfOk result (λ left. ReaderOf ring.now left.0.forgetting.reader) }
-    ensures fits { IfOk result (λ left. KeepsFit pump.forgetting.front left.0.forgetting.front) }
+    ensures reader { IfOk result (λ left. ReaderOf ring.now (reader_of (pump_in left.0))) }
+    ensures fits { IfOk result (λ left. KeepsFit (pump_front (pump_in pump))
+        (pump_front (pump_in left.0))) }
     ensures back { IfOk result (λ left. AreBack ring.now lists.now left.1.items left.2.items) }
     ensures err { IfErr result IsOfThreads }
 {
@@ -81,13 +83,13 @@ fn record_in_threads<R: Threads + Wait>(
         thread::scope_env(),
         rt,
         move |scope| -> Result<Left, RecordFault>
-            requires reader { ReaderOf ring.now pump.forgetting.reader }
+            requires reader { ReaderOf ring.now (reader_of (pump_in pump)) }
             requires writers { AreNewWriters ring.now writers.items }
             requires count { length writers.items ≡ length lists.now }
             ensures reader { IfOk result (λ left. ReaderOf ring.entry.now
-                left.0.forgetting.reader) }
-            ensures fits { IfOk result (λ left. KeepsFit pump.forgetting.front
-                left.0.forgetting.front) }
+                (reader_of (pump_in left.0))) }
+            ensures fits { IfOk result (λ left. KeepsFit (pump_front (pump_in pump))
+                (pump_front (pump_in left.0))) }
             ensures back { IfOk result (λ left. AreBack ring.entry.now lists.entry.now left.1.items
                 left.2.items) }
             ensures err { IfErr result IsOfThreads }
@@ -113,11 +115,12 @@ fn record_within<'s, E, R: Threads + Wait>(
     writers: Vec<Writer>,
     work: Work<'s>,
 ) -> Result<Left, RecordFault>
-    requires reader { ReaderOf ring.now pump.forgetting.reader }
+    requires reader { ReaderOf ring.now (reader_of (pump_in pump)) }
     requires writers { AreNewWriters ring.now writers.items }
     requires count { length writers.items ≡ length work.lists.now }
-    ensures reader { IfOk result (λ left. ReaderOf ring.now left.0.forgetting.reader) }
-    ensures fits { IfOk result (λ left. KeepsFit pump.forgetting.front left.0.forgetting.front) }
+    ensures reader { IfOk result (λ left. ReaderOf ring.now (reader_of (pump_in left.0))) }
+    ensures fits { IfOk result (λ left. KeepsFit (pump_front (pump_in pump))
+        (pump_front (pump_in left.0))) }
     ensures back { IfOk result (λ left. AreBack ring.now work.entry.lists.now left.1.items
         left.2.items) }
     ensures err { IfErr result IsOfThreads }

@@ -8,7 +8,7 @@ pub struct Signals {
 }
 
 impl Signals {
-    /// No thread has ended, and nothing is given up.
+    /// Makes signals of which none is given: no thread has ended, and nothing is given up.
     pub fn new() -> Signals {
         Signals {
             ended: AtomicU64::new(0),
@@ -16,22 +16,22 @@ impl Signals {
         }
     }
 
-    /// One more thread has ended.
+    /// Counts one more thread that has ended.
     pub fn end(&self) {
         self.ended.fetch_add(1, Ordering::SeqCst);
     }
 
-    /// How many threads have ended.
+    /// Returns how many threads have ended.
     pub fn ended(&self) -> u64 {
         self.ended.load(Ordering::SeqCst)
     }
 
-    /// Nobody pumps any more, so a thread that finds the ring full is to stop.
+    /// Tells the threads that nobody pumps any more, so that one that finds the ring full stops.
     pub fn give_up(&self) {
         self.given_up.store(true, Ordering::SeqCst);
     }
 
-    /// Whether nobody pumps any more.
+    /// Tells whether nobody pumps any more.
     pub fn is_given_up(&self) -> bool {
         self.given_up.load(Ordering::SeqCst)
     }

@@ -13,7 +13,7 @@ use std::thread::{Promise, PromisedHandle, Scope};
 use tmw_events::{Ix, Kind};
 use tmw_ring::{Refused, Ring, Writer};
 
-/// A thread gives back the writer of this number, by which it has recorded what these lists tell.
+/// The promise of a thread: it gives back the writer of this number, by which it has recorded what these lists tell.
 #[derive(Clone, Copy)]
 pub struct Recording<'a> {
     ring: &'a Ring,

@@ -46,7 +46,7 @@ impl Model for Writer {
 }
 
 impl Writer {
-    /// The number of the thread whose events it records.
+    /// Returns the number of the thread whose events the writer records.
     pub fn number(&self) -> Ix
         ensures { result ≡ self.now.number }
     {

@@ -14,7 +14,7 @@ use std::alloc::{AllocError, Global};
 use tmw_events::Ix;
 use tmw_ring_defs::{RingFault, RingSize};
 
-/// A new ring, with as many writers as are asked for, in the order of their numbers, and its reader. The numbers of its cells
+/// Makes a new ring, with so many writers, in the order of their numbers, and its reader. The numbers of its cells
 /// and its writers are tested before its limit.
 pub fn ring(
     alloc: Global,

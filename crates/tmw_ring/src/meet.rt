@@ -12,7 +12,7 @@ use atomic_table::Play;
 use std::collections::LinkedList;
 
 impl Ring {
-    /// A writer meets the reader: its next event comes after all that both had seen.
+    /// Lets a writer meet the reader: the writer's next event comes after all that both had seen.
     pub fn meet(&self, writer: &mut Writer, reader: &mut Reader)
         requires writer { WriterOf self.now writer.old }
         requires reader { ReaderOf self.now reader.old }
@@ -21,7 +21,7 @@ impl Ring {
         self.meet_seats(&mut writer.seat, &mut reader.seat);
     }
 
-    /// Two writers meet: the next event of each comes after all that both had seen.
+    /// Lets two writers meet: the next event of each comes after all that both had seen.
     pub fn meet_writers(&self, one: &mut Writer, other: &mut Writer)
         requires one { WriterOf self.now one.old }
         requires other { WriterOf self.now other.old }
@@ -30,7 +30,7 @@ impl Ring {
         self.meet_seats(&mut one.seat, &mut other.seat);
     }
 
-    /// How many places have been claimed, as the writer finds it. Its next event comes behind them.
+    /// Returns how many places have been claimed, as the writer finds it. Its next event comes after them.
     pub fn find_tail(&self, writer: &mut Writer) -> u64
         requires { WriterOf self.now writer.old }
         ensures { FindsTail result writer.old writer.new }
@@ -57,7 +57,7 @@ impl Ring {
     }
 }
 
-/// A seat with any parts has found tail.
+/// The play in which a seat with any parts finds tail.
 pub struct FoundTail;
 
 impl Play<(), LinkedList<Part>> for FoundTail {

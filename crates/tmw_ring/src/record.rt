@@ -33,7 +33,7 @@ impl Choice for Brand {
     ghost kind = { K };
 }
 
-/// A writer looks at front.
+/// The play in which a writer looks at front.
 pub struct SeesFront<C> {
     marker: PhantomData<C>,
 }
@@ -42,7 +42,7 @@ impl<C: Choice> Play<(), LinkedList<Part>> for SeesFront<C> {
     ghost then = { λ _ old front new. HasSeenFront C.kind old front new };
 }
 
-/// A writer looks at tail.
+/// The play in which a writer looks at tail.
 pub struct SeesTail<C> {
     marker: PhantomData<C>,
 }
@@ -51,7 +51,7 @@ impl<C: Choice> Play<(), LinkedList<Part>> for SeesTail<C> {
     ghost then = { λ _ old tail new. HasSeenTail C.kind old tail new };
 }
 
-/// A writer claims the place that tail was.
+/// The play in which a writer claims the place that tail was.
 pub struct Claims<C> {
     marker: PhantomData<C>,
 }
@@ -60,7 +60,7 @@ impl<C: Choice> Play<(), LinkedList<Part>> for Claims<C> {
     ghost then = { λ _ old place new. HasClaimed C.kind old place new };
 }
 
-/// A writer fills in the value of its event.
+/// The play in which a writer fills in the value of its event.
 pub struct Fills<C> {
     marker: PhantomData<C>,
 }
@@ -69,7 +69,7 @@ impl<C: Choice> Play<(), LinkedList<Part>> for Fills<C> {
     ghost then = { λ _ old _ new. HasFilled C.kind old new };
 }
 
-/// A writer publishes its place.
+/// The play in which a writer publishes its place.
 pub struct Publishes;
 
 impl Play<(), LinkedList<Part>> for Publishes {
@@ -179,8 +179,8 @@ fn record_as<C: Choice>(
 }
 
 impl Ring {
-    /// Records an event of the writer's thread, and answers with its place. It waits for nothing: where the ring may lack room
-    /// for an event of each writer, or has too few places left up to its limit, it answers so.
+    /// Records an event of the writer's thread and returns its place. It never waits. `Spent`: too few places are
+    /// left up to the limit. `Full`: the ring may lack room for an event of each writer.
     pub fn record(&self, writer: &mut Writer, kind: Kind) -> Result<u64, Refused>
         requires of_ring { WriterOf self.now writer.old }
         ensures still_of_ring { WriterOf self.now writer.new }

@@ -3,8 +3,8 @@ use thiserror::Error;
 /// Why an event was not recorded, or why there is no room for several. Whether too few places are left is tested first.
 #[derive(Clone, Copy, PartialEq, Eq, Debug, Error)]
 pub enum Refused {
-    /// There was no room for what is asked and an event of each other writer: so many places were given up to tail, and up to front
-    /// they were free again.
+    /// There was no room for what is asked and an event of each other writer. `tail` places were given, and `front`
+    /// of them are free again.
     #[error("the ring lacks room: {tail} places were given, and {front} of them are free again")]
     Full { front: u64, tail: u64 },
     /// Fewer places than that takes are left up to the ring's limit.

@@ -11,10 +11,11 @@ use atomic_table::Play;
 use std::collections::LinkedList;
 
 impl Ring {
-    /// Whether so many records find room, one after another, if nobody frees a place meanwhile: the refusal is of the kind that the
-    /// last of them would meet. 0 is taken for 1. It claims nothing, and waits for nothing. The places are for whoever claims them
-    /// first, so that a yes holds good for this writer until all writers have made so many, as `law_room_stays` says. No clause
-    /// tells that the call looks within itself, and not before: it makes no step of the machine.
+    /// Tells whether so many records find room, one after another, if nobody frees a place meanwhile. 0 counts as 1.
+    /// The refusal is of the kind that the last of them would meet. The call claims nothing and never waits. Places
+    /// go to whoever claims them first, so a yes lasts for this writer until all writers have made so many records
+    /// (`law_room_stays`). No clause says that the call looks within itself, and not before: it makes no step of the
+    /// machine.
     pub fn room(&self, writer: &mut Writer, records: u64) -> Result<(), Refused>
         requires { WriterOf self.now writer.old }
         ensures still_of_ring { WriterOf self.now writer.new }
@@ -44,17 +45,17 @@ impl Ring {
     }
 }
 
-/// A writer's seat has found front.
+/// The play in which a writer's seat finds front.
 pub struct FoundFront;
 
 impl Play<(), LinkedList<Part>> for FoundFront {
     ghost then = { λ _ old front new. HasFoundFront old front new };
 }
 
-/// How long room for several records holds good.
+/// States how long room for several records lasts.
 ///
-/// A record that is begun after `room` has answered yes, by the same writer, or by one whose run goes on from that answer as after a
-/// meeting, and is refused, finds at least so many places more claimed than `room` did.
+/// Take a record that begins after `room` has found room, by the same writer, or by one whose run goes on from there
+/// as after a meeting. If it is refused, it finds at least so many more places claimed than `room` did.
 pub fn law_room_stays()
     ensures { RoomStaysLaw }
 {}

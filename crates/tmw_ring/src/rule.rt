@@ -8,7 +8,7 @@ use std::alloc::Global;
 use std::collections::LinkedList;
 use tmw_ring_defs::RingSize;
 
-/// The words and all parts show one sound ring of the table's size.
+/// The rule of a ring's table: the words and all parts show one sound ring of the table's size.
 pub struct RingRule;
 
 impl TableRule<(), LinkedList<Part>, RingSize> for RingRule {

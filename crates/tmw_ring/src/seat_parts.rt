@@ -6,7 +6,7 @@ use crate::part::Part;
 use atomic_table::{Join, Split};
 use std::collections::LinkedList;
 
-/// The second part goes to a seat of its own.
+/// The split by which the second part goes to a seat of its own.
 pub struct SecondPart;
 
 impl Split<LinkedList<Part>> for SecondPart {
@@ -15,7 +15,7 @@ impl Split<LinkedList<Part>> for SecondPart {
     ghost right = { second_alone };
 }
 
-/// All parts go to a seat of their own.
+/// The split by which all parts go to a seat of their own.
 pub struct AllParts;
 
 impl Split<LinkedList<Part>> for AllParts {
@@ -24,7 +24,7 @@ impl Split<LinkedList<Part>> for AllParts {
     ghost right = { λ parts. parts };
 }
 
-/// A seat takes in the parts of another, behind its own.
+/// The join by which a seat takes in the parts of another, after its own.
 pub struct BothParts;
 
 impl Join<LinkedList<Part>> for BothParts {

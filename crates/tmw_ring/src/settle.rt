@@ -10,7 +10,8 @@ use crate::settled::Settled;
 use crate::table_words::TAIL_WORD;
 
 impl Ring {
-    /// Ends the ring, once its reader and all its writers have come back, with writer i at place i. What nobody has taken is left.
+    /// Ends the ring once its reader and all its writers have come back, writer i at place i. What nobody has taken
+    /// is left.
     pub fn settle(self, reader: Reader, writers: Vec<Writer>) -> Settled
         requires reader { ReaderOf self reader }
         requires writers { All (WriterOf self) writers.items }

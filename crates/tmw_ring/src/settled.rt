@@ -32,7 +32,7 @@ impl Model for Settled {
 }
 
 impl Settled {
-    /// The next event, and none where all were taken.
+    /// Takes the next event, or returns `None` if all were taken.
     pub fn take(&mut self) -> Option<Event>
         ensures some { IfSome result (λ event. self.old ≡ event ∷ self.new) }
         ensures none { IfNone result ((self.old ≡ []) × (self.new ≡ [])) }

@@ -2,6 +2,7 @@
 //! cells, stand words that nothing uses, so that each has a line of memory of its own.
 
 /// The number of the word that counts the places claimed.
+// First, since a seat that is split or joined loads the table's first word, and that load should be of tail.
 pub(crate) const TAIL_WORD: usize = 0;
 
 /// The number of the word that counts the places freed.

@@ -15,7 +15,7 @@ use std::collections::LinkedList;
 use tmw_events::{Event, split, unpack};
 
 impl Ring {
-    /// The next event, which is then taken; `None` where the next place is not published yet.
+    /// Takes the next event, or returns `None` if the next place is not published yet.
     pub fn take(&self, reader: &mut Reader) -> Option<Event>
         requires { ReaderOf self.now reader.old }
         ensures same { ReaderOf self.now reader.new }
@@ -49,7 +49,7 @@ impl Ring {
         self.table.shared.load::<SeesStamp>(seat, words.stamp)
     }
 
-    /// Loads the second word, which is its event's value.
+    /// Loads the second word of the next place's cell, which is its event's value.
     fn read(&self, seat: &mut RingSeat, words: CellWords) -> u64
         requires table { seat.old.table_id ≡ self.now.table }
         requires ready { IsReadyReader words.place seat.old.me }
@@ -74,21 +74,21 @@ impl Ring {
     }
 }
 
-/// The reader sees the stamp of the next place's cell.
+/// The play in which the reader sees the stamp of the next place's cell.
 pub struct SeesStamp;
 
 impl Play<(), LinkedList<Part>> for SeesStamp {
     ghost then = { λ step me word after. StampSeen me word after };
 }
 
-/// The reader reads the value in the next place's cell.
+/// The play in which the reader reads the value in the next place's cell.
 pub struct ReadsValue;
 
 impl Play<(), LinkedList<Part>> for ReadsValue {
     ghost then = { λ step me value after. ValueRead me value after };
 }
 
-/// The reader frees the next place.
+/// The play in which the reader frees the next place.
 pub struct FreesPlace;
 
 impl Play<(), LinkedList<Part>> for FreesPlace {

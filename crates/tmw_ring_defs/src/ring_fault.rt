@@ -13,7 +13,7 @@ pub enum RingFault {
     /// The limit is below the number of writers, or above 2^40.
     #[error("a ring gives from as many places as it has writers to 2^40")]
     BadLimit,
-    /// A growth was refused.
+    /// An allocation failed.
     #[error("out of memory")]
     Memory,
 }

@@ -34,7 +34,9 @@ impl RingSize {
     ghost use Rattle.tmw_ring_defs.specs.Room.{is_spent, is_full};
     ghost use Rattle.tmw_ring_defs.specs.Sizes.{HasNumbers, IsWrongSize};
 
-    /// The size of these numbers. Those of cells and of writers are tested before the limit.
+    /// Makes a size of these numbers. `BadSize`: there are not 1 to 8 writers, or fewer cells than writers, or more
+    /// than 4,096 cells. `BadLimit`: cells and writers are right, and the limit is below the number of writers or
+    /// above 2^40.
     pub fn new(cells: u64, writers: u64, limit: u64) -> Result<RingSize, RingFault>
         ensures ok { IfOk result (HasNumbers cells writers limit) }
         ensures err { IfErr result (IsWrongSize cells writers limit) }
@@ -52,14 +54,14 @@ impl RingSize {
         })
     }
 
-    /// Whether behind this tail fewer places than there are writers are left up to the limit.
+    /// Tells whether fewer places than there are writers are left from this tail up to the limit.
     pub const fn is_spent(self, tail: u64) -> bool
         ensures { result ≡ is_spent self tail }
     {
         self.limit - self.writers < tail
     }
 
-    /// Whether with this front and this tail fewer cells than there are writers are free.
+    /// Tells whether fewer cells than there are writers are free, with this front and this tail.
     pub const fn is_full(self, front: u64, tail: u64) -> bool
         requires { front ≤ tail }
         ensures { result ≡ is_full self front tail }

@@ -10,7 +10,7 @@ use tmw_events::unpack;
 use tmw_ring_defs::{ReaderPhase, Reply, Step};
 
 impl RingState {
-    /// The reader loads the next place's stamp and header.
+    /// Loads the next place's stamp and header for the reader.
     pub fn peek(&mut self) -> Reply
         requires { Sound (core_of self.old) }
         ensures { (result, machine_of self.new)
@@ -31,7 +31,7 @@ impl RingState {
         }
     }
 
-    /// The reader loads the next place's value.
+    /// Loads the next place's value for the reader.
     pub fn read(&mut self) -> Reply
         requires { Sound (core_of self.old) }
         ensures { (result, machine_of self.new)
@@ -47,7 +47,8 @@ impl RingState {
         }
     }
 
-    /// The reader stores the next front. It has taken the event.
+    /// Stores the next front for the reader, which has then taken the event. After a failed allocation nothing has
+    /// changed.
     pub fn free(&mut self) -> Result<Reply, AllocError>
         requires { Sound (core_of self.old) }
         ensures ok { IfOk result (λ reply. (reply, machine_of self.new)

@@ -31,7 +31,7 @@ pub struct RingState {
 }
 
 impl RingState {
-    /// The state of a new ring.
+    /// Makes the state of a new ring.
     pub fn new(alloc: Global, size: RingSize) -> Result<RingState, AllocError>
         ensures { IfOk result (λ state. machine_of state ≡ new_machine size) }
     {
@@ -48,14 +48,14 @@ impl RingState {
         })
     }
 
-    /// How far the writer has come, where the ring has it.
+    /// Returns how far the writer has come, or `None` if the ring has no such writer.
     pub fn phase_of(&self, writer: Ix) -> Option<WriterPhase>
         ensures { result ≡ slice_get self.now.writers.items writer.number }
     {
         self.writers.get(usize::from(writer.get())).copied()
     }
 
-    /// The writer has come so far.
+    /// Sets how far the writer has come.
     pub fn set_phase(&mut self, writer: Ix, phase: WriterPhase)
         requires { writer.number < length self.old.writers.items }
         ensures { machine_of self.new
@@ -65,7 +65,7 @@ impl RingState {
         self.writers[usize::from(writer.get())] = phase;
     }
 
-    /// The cell that the place uses.
+    /// Returns the cell that the place uses.
     pub fn cell_at(&self, place: u64) -> RingCell
         requires { Sound (core_of self.now) }
         ensures { result ≡ cell_at (core_of self.now) place }
@@ -82,7 +82,7 @@ impl RingState {
         self.cells[(place % self.size.cells) as usize] = cell;
     }
 
-    /// Whether the step's writer has stopped, or is none of the ring's.
+    /// Tells whether the step's writer has stopped, or is none of the ring's.
     pub fn has_stopped(&self, step: Step) -> bool
         ensures { result ≡ has_stopped self.now.stopped.items (writer_of step) }
     {

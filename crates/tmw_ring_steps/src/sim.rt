@@ -31,8 +31,8 @@ impl Model for Sim {
 }
 
 impl Sim {
-    /// A new ring of this size, at which nobody has made a step. The numbers of its cells and its writers are tested before its
-    /// limit.
+    /// Makes a new ring of this size, in which no step was made. The numbers of its cells and its writers are tested
+    /// before its limit.
     pub fn new(alloc: Global, cells: u64, writers: u64, limit: u64) -> Result<Sim, RingFault>
         ensures { IsNewSim cells writers limit result }
     {
@@ -41,7 +41,8 @@ impl Sim {
         Ok(Sim { state, made: 0 })
     }
 
-    /// Makes the step, and answers it. Where memory for the log or the taken events is refused, nothing has changed.
+    /// Makes the step and returns its reply. After a failed allocation, for the log or the taken events, nothing has
+    /// changed.
     pub fn step(&mut self, step: Step) -> Result<Reply, AllocError>
         requires { self.old.made + 1 < 2 ^ 64 }
         ensures reply { IfOk result (λ reply. reply ≡ (machine_step step self.old.machine).0) }
@@ -57,7 +58,8 @@ impl Sim {
         Ok(reply)
     }
 
-    /// Makes the steps in order, and answers each. Where memory is refused, the steps before were made and no more.
+    /// Makes the steps in order and returns the reply to each. After a failed allocation the steps before it stand,
+    /// and no others.
     pub fn run(&mut self, alloc: Global, steps: &[Step]) -> Result<Vec<Reply>, AllocError>
         requires { self.old.made + length steps.now < 2 ^ 64 }
         ensures replies { IfOk result (λ said. said.items ≡ replies steps.now self.old.machine) }
@@ -76,21 +78,21 @@ impl Sim {
         Ok(said)
     }
 
-    /// The events for which a place was claimed, in the order of their places.
+    /// Returns the events for which a place was claimed, in the order of their places.
     pub fn log(&self) -> &[Event]
         ensures { result.now ≡ self.now.machine.core.log }
     {
         &self.state.log
     }
 
-    /// The events that were taken, in order.
+    /// Returns the events that were taken, in order.
     pub fn taken(&self) -> &[Event]
         ensures { result.now ≡ self.now.machine.core.taken }
     {
         &self.state.taken
     }
 
-    /// How many steps were made.
+    /// Returns how many steps were made.
     pub fn made(&self) -> u64
         ensures { result ≡ self.now.made }
     {

@@ -8,7 +8,7 @@ use std::alloc::AllocError;
 use tmw_ring_defs::{Reply, Step};
 
 impl RingState {
-    /// Makes the step, and answers it.
+    /// Makes the step and returns its reply. After a failed allocation nothing has changed.
     pub fn step(&mut self, step: Step) -> Result<Reply, AllocError>
         requires { Sound (core_of self.old) }
         ensures ok { IfOk result (λ reply. (reply, machine_of self.new)

@@ -10,7 +10,7 @@ use tmw_events::{Event, Ix, Kind, pack};
 use tmw_ring_defs::{Reply, RingCell, Step, WriterPhase};
 
 impl RingState {
-    /// The writer, which has an event of this kind to record, loads front.
+    /// Loads front for the writer, which has an event of this kind to record.
     pub fn see_front(&mut self, writer: Ix, kind: Kind) -> Reply
         ensures { (result, machine_of self.new)
             ≡ answered (machine_of self.old)
@@ -26,7 +26,7 @@ impl RingState {
         }
     }
 
-    /// The writer loads tail, and sees whether there is room.
+    /// Loads tail for the writer, which sees whether there is room.
     pub fn see_tail(&mut self, writer: Ix) -> Reply
         requires { Sound (core_of self.old) }
         ensures { (result, machine_of self.new)
@@ -41,7 +41,7 @@ impl RingState {
         }
     }
 
-    /// There is room where every writer has it, with tail as it is now.
+    /// Clears the writer if every writer has room with tail as it is now.
     fn look_for_room(&mut self, writer: Ix, kind: Kind, front: u64) -> Reply
         requires sound { Sound (core_of self.old) }
         requires looked { IsIn (core_of self.old) writer.number (WriterPhase.Looked kind front) }
@@ -62,7 +62,7 @@ impl RingState {
         Reply::Cleared
     }
 
-    /// The writer adds 1 to tail, and its event joins the log.
+    /// Adds 1 to tail for the writer, whose event joins the log. After a failed allocation nothing has changed.
     pub fn claim(&mut self, writer: Ix) -> Result<Reply, AllocError>
         requires { Sound (core_of self.old) }
         ensures ok { IfOk result (λ reply. (reply, machine_of self.new)
@@ -94,7 +94,7 @@ impl RingState {
         }
     }
 
-    /// The writer stores its event's value in the place's cell.
+    /// Stores the value of the writer's event in its place's cell.
     pub fn fill(&mut self, writer: Ix) -> Reply
         requires { Sound (core_of self.old) }
         ensures { (result, machine_of self.new)
@@ -132,7 +132,7 @@ impl RingState {
         }
     }
 
-    /// The writer stores the place's stamp, with its event's header, in the place's cell.
+    /// Stores the stamp of the writer's place, with its event's header, in the place's cell.
     pub fn publish(&mut self, writer: Ix) -> Reply
         requires { Sound (core_of self.old) }
         ensures { (result, machine_of self.new)

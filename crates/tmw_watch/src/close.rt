@@ -1,11 +1,13 @@
 //! The end of a watch, once all its recorders have come back.
 ghost use Rattle.std.specs.Prelude.{◌≡◌, ◌+◌, ◌++◌, ◌≤◌, [], All, length, IfOk, IfErr, vec_len, vec_capacity};
 ghost use Rattle.tmw_pump.specs.Headline.{IsLogOf};
-ghost use Rattle.tmw_pump.specs.Resting.{all_of};
+ghost use Rattle.tmw_pump.specs.Pumping.{reader_of};
+ghost use Rattle.tmw_pump.specs.Resting.{all_of, left_of, rest_front};
 ghost use Rattle.tmw_ring.specs.Ends.{WriterOf};
 ghost use Rattle.tmw_ring.specs.Settling.{AreInOrder, IsSettled};
 ghost use Rattle.tmw_watch.specs.Closing.{AreAll, HasEnded, IsClosed, IsUnclosed, writers_of};
 ghost use Rattle.tmw_watch.specs.Opening.{AreOf};
+ghost use Rattle.tmw_watch.specs.Shown.{recorder_count, rest_of, watch_front, watch_pump, watch_ring};
 
 use crate::close_error::CloseError;
 use crate::closing::Closing;
@@ -17,11 +19,11 @@ use std::sync::Arc;
 use tmw_ring::Writer;
 
 impl Watch {
-    /// Closes a watch with all its recorders, in any order, and answers with the number of all events that were recorded and the
-    /// verdict on them. The recorders that are given are to be this watch's. Where it can't, it gives back all that it was given, or what
-    /// is left to be judged of it.
+    /// Closes a watch with all its recorders, in any order, and returns how many events were recorded and the verdict
+    /// on them. The recorders must be this watch's. If it can't, it gives back all that it was given, or what is left
+    /// to be judged of it.
     pub fn close(self, recorders: Vec<Recorder>) -> Result<Report, CloseError>
-        requires { AreOf self.ring.value recorders.items }
+        requires { AreOf (watch_ring self).value recorders.items }
         ensures ok { IfOk result (IsClosed self recorders.items) }
         ensures err { IfErr result (IsUnclosed self recorders.items) }
     {
@@ -43,43 +45,44 @@ impl Watch {
         }
     }
 
-    /// Ends the ring with all its recorders, in the order of their numbers. What was recorded and not judged is left to be judged. It
-    /// takes no memory: the room is to be for what each of them records by. There is an error where the ring has an owner beside the
-    /// watch and these recorders. There is none, as no call makes one.
+    /// Ends the ring with all its recorders, in the order of their numbers. What was recorded and not judged is left
+    /// to be judged. It takes no memory: `room` is for the writers by which the recorders record. There is an error
+    /// if the ring has an owner beside the watch and these recorders, which no call makes.
     pub fn end(
         self,
         recorders: Vec<Recorder>,
         room: Vec<Writer>,
     ) -> Result<Closing, (Watch, Vec<Writer>)>
-        requires of_ring { AreOf self.ring.value recorders.items }
-        requires all { AreAll self.recorders recorders.items }
+        requires of_ring { AreOf (watch_ring self).value recorders.items }
+        requires all { AreAll (recorder_count self) recorders.items }
         requires empty { room.items ≡ [] }
         requires room { vec_len room + length recorders.items ≤ vec_capacity room }
-        ensures ok { IfOk result (λ closing. HasEnded self recorders.items (all_of closing.rest)) }
-        ensures front { IfOk result (λ closing. closing.rest.front ≡ self.pump.front) }
+        ensures ok { IfOk result (λ closing. HasEnded self recorders.items
+            (all_of (rest_of closing))) }
+        ensures front { IfOk result (λ closing. rest_front (rest_of closing) ≡ watch_front self) }
         ensures err { IfErr result (λ back. (back.0 ≡ self)
             × (back.1.items ≡ writers_of recorders.items)) }
     {
         self.settle(give_up(recorders, room))
     }
 
-    /// How many recorders the watch has.
+    /// Returns how many recorders the watch has.
     pub fn recorders(&self) -> u64
-        ensures { result ≡ self.now.recorders }
+        ensures { result ≡ recorder_count self.now }
     {
         self.recorders
     }
 
     /// Ends the ring, with writer i at place i.
     fn settle(self, writers: Vec<Writer>) -> Result<Closing, (Watch, Vec<Writer>)>
-        requires writers { All (WriterOf self.ring.value) writers.items }
-        requires count { length writers.items ≡ self.recorders }
+        requires writers { All (WriterOf (watch_ring self).value) writers.items }
+        requires count { length writers.items ≡ recorder_count self }
         requires order { AreInOrder writers.items }
-        ensures settled { IfOk result (λ closing. IsSettled self.pump.reader writers.items
-            closing.rest.settled) }
-        ensures front { IfOk result (λ closing. closing.rest.front ≡ self.pump.front) }
-        ensures one_log { IfOk result (λ closing. IsLogOf (all_of closing.rest) writers.items
-            (all_of closing.rest)) }
+        ensures settled { IfOk result (λ closing. IsSettled (reader_of (watch_pump self))
+            writers.items (left_of (rest_of closing))) }
+        ensures front { IfOk result (λ closing. rest_front (rest_of closing) ≡ watch_front self) }
+        ensures one_log { IfOk result (λ closing. IsLogOf (all_of (rest_of closing)) writers.items
+            (all_of (rest_of closing))) }
         ensures err { IfErr result (λ back. (back.0 ≡ self) × (back.1.items ≡ writers.items)) }
     {
         let Watch {
@@ -103,7 +106,7 @@ impl Watch {
     }
 }
 
-/// The writers of these recorders, which own the ring no more.
+/// Takes the writers out of these recorders, which own the ring no more.
 fn give_up(recorders: Vec<Recorder>, writers: Vec<Writer>) -> Vec<Writer>
     requires { vec_len writers + length recorders.items ≤ vec_capacity writers }
     ensures { result.items ≡ writers.items ++ writers_of recorders.items }

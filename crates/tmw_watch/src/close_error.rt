@@ -11,17 +11,17 @@ pub enum CloseError {
         watch: Watch,
         recorders: Vec<Recorder>,
     },
-    /// A growth of memory was refused before anything was done. The recorders stand in the order of their numbers.
+    /// An allocation failed before anything was done. The recorders stand in the order of their numbers.
     Memory {
         watch: Watch,
         recorders: Vec<Recorder>,
     },
-    /// The ring has an owner beside the watch and all its recorders. There is none, as no call makes one; what the recorders recorded
+    /// The ring has an owner beside the watch and all its recorders, which no call makes. What the recorders recorded
     /// by is given back.
     Shared {
         watch: Watch,
         writers: Vec<Writer>,
     },
-    /// The ring has ended, and a growth of memory was refused before all that it had left was judged, which can be tried again.
+    /// The ring has ended, and an allocation failed before all that it had left was judged, which can be tried again.
     Unjudged(Closing),
 }

@@ -14,9 +14,9 @@ use tmw_pump::ForgettingPump;
 use tmw_ring::{Ring, RingFault, Writer, ring};
 
 impl Watch {
-    /// Opens a watch, with its recorders in the order of their numbers. Nothing is recorded yet. Of memory, recording takes what is taken
-    /// here and no more. `BadSize`: the number of the cells or of the recorders is out of its range. `BadLimit`: these are not, but the
-    /// limit is. `Memory`: a growth of memory was refused.
+    /// Opens a watch, with its recorders in the order of their numbers. Nothing is recorded yet. Recording takes no
+    /// memory beyond what is taken here. `BadSize`: the number of the cells or of the recorders is out of its range.
+    /// `BadLimit`: these are not, but the limit is. `Memory`: an allocation failed.
     pub fn open(alloc: Global, settings: Settings) -> Result<(Watch, Vec<Recorder>), RingFault>
         ensures ok { IfOk result (λ opened. IsOpened settings opened.0 opened.1.items) }
         ensures err { IfErr result (IsNoRing settings.cells settings.recorders settings.limit) }
@@ -45,7 +45,7 @@ impl Watch {
     }
 }
 
-/// A recorder for each writer, in their order, with an owner of the ring.
+/// Makes a recorder of each writer, in their order, with an owner of the ring.
 fn share(
     alloc: Global,
     ring: &Arc<Ring, Global>,

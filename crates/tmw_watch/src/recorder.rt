@@ -19,46 +19,53 @@ pub struct Recorder {
 }
 
 impl Recorder {
-    /// The recorder that records by this writer of the ring.
+    ghost use Rattle.tmw_watch.specs.Shown.{recorder_ring, writer_of};
+
+    /// Makes a recorder that records by this writer of the ring.
     pub(crate) fn new(ring: Arc<Ring, Global>, writer: Writer) -> Recorder
         requires { WriterOf ring.value writer }
-        ensures ring { result.ring ≡ ring }
-        ensures writer { result.writer ≡ writer }
+        ensures ring { recorder_ring result ≡ ring }
+        ensures writer { writer_of result ≡ writer }
     {
         Recorder { ring, writer }
     }
 
-    /// The number of the thread whose events it records: 0 to 7, and below the number of the watch's recorders.
+    /// Returns the number of the thread whose events it records: 0 to 7, and below the number of the watch's
+    /// recorders.
     pub fn number(&self) -> Ix
-        ensures { result ≡ self.now.writer.number }
+        ensures { result ≡ (writer_of self.now).number }
     {
         self.writer.number()
     }
 
-    /// Records one event of its thread, and answers with the event's place in the one log, counted from 0. It never waits and takes no
-    /// memory. Where it is refused, nothing was claimed. `Full`: at the front and then the tail that the call found there was no room for
-    /// an event of each recorder; once the watch has pumped more, the same event may be tried again. `Spent`: fewer places than there are
-    /// recorders are left up to the limit of events, and no later call of this recorder is given a place.
+    /// Records one event of its thread and returns the event's place in the one log, counted from 0. It never waits
+    /// and takes no memory. If it is refused, nothing was claimed. `Full`: at the front and then the tail that the
+    /// call found there was no room for an event of each recorder. Once the watch has pumped more, the same event may
+    /// be tried again. `Spent`: fewer places than there are recorders are left up to the limit of events, and no
+    /// later call of this recorder is given a place.
     pub fn record(&mut self, kind: Kind) -> Result<u64, Refused>
-        ensures ring { self.new.ring ≡ self.old.ring }
-        ensures number { self.new.writer.number ≡ self.old.writer.number }
-        ensures ok { IfOk result (λ place. HasRecorded kind place self.old.writer self.new.writer) }
-        ensures err { IfErr result (λ refused. IsRefusal kind self.old.writer refused
-            self.new.writer) }
+        ensures ring { recorder_ring self.new ≡ recorder_ring self.old }
+        ensures number { (writer_of self.new).number ≡ (writer_of self.old).number }
+        ensures ok { IfOk result (λ place. HasRecorded kind place (writer_of self.old)
+            (writer_of self.new)) }
+        ensures err { IfErr result (λ refused. IsRefusal kind (writer_of self.old) refused
+            (writer_of self.new)) }
     {
         self.ring.record(&mut self.writer, kind)
     }
-    /// Whether so many records find room, one after another: asked before a transaction begins, so that its records aren't refused. 0 is
-    /// taken for 1. It claims nothing, never waits and takes no memory. A yes holds good until so many more than it found are recorded, by this
-    /// recorder and the others together, those included whose call has begun: no record of this recorder that begins meanwhile is refused
-    /// (`law_room_stays` of `tmw_ring`). `Full`: at the front and then the tail that the call found there was no room for so many and an
-    /// event of each other recorder; there never is where these are more than the cells. `Spent`: so many places, and one for each other
+    /// Tells whether so many records find room, one after another. It is for use before a transaction begins, so that
+    /// its records aren't refused. 0 counts as 1. It claims nothing, never waits and takes no memory. A yes lasts
+    /// until so many more events than it found are recorded by all recorders together, counting each call that has
+    /// begun. No record of this recorder that begins meanwhile is refused (`law_room_stays` of `tmw_ring`). `Full`:
+    /// at the front and then the tail that the call found there was no room for so many and an event of each other
+    /// recorder. There never is if these are more than the cells. `Spent`: so many places, and one for each other
     /// recorder, are not left up to the limit of events, nor will they be. Fewer may find room yet.
     pub fn room(&mut self, records: u64) -> Result<(), Refused>
-        ensures ring { self.new.ring ≡ self.old.ring }
-        ensures ok { IfOk result (λ _. HasFoundRoom records self.old.writer self.new.writer) }
-        ensures err { IfErr result (λ refused. LacksRoom records self.old.writer refused
-            self.new.writer) }
+        ensures ring { recorder_ring self.new ≡ recorder_ring self.old }
+        ensures ok { IfOk result (λ _. HasFoundRoom records (writer_of self.old)
+            (writer_of self.new)) }
+        ensures err { IfErr result (λ refused. LacksRoom records (writer_of self.old) refused
+            (writer_of self.new)) }
     {
         self.ring.room(&mut self.writer, records)
     }

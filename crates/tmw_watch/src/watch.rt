@@ -1,8 +1,8 @@
 //! The end by which what the threads record is judged.
 ghost use Rattle.std.specs.Prelude.{◌≡◌, length, IfOk, OnErr, IsSome, IsTrue, ◌↔◌};
-ghost use Rattle.tmw_pump.specs.Fronts.{TellsVerdict, WasRefusedMemory};
+ghost use Rattle.tmw_pump.specs.Fronts.{TellsVerdict, WasRefusedMemory, held_of, judged_of, verdict_on};
 ghost use Rattle.tmw_pump.specs.Headline.{GivesHeadline};
-ghost use Rattle.tmw_pump.specs.Pumping.{HasPumped, IsPumped};
+ghost use Rattle.tmw_pump.specs.Pumping.{HasPumped, IsPumped, reader_of};
 ghost use Rattle.tmw_ring.specs.Ends.{ReaderOf};
 
 use crate::report::Report;
@@ -25,27 +25,32 @@ pub struct Watch {
 }
 
 impl Watch {
-    /// Takes and judges up to `most` events, in the order of their places: fewer only where the next place has no event yet. It never
-    /// waits for one. Where a growth of memory is refused, what was judged stays judged, and the event that was to be judged next is held
-    /// and is judged first by the next call.
+    ghost use Rattle.tmw_watch.specs.Shown.{watch_front, watch_pump, watch_ring};
+
+    /// Takes and judges up to `most` events, in the order of their places: fewer only if the next place has no event
+    /// yet. It never waits for one. After a failed allocation the event to be judged is held, and the next call
+    /// judges it first. What was judged stays judged.
     pub fn pump(&mut self, most: u64) -> Result<Pumped, AllocError>
-        ensures ring { self.new.ring ≡ self.old.ring }
-        ensures ok { IfOk result (λ pumped. IsPumped most pumped self.old.pump self.new.pump) }
+        ensures ring { watch_ring self.new ≡ watch_ring self.old }
+        ensures ok { IfOk result (λ pumped. IsPumped most pumped (watch_pump self.old)
+            (watch_pump self.new)) }
         ensures err { OnErr result (WasRefusedMemory most
-            (λ count. HasPumped count self.old.pump self.new.pump.reader self.new.pump.front)
-            self.new.pump.front) }
-        ensures headline { GivesHeadline self.old.pump.front self.new.pump.reader.taken
-            self.new.pump.front.judged.items self.new.pump.front.monitor.verdict }
+            (λ count. HasPumped count (watch_pump self.old) (reader_of (watch_pump self.new))
+            (watch_front self.new)) (watch_front self.new)) }
+        ensures headline { GivesHeadline (watch_front self.old)
+            (reader_of (watch_pump self.new)).taken (judged_of (watch_front self.new))
+            (verdict_on (watch_front self.new)) }
     {
         self.pump.pump(&self.ring, most)
     }
 
-    /// How many events were judged so far, and the verdict on them.
+    /// Returns how many events were judged so far, and the verdict on them.
     pub fn report(&self) -> Report
-        ensures events { result.events ≡ length self.now.pump.front.judged.items }
-        ensures verdict { TellsVerdict self.now.pump.front result.verdict }
-        ensures headline { GivesHeadline self.now.pump.front self.now.pump.reader.taken
-            self.now.pump.front.judged.items result.verdict }
+        ensures events { result.events ≡ length (judged_of (watch_front self.now)) }
+        ensures verdict { TellsVerdict (watch_front self.now) result.verdict }
+        ensures headline { GivesHeadline (watch_front self.now)
+            (reader_of (watch_pump self.now)).taken (judged_of (watch_front self.now))
+            result.verdict }
     {
         Report {
             events: self.pump.fed(),
@@ -53,9 +58,9 @@ impl Watch {
         }
     }
 
-    /// Whether an event was taken that is not judged yet, since a growth of memory was refused.
+    /// Tells whether an event was taken that is not judged yet, after a failed allocation.
     pub fn held(&self) -> bool
-        ensures { IsTrue result ↔ IsSome self.now.pump.front.held }
+        ensures { IsTrue result ↔ IsSome (held_of (watch_front self.now)) }
     {
         self.pump.held()
     }

@@ -1,6 +1,7 @@
 //! Whole runs of a pump by one thread: what it judges, what a meeting leaves, what is left of a settled ring, and what a refused
 //! growth leaves.
 ghost use Rattle.std.specs.Prelude.{◌≡◌, ◌<◌, [], length, All, IfOk};
+ghost use Rattle.tmw_pump.specs.Pumping.{pump_in, reader_of};
 ghost use Rattle.tmw_ring.specs.Ends.{ReaderOf, WriterOf};
 ghost use Rattle.tmw_ring.specs.Settling.{AreInOrder};
 
@@ -24,7 +25,7 @@ pub const WIDEST: Bounds = Bounds {
 /// A pump over a run of one register.
 pub fn new_pump(alloc: Global, reader: Reader) -> Result<Pump, AllocError>
     requires { reader.taken ≡ [] }
-    ensures { IfOk result (λ pump. pump.forgetting.reader ≡ reader) }
+    ensures { IfOk result (λ pump. reader_of (pump_in pump) ≡ reader) }
 {
     Ok(Pump::new(alloc, reader, Monitor::new(alloc, ONE, WIDEST)?))
 }
@@ -63,7 +64,7 @@ pub fn record_dirty_read(ring: &Ring, writers: &mut Vec<Writer>)
 
 /// The pump meets a writer, which is still of the ring.
 fn meet(ring: &Ring, pump: &mut Pump, writer: &mut Writer)
-    requires reader { ReaderOf ring.now pump.old.forgetting.reader }
+    requires reader { ReaderOf ring.now (reader_of (pump_in pump.old)) }
     requires writer { WriterOf ring.now writer.old }
     ensures { WriterOf ring.now writer.new }
 {
@@ -176,8 +177,8 @@ fn is_dirty_read_so_far(seen: &Seen<'_>) -> bool {
 
 /// Judges the dirty read of a running ring, three events at a time, and tells whether each answer was as it should be.
 fn pump_all(ring: &Ring, pump: &mut Pump) -> bool
-    requires { ReaderOf ring.now pump.old.forgetting.reader }
-    ensures { ReaderOf ring.now pump.new.forgetting.reader }
+    requires { ReaderOf ring.now (reader_of (pump_in pump.old)) }
+    ensures { ReaderOf ring.now (reader_of (pump_in pump.new)) }
 {
     for _ in 0..8 {
         let before = pump.judged().len();

@@ -1,5 +1,6 @@
 //! Runs of a pump that forgets, by one thread: it tells what one that keeps events tells, and takes no more memory for more events.
 ghost use Rattle.std.specs.Prelude.{◌≡◌, [], length, All, IfOk};
+ghost use Rattle.tmw_pump.specs.Pumping.{reader_of};
 ghost use Rattle.tmw_ring.specs.Ends.{ReaderOf, WriterOf};
 ghost use Rattle.tmw_ring.specs.Settling.{AreInOrder};
 
@@ -19,7 +20,7 @@ const ROUNDS: u64 = 1_000;
 /// A pump that forgets, over a run of one register.
 fn new_forgetting(alloc: Global, reader: Reader) -> Result<ForgettingPump, AllocError>
     requires { reader.taken ≡ [] }
-    ensures { IfOk result (λ pump. pump.reader ≡ reader) }
+    ensures { IfOk result (λ pump. reader_of pump ≡ reader) }
 {
     Ok(ForgettingPump::new(reader, Monitor::new(alloc, ONE, WIDEST)?))
 }
@@ -89,8 +90,8 @@ fn is_after(
 
 /// Judges the dirty read of a running ring, three events at a time, and tells whether each answer was as it should be.
 fn pump_all(ring: &Ring, pump: &mut ForgettingPump) -> bool
-    requires { ReaderOf ring.now pump.old.reader }
-    ensures { ReaderOf ring.now pump.new.reader }
+    requires { ReaderOf ring.now (reader_of pump.old) }
+    ensures { ReaderOf ring.now (reader_of pump.new) }
 {
     for _ in 0..8 {
         let before = pump.fed();
@@ -139,11 +140,11 @@ fn judge_rounds(
     writers: &mut Vec<Writer>,
     rounds: u64,
 ) -> bool
-    requires reader { ReaderOf ring.now pump.old.reader }
+    requires reader { ReaderOf ring.now (reader_of pump.old) }
     requires two { length writers.old.items ≡ 2 }
     requires of_ring { All (WriterOf ring.now) writers.old.items }
     requires order { AreInOrder writers.old.items }
-    ensures reader { ReaderOf ring.now pump.new.reader }
+    ensures reader { ReaderOf ring.now (reader_of pump.new) }
     ensures two { length writers.new.items ≡ 2 }
     ensures of_ring { All (WriterOf ring.now) writers.new.items }
     ensures order { AreInOrder writers.new.items }

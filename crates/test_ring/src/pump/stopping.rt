@@ -1,6 +1,7 @@
 //! Runs whose writers stop wherever they are: amid a transaction, at a full ring, where the places are spent. Their events are
 //! judged meanwhile and to the end, and the pump is called again where memory was refused.
 ghost use Rattle.std.specs.Prelude.{◌≡◌, length, IfSome, All};
+ghost use Rattle.tmw_pump.specs.Pumping.{pump_in, reader_of};
 ghost use Rattle.tmw_ring.specs.Ends.{ReaderOf, WriterOf};
 ghost use Rattle.tmw_ring.specs.Settling.{AreInOrder};
 
@@ -83,8 +84,8 @@ fn record_some(course: Course<'_>, ring: &Ring, mut writer: Writer) -> Writer
 
 /// Calls the pump so often, and tells at how many calls memory was refused, if what was seen behind each was as promised.
 fn pump_some(ring: &Ring, pump: &mut Pump, max: u64, calls: u64) -> Option<u64>
-    requires { ReaderOf ring.now pump.old.forgetting.reader }
-    ensures { ReaderOf ring.now pump.new.forgetting.reader }
+    requires { ReaderOf ring.now (reader_of (pump_in pump.old)) }
+    ensures { ReaderOf ring.now (reader_of (pump_in pump.new)) }
 {
     let mut refused = 0u64;
     for _ in 0..calls {
@@ -158,7 +159,7 @@ fn run_dropped<R: Threads + Wait + Sync>(
     writers: Vec<Writer>,
     pump: Pump,
 ) -> Option<Ended>
-    requires reader { ReaderOf ring pump.forgetting.reader }
+    requires reader { ReaderOf ring (reader_of (pump_in pump)) }
     requires writers { All (WriterOf ring) writers.items }
     requires order { AreInOrder writers.items }
 {
@@ -168,11 +169,11 @@ fn run_dropped<R: Threads + Wait + Sync>(
         thread::scope_env(),
         rt,
         move |scope| -> Option<(Option<u64>, Pump)>
-            requires reader { ReaderOf shared.now pump.forgetting.reader }
+            requires reader { ReaderOf shared.now (reader_of (pump_in pump)) }
             requires writers { All (WriterOf shared.now) writers.items }
             requires order { AreInOrder writers.items }
             ensures reader { IfSome result (λ back. ReaderOf shared.entry.now
-                back.1.forgetting.reader) }
+                (reader_of (pump_in back.1))) }
         { run_away(scope, alloc, Course { trial, told }, shared, pump, writers) },
     );
     let Some((meanwhile, mut pump)) = back else {
@@ -194,10 +195,10 @@ fn run_away<'s, E>(
     mut pump: Pump,
     writers: Vec<Writer>,
 ) -> Option<(Option<u64>, Pump)>
-    requires reader { ReaderOf ring.now pump.forgetting.reader }
+    requires reader { ReaderOf ring.now (reader_of (pump_in pump)) }
     requires writers { All (WriterOf ring.now) writers.items }
     requires order { AreInOrder writers.items }
-    ensures reader { IfSome result (λ back. ReaderOf ring.now back.1.forgetting.reader) }
+    ensures reader { IfSome result (λ back. ReaderOf ring.now (reader_of (pump_in back.1))) }
 {
     start_all(scope, alloc, ring, writers, move |writer| {
         record_some(course, ring, writer)
@@ -215,7 +216,7 @@ fn run_settled<R: Threads + Wait + Sync>(
     writers: Vec<Writer>,
     pump: Pump,
 ) -> Option<Ended>
-    requires reader { ReaderOf ring pump.forgetting.reader }
+    requires reader { ReaderOf ring (reader_of (pump_in pump)) }
     requires writers { All (WriterOf ring) writers.items }
     requires count { length writers.items ≡ ring.size.writers }
     requires order { AreInOrder writers.items }
@@ -226,11 +227,11 @@ fn run_settled<R: Threads + Wait + Sync>(
         thread::scope_env(),
         rt,
         move |scope| -> Option<(Option<u64>, Pump, Vec<Writer>)>
-            requires reader { ReaderOf shared.now pump.forgetting.reader }
+            requires reader { ReaderOf shared.now (reader_of (pump_in pump)) }
             requires writers { All (WriterOf shared.now) writers.items }
             requires order { AreInOrder writers.items }
             ensures reader { IfSome result (λ back. ReaderOf shared.entry.now
-                back.1.forgetting.reader) }
+                (reader_of (pump_in back.1))) }
             ensures writers { IfSome result (λ back. All (WriterOf shared.entry.now) back.2.items) }
             ensures count { IfSome result (λ back. length back.2.items ≡ length writers.items) }
             ensures order { IfSome result (λ back. AreInOrder back.2.items) }
@@ -266,10 +267,10 @@ fn run_and_return<'s, E, R: Threads + Wait + Sync>(
     mut pump: Pump,
     writers: Vec<Writer>,
 ) -> Option<(Option<u64>, Pump, Vec<Writer>)>
-    requires reader { ReaderOf ring.now pump.forgetting.reader }
+    requires reader { ReaderOf ring.now (reader_of (pump_in pump)) }
     requires writers { All (WriterOf ring.now) writers.items }
     requires order { AreInOrder writers.items }
-    ensures reader { IfSome result (λ back. ReaderOf ring.now back.1.forgetting.reader) }
+    ensures reader { IfSome result (λ back. ReaderOf ring.now (reader_of (pump_in back.1))) }
     ensures writers { IfSome result (λ back. All (WriterOf ring.now) back.2.items) }
     ensures count { IfSome result (λ back. length back.2.items ≡ length writers.items) }
     ensures order { IfSome result (λ back. AreInOrder back.2.items) }

@@ -1,5 +1,6 @@
 //! Threads that record the runs of a little memory, judged as they come and then to the end of the settled ring.
 ghost use Rattle.std.specs.Prelude.{◌≡◌, length, IfSome, All};
+ghost use Rattle.tmw_pump.specs.Pumping.{pump_in, reader_of};
 ghost use Rattle.tmw_ring.specs.Ends.{ReaderOf, WriterOf};
 ghost use Rattle.tmw_ring.specs.Settling.{AreInOrder};
 
@@ -101,8 +102,8 @@ fn record_run<R: Wait>(
 
 /// Judges the events of the running ring as they come, until few are left. Where memory is refused it goes on.
 fn pump_running(ring: &Ring, pump: &mut Pump)
-    requires { ReaderOf ring.now pump.old.forgetting.reader }
-    ensures { ReaderOf ring.now pump.new.forgetting.reader }
+    requires { ReaderOf ring.now (reader_of (pump_in pump.old)) }
+    ensures { ReaderOf ring.now (reader_of (pump_in pump.new)) }
 {
     for _ in 0..TRIES {
         let left = RUNNING.saturating_sub(pump.judged().len() as u64);
@@ -134,10 +135,10 @@ fn run<'s, E, R: Threads + Wait + Sync>(
     writers: Vec<Writer>,
     shared: Shared<'s>,
 ) -> Option<(Pump, Vec<Writer>)>
-    requires reader { ReaderOf ring.now pump.forgetting.reader }
+    requires reader { ReaderOf ring.now (reader_of (pump_in pump)) }
     requires writers { All (WriterOf ring.now) writers.items }
     requires order { AreInOrder writers.items }
-    ensures reader { IfSome result (λ back. ReaderOf ring.now back.0.forgetting.reader) }
+    ensures reader { IfSome result (λ back. ReaderOf ring.now (reader_of (pump_in back.0))) }
     ensures writers { IfSome result (λ back. All (WriterOf ring.now) back.1.items) }
     ensures count { IfSome result (λ back. length back.1.items ≡ length writers.items) }
     ensures order { IfSome result (λ back. AreInOrder back.1.items) }
@@ -170,7 +171,7 @@ fn judge_rest(mut rest: Rest) -> (Vec<Event>, Verdict) {
 
 /// A ring of three writers, with a pump that has judged nothing.
 fn new_pump(alloc: Global) -> Option<(Ring, Vec<Writer>, Pump)>
-    ensures reader { IfSome result (λ made. ReaderOf made.0 made.2.forgetting.reader) }
+    ensures reader { IfSome result (λ made. ReaderOf made.0 (reader_of (pump_in made.2))) }
     ensures writers { IfSome result (λ made. All (WriterOf made.0) made.1.items) }
     ensures count { IfSome result (λ made. length made.1.items ≡ made.0.size.writers) }
     ensures order { IfSome result (λ made. AreInOrder made.1.items) }
@@ -201,11 +202,11 @@ fn judged_run<R: Threads + Wait + Sync>(
         thread::scope_env(),
         rt,
         move |scope| -> Option<(Pump, Vec<Writer>)>
-            requires reader { ReaderOf shared.now pump.forgetting.reader }
+            requires reader { ReaderOf shared.now (reader_of (pump_in pump)) }
             requires writers { All (WriterOf shared.now) writers.items }
             requires order { AreInOrder writers.items }
             ensures reader { IfSome result (λ back. ReaderOf shared.entry.now
-                back.0.forgetting.reader) }
+                (reader_of (pump_in back.0))) }
             ensures writers { IfSome result (λ back. All (WriterOf shared.entry.now) back.1.items) }
             ensures count { IfSome result (λ back. length back.1.items ≡ length writers.items) }
             ensures order { IfSome result (λ back. AreInOrder back.1.items) }

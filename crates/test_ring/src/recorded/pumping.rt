@@ -1,4 +1,5 @@
 //! How long the pump runs, of which no clause tells, and what stands where a growth of memory is refused.
+ghost use Rattle.tmw_pump.specs.Pumping.{pump_in, reader_of};
 ghost use Rattle.tmw_ring.specs.Ends.{ReaderOf, WriterOf};
 
 use crate::pump::calls::new_pump;
@@ -39,7 +40,7 @@ fn ended_beside<R: Threads + Wait + Sync>(
     kinds: &[Kind],
 ) -> Option<u64>
     requires writer { WriterOf ring.now writer.old }
-    requires reader { ReaderOf ring.now pump.old.forgetting.reader }
+    requires reader { ReaderOf ring.now (reader_of (pump_in pump.old)) }
 {
     let told = Signals::new();
     let signals = &told;
@@ -51,7 +52,7 @@ fn ended_beside<R: Threads + Wait + Sync>(
             record_all(ring, writer, kinds, signals);
         },
         || -> Option<u64>
-            requires { ReaderOf ring.now pump.now.forgetting.reader }
+            requires { ReaderOf ring.now (reader_of (pump_in pump.now)) }
         {
             let answer = pump_running(rt, ring, pump, signals, 1);
             let ended = signals.ended();
@@ -82,8 +83,8 @@ fn the_pump_stops_only_where_the_thread_has_ended(rt: HostRuntime) -> Result<(),
 
 /// Judges the four events of a ring whose one thread has ended, and tells whether what then stands is what the answer says.
 fn judges_as_it_says<R: Wait>(rt: &R, ring: &Ring, pump: &mut Pump, signals: &Signals) -> bool
-    requires { ReaderOf ring.now pump.old.forgetting.reader }
-    ensures { ReaderOf ring.now pump.new.forgetting.reader }
+    requires { ReaderOf ring.now (reader_of (pump_in pump.old)) }
+    ensures { ReaderOf ring.now (reader_of (pump_in pump.new)) }
 {
     let answer = pump_running(rt, ring, pump, signals, 1);
     let all = pump.judged().len() == 4;

@@ -2,6 +2,7 @@
 //! leaves.
 ghost use Rattle.std.specs.Prelude.{◌≡◌, IfOk};
 ghost use Rattle.tmw_watch.specs.Opening.{AreOf};
+ghost use Rattle.tmw_watch.specs.Shown.{recorder_ring, watch_ring};
 
 use super::*;
 use std::alloc::{AllocError, Global};
@@ -51,8 +52,10 @@ pub fn open_two(
     cells: u64,
     limit: u64,
 ) -> Result<(Watch, Recorder, Recorder), RingFault>
-    ensures first { IfOk result (λ opened. opened.1.ring.value ≡ opened.0.ring.value) }
-    ensures second { IfOk result (λ opened. opened.2.ring.value ≡ opened.0.ring.value) }
+    ensures first { IfOk result (λ opened. (recorder_ring opened.1).value
+        ≡ (watch_ring opened.0).value) }
+    ensures second { IfOk result (λ opened. (recorder_ring opened.2).value
+        ≡ (watch_ring opened.0).value) }
 {
     let (watch, mut recorders) = Watch::open(alloc, settings(cells, limit, 2))?;
     let Some(second) = recorders.pop() else {
@@ -72,8 +75,8 @@ pub fn close_two(
     first: Recorder,
     second: Recorder,
 ) -> Result<Report, CloseError>
-    requires first { first.ring.value ≡ watch.ring.value }
-    requires second { second.ring.value ≡ watch.ring.value }
+    requires first { (recorder_ring first).value ≡ (watch_ring watch).value }
+    requires second { (recorder_ring second).value ≡ (watch_ring watch).value }
 {
     match vec![in alloc; first, second] {
         Ok(recorders) => watch.close(recorders),
@@ -86,8 +89,8 @@ pub fn close_two(
 
 /// The dirty read, as far as it is one, by two recorders: the places of its events.
 fn record_dirty_read(writes: &mut Recorder, reads: &mut Recorder) -> [Option<u64>; 4]
-    ensures writes { writes.new.ring ≡ writes.old.ring }
-    ensures reads { reads.new.ring ≡ reads.old.ring }
+    ensures writes { recorder_ring writes.new ≡ recorder_ring writes.old }
+    ensures reads { recorder_ring reads.new ≡ recorder_ring reads.old }
 {
     [
         writes.record(Kind::W(FIRST, 1)).ok(),
@@ -136,7 +139,7 @@ fn what_was_not_pumped_is_judged_at_the_end(rt: HostRuntime) -> Result<(), Fail>
 
 /// A watch with one recorder, of a register that holds this value at first.
 fn open_one(alloc: Global, value: u64) -> Result<(Watch, Recorder), RingFault>
-    ensures { IfOk result (λ opened. opened.1.ring.value ≡ opened.0.ring.value) }
+    ensures { IfOk result (λ opened. (recorder_ring opened.1).value ≡ (watch_ring opened.0).value) }
 {
     let mut asked = settings(8, 100, 1);
     asked.start[0] = value;
@@ -212,8 +215,8 @@ fn a_full_ring_refuses_and_a_pump_makes_room(rt: HostRuntime) -> Result<(), Fail
 /// Closes a watch with one recorder of two, and then with both, where the one comes back.
 #[tactic(auto, using(crate::proofs::Pairs::of_ring_one))]
 fn close_late(alloc: Global, watch: Watch, first: Recorder, second: Recorder) -> Option<Report>
-    requires first { first.ring.value ≡ watch.ring.value }
-    requires second { second.ring.value ≡ watch.ring.value }
+    requires first { (recorder_ring first).value ≡ (watch_ring watch).value }
+    requires second { (recorder_ring second).value ≡ (watch_ring watch).value }
 {
     let Ok(recorders) = vec![in alloc; first] else {
         return None;
@@ -246,7 +249,7 @@ fn a_missing_recorder_is_waited_for(rt: HostRuntime) -> Result<(), Fail> {
 
 /// Judges the dirty read, three events at a time, and goes on where a growth is refused.
 fn pump_all(watch: &mut Watch) -> bool
-    ensures { watch.new.ring ≡ watch.old.ring }
+    ensures { watch_ring watch.new ≡ watch_ring watch.old }
 {
     for _ in 0..8 {
         let before = watch.report().events;
@@ -262,7 +265,7 @@ fn pump_all(watch: &mut Watch) -> bool
 
 /// Closes the watch, with one more try where a growth is refused.
 fn close_again(watch: Watch, recorders: Vec<Recorder>) -> Option<Report>
-    requires { AreOf watch.ring.value recorders.items }
+    requires { AreOf (watch_ring watch).value recorders.items }
 {
     match watch.close(recorders) {
         Ok(report) => Some(report),

@@ -1,6 +1,7 @@
 //! Threads that record the runs of a little memory, each by a recorder of its own, and one that has them judged meanwhile.
 ghost use Rattle.std.specs.Prelude.{◌≡◌};
 ghost use Rattle.std.specs.Thread.{IsSync};
+ghost use Rattle.tmw_watch.specs.Shown.{recorder_ring, watch_ring};
 
 use super::calls::{close_two, open_two};
 use super::*;
@@ -32,7 +33,7 @@ struct Memory {
 
 /// Records an event as soon as there is room, and tells whether there was.
 fn record_soon(memory: &Memory, recorder: &mut Recorder, kind: Kind) -> bool
-    ensures { recorder.new.ring ≡ recorder.old.ring }
+    ensures { recorder_ring recorder.new ≡ recorder_ring recorder.old }
 {
     for _ in 0..TRIES {
         if recorder.record(kind).is_ok() {
@@ -48,7 +49,7 @@ fn record_soon(memory: &Memory, recorder: &mut Recorder, kind: Kind) -> bool
 
 /// Adds one to the register in a transaction, whose events are recorded while the register is held, and tells whether all were.
 fn add_one(memory: &Memory, recorder: &mut Recorder, register: &mut u64, forgets: bool) -> bool
-    ensures { recorder.new.ring ≡ recorder.old.ring }
+    ensures { recorder_ring recorder.new ≡ recorder_ring recorder.old }
 {
     let name = Ix { number: 0 };
     let read = *register;
@@ -73,7 +74,7 @@ fn add_one(memory: &Memory, recorder: &mut Recorder, register: &mut u64, forgets
 
 /// Makes its transactions, one after another, and gives the recorder back.
 fn record_run<R: Wait>(rt: &R, memory: &Memory, mut recorder: Recorder) -> Recorder
-    ensures { result.ring ≡ recorder.ring }
+    ensures { recorder_ring result ≡ recorder_ring recorder }
 {
     for done in 0..EACH {
         let forgets = memory.broken && done % 10 == 9;
@@ -87,7 +88,7 @@ fn record_run<R: Wait>(rt: &R, memory: &Memory, mut recorder: Recorder) -> Recor
 
 /// Judges the events as they come, until all are judged. Where memory is refused it goes on.
 fn pump_running(memory: &Memory, mut watch: Watch) -> Watch
-    ensures { result.ring ≡ watch.ring }
+    ensures { watch_ring result ≡ watch_ring watch }
 {
     for _ in 0..TRIES {
         let _ = watch.pump(64);
@@ -108,29 +109,29 @@ fn run<R: Threads + Wait + Sync>(
     first: Recorder,
     second: Recorder,
 ) -> (Watch, Recorder, Recorder)
-    ensures watch { result.0.ring ≡ watch.ring }
-    ensures first { result.1.ring ≡ first.ring }
-    ensures second { result.2.ring ≡ second.ring }
+    ensures watch { recorder_ring result.0 ≡ watch_ring watch }
+    ensures first { recorder_ring result.1 ≡ recorder_ring first }
+    ensures second { recorder_ring result.2 ≡ recorder_ring second }
 {
     let ((first, second), watch) = join(
         rt,
         move || -> (Recorder, Recorder)
             requires { IsSync R.row }
-            ensures first { result.0.ring ≡ first.ring }
-            ensures second { result.1.ring ≡ second.ring }
+            ensures first { recorder_ring result.0 ≡ recorder_ring first }
+            ensures second { recorder_ring result.1 ≡ recorder_ring second }
         {
             join(
                 rt,
                 move || -> Recorder
-                    ensures { result.ring ≡ first.ring }
+                    ensures { recorder_ring result ≡ recorder_ring first }
                 { record_run(rt, memory, first) },
                 move || -> Recorder
-                    ensures { result.ring ≡ second.ring }
+                    ensures { recorder_ring result ≡ recorder_ring second }
                 { record_run(rt, memory, second) },
             )
         },
         move || -> Watch
-            ensures { result.ring ≡ watch.ring }
+            ensures { watch_ring result ≡ watch_ring watch }
         { pump_running(memory, watch) },
     );
     (watch, first, second)
