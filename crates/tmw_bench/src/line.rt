@@ -1,5 +1,6 @@
 //! The leader's ends of the lines to its workers.
 ghost use Rattle.std.specs.Prelude.{length, IfOk, OnOk, IsTrue, IsSome};
+ghost use Rattle.tmw_bench.specs.Judges.{judge_reader};
 ghost use Rattle.tmw_bench.specs.Leading.{HasHeard, HaveHeardUpTo, HaveToldUpTo, SomeToldStop};
 ghost use Rattle.tmw_bench.specs.Keeping.{HasGoneOn};
 ghost use Rattle.tmw_ring.specs.Ends.{ReaderOf};
@@ -32,8 +33,8 @@ fn hear<R: Wait, K: Keep>(
     line: &mut Line,
     orders: &Orders,
 ) -> Result<Ended, AllocError>
-    requires reader { ReaderOf ring.now judge.old.forgetting.reader }
-    ensures reader { OnOk result (ReaderOf ring.now judge.new.forgetting.reader) }
+    requires reader { ReaderOf ring.now (judge_reader judge.old) }
+    ensures reader { OnOk result (ReaderOf ring.now (judge_reader judge.new)) }
     ensures goes_on { OnOk result (HasGoneOn K.keeps judge.old judge.new) }
     ensures heard { IfOk result (λ ended. HasHeard ended line.old line.new) }
 {
@@ -70,8 +71,8 @@ pub fn hear_all<R: Wait, K: Keep>(
     lines: &mut [Line],
     orders: &Orders,
 ) -> Result<(u64, bool), AllocError>
-    requires reader { ReaderOf ring.now judge.old.forgetting.reader }
-    ensures reader { OnOk result (ReaderOf ring.now judge.new.forgetting.reader) }
+    requires reader { ReaderOf ring.now (judge_reader judge.old) }
+    ensures reader { OnOk result (ReaderOf ring.now (judge_reader judge.new)) }
     ensures goes_on { OnOk result (HasGoneOn K.keeps judge.old judge.new) }
     ensures heard { OnOk result (HaveHeardUpTo (length lines.old) lines.old lines.new) }
     ensures stopped { IfOk result
