@@ -19,7 +19,7 @@ pub struct OneWriter {
 }
 
 impl OneWriter {
-    /// A memory of so many registers, all 0.
+    /// Makes a memory of so many registers, all 0.
     pub fn new(registers: Registers) -> OneWriter
         ensures { registers_of result ≡ registers }
     {

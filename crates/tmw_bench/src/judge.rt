@@ -9,7 +9,7 @@ use tmw_events::Event;
 use tmw_pump::ForgettingPump;
 use tmw_ring::Ring;
 
-/// Judges the events of a running ring, and keeps of them what K keeps.
+/// A judge of the events of a running ring, which keeps of them what K keeps.
 #[derive(Drop)]
 pub struct Judge<K> {
     pub forgetting: ForgettingPump,
@@ -19,7 +19,7 @@ pub struct Judge<K> {
 impl<K: Keep> Judge<K> {
     ghost use Rattle.tmw_bench.specs.Keeping.{HasKept};
 
-    /// Takes and judges up to so many events, and answers how many: fewer only where the next place is not published.
+    /// Takes and judges up to `max` events, and returns how many: fewer only if the next place is not published.
     pub fn pump(&mut self, ring: &Ring, max: u64) -> Result<u64, AllocError>
         requires { ReaderOf ring.now (judge_reader self.old) }
         ensures of_ring { ReaderOf ring.now (judge_reader self.new) }

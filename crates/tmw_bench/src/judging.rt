@@ -11,7 +11,7 @@ use std::alloc::AllocError;
 use std::sync::Wait;
 use tmw_ring::Ring;
 
-/// So many events are judged by one call of the pump at most.
+/// The most events that one call of the pump judges.
 const TURN: u64 = 64;
 
 /// Judges events of the ring, none behind so many in all, and answers how many it has judged.
@@ -28,8 +28,8 @@ fn judge_turn<K: Keep>(ring: &Ring, judge: &mut Judge<K>, count: u64) -> Result<
     judge.pump(ring, TURN.min(left))
 }
 
-/// Judges the events of the ring until so many are judged in all. It waits for those that are not published yet, and so for ever
-/// where no more come, or where more are judged already.
+/// Judges the events of the ring until `count` are judged in all. It waits for those that are not published yet:
+/// forever if no more come, or if more are judged already.
 pub fn judge_up_to<R: Wait, K: Keep>(
     rt: &R,
     ring: &Ring,

@@ -18,8 +18,8 @@ use std::sync::Wait;
 use tmw_defs::Verdict;
 use tmw_ring::Ring;
 
-/// Leads the workers through round after round, and answers how many were begun: all, but for those behind one after which the
-/// verdict is not opaque so far, or in which a worker was stopped.
+/// Leads the workers through round after round, and returns how many were begun: all, unless after one of them the
+/// verdict is not opaque so far or a worker was stopped.
 pub fn lead<R: Wait, K: Keep>(
     rt: &R,
     ring: &Ring,

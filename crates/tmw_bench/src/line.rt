@@ -15,7 +15,7 @@ use std::alloc::AllocError;
 use std::sync::Wait;
 use tmw_ring::Ring;
 
-/// So many events are judged at once before it is asked whether a worker has ended.
+/// How many events are judged at once before the leader looks whether a worker has ended.
 const TURN: u64 = 64;
 
 /// The leader's ends of the line to one worker.
@@ -62,8 +62,8 @@ fn is_stopped(ended: &Ended) -> bool
     ended.stop.is_some()
 }
 
-/// Waits until all workers have told that their round has ended. Answers the most places that one of them has found claimed, and
-/// whether some worker was stopped.
+/// Waits until all workers have told that their round has ended. Returns the most places that one of them has found
+/// claimed, and whether a worker was stopped.
 pub fn hear_all<R: Wait, K: Keep>(
     rt: &R,
     ring: &Ring,

@@ -35,8 +35,8 @@ pub struct Left<K> {
     pub rounds: u64,
 }
 
-/// Carries the scripts out round after round, and answers what the last round has left. None is left out but behind one after which
-/// the verdict is not opaque so far, or in which a worker was stopped. All workers have ended, also where it fails.
+/// Runs the scripts round after round, and returns what the last round has left. All rounds are begun, unless after one
+/// of them the verdict is not opaque so far or a worker was stopped. All workers have ended, also if it fails.
 pub fn play_rounds<R: Threads + Wait + Sync, J: Giving + Send, K: Keep>(
     rt: &R,
     alloc: Global,

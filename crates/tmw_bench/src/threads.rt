@@ -19,7 +19,7 @@ use tmw_events::Kind;
 use tmw_ring::{Refused, Ring};
 use tmw_tm::Tm;
 
-/// A thread gives a worker back, which has carried this script out round after round with such answers.
+/// The promise of a thread that gives a worker back, which has run this script round after round with such answers.
 #[derive(Drop)]
 pub struct Playing<'a, J> {
     ring: &'a Ring,
@@ -53,7 +53,7 @@ fn play<R: Wait, J: Giving>(
     (worker, stop)
 }
 
-/// Gives each worker a thread in which the script at its place is carried out, if there are threads for all.
+/// Starts a thread for each worker, in which the script at its place runs, if there are threads for all.
 pub fn start_all<'s, E, R: Wait + Sync, J: Giving + Send + 's>(
     rt: &'s R,
     scope: &Scope<'s, E>,

@@ -19,7 +19,7 @@ pub struct GlobalLock {
 }
 
 impl GlobalLock {
-    /// A memory of so many registers, all 0, whose lock is free. It takes no memory beside its own.
+    /// Makes a memory of so many registers, all 0, whose lock is free. It allocates nothing.
     pub fn new(registers: Registers) -> GlobalLock
         ensures { lock_registers result ≡ registers }
     {

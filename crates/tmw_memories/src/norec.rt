@@ -23,7 +23,7 @@ pub struct NoRec {
 }
 
 impl NoRec {
-    /// A memory of so many registers, all 0, whose lock is free. It takes no memory beside its own.
+    /// Makes a memory of so many registers, all 0, whose lock is free. It allocates nothing.
     pub fn new(registers: Registers) -> NoRec
         ensures { norec_registers result ≡ registers }
     {

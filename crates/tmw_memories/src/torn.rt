@@ -16,7 +16,7 @@ pub struct Torn {
 }
 
 impl Torn {
-    /// A memory of so many registers, all 0. It takes no memory beside its own.
+    /// Makes a memory of so many registers, all 0. It allocates nothing.
     pub fn new(registers: Registers) -> Torn
         ensures { torn_registers result ≡ registers }
     {

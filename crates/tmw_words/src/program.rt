@@ -127,7 +127,7 @@ Exit status: 0, or 4 for a fault, which one line on standard output names.
 
 Example: tmwatch steps < stopped_writer.steps";
 
-/// The program's commands, with their options and help.
+/// Makes the program's commands, with their options and help.
 pub fn new_program<'a>(alloc: Global) -> Result<Command<'a>, AllocError>
     ensures { IfOk result (λ command. IsProgram (app_of command)) }
 {

@@ -68,6 +68,7 @@ fn run<R: AllocGlobal + Threads + Wait + Sync, S: Source, K: Sink, E: Sink, P: P
     errors: &mut E,
     progress: &P,
 ) -> Result<u8, AllocError> {
+    // Made before the words are read, so that a failed allocation is `memory` whatever the command.
     let norec: Box<dyn Tm + Sync> = Box::new(rt.alloc(), NoRec::new(REGISTERS))?;
     let lock: Box<dyn Tm + Sync> = Box::new(rt.alloc(), GlobalLock::new(REGISTERS))?;
     let torn: Box<dyn Tm + Sync> = Box::new(rt.alloc(), Torn::new(REGISTERS))?;
