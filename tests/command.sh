@@ -302,6 +302,12 @@ expect_help 'Usage: tmwatch bench [OPTIONS]' help bench
 expect_help 'Usage: tmwatch steps' steps --help
 expect_help '  -V, --version  Print version' --help
 expect_help 'Example: tmwatch judge --criterion both < run.trace' judge --help
+# each help fits on a screen
+for words in '' judge show drive bench steps; do
+    run $words --help </dev/null
+    count "$words --help in 40 lines of 80 columns" '0 1 0' \
+        "$status $(($(wc -l <"$folder/output") <= 40)) $(awk 'length > 80' "$folder/output" | wc -l)"
+done
 version='tmwatch 0.1.0, by opacity (Guerraoui and Kapalka 2008) and by strict serializability'
 expect_help "$version" --version
 expect_help "$version" -V
@@ -333,7 +339,7 @@ expect_usage "error: unexpected argument '--rounds' found" drive --rounds 1
 expect_usage "error: unexpected argument '--trace' found" judge --trace
 expect_usage "error: unexpected argument 'further' found" judge further
 expect_usage "error: unexpected argument '--window' found" steps --window 3
-expect_usage '' judge $'\xff'
+expect_usage 'error: a word of the command line is not UTF-8' judge $'\xff'
 
 expect_hostile '[' '[' '' '{"fault":"json"}'
 expect_hostile '{"registers":1,"scripts":[[]],"order":[]}' ' ' x '{"fault":"json"}'
@@ -497,11 +503,12 @@ for text in 'opacity-trace 1 1\n0 R 01\n:{"fault":"bad line","line":2}' '~\n:{"f
     kill $! 2>/dev/null || true
 done
 
-# standard output that takes nothing, and standard error that takes nothing
+# standard output that takes nothing, which standard error tells, and standard error that takes nothing
 for words in 'judge' 'show' 'drive' 'bench' 'steps' '--help' 'replay'; do
     status=0
-    "$top/tmwatch" $words <"$top/examples/dirty_read.trace" >/dev/full 2>/dev/null || status=$?
-    count "$words > /dev/full" 4 "$status"
+    "$top/tmwatch" $words <"$top/examples/dirty_read.trace" >/dev/full 2>"$folder/errors" || status=$?
+    count "$words > /dev/full" '4 error: the output could not be written: disk full? Trust no verdict; run again' \
+        "$status $(tail -n 1 "$folder/errors")"
 done
 status=0
 "$top/tmwatch" replay </dev/null >"$folder/output" 2>/dev/full || status=$?

@@ -232,17 +232,20 @@ limits() {
     done
 }
 
+# The status and what is told of output that could not be written.
+unwritten='4 error: the output could not be written: disk full? Trust no verdict; run again'
+
 # A command on a file, with each of its streams closed, full, or no file to read, and what it writes otherwise.
 streams_of() {
     local file=$1 empty=$2 plain status=0
     shift 2
     plain=$("$program" "$@" <"$file") || status=$?
     plain="$status $plain"
-    streams_row 'standard output closed' "<'$file' >&-" '4 ' "$@"
-    streams_row 'standard output full' "<'$file' >/dev/full" '4 ' "$@"
+    streams_row 'standard output closed' "<'$file' >&-" "$unwritten" "$@"
+    streams_row 'standard output full' "<'$file' >/dev/full" "$unwritten" "$@"
     exec 3> >(exit)
     wait $!
-    streams_row 'a pipe that nobody reads' "<'$file' >&3" '4 ' "$@"
+    streams_row 'a pipe that nobody reads' "<'$file' >&3" "$unwritten" "$@"
     exec 3>&-
     streams_row 'standard error closed' "<'$file' 2>&-" "$plain" "$@"
     streams_row 'standard error full' "<'$file' 2>/dev/full" "$plain" "$@"
@@ -258,7 +261,7 @@ left_by_reader() {
     local bytes=$1 same='as otherwise'
     shift
     "$program" "$@" <"$folder/long" >"$folder/whole"
-    { /usr/bin/time -q -o "$folder/time" -f '%e %M' "$program" "$@" <"$folder/long" || echo $? >"$folder/status"; } |
+    { /usr/bin/time -q -o "$folder/time" -f '%e %M' "$program" "$@" <"$folder/long" 2>"$folder/errors" || echo $? >"$folder/status"; } |
         head -c "$bytes" >"$folder/output"
     cmp -s "$folder/output" <(head -c "$bytes" "$folder/whole") || same='other bytes'
     count "$*: a reader that leaves after $bytes bytes" 100000 '4 as otherwise' "$(cat "$folder/status") $same"
@@ -274,7 +277,7 @@ streams() {
     local help
     help=$("$program" --help)
     streams_row 'no standard input' '<&-' "0 $help" --help
-    streams_row 'standard output closed' '>&-' '4 ' --help
+    streams_row 'standard output closed' '>&-' "$unwritten" --help
     streams_row 'standard error closed' '2>&-' '4 {"fault":"usage"}' replay
     streams_row 'all closed' '<&- >&- 2>&-' '4 ' replay
     { printf '{"registers":1,"scripts":[[' && times 999 "[$(times 16 '"R 0",')\"T\"]," && printf '["T"]]],"order":['

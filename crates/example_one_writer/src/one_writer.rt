@@ -1,4 +1,5 @@
 ghost use Rattle.std.specs.Prelude.{◌≡◌, ◌<◌, ◌↔◌, true, IsTrue};
+ghost use Rattle.example_one_writer.specs.Registers.{registers_of};
 
 use std::array;
 use std::sync::atomic::AtomicU64;
@@ -18,9 +19,9 @@ pub struct OneWriter {
 }
 
 impl OneWriter {
-    /// A memory of so many registers, all 0.
+    /// Makes a memory of so many registers, all 0.
     pub fn new(registers: Registers) -> OneWriter
-        ensures { result.registers ≡ registers }
+        ensures { registers_of result ≡ registers }
     {
         OneWriter {
             registers,
@@ -56,20 +57,20 @@ impl Tm for OneWriter {
     ghost use Rattle.tmw_tm.specs.Answers.{did_answer, got_answer};
     ghost use Rattle.tmw_tm.specs.Answers.Call.{Begin, Read, Write, Add, Commit};
 
-    ghost gives = { λ memory call answer. Gives memory.registers call answer };
+    ghost gives = { λ memory call answer. Gives (registers_of memory) call answer };
 
-    ghost has = { λ memory. memory.registers.number };
+    ghost has = { λ memory. (registers_of memory).number };
 
-    ghost has_few = { λ memory. (memory.registers.some, memory.registers.most) };
+    ghost has_few = { λ memory. ((registers_of memory).some, (registers_of memory).most) };
 
     fn registers(&self) -> Registers
-        ensures { result ≡ self.now.registers }
+        ensures { result ≡ registers_of self.now }
     {
         self.registers
     }
 
     fn begin(&self, tx: &mut Tx) -> Did
-        ensures gives { Gives self.now.registers Begin (did_answer result) }
+        ensures gives { Gives (registers_of self.now) Begin (did_answer result) }
         ensures begun { IsBegun tx.new }
     {
         self.abort(tx);
@@ -80,7 +81,7 @@ impl Tm for OneWriter {
     }
 
     fn read(&self, tx: &mut Tx, register: Ix) -> Got
-        ensures gives { Gives self.now.registers (Read register) (got_answer result) }
+        ensures gives { Gives (registers_of self.now) (Read register) (got_answer result) }
         ensures leaves { GoesOnOrEnds (got_answer result) tx.new }
     {
         if self.may_use(tx, register) {
@@ -98,7 +99,7 @@ impl Tm for OneWriter {
     }
 
     fn write(&self, tx: &mut Tx, register: Ix, value: u64) -> Did
-        ensures gives { Gives self.now.registers (Write register value) (did_answer result) }
+        ensures gives { Gives (registers_of self.now) (Write register value) (did_answer result) }
         ensures leaves { GoesOnOrEnds (did_answer result) tx.new }
     {
         let may_write = self.may_use(tx, register) && self.take_turn(tx);
@@ -110,7 +111,7 @@ impl Tm for OneWriter {
     }
 
     fn add(&self, tx: &mut Tx, register: Ix, addend: u64) -> Got
-        ensures gives { Gives self.now.registers (Add register addend) (got_answer result) }
+        ensures gives { Gives (registers_of self.now) (Add register addend) (got_answer result) }
         ensures leaves { GoesOnOrEnds (got_answer result) tx.new }
     {
         let Got::Value(value) = self.read(tx, register) else {
@@ -123,7 +124,7 @@ impl Tm for OneWriter {
     }
 
     fn commit(&self, tx: &mut Tx) -> Did
-        ensures gives { Gives self.now.registers Commit (did_answer result) }
+        ensures gives { Gives (registers_of self.now) Commit (did_answer result) }
         ensures ended { IsEnded tx.new }
     {
         for write in tx.writes.as_slice() {

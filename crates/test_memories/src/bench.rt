@@ -27,7 +27,7 @@ use memories::{Holding, Overlapping, Overtaken, Waiting};
 
 const ONE: Registers = Registers { number: 1 };
 
-/// So often a record is tried where no thread is to stop.
+/// How often a record is tried if no thread is to stop.
 const PATIENT: u64 = 1_000_000_000;
 
 const WRITES: &str = r#"{"order": [], "registers": 1, "scripts": [[["W 0 5", "T"]]]}"#;

@@ -23,12 +23,12 @@ pub struct Counting {
 }
 
 impl Counting {
-    /// It commits each transaction that it begins.
+    /// Makes a memory that commits each transaction that it begins.
     pub fn new(registers: Registers, at_begin: Did, value: u64) -> Counting {
         Counting::ending(registers, at_begin, Did::Done, value)
     }
 
-    /// It aborts each transaction at its commit.
+    /// Makes a memory that aborts each transaction at its commit.
     pub fn aborting(registers: Registers) -> Counting {
         Counting::ending(registers, Did::Done, Did::Abort, 7)
     }
@@ -48,7 +48,7 @@ impl Counting {
         }
     }
 
-    /// How many begins, reads, writes, adds, commits and aborts there were.
+    /// Returns how many begins, reads, writes, adds, commits and aborts there were.
     pub fn counts(&self) -> [u64; 6] {
         [
             self.begins.load(Ordering::SeqCst),

@@ -29,7 +29,7 @@ fn drive_into(rt: &impl AllocGlobal, room: &mut [u8]) -> u8 {
     run_drive(rt.alloc(), &mut source, &mut sink, &memory, false, bounds)
 }
 
-/// Also where the growth of memory that `rt try --test --fail-alloc` chooses is refused.
+/// It passes also if the growth of memory that `rt try --test --fail-alloc` chooses is refused.
 #[test]
 fn a_refused_growth_is_answered_by_drive_with_memory_alone(rt: HostRuntime) {
     let mut room = [b'-'; 40];

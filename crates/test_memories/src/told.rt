@@ -3,7 +3,7 @@ use std::alloc::Global;
 use std::test::Fail;
 use tmw_workloads::{Workload, read_workload};
 
-/// The workload of this text.
+/// Reads the workload of this text.
 pub fn told(alloc: Global, text: &str) -> Result<Workload, Fail> {
     Ok(read_workload(alloc, text.as_bytes())?)
 }

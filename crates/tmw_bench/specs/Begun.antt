@@ -1,5 +1,6 @@
 -- How a bench stands after so many rounds were begun.
 use Rattle.std.specs.Prelude.{◌≡◌, ◌≢◌, ◌+◌, ◌⊎◌, ℕ, List, Option, length, All}
+use Rattle.tmw_bench.specs.Judges.{judged_of, monitor_of, verdict_on}
 use Rattle.tmw_bench.specs.Playing.{SomeStop}
 use Rattle.tmw_bench.specs.Rounds.{AllOpaque, HaveAllPlayedLast}
 use Rattle.tmw_defs.specs.Verdict.{Rules}
@@ -20,8 +21,8 @@ pub record IsAfter (rules : Rules) (gives : Call → Answer → Type 0) (ring : 
   pub order : AreInOrder writers
   pub stop_count : length stops ≡ length scripts
   pub played : HaveAllPlayedLast gives scripts bounds stops writers
-  pub fits : Fits rules front.judged.items front.monitor
-  pub opaque : AllOpaque rules bounds front.judged.items
+  pub fits : Fits rules (judged_of front) (monitor_of front)
+  pub opaque : AllOpaque rules bounds (judged_of front)
 
 -- So many rounds were begun, all but the last of which are whole.
 pub record HaveBegun (rules : Rules) (gives : Call → Answer → Type 0) (ring : RingIs) (scripts : List (List (List Kind))) (rounds : ℕ) (reader : ReaderIs) (front : Front) (writers : List WriterIs) (stops : List (Option Refused)) : Type 0 where
@@ -31,4 +32,4 @@ pub record HaveBegun (rules : Rules) (gives : Call → Answer → Type 0) (ring 
 
 -- No further round may begin: a thread was stopped, or the verdict is not opaque so far.
 abbrev pub IsOver : List (Option Refused) → Front → Type 0
-IsOver stops front = SomeStop stops ⊎ (front.monitor.verdict ≢ OpaqueSoFar)
+IsOver stops front = SomeStop stops ⊎ (verdict_on front ≢ OpaqueSoFar)

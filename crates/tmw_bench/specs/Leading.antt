@@ -1,6 +1,7 @@
 -- What the leader of a bench has done, that tells its workers where each round has ended.
 use Rattle.std.specs.Prelude.{◌≡◌, ◌≤◌, ◌<◌, ◌+◌, ◌++◌, ℕ, List, [], ◌∷◌, Some, length, get_or}
 use Rattle.rtrb.specs.Ring.{received, sent, SameConsumer, SameProducer}
+use Rattle.tmw_bench.specs.Judges.{judged_of, monitor_of}
 use Rattle.tmw_bench.specs.Rounds.{AllOpaque}
 use Rattle.tmw_defs.specs.Verdict.{Rules}
 use Rattle.tmw_bench.specs.Workers.{in_order}
@@ -64,8 +65,8 @@ pub record IsLineAt (count : ℕ) (bounds : List ℕ) (old new : Line) : Type 0 
 pub record HasLedTo (rules : Rules) (count : ℕ) (bounds : List ℕ) (front : Front) (old new : List Line) : Type 0 where
   pub line_count : length new ≡ length old
   pub lines : (place : ℕ) (fallback : Line) → place < length old → IsLineAt count bounds (get_or old place fallback) (get_or new place fallback)
-  pub fits : Fits rules front.judged.items front.monitor
-  pub opaque : AllOpaque rules bounds front.judged.items
+  pub fits : Fits rules (judged_of front) (monitor_of front)
+  pub opaque : AllOpaque rules bounds (judged_of front)
 
 -- So many rounds were begun, and all have ended.
 pub record HasLed (rules : Rules) (count : ℕ) (front : Front) (old new : List Line) : Type 0 where

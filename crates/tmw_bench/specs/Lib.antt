@@ -4,6 +4,7 @@ pub mod Benched
 pub mod Calling
 pub mod Ends
 pub mod EndsObject
+pub mod Judges
 pub mod Keeping
 pub mod Leading
 pub mod Lines

@@ -2,9 +2,11 @@
 use Rattle.std.specs.Prelude.{◌≡◌, ◌<◌, ◌++◌, ℕ, List, [], length, get_or}
 use Rattle.rtrb.specs.Ring.{received, sent, IsPair}
 use Rattle.tmw_drive.specs.Driving.{script_at}
+use Rattle.tmw_drive.specs.Playing.{calls_of}
 use Rattle.tmw_events.specs.declared.event.Kind.{Kind}
 use Rattle.tmw_bench.specs.declared.ended.Ended.{Ended}
 use Rattle.tmw_bench.specs.declared.line.Line.{Line}
+use Rattle.tmw_bench.specs.declared.threads.Playing.{Playing}
 use Rattle.tmw_bench.specs.declared.worker.Worker.{Worker}
 use Rattle.tmw_ring.specs.Ends.{RingIs, WriterIs, WriterOf}
 
@@ -34,6 +36,18 @@ pub record IsNewWorker (ring : RingIs) (worker : Worker) : Type 0 where
 
 abbrev pub AreNewWorkers : RingIs → List Worker → Type 0
 AreNewWorkers ring workers = (place : ℕ) (fallback : Worker) → place < length workers → IsNewWorker ring (get_or workers place fallback)
+
+-- the ring in which a thread that promises this records
+abbrev pub promised_ring : {J : Type 0} → Playing J → RingIs
+promised_ring promise = promise.ring.now
+
+-- the script that it runs
+abbrev pub promised_script : {J : Type 0} → Playing J → List (List Kind)
+promised_script promise = calls_of promise.script.now
+
+-- the worker that it was given
+abbrev pub promised_worker : {J : Type 0} → Playing J → Worker
+promised_worker promise = promise.before.value
 
 -- The thread at this place was given the ring, the script at this place, and the worker at this place.
 pub record IsPromised (ring : RingIs) (scripts : List (List (List Kind))) (workers : List Worker) (place : ℕ) (own_ring : RingIs) (script : List (List Kind)) (before : Worker) : Type 0 where

@@ -28,15 +28,16 @@ use tmw_ring::{RingFault, ring};
 use tmw_tm::Tm;
 use tmw_workloads::Workload;
 
-/// Carries the workload's scripts out on the memory, each in a thread of its own, and judges what they record, from registers that
-/// are all 0. The memory should be fresh. The workload's order is not used.
+/// Runs the workload's scripts on the memory, each in a thread of its own, and judges what they record, from registers
+/// that are all 0. The memory should be new. The workload's order is not used.
 ///
-/// Each thread records in one ring what it calls and what it is answered, and this thread judges it as it comes. The workload is
-/// carried out round after round on the same memory: a round begins when all threads have ended the one before, and only
-/// where the verdict is opaque so far and no thread was stopped.
+/// Each thread records its calls and their answers in one ring, and the calling thread judges them as they come. The
+/// workload runs round after round on the same memory. A round begins when all threads have ended the one before, and
+/// only if the verdict is opaque so far and no thread was stopped.
 ///
-/// `Registers` exactly where the memory has fewer registers than the workload; else `Ring` where there is no ring of this size;
-/// `Memory` where a growth was refused; `Spawn` where a thread could not be started. All threads have ended then.
+/// Errors: `Registers` exactly if the memory has fewer registers than the workload; else `Ring` if there is no ring of
+/// this size; `Memory` after a failed allocation; `Spawn` if a thread could not be started. All threads have ended
+/// then.
 ///
 /// It returns if each call of the memory does.
 pub fn run_bench<R: Threads + Wait + Sync>(
@@ -65,9 +66,9 @@ pub fn run_bench<R: Threads + Wait + Sync>(
     })
 }
 
-/// Does as `run_bench` does, but keeps no event except those of the last window. So its memory does not grow with the number of
-/// rounds. After each hundred thousand rounds behind which another follows it tells how far it has come, and at last that it is
-/// over.
+/// Runs and judges as `run_bench` does, and keeps only the events of the last window. So its memory does not grow with
+/// the number of rounds. After each 100,000 rounds that another follows it tells how far it has come, and at last that
+/// it is over.
 pub fn hunt<R: Threads + Wait + Sync, P: Progress>(
     rt: &R,
     alloc: Global,

@@ -5,6 +5,6 @@ use tmw_drive::Outcome;
 pub struct Benched {
     /// The log of all rounds, the verdict on it, and how each thread has ended.
     pub outcome: Outcome,
-    /// So many rounds were begun.
+    /// How many rounds were begun.
     pub rounds: u64,
 }

@@ -25,7 +25,7 @@ fn close_one(worker: Worker, line: &mut Line) -> Writer
     writer
 }
 
-/// The writers that came back, and beside them the refusals at which their threads stopped.
+/// Returns the writers that came back, and beside them the refusals at which their threads stopped.
 pub fn close_all(
     alloc: Global,
     back: Vec<(Worker, Option<Refused>)>,

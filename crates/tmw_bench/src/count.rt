@@ -10,7 +10,7 @@ pub struct Count {
 }
 
 impl Count {
-    /// 0, and nobody sleeps.
+    /// Makes a count that is 0, on which nobody sleeps.
     pub fn new() -> Count {
         Count {
             count: AtomicU64::new(0),
@@ -18,12 +18,12 @@ impl Count {
         }
     }
 
-    /// The count.
+    /// Returns the count.
     pub fn get(&self) -> u64 {
         self.count.load(Ordering::SeqCst)
     }
 
-    /// One more. Those who sleep look again where the count is now a multiple of `each`.
+    /// Adds one to the count. If it is then a multiple of `each`, those who sleep look again.
     pub fn rise(&self, each: u64) {
         let count = self.count.fetch_add(1, Ordering::SeqCst).wrapping_add(1);
         if count.is_multiple_of(each) && self.asleep.load(Ordering::SeqCst) > 0 {
@@ -31,7 +31,7 @@ impl Count {
         }
     }
 
-    /// Sleeps while the count is this, but for no longer than so, and perhaps for less.
+    /// Sleeps while the count is this, but for no longer than `longest`, and perhaps for less.
     pub fn sleep<R: Wait>(&self, rt: &R, count: u64, longest: Duration) {
         self.asleep.fetch_add(1, Ordering::SeqCst);
         // The low 32 bits, which are what is slept on.

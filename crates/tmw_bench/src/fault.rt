@@ -10,7 +10,7 @@ pub enum BenchFault {
     /// There is no ring with these numbers of cells and of places, and a writer for each script. No transaction was begun.
     #[error("{0}")]
     Ring(RingFault),
-    /// A growth was refused.
+    /// An allocation failed.
     #[error("out of memory")]
     Memory,
     /// A thread could not be started.

@@ -8,6 +8,6 @@ pub struct Hunted {
     pub showing: Showing,
     /// For each script, by its thread's number, how far it has come in the last round.
     pub ends: Vec<Ending>,
-    /// So many rounds were begun.
+    /// How many rounds were begun.
     pub rounds: u64,
 }

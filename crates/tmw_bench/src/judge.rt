@@ -1,4 +1,5 @@
 ghost use Rattle.std.specs.Prelude.{◌≡◌, ◌≤◌, ◌<◌, Some, IfOk, OnOk};
+ghost use Rattle.tmw_bench.specs.Judges.{held_of, judge_front, judge_reader};
 ghost use Rattle.tmw_ring.specs.Ends.{ReaderIs, ReaderOf};
 ghost use Rattle.tmw_ring.specs.Takes.{HasFoundNone};
 
@@ -8,7 +9,7 @@ use tmw_events::Event;
 use tmw_pump::ForgettingPump;
 use tmw_ring::Ring;
 
-/// Judges the events of a running ring, and keeps of them what K keeps.
+/// A judge of the events of a running ring, which keeps of them what K keeps.
 #[derive(Drop)]
 pub struct Judge<K> {
     pub forgetting: ForgettingPump,
@@ -18,17 +19,17 @@ pub struct Judge<K> {
 impl<K: Keep> Judge<K> {
     ghost use Rattle.tmw_bench.specs.Keeping.{HasKept};
 
-    /// Takes and judges up to so many events, and answers how many: fewer only where the next place is not published.
+    /// Takes and judges up to `max` events, and returns how many: fewer only if the next place is not published.
     pub fn pump(&mut self, ring: &Ring, max: u64) -> Result<u64, AllocError>
-        requires { ReaderOf ring.now self.old.forgetting.reader }
-        ensures of_ring { ReaderOf ring.now self.new.forgetting.reader }
+        requires { ReaderOf ring.now (judge_reader self.old) }
+        ensures of_ring { ReaderOf ring.now (judge_reader self.new) }
         ensures judged { IfOk result
-            (λ judged. HasKept K.keeps judged self.old.forgetting.front self.new.forgetting.front
+            (λ judged. HasKept K.keeps judged (judge_front self.old) (judge_front self.new)
             self.old.kept self.new.kept) }
         ensures within { IfOk result (λ judged. judged ≤ max) }
         ensures ended { IfOk result
             (λ judged. judged < max → (last : ReaderIs)
-            × HasFoundNone last self.new.forgetting.reader) }
+            × HasFoundNone last (judge_reader self.new)) }
     {
         for judged in 0..max {
             let Some(event) = self.forgetting.next(ring) else {
@@ -41,10 +42,10 @@ impl<K: Keep> Judge<K> {
 
     /// Judges the event that is held, and keeps of it what is kept.
     fn judge(&mut self, event: Event) -> Result<(), AllocError>
-        requires { self.old.forgetting.front.held ≡ Some event }
-        ensures reader { self.new.forgetting.reader ≡ self.old.forgetting.reader }
+        requires { held_of (judge_front self.old) ≡ Some event }
+        ensures reader { judge_reader self.new ≡ judge_reader self.old }
         ensures judged { OnOk result
-            (HasKept K.keeps 1 self.old.forgetting.front self.new.forgetting.front
+            (HasKept K.keeps 1 (judge_front self.old) (judge_front self.new)
             self.old.kept self.new.kept) }
     {
         let next = self.kept.make_room(self.forgetting.monitor())?;

@@ -1,5 +1,6 @@
 //! Judging a ring up to a length of its log.
 ghost use Rattle.std.specs.Prelude.{◌≡◌, ◌+◌, ◌≤◌, length, IfOk, OnOk};
+ghost use Rattle.tmw_bench.specs.Judges.{judge_front, judge_reader, judged_of};
 ghost use Rattle.tmw_bench.specs.Keeping.{HasGoneOn};
 ghost use Rattle.tmw_ring.specs.Ends.{ReaderOf};
 
@@ -10,35 +11,35 @@ use std::alloc::AllocError;
 use std::sync::Wait;
 use tmw_ring::Ring;
 
-/// So many events are judged by one call of the pump at most.
+/// The most events that one call of the pump judges.
 const TURN: u64 = 64;
 
 /// Judges events of the ring, none behind so many in all, and answers how many it has judged.
 fn judge_turn<K: Keep>(ring: &Ring, judge: &mut Judge<K>, count: u64) -> Result<u64, AllocError>
-    requires { ReaderOf ring.now judge.old.forgetting.reader }
-    ensures of_ring { ReaderOf ring.now judge.new.forgetting.reader }
+    requires { ReaderOf ring.now (judge_reader judge.old) }
+    ensures of_ring { ReaderOf ring.now (judge_reader judge.new) }
     ensures goes_on { OnOk result (HasGoneOn K.keeps judge.old judge.new) }
-    ensures judged { IfOk result (λ judged. length judge.new.forgetting.front.judged.items
-        ≡ length judge.old.forgetting.front.judged.items + judged) }
-    ensures bound { OnOk result (length judge.old.forgetting.front.judged.items ≤ count
-        → length judge.new.forgetting.front.judged.items ≤ count) }
+    ensures judged { IfOk result (λ judged. length (judged_of (judge_front judge.new))
+        ≡ length (judged_of (judge_front judge.old)) + judged) }
+    ensures bound { OnOk result (length (judged_of (judge_front judge.old)) ≤ count
+        → length (judged_of (judge_front judge.new)) ≤ count) }
 {
     let left = count.saturating_sub(judge.forgetting.fed());
     judge.pump(ring, TURN.min(left))
 }
 
-/// Judges the events of the ring until so many are judged in all. It waits for those that are not published yet, and so for ever
-/// where no more come, or where more are judged already.
+/// Judges the events of the ring until `count` are judged in all. It waits for those that are not published yet:
+/// forever if no more come, or if more are judged already.
 pub fn judge_up_to<R: Wait, K: Keep>(
     rt: &R,
     ring: &Ring,
     judge: &mut Judge<K>,
     count: u64,
 ) -> Result<(), AllocError>
-    requires { ReaderOf ring.now judge.old.forgetting.reader }
-    ensures of_ring { OnOk result (ReaderOf ring.now judge.new.forgetting.reader) }
+    requires { ReaderOf ring.now (judge_reader judge.old) }
+    ensures of_ring { OnOk result (ReaderOf ring.now (judge_reader judge.new)) }
     ensures goes_on { OnOk result (HasGoneOn K.keeps judge.old judge.new) }
-    ensures judged { OnOk result (length judge.new.forgetting.front.judged.items ≡ count) }
+    ensures judged { OnOk result (length (judged_of (judge_front judge.new)) ≡ count) }
 {
     let mut idle = 0u64;
     for _ in rt.forever() {

@@ -24,13 +24,13 @@ pub trait Keep: Drop {
     /// There is room for the event that this monitor takes next, which does this with the window, where one is kept.
     ghost awaits: { Monitor → NextShown → Self → Type 0 };
 
-    /// Before the first event that the monitor is fed.
+    /// Begins to keep, before the first event that the monitor is fed.
     fn begin(alloc: Global, monitor: &Monitor, told: Self::Told) -> Result<Self, AllocError>
         ensures { IfOk result
             (λ kept. (rules : Rules) → Fits rules [] monitor.now
             → keeps rules [] monitor.now.verdict kept) };
 
-    /// Makes room for the event that the monitor takes next, and answers what that does with the window, where one is kept.
+    /// Makes room for the event that the monitor takes next, and returns what it does with the window, if one is kept.
     fn make_room(&mut self, monitor: &Monitor) -> Result<NextShown, AllocError>
         ensures same { (rules : Rules) (history : List Event) (verdict : Verdict)
             → keeps rules history verdict self.old
@@ -46,11 +46,11 @@ pub trait Keep: Drop {
             → keeps rules history before.verdict self.old
             → keeps rules (history ++ event ∷ []) verdict self.new };
 
-    /// So many rounds have ended, and so many events are judged.
+    /// Tells that so many rounds have ended, and so many events are judged.
     fn tell(&self, rounds: u64, events: u64);
 }
 
-/// All events. Nobody is told.
+/// The whole log, whose progress nobody is told.
 #[derive(Drop)]
 pub struct Log {
     pub events: Vec<Event>,

@@ -2,6 +2,7 @@
 ghost use Rattle.std.specs.Prelude.{◌≡◌, ◌≢◌, ◌≤◌, ◌<◌, ◌⊎◌, [], length, IfOk, OnOk, MatchBool};
 ghost use Rattle.tmw_defs.specs.Verdict.{Rules};
 ghost use Rattle.tmw_defs.specs.declared.verdict.Verdict.TheVariants.{OpaqueSoFar};
+ghost use Rattle.tmw_bench.specs.Judges.{judge_front, judge_reader, judged_of, monitor_of, verdict_on};
 ghost use Rattle.tmw_bench.specs.Keeping.{HasGoneOn};
 ghost use Rattle.tmw_bench.specs.Leading.{AreNewLines, HasLed, SomeToldStop};
 ghost use Rattle.tmw_monitor.specs.Fitting.{Fits};
@@ -17,8 +18,8 @@ use std::sync::Wait;
 use tmw_defs::Verdict;
 use tmw_ring::Ring;
 
-/// Leads the workers through round after round, and answers how many were begun: all, but for those behind one after which the
-/// verdict is not opaque so far, or in which a worker was stopped.
+/// Leads the workers through round after round, and returns how many were begun: all, unless after one of them the
+/// verdict is not opaque so far or a worker was stopped.
 pub fn lead<R: Wait, K: Keep>(
     rt: &R,
     ring: &Ring,
@@ -27,19 +28,19 @@ pub fn lead<R: Wait, K: Keep>(
     rounds: u64,
     orders: &Orders,
 ) -> Result<u64, AllocError>
-    requires reader { ReaderOf ring.now judge.old.forgetting.reader }
+    requires reader { ReaderOf ring.now (judge_reader judge.old) }
     requires new { AreNewLines lines.old }
-    requires judged { judge.old.forgetting.front.judged.items ≡ [] }
+    requires judged { judged_of (judge_front judge.old) ≡ [] }
     requires some { 1 ≤ rounds }
-    ensures reader { OnOk result (ReaderOf ring.now judge.new.forgetting.reader) }
+    ensures reader { OnOk result (ReaderOf ring.now (judge_reader judge.new)) }
     ensures goes_on { OnOk result (HasGoneOn K.keeps judge.old judge.new) }
     ensures led { IfOk result
-        (λ count. (rules : Rules) → Fits rules [] judge.old.forgetting.front.monitor
-        → HasLed rules count judge.new.forgetting.front lines.old lines.new) }
+        (λ count. (rules : Rules) → Fits rules [] (monitor_of (judge_front judge.old))
+        → HasLed rules count (judge_front judge.new) lines.old lines.new) }
     ensures within { IfOk result (λ count. count ≤ rounds) }
     ensures over { IfOk result (λ count. count < rounds
         → SomeToldStop (length lines.old) lines.new
-        ⊎ (judge.new.forgetting.front.monitor.verdict ≢ OpaqueSoFar)) }
+        ⊎ (verdict_on (judge_front judge.new) ≢ OpaqueSoFar)) }
 {
     for round in 1..rounds {
         let (tail, stopped) = hear_all(rt, ring, judge, lines, orders)?;

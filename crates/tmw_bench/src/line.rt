@@ -1,5 +1,6 @@
 //! The leader's ends of the lines to its workers.
 ghost use Rattle.std.specs.Prelude.{length, IfOk, OnOk, IsTrue, IsSome};
+ghost use Rattle.tmw_bench.specs.Judges.{judge_reader};
 ghost use Rattle.tmw_bench.specs.Leading.{HasHeard, HaveHeardUpTo, HaveToldUpTo, SomeToldStop};
 ghost use Rattle.tmw_bench.specs.Keeping.{HasGoneOn};
 ghost use Rattle.tmw_ring.specs.Ends.{ReaderOf};
@@ -14,7 +15,7 @@ use std::alloc::AllocError;
 use std::sync::Wait;
 use tmw_ring::Ring;
 
-/// So many events are judged at once before it is asked whether a worker has ended.
+/// How many events are judged at once before the leader looks whether a worker has ended.
 const TURN: u64 = 64;
 
 /// The leader's ends of the line to one worker.
@@ -32,8 +33,8 @@ fn hear<R: Wait, K: Keep>(
     line: &mut Line,
     orders: &Orders,
 ) -> Result<Ended, AllocError>
-    requires reader { ReaderOf ring.now judge.old.forgetting.reader }
-    ensures reader { OnOk result (ReaderOf ring.now judge.new.forgetting.reader) }
+    requires reader { ReaderOf ring.now (judge_reader judge.old) }
+    ensures reader { OnOk result (ReaderOf ring.now (judge_reader judge.new)) }
     ensures goes_on { OnOk result (HasGoneOn K.keeps judge.old judge.new) }
     ensures heard { IfOk result (λ ended. HasHeard ended line.old line.new) }
 {
@@ -61,8 +62,8 @@ fn is_stopped(ended: &Ended) -> bool
     ended.stop.is_some()
 }
 
-/// Waits until all workers have told that their round has ended. Answers the most places that one of them has found claimed, and
-/// whether some worker was stopped.
+/// Waits until all workers have told that their round has ended. Returns the most places that one of them has found
+/// claimed, and whether a worker was stopped.
 pub fn hear_all<R: Wait, K: Keep>(
     rt: &R,
     ring: &Ring,
@@ -70,8 +71,8 @@ pub fn hear_all<R: Wait, K: Keep>(
     lines: &mut [Line],
     orders: &Orders,
 ) -> Result<(u64, bool), AllocError>
-    requires reader { ReaderOf ring.now judge.old.forgetting.reader }
-    ensures reader { OnOk result (ReaderOf ring.now judge.new.forgetting.reader) }
+    requires reader { ReaderOf ring.now (judge_reader judge.old) }
+    ensures reader { OnOk result (ReaderOf ring.now (judge_reader judge.new)) }
     ensures goes_on { OnOk result (HasGoneOn K.keeps judge.old judge.new) }
     ensures heard { OnOk result (HaveHeardUpTo (length lines.old) lines.old lines.new) }
     ensures stopped { IfOk result

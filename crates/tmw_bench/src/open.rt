@@ -14,6 +14,7 @@ const ROOM: usize = 2;
 fn open_one(alloc: Global, writer: Writer) -> Result<(Worker, Line), AllocError>
     ensures { IfOk result (λ opened. IsOpened writer opened.0 opened.1) }
 {
+    // The contracts of `rtrb` say that what is heard was told, and in which order: no clause has to say it of a thread.
     let (tells, hears) = RingBuffer::new(alloc, ROOM)?;
     let (leads, is_led) = RingBuffer::new(alloc, ROOM)?;
     let worker = Worker {
@@ -28,7 +29,7 @@ fn open_one(alloc: Global, writer: Writer) -> Result<(Worker, Line), AllocError>
     Ok((worker, line))
 }
 
-/// A worker for each writer, and the line to it.
+/// Makes a worker for each writer, and the line to it.
 pub fn open_all(alloc: Global, writers: Vec<Writer>) -> Result<(Vec<Worker>, Vec<Line>), AllocError>
     ensures { IfOk result (λ opened. AreOpened writers.items opened.0.items opened.1.items) }
 {

@@ -1,8 +1,8 @@
 use crate::count::Count;
 use std::sync::atomic::{AtomicBool, Ordering};
 
-/// What a leader and its workers tell all, beside what goes by their lines. No clause rests on it; that a run ends does, since workers
-/// end when the run is over.
+/// What a leader and its workers tell all, beside what goes by their lines. Only that a run ends rests on it, which no
+/// clause says: workers end when the run is over.
 #[derive(Drop)]
 pub struct Orders {
     /// How often a worker has begun a round, and then that no further one begins.
@@ -15,7 +15,7 @@ pub struct Orders {
 }
 
 impl Orders {
-    /// Nothing was told.
+    /// Makes orders by which nothing was told.
     pub fn new() -> Orders {
         Orders {
             begun: Count::new(),
@@ -25,14 +25,14 @@ impl Orders {
         }
     }
 
-    /// No further round begins.
+    /// Tells all that no further round begins.
     pub fn end(&self) {
         self.over.store(true, Ordering::SeqCst);
         self.told.rise(1);
         self.begun.rise(1);
     }
 
-    /// Whether no further round begins.
+    /// Tells whether no further round begins.
     pub fn is_over(&self) -> bool {
         self.over.load(Ordering::SeqCst)
     }

@@ -1,6 +1,7 @@
 //! All rounds, by workers that live as long.
 ghost use Rattle.std.specs.Prelude.{◌≡◌, ◌≤◌, ◌<◌, [], length, IfOk, IfErr};
 ghost use Rattle.tmw_bench.specs.Begun.{HaveBegun, IsOver};
+ghost use Rattle.tmw_bench.specs.Judges.{judge_front, judge_reader, judged_of, monitor_of};
 ghost use Rattle.tmw_bench.specs.Keeping.{IsKept};
 ghost use Rattle.tmw_bench.specs.Playing.{AreTransactions, GivesWithin, IsOfThreads};
 ghost use Rattle.tmw_defs.specs.Verdict.{Rules};
@@ -34,8 +35,8 @@ pub struct Left<K> {
     pub rounds: u64,
 }
 
-/// Carries the scripts out round after round, and answers what the last round has left. None is left out but behind one after which
-/// the verdict is not opaque so far, or in which a worker was stopped. All workers have ended, also where it fails.
+/// Runs the scripts round after round, and returns what the last round has left. All rounds are begun, unless after one
+/// of them the verdict is not opaque so far or a worker was stopped. All workers have ended, also if it fails.
 pub fn play_rounds<R: Threads + Wait + Sync, J: Giving + Send, K: Keep>(
     rt: &R,
     alloc: Global,
@@ -45,25 +46,25 @@ pub fn play_rounds<R: Threads + Wait + Sync, J: Giving + Send, K: Keep>(
     writers: Vec<Writer>,
 ) -> Result<Left<K>, BenchFault>
     requires gives { GivesWithin (gives memory.now) J.gave }
-    requires reader { ReaderOf stage.ring.now judge.forgetting.reader }
+    requires reader { ReaderOf stage.ring.now (judge_reader judge) }
     requires writers { AreNewWriters stage.ring.now writers.items }
     requires count { length writers.items ≡ length stage.scripts.now }
     requires scripts { AreTransactions (scripts_of stage.scripts.now) }
-    requires judged { judge.forgetting.front.judged.items ≡ [] }
-    requires fits { (rules : Rules) × Fits rules [] judge.forgetting.front.monitor }
+    requires judged { judged_of (judge_front judge) ≡ [] }
+    requires fits { (rules : Rules) × Fits rules [] (monitor_of (judge_front judge)) }
     requires some { 1 ≤ stage.rounds }
     ensures begun { IfOk result
-        (λ left. (rules : Rules) → Fits rules [] judge.forgetting.front.monitor
+        (λ left. (rules : Rules) → Fits rules [] (monitor_of (judge_front judge))
         → HaveBegun rules J.gave stage.entry.ring.now (scripts_of stage.entry.scripts.now)
         left.rounds
-        left.judge.forgetting.reader left.judge.forgetting.front left.writers.items
+        (judge_reader left.judge) (judge_front left.judge) left.writers.items
         left.stops.items) }
     ensures kept { IfOk result
-        (λ left. (rules : Rules) → IsKept K.keeps rules judge.forgetting.front judge.kept
-        → IsKept K.keeps rules left.judge.forgetting.front left.judge.kept) }
+        (λ left. (rules : Rules) → IsKept K.keeps rules (judge_front judge) judge.kept
+        → IsKept K.keeps rules (judge_front left.judge) left.judge.kept) }
     ensures within { IfOk result (λ left. left.rounds ≤ stage.entry.rounds) }
     ensures over { IfOk result (λ left. left.rounds < stage.entry.rounds
-        → IsOver left.stops.items left.judge.forgetting.front) }
+        → IsOver left.stops.items (judge_front left.judge)) }
     ensures err { IfErr result IsOfThreads }
 {
     thread::scope(
@@ -71,25 +72,25 @@ pub fn play_rounds<R: Threads + Wait + Sync, J: Giving + Send, K: Keep>(
         rt,
         move |scope| -> Result<Left<K>, BenchFault>
             requires gives { GivesWithin (gives memory.now) J.gave }
-            requires reader { ReaderOf stage.ring.now judge.forgetting.reader }
+            requires reader { ReaderOf stage.ring.now (judge_reader judge) }
             requires writers { AreNewWriters stage.ring.now writers.items }
             requires count { length writers.items ≡ length stage.scripts.now }
             requires scripts { AreTransactions (scripts_of stage.scripts.now) }
-            requires judged { judge.forgetting.front.judged.items ≡ [] }
-            requires fits { (rules : Rules) × Fits rules [] judge.forgetting.front.monitor }
+            requires judged { judged_of (judge_front judge) ≡ [] }
+            requires fits { (rules : Rules) × Fits rules [] (monitor_of (judge_front judge)) }
             requires some { 1 ≤ stage.rounds }
             ensures begun { IfOk result
-                (λ left. (rules : Rules) → Fits rules [] judge.forgetting.front.monitor
+                (λ left. (rules : Rules) → Fits rules [] (monitor_of (judge_front judge))
                 → HaveBegun rules J.gave stage.entry.ring.now (scripts_of stage.entry.scripts.now)
                 left.rounds
-                left.judge.forgetting.reader left.judge.forgetting.front left.writers.items
+                (judge_reader left.judge) (judge_front left.judge) left.writers.items
                 left.stops.items) }
             ensures kept { IfOk result
-                (λ left. (rules : Rules) → IsKept K.keeps rules judge.forgetting.front judge.kept
-                → IsKept K.keeps rules left.judge.forgetting.front left.judge.kept) }
+                (λ left. (rules : Rules) → IsKept K.keeps rules (judge_front judge) judge.kept
+                → IsKept K.keeps rules (judge_front left.judge) left.judge.kept) }
             ensures within { IfOk result (λ left. left.rounds ≤ stage.entry.rounds) }
             ensures over { IfOk result (λ left. left.rounds < stage.entry.rounds
-                → IsOver left.stops.items left.judge.forgetting.front) }
+                → IsOver left.stops.items (judge_front left.judge)) }
             ensures err { IfErr result IsOfThreads }
         { play_within::<_, R, J, K>(rt, scope, alloc, memory, stage, judge, writers) },
     )
@@ -106,25 +107,25 @@ fn play_within<'s, E, R: Threads + Wait + Sync, J: Giving + Send + 's, K: Keep>(
     writers: Vec<Writer>,
 ) -> Result<Left<K>, BenchFault>
     requires gives { GivesWithin (gives memory.now) J.gave }
-    requires reader { ReaderOf stage.ring.now judge.forgetting.reader }
+    requires reader { ReaderOf stage.ring.now (judge_reader judge) }
     requires writers { AreNewWriters stage.ring.now writers.items }
     requires count { length writers.items ≡ length stage.scripts.now }
     requires scripts { AreTransactions (scripts_of stage.scripts.now) }
-    requires judged { judge.forgetting.front.judged.items ≡ [] }
-    requires fits { (rules : Rules) × Fits rules [] judge.forgetting.front.monitor }
+    requires judged { judged_of (judge_front judge) ≡ [] }
+    requires fits { (rules : Rules) × Fits rules [] (monitor_of (judge_front judge)) }
     requires some { 1 ≤ stage.rounds }
     ensures begun { IfOk result
-        (λ left. (rules : Rules) → Fits rules [] judge.forgetting.front.monitor
+        (λ left. (rules : Rules) → Fits rules [] (monitor_of (judge_front judge))
         → HaveBegun rules J.gave stage.entry.ring.now (scripts_of stage.entry.scripts.now)
         left.rounds
-        left.judge.forgetting.reader left.judge.forgetting.front left.writers.items
+        (judge_reader left.judge) (judge_front left.judge) left.writers.items
         left.stops.items) }
     ensures kept { IfOk result
-        (λ left. (rules : Rules) → IsKept K.keeps rules judge.forgetting.front judge.kept
-        → IsKept K.keeps rules left.judge.forgetting.front left.judge.kept) }
+        (λ left. (rules : Rules) → IsKept K.keeps rules (judge_front judge) judge.kept
+        → IsKept K.keeps rules (judge_front left.judge) left.judge.kept) }
     ensures within { IfOk result (λ left. left.rounds ≤ stage.entry.rounds) }
     ensures over { IfOk result (λ left. left.rounds < stage.entry.rounds
-        → IsOver left.stops.items left.judge.forgetting.front) }
+        → IsOver left.stops.items (judge_front left.judge)) }
     ensures err { IfErr result IsOfThreads }
 {
     let Ok((workers, mut lines)) = open_all(alloc, writers) else {

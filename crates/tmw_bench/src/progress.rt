@@ -1,14 +1,16 @@
-/// Who is told how far a bench has come, by the thread that judges, between two rounds: all workers wait meanwhile. What becomes of
-/// it no contract says.
+/// Who is told how far a bench has come, by the thread that judges, between two rounds: all workers wait meanwhile. No
+/// contract says what becomes of it.
 pub trait Progress {
-    /// So many rounds have ended. The log has so many events by then, of which so many are aborts that answer no abort request.
+    /// Tells that so many rounds have ended. The log has `events` by then, of which `unasked` are aborts that answer no
+    /// abort request.
+    // By rounds, so no clock is read; not by the sink for errors, so that the command's contract has all its bytes.
     fn tell(&self, rounds: u64, events: u64, unasked: u64);
 
-    /// The bench is over, and tells no more.
+    /// Tells that the bench is over: it tells no more.
     fn end(&self);
 }
 
-/// Nobody is told.
+/// A progress that tells nobody.
 #[derive(Clone, Copy, Debug)]
 pub struct Silent;
 

@@ -9,9 +9,9 @@ pub struct Stage<'a> {
     pub ring: &'a Ring,
     /// A script for each worker.
     pub scripts: &'a [Vec<Vec<Kind>>],
-    /// So often in all a record is tried for which the ring lacks room.
+    /// How often in all a record is tried for which the ring lacks room.
     pub patience: u64,
-    /// So many rounds are begun at most.
+    /// The most rounds that are begun.
     pub rounds: u64,
     pub signals: &'a Signals,
     pub orders: &'a Orders,

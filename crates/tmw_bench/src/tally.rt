@@ -4,17 +4,17 @@ ghost use Rattle.tmw_events.specs.declared.event.Event.{Event};
 
 use tmw_events::{Event, Kind};
 
-/// Counts the aborts of a history that answer no abort request.
+/// A count of the aborts of a history that answer no abort request.
 #[derive(Debug, Drop)]
 pub struct Tally {
-    /// So many there were, or 2^64 - 1 where there were more.
+    /// How many there were, or 2^64 - 1 if there were more.
     pub unasked: u64,
     /// Of each thread, whether its last event is an abort request.
     pub asking: [bool; 8],
 }
 
 impl Tally {
-    /// Before the first event.
+    /// Returns the tally of a history without events.
     pub const fn new() -> Tally
         ensures { IsTally [] result }
     {

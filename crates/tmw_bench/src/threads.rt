@@ -2,7 +2,7 @@
 ghost use Rattle.std.specs.Prelude.{◌≡◌, ◌<◌, ℕ, length, get_or, IfOk, IfErr, IsTrue};
 ghost use Rattle.tmw_bench.specs.Playing.{AreTransactions, GivesWithin, IsOfThreads};
 ghost use Rattle.tmw_drive.specs.Playing.{calls_of};
-ghost use Rattle.tmw_bench.specs.Lines.{AreNewWorkers, IsNewWorker, IsPromised};
+ghost use Rattle.tmw_bench.specs.Lines.{AreNewWorkers, IsNewWorker, IsPromised, promised_ring, promised_script, promised_worker};
 ghost use Rattle.tmw_bench.specs.Workers.{HasPlayedOn};
 ghost use Rattle.tmw_runs.specs.Scripts.{are_transactions, scripts_of};
 
@@ -19,7 +19,7 @@ use tmw_events::Kind;
 use tmw_ring::{Refused, Ring};
 use tmw_tm::Tm;
 
-/// A thread gives a worker back, which has carried this script out round after round with such answers.
+/// The promise of a thread that gives a worker back, which has run this script round after round with such answers.
 #[derive(Drop)]
 pub struct Playing<'a, J> {
     ring: &'a Ring,
@@ -30,9 +30,9 @@ pub struct Playing<'a, J> {
 
 impl<'a, J: Giving> Promise<(Worker, Option<Refused>)> for Playing<'a, J> {
     ghost use Rattle.tmw_bench.specs.Workers.{HasPlayedOn};
-    ghost use Rattle.tmw_drive.specs.Playing.{calls_of};
 
-    ghost kept_by = { λ promise back. HasPlayedOn J.gave promise.ring.now (calls_of promise.script.now) promise.before.value back.1 back.0 };
+    ghost kept_by = { λ promise back. HasPlayedOn J.gave (promised_ring promise)
+        (promised_script promise) (promised_worker promise) back.1 back.0 };
 }
 
 /// Plays, and gives the worker back with the refusal at which it was stopped, if any.
@@ -53,7 +53,7 @@ fn play<R: Wait, J: Giving>(
     (worker, stop)
 }
 
-/// Gives each worker a thread in which the script at its place is carried out, if there are threads for all.
+/// Starts a thread for each worker, in which the script at its place runs, if there are threads for all.
 pub fn start_all<'s, E, R: Wait + Sync, J: Giving + Send + 's>(
     rt: &'s R,
     scope: &Scope<'s, E>,
@@ -70,9 +70,9 @@ pub fn start_all<'s, E, R: Wait + Sync, J: Giving + Send + 's>(
     ensures promised { IfOk result
         (λ handles. (place : ℕ) (fallback : _) → place < length handles.items
         → IsPromised stage.entry.ring.now (scripts_of stage.entry.scripts.now) workers.items place
-        (get_or handles.items place fallback).promise.ring.now
-        (calls_of (get_or handles.items place fallback).promise.script.now)
-        (get_or handles.items place fallback).promise.before.value) }
+        (promised_ring (get_or handles.items place fallback).promise)
+        (promised_script (get_or handles.items place fallback).promise)
+        (promised_worker (get_or handles.items place fallback).promise)) }
     ensures err { IfErr result IsOfThreads }
 {
     let mut handles = Vec::new(alloc);

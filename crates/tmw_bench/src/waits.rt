@@ -13,13 +13,13 @@ use std::time::Duration;
 use std::{hint, thread};
 use tmw_ring::{Ring, Writer};
 
-/// So often a thread looks at once. Then it lets others run before each look, or sleeps.
+/// How often a thread looks at once. Then it lets others run before each look, or sleeps.
 const SPINS: u64 = 1_000;
 
-/// So often a worker looks whether all have begun a round. Then it works without the others.
+/// How often a worker looks whether all have begun a round. Then it works without the others.
 const LOOKS: u64 = 2_000;
 
-/// So many microseconds a thread sleeps before it looks again, where nobody wakes it: a ring that becomes full is pumped by then.
+/// How many microseconds a thread sleeps if nobody wakes it: a ring that becomes full is pumped by then.
 const NAP: u64 = 200;
 
 /// Lets some time pass, more after many looks.
@@ -31,16 +31,18 @@ pub fn pause(look: u64) {
     }
 }
 
-/// Looks again soon, or after many looks when the count has risen.
+/// Waits a moment, or after many looks until the count has risen or some 200 microseconds have passed.
 pub fn wait<R: Wait>(rt: &R, look: u64, on: &Count, count: u64) {
     if look < SPINS {
         hint::spin_loop();
     } else {
+        // A thread that only yields would wait for a whole time slice of every other.
         on.sleep(rt, count, Duration::from_micros(NAP));
     }
 }
 
-/// Waits until workers have begun a round so often, so that all work at once, but not for ever, and not where none is to begin.
+/// Waits until workers have begun a round `begun` times, so that all run at once: not forever, and not if no round is
+/// to begin.
 pub fn wait_for_all<R: Wait>(rt: &R, orders: &Orders, begun: u64) {
     for look in 0..LOOKS {
         let count = orders.begun.get();
@@ -51,7 +53,8 @@ pub fn wait_for_all<R: Wait>(rt: &R, orders: &Orders, begun: u64) {
     }
 }
 
-/// Waits until it is told where the round has ended, behind so many places. None where no further round begins.
+/// Waits until it is told how many places were claimed when the round ended, and returns that. Returns `None` if no
+/// further round begins.
 pub fn next_bound<R: Wait>(
     rt: &R,
     down: &mut Consumer<u64>,
@@ -69,6 +72,7 @@ pub fn next_bound<R: Wait>(
         let told = orders.told.get();
         let over = orders.is_over();
         if down.slots() > 0 {
+            // Compared here, so that no clause has to say it of the leader.
             let bound = *down.peek_known();
             if tail <= bound {
                 return Some(down.pop_known());
@@ -82,7 +86,7 @@ pub fn next_bound<R: Wait>(
     unreachable!()
 }
 
-/// Waits until the writer has seen so many places claimed.
+/// Waits until the writer has seen `bound` places claimed.
 pub fn see<R: Wait>(rt: &R, ring: &Ring, writer: &mut Writer, bound: u64)
     requires { WriterOf ring.now writer.old }
     ensures { HasSeen bound writer.old writer.new }

@@ -28,8 +28,8 @@ pub struct Worker {
     pub down: Consumer<u64>,
 }
 
-/// Carries the script out, and again each time that it is told where the last round has ended, until it is stopped or no further
-/// round begins. Answers the refusal at which it was stopped, if any.
+/// Runs the script, and again each time that it is told where the last round has ended, until it is stopped or no
+/// further round begins. Returns the refusal at which it was stopped, if any.
 pub fn play_on<R: Wait, J: Giving>(
     rt: &R,
     memory: &(dyn Tm + Sync),

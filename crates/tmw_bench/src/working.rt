@@ -14,12 +14,12 @@ use tmw_recorded::{Signals, record_soon};
 use tmw_ring::{Refused, Ring, Writer};
 use tmw_tm::Tm;
 
-/// Carries the script out on the memory, one transaction after another: each call is recorded, the memory is asked, and its
-/// answer is recorded. Answers the refusal at which it stopped, if any, and records nothing more then.
+/// Runs the script on the memory, one transaction after another: each call is recorded, then made, then its answer is
+/// recorded. Returns the refusal at which it stopped, if any, and records nothing more then.
 ///
-/// A record for which the ring lacks room is tried `patience` times in all, where 0 counts as 1, unless nobody pumps any more. One
-/// for which the ring's places are spent is tried once. A transaction that has begun in the memory and has not ended there when
-/// the thread stops is aborted in the memory; in the record it stays live.
+/// A record for which the ring lacks room is tried `patience` times in all, where 0 counts as 1, unless nobody pumps
+/// any more. One for which the ring's places are spent is tried once. If a transaction has begun in the memory and has
+/// not ended there when the thread stops, it is aborted in the memory; in the record it stays live.
 pub fn work(
     memory: &(dyn Tm + Sync),
     ring: &Ring,

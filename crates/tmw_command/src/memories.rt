@@ -12,7 +12,7 @@ impl<M: Copy> Memories<M> {
     ghost use Rattle.std.specs.Prelude.{◌≡◌};
     ghost use Rattle.tmw_command.specs.Memories.{memory_named};
 
-    /// The memory of this name.
+    /// Returns the memory of this name.
     pub fn named(self, name: Which) -> M
         ensures { result ≡ memory_named self name }
     {

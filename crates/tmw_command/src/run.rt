@@ -20,17 +20,19 @@ use tmw_tm::Tm;
 use tmw_words::{Order, Refusal, read_words};
 
 /// Which program this is: its name and version, and what it judges by.
+// The program's own line and not clap's, so that a clause has its bytes.
 const VERSION_LINE: &str =
     "tmwatch 0.1.0, by opacity (Guerraoui and Kapalka 2008) and by strict serializability\n";
 
-/// Runs the command line of these words, of which the first is the program's name, from the source to the sink: the order that
-/// they ask for, the text of help, or the line of the version. For words that are no command line of the program the fault's line
-/// goes to the sink, and the text that tells what is wrong to the sink for errors; for words that can't be had, the fault's line
-/// alone. An order to drive, or to bench, takes the memory that it names of these, each of which should be fresh. An order to bench
-/// that isn't to be quiet, and keeps no log, tells `progress` how far it has come. The result is the exit status: that of the order,
-/// 0 for help and for the version, or 4 for any fault and for either of these that was cut short.
+/// Runs the command line of these words, and returns the exit status. The first word is the program's name.
 ///
-/// It waits in a bench alone, for the threads that this starts.
+/// An order runs from the source to the sink. `drive` and `bench` take the memory that they name of these, each of
+/// which should be new. Help and the version are written to the sink. Of wrong words the fault's line is written to the
+/// sink, and what is wrong with them to the sink for errors. If `words` is a fault, only its line is written. A bench
+/// that keeps no log tells `progress` how far it has come, unless it is to be quiet.
+///
+/// The status is the order's, 0 after help and the version, and 4 after any fault and after help or a version that was
+/// cut short. It waits only in a bench, for the threads that this starts.
 pub fn run_command<
     S: Source,
     K: Sink,

@@ -11,8 +11,8 @@ ghost use Rattle.tmw_tm.specs.declared.answer.Did.TheVariants.{Abort};
 use tmw_events::Kind;
 use tmw_tm::{Did, Got, Tm, Tx};
 
-/// Makes the call with this transaction, begun before its first call, and answers the event that answers the call. Where the
-/// memory does not begin the transaction, the call is not made.
+/// Makes the call with this transaction, and returns the event that answers it. Before the first call of a transaction
+/// it begins the transaction; if the memory does not, the call is not made.
 pub fn ask(memory: &(dyn Tm + Sync), tx: &mut Tx, first: bool, call: Kind) -> Kind
     requires fresh { IsTrue first → IsFresh tx.old }
     // An abort event may answer each call, and nothing but a call.
@@ -65,7 +65,7 @@ fn make(memory: &(dyn Tm + Sync), tx: &mut Tx, call: Kind) -> Kind
     }
 }
 
-/// Whether the answer ends its transaction.
+/// Tells whether the answer ends its transaction.
 pub fn ends(answer: Kind) -> bool
     ensures { result ≡ ends answer }
 {

@@ -17,16 +17,16 @@ use tmw_monitor::{Bounds, judge};
 use tmw_tm::Tm;
 use tmw_workloads::Workload;
 
-/// Makes the calls of the workload's scripts in one thread, and judges the log within the bounds, from registers that are all 0.
-/// The memory should be fresh.
+/// Makes the calls of the workload's scripts in one thread, and judges the log within the bounds, from registers that
+/// are all 0. The memory should be new.
 ///
-/// Each entry of the order lets that thread make the next call of its script: the call is recorded, the memory is asked, and its
-/// answer is recorded. A transaction begins, with a new `Tx`, before its first call; where the memory aborts it then, the call
-/// is not made. After a commit or an abort event the script goes on with its next transaction. A thread without a call left
-/// does nothing. Transactions that the order leaves open are not aborted.
+/// Each entry of the order lets that thread make the next call of its script: the call is recorded, then made, then its
+/// answer is recorded. A transaction begins, with a new `Tx`, before its first call; if the memory aborts it then, the
+/// call is not made. After a commit or an abort event the script goes on with its next transaction. A thread without a
+/// call left does nothing. Transactions that the order leaves open are not aborted.
 ///
-/// `Registers` exactly where the memory has fewer registers than the workload; it is asked for no more than that. `Memory` where a
-/// growth was refused; what was called until then is lost to the caller.
+/// Errors: `Registers` exactly if the memory has fewer registers than the workload; then nothing else is called.
+/// `Memory` after a failed allocation; what was called until then is lost to the caller.
 pub fn drive(
     alloc: Global,
     memory: &(dyn Tm + Sync),

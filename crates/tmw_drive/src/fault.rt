@@ -10,7 +10,7 @@ pub enum DriveFault {
     /// The workload has more registers than the memory. No call was made.
     #[error("the workload has more registers than the memory")]
     Registers,
-    /// A growth was refused.
+    /// An allocation failed.
     #[error("out of memory")]
     Memory,
 }

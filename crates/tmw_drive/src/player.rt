@@ -24,7 +24,7 @@ impl Player {
     ghost use Rattle.tmw_drive.specs.Fresh.{IsFresh};
     ghost use Rattle.tmw_drive.specs.Playing.{calls_of, left_of, next_of, GoesOn, IsEnding, IsNew};
 
-    /// A thread that has made no call.
+    /// Returns a player of this thread that has made no call.
     pub fn new(thread: Ix) -> Player
         ensures { IsNew thread.number result }
     {
@@ -36,7 +36,7 @@ impl Player {
         }
     }
 
-    /// The next call of the script, if one is left.
+    /// Returns the next call of the script, if one is left.
     pub fn next(&self, script: &[Vec<Kind>]) -> Option<Kind>
         ensures next { result ≡ next_of (left_of (calls_of script.now) self.now) }
         ensures later_transaction { OnSome result (self.now.transaction + 1 < 2 ^ 64) }
@@ -48,7 +48,7 @@ impl Player {
         }
     }
 
-    /// How far the thread has come.
+    /// Tells how far the thread has come.
     pub fn ending(&self, script: &[Vec<Kind>]) -> Ending
         ensures { IsEnding (next_of (left_of (calls_of script.now) self.now)) result }
     {
@@ -58,7 +58,7 @@ impl Player {
         }
     }
 
-    /// Makes the call in the memory and answers the event that answers it. The thread stands where it stood.
+    /// Makes the call in the memory, and returns the event that answers it. It does not go on in the script.
     pub fn ask(&mut self, memory: &(dyn Tm + Sync), call: Kind) -> Kind
         requires fresh { IsTrue (self.old.call == 0) → IsFresh self.old.tx }
         requires call { IsTrue (answers call A) }

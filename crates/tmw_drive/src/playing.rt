@@ -11,7 +11,7 @@ use std::alloc::{AllocError, Global};
 use tmw_events::{Event, Ix, Kind};
 use tmw_tm::Tm;
 
-/// A player for each of so many threads.
+/// Makes a player for each of so many threads.
 pub fn new_players(alloc: Global, count: u8) -> Result<Vec<Player>, AllocError>
     requires { count ≤ 8 }
     ensures { IfOk result (λ players. AllNew count players.items) }
@@ -73,7 +73,7 @@ fn enter(
     step(memory, &scripts[place], &mut players[place], log)
 }
 
-/// All threads do their entries of the order, one after another.
+/// Makes the calls of the order, one after another: each entry is a thread, which makes its next call.
 pub fn play(
     memory: &(dyn Tm + Sync),
     scripts: &[Vec<Vec<Kind>>],
@@ -94,7 +94,7 @@ pub fn play(
     Ok(())
 }
 
-/// For each player, whether it has a call left.
+/// Tells of each player, in order, whether it has a call left.
 pub fn ends_of(
     alloc: Global,
     scripts: &[Vec<Vec<Kind>>],

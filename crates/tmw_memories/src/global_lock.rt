@@ -1,5 +1,6 @@
 ghost use Rattle.std.specs.Prelude.{◌≡◌};
 ghost use Rattle.tmw_memories.specs.Calls.{Adds, Begins, Commits, IsEnded, Reads, Writes};
+ghost use Rattle.tmw_memories.specs.Registers.{lock_registers};
 
 use crate::transaction::{TURNS, begin, end, may_use, value_of, write};
 use crate::words::Words;
@@ -18,9 +19,9 @@ pub struct GlobalLock {
 }
 
 impl GlobalLock {
-    /// A memory of so many registers, all 0, whose lock is free. It takes no memory beside its own.
+    /// Makes a memory of so many registers, all 0, whose lock is free. It allocates nothing.
     pub fn new(registers: Registers) -> GlobalLock
-        ensures { result.registers ≡ registers }
+        ensures { lock_registers result ≡ registers }
     {
         GlobalLock {
             registers,
@@ -47,12 +48,12 @@ impl GlobalLock {
 impl Tm for GlobalLock {
     ghost gives = { λ memory call answer. Unit {0} };
 
-    ghost has = { λ memory. memory.registers.number };
+    ghost has = { λ memory. (lock_registers memory).number };
 
-    ghost has_few = { λ memory. (memory.registers.some, memory.registers.most) };
+    ghost has_few = { λ memory. ((lock_registers memory).some, (lock_registers memory).most) };
 
     fn registers(&self) -> Registers
-        ensures { result ≡ self.now.registers }
+        ensures { result ≡ lock_registers self.now }
     {
         self.registers
     }
@@ -69,7 +70,7 @@ impl Tm for GlobalLock {
     }
 
     fn read(&self, tx: &mut Tx, register: Ix) -> Got
-        ensures reads { Reads self.now.registers tx.old register result tx.new }
+        ensures reads { Reads (lock_registers self.now) tx.old register result tx.new }
     {
         if may_use(self.registers, tx, register) {
             Got::Value(value_of(&self.words, tx, register))
@@ -80,7 +81,7 @@ impl Tm for GlobalLock {
     }
 
     fn write(&self, tx: &mut Tx, register: Ix, value: u64) -> Did
-        ensures writes { Writes self.now.registers tx.old register value result tx.new }
+        ensures writes { Writes (lock_registers self.now) tx.old register value result tx.new }
     {
         if write(self.registers, tx, register, value) {
             Did::Done
@@ -91,8 +92,8 @@ impl Tm for GlobalLock {
     }
 
     fn add(&self, tx: &mut Tx, register: Ix, addend: u64) -> Got
-        ensures adds { Adds (Reads self.now.registers) (Writes self.now.registers) tx.old register
-            addend result tx.new }
+        ensures adds { Adds (Reads (lock_registers self.now)) (Writes (lock_registers self.now))
+            tx.old register addend result tx.new }
     {
         match self.read(tx, register) {
             Got::Value(value) => match self.write(tx, register, value.wrapping_add(addend)) {

@@ -1,5 +1,6 @@
 ghost use Rattle.std.specs.Prelude.{◌≡◌, ◌%◌, IfSome};
 ghost use Rattle.tmw_memories.specs.Calls.{Adds, IsEnded, Writes};
+ghost use Rattle.tmw_memories.specs.Registers.{norec_registers};
 ghost use Rattle.tmw_memories.specs.Validated.{BeginsFree, CommitsOrAborts, ReadsAndKeeps};
 
 use crate::transaction::{TURNS, append, begin, end, latest, may_use, write};
@@ -22,9 +23,9 @@ pub struct NoRec {
 }
 
 impl NoRec {
-    /// A memory of so many registers, all 0, whose lock is free. It takes no memory beside its own.
+    /// Makes a memory of so many registers, all 0, whose lock is free. It allocates nothing.
     pub fn new(registers: Registers) -> NoRec
-        ensures { result.registers ≡ registers }
+        ensures { norec_registers result ≡ registers }
     {
         NoRec {
             registers,
@@ -122,12 +123,12 @@ impl NoRec {
 impl Tm for NoRec {
     ghost gives = { λ memory call answer. Unit {0} };
 
-    ghost has = { λ memory. memory.registers.number };
+    ghost has = { λ memory. (norec_registers memory).number };
 
-    ghost has_few = { λ memory. (memory.registers.some, memory.registers.most) };
+    ghost has_few = { λ memory. ((norec_registers memory).some, (norec_registers memory).most) };
 
     fn registers(&self) -> Registers
-        ensures { result ≡ self.now.registers }
+        ensures { result ≡ norec_registers self.now }
     {
         self.registers
     }
@@ -148,7 +149,7 @@ impl Tm for NoRec {
     }
 
     fn read(&self, tx: &mut Tx, register: Ix) -> Got
-        ensures reads { ReadsAndKeeps self.now.registers tx.old register result tx.new }
+        ensures reads { ReadsAndKeeps (norec_registers self.now) tx.old register result tx.new }
     {
         if !may_use(self.registers, tx, register) {
             self.abort(tx);
@@ -170,7 +171,7 @@ impl Tm for NoRec {
     }
 
     fn write(&self, tx: &mut Tx, register: Ix, value: u64) -> Did
-        ensures writes { Writes self.now.registers tx.old register value result tx.new }
+        ensures writes { Writes (norec_registers self.now) tx.old register value result tx.new }
     {
         if write(self.registers, tx, register, value) {
             Did::Done
@@ -181,8 +182,8 @@ impl Tm for NoRec {
     }
 
     fn add(&self, tx: &mut Tx, register: Ix, addend: u64) -> Got
-        ensures adds { Adds (ReadsAndKeeps self.now.registers) (Writes self.now.registers) tx.old
-            register addend result tx.new }
+        ensures adds { Adds (ReadsAndKeeps (norec_registers self.now))
+            (Writes (norec_registers self.now)) tx.old register addend result tx.new }
     {
         match self.read(tx, register) {
             Got::Value(value) => match self.write(tx, register, value.wrapping_add(addend)) {

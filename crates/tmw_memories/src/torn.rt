@@ -1,5 +1,6 @@
 ghost use Rattle.std.specs.Prelude.{◌≡◌};
 ghost use Rattle.tmw_memories.specs.Calls.{Adds, BeginsAtOnce, Commits, IsEnded, Reads, Writes};
+ghost use Rattle.tmw_memories.specs.Registers.{torn_registers};
 
 use crate::transaction::{begin, end, may_use, value_of, write};
 use crate::words::Words;
@@ -15,9 +16,9 @@ pub struct Torn {
 }
 
 impl Torn {
-    /// A memory of so many registers, all 0. It takes no memory beside its own.
+    /// Makes a memory of so many registers, all 0. It allocates nothing.
     pub fn new(registers: Registers) -> Torn
-        ensures { result.registers ≡ registers }
+        ensures { torn_registers result ≡ registers }
     {
         Torn {
             registers,
@@ -29,12 +30,12 @@ impl Torn {
 impl Tm for Torn {
     ghost gives = { λ memory call answer. Unit {0} };
 
-    ghost has = { λ memory. memory.registers.number };
+    ghost has = { λ memory. (torn_registers memory).number };
 
-    ghost has_few = { λ memory. (memory.registers.some, memory.registers.most) };
+    ghost has_few = { λ memory. ((torn_registers memory).some, (torn_registers memory).most) };
 
     fn registers(&self) -> Registers
-        ensures { result ≡ self.now.registers }
+        ensures { result ≡ torn_registers self.now }
     {
         self.registers
     }
@@ -51,7 +52,7 @@ impl Tm for Torn {
     }
 
     fn read(&self, tx: &mut Tx, register: Ix) -> Got
-        ensures reads { Reads self.now.registers tx.old register result tx.new }
+        ensures reads { Reads (torn_registers self.now) tx.old register result tx.new }
     {
         if may_use(self.registers, tx, register) {
             Got::Value(value_of(&self.words, tx, register))
@@ -62,7 +63,7 @@ impl Tm for Torn {
     }
 
     fn write(&self, tx: &mut Tx, register: Ix, value: u64) -> Did
-        ensures writes { Writes self.now.registers tx.old register value result tx.new }
+        ensures writes { Writes (torn_registers self.now) tx.old register value result tx.new }
     {
         if write(self.registers, tx, register, value) {
             Did::Done
@@ -73,8 +74,8 @@ impl Tm for Torn {
     }
 
     fn add(&self, tx: &mut Tx, register: Ix, addend: u64) -> Got
-        ensures adds { Adds (Reads self.now.registers) (Writes self.now.registers) tx.old register
-            addend result tx.new }
+        ensures adds { Adds (Reads (torn_registers self.now)) (Writes (torn_registers self.now))
+            tx.old register addend result tx.new }
     {
         match self.read(tx, register) {
             Got::Value(value) => match self.write(tx, register, value.wrapping_add(addend)) {

@@ -30,14 +30,14 @@ pub fn end(tx: &mut Tx)
     tx.writes.clear();
 }
 
-/// Whether the transaction has begun, and there is such a register.
+/// Tells whether the transaction has begun and there is such a register.
 pub fn may_use(registers: Registers, tx: &Tx, register: Ix) -> bool
     ensures { IsTrue result ↔ MayUse registers tx.now register }
 {
     tx.begun && register.get() < registers.get()
 }
 
-/// The value of the latest of these writes to the register.
+/// Returns the value of the latest of these writes to the register, if there is one.
 pub fn latest(writes: &Entries, register: Ix) -> Option<u64>
     ensures { result ≡ latest_of writes.now.items register }
 {
@@ -49,7 +49,7 @@ pub fn latest(writes: &Entries, register: Ix) -> Option<u64>
         .map(|write| write.value)
 }
 
-/// The value that a read answers: that of the latest own write to the register, or else the one that the register has now.
+/// Returns the value of the latest own write to the register, or else the one that the register has now.
 pub fn value_of(words: &Words, tx: &Tx, register: Ix) -> u64
     ensures { IfSome (latest_of tx.now.writes.items register) (λ own. result ≡ own) }
 {
@@ -59,7 +59,7 @@ pub fn value_of(words: &Words, tx: &Tx, register: Ix) -> u64
     }
 }
 
-/// Appends an entry, where there is room for it.
+/// Appends an entry if there is room for it, and tells whether there was.
 pub fn append(entries: &mut Entries, register: Ix, value: u64) -> bool
     ensures done { OnTrue result
         (Appends entries.old.items (entry register value) entries.new.items) }
@@ -68,7 +68,7 @@ pub fn append(entries: &mut Entries, register: Ix, value: u64) -> bool
     entries.try_push(Entry { register, value }).is_ok()
 }
 
-/// Appends a write of the transaction, where it may be made.
+/// Appends a write of the transaction if it may be made, and tells whether it was.
 pub fn write(registers: Registers, tx: &mut Tx, register: Ix, value: u64) -> bool
     ensures done { OnTrue result (Writes registers tx.old register value Done tx.new) }
     ensures full { OnFalse result

@@ -10,26 +10,26 @@ pub struct Words {
 }
 
 impl Words {
-    /// All registers are 0.
+    /// Makes words that are all 0.
     pub fn zeros() -> Words {
         Words {
             words: array::from_fn(|_| AtomicU64::new(0)),
         }
     }
 
-    /// The value that the register has now.
+    /// Returns the value that the register has now.
     pub fn load(&self, register: Ix) -> u64 {
         self.words[usize::from(register.get())].load(Ordering::SeqCst)
     }
 
-    /// Whether each of these registers has the value that its entry tells, each at the moment when it is looked at.
+    /// Tells whether each of these registers has the value of its entry, each at the moment when it is loaded.
     pub fn hold(&self, entries: &[Entry]) -> bool {
         entries
             .iter()
             .all(|entry| self.load(entry.register) == entry.value)
     }
 
-    /// Gives the registers these values, one after another.
+    /// Stores these values in their registers, one after another.
     pub fn store(&self, entries: &[Entry]) {
         for entry in entries {
             self.words[usize::from(entry.register.get())].store(entry.value, Ordering::SeqCst);

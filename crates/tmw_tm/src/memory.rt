@@ -7,11 +7,12 @@ use crate::tx::Tx;
 use std::ops::Drop;
 use tmw_events::{Ix, Registers};
 
-/// A transactional memory: registers of 64 bits, all 0 at first, which several threads may read and write in transactions.
+/// A transactional memory: registers of 64 bits, all 0 at first, which several threads may read and write in
+/// transactions.
 ///
-/// A thread begins a transaction by `begin` with a `Tx` of its own, calls `read`, `write` and `add` with it, and ends it by
-/// `commit` or `abort`. It takes an answer `Abort` of any call as the transaction's end. Nothing is assumed of a memory but that
-/// each call returns and that its answers are those that it gives: whether it is opaque is what a bench is to find out.
+/// A thread begins a transaction by `begin` with a `Tx` of its own, calls `read`, `write` and `add` with it, and ends
+/// it by `commit` or `abort`. An answer `Abort` of any call ends the transaction. Nothing is assumed of a memory but
+/// that each call returns, with an answer that the memory gives: whether it is opaque is for a bench to find out.
 pub trait Tm: Drop {
     /// The memory may answer this call so, at any time.
     ghost gives: { Self → Call → Answer → Type 0 };
@@ -19,7 +20,7 @@ pub trait Tm: Drop {
     /// It has so many registers, at any time.
     ghost has: { Self → ℕ };
 
-    /// How many registers it has.
+    /// Returns how many registers the memory has.
     fn registers(&self) -> Registers
         ensures has { result.number ≡ has self.now };
 
@@ -27,7 +28,7 @@ pub trait Tm: Drop {
     fn begin(&self, tx: &mut Tx) -> Did
         ensures gives { gives self.now Begin (did_answer result) };
 
-    /// The value of the register.
+    /// Reads the register.
     fn read(&self, tx: &mut Tx, register: Ix) -> Got
         ensures gives { gives self.now (Read register) (got_answer result) };
 
@@ -35,7 +36,7 @@ pub trait Tm: Drop {
     fn write(&self, tx: &mut Tx, register: Ix, value: u64) -> Did
         ensures gives { gives self.now (Write register value) (did_answer result) };
 
-    /// Adds to the register, modulo 2^64, and answers the value before.
+    /// Adds to the register, modulo 2^64, and returns the value before.
     fn add(&self, tx: &mut Tx, register: Ix, addend: u64) -> Got
         ensures gives { gives self.now (Add register addend) (got_answer result) };
 

@@ -19,7 +19,7 @@ impl Default for Entry {
     }
 }
 
-/// At most 16 entries, the oldest first. They take no memory beside their own.
+/// At most 16 entries, the oldest first. They allocate nothing.
 pub type Entries = ArrayVec<Entry, 16>;
 
 /// A transaction as its memory sees it. It belongs to one memory, which alone changes it; what the fields hold is for that
@@ -37,7 +37,7 @@ pub struct Tx {
 }
 
 impl Tx {
-    /// A transaction that has not begun. It takes no memory.
+    /// Returns a transaction that has not begun. It allocates nothing.
     pub fn new() -> Tx
         ensures snapshot { result.snapshot ≡ 0 }
         ensures begun { result.begun ≡ false }

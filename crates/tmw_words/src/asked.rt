@@ -5,7 +5,7 @@ ghost use Rattle.tmw_defs.specs.declared.criterion.Criterion.{Criterion};
 
 use tmw_defs::{Asked, Criterion};
 
-/// The criteria of this name: `opacity`, `strict` or `both`. There are none of another name.
+/// Returns the criteria of this name: `opacity`, `strict` or `both`. No other name has any.
 pub fn asked_named(name: &str) -> Option<Asked>
     ensures some { IfSome result (λ asked. name.now ≡ asked_name asked) }
     ensures none { IfNone result ((asked : Asked) → name.now ≡ asked_name asked → ⊥) }
@@ -18,7 +18,7 @@ pub fn asked_named(name: &str) -> Option<Asked>
     }
 }
 
-/// The criterion of this name: `opacity` or `strict`. There is none of another name.
+/// Returns the criterion of this name: `opacity` or `strict`. No other name has one.
 pub fn criterion_named(name: &str) -> Option<Criterion>
     ensures some { IfSome result (λ criterion. name.now ≡ criterion_name criterion) }
     ensures none { IfNone result

@@ -2,14 +2,15 @@ ghost use Rattle.std.specs.Prelude.{◌≤◌};
 
 use tmw_monitor::Bounds;
 
-/// What the options of `bench` say: how threads record, how often they carry the workload out, and how the record is judged and shown.
+/// What the options of `bench` say: how threads record, how often they run the workload, and how the record is judged
+/// and shown.
 #[derive(Clone, Copy, PartialEq, Eq, Debug)]
 pub struct BenchOptions {
     /// The ring's cells: 1 to 4,096.
     pub cells: u64,
-    /// So often in all a record is tried for which the ring lacks room: 1 to 1,000,000,000.
+    /// How often in all a record is tried for which the ring lacks room: 1 to 1,000,000,000.
     pub patience: u64,
-    /// The workload is carried out so many times at most: 1 to 1,000,000,000.
+    /// The most runs of the workload: 1 to 1,000,000,000.
     pub rounds: u64,
     pub bounds: Bounds,
     /// Whether the record's last window is shown.

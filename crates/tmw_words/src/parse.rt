@@ -23,8 +23,10 @@ use std::convert::AsStr;
 use tmw_defs::{Asked, Criterion};
 use tmw_monitor::Bounds;
 
-/// Parses the words of the command line, of which the first is the program's name and is passed over. The error is clap's, and
-/// tells by its kind a request for help, what is wrong with the words, or a want of memory.
+/// Parses the words of the command line. The first is the program's name, and is passed over.
+///
+/// The error is clap's. Its kind tells whether help or the version is requested, what is wrong with the words, or that
+/// an allocation failed.
 pub fn parse<S: AsStr>(alloc: Global, words: &[S]) -> Result<Order, Error>
     ensures order { IfOk result (Asks (map S.text words.now)) }
     ensures refused { IfErr result (λ error. FailsAs (map S.text words.now) (kind_of error)) }

@@ -16,56 +16,118 @@ static CRITERIA: [&str; 3] = ["opacity", "strict", "both"];
 /// The names of what a trace is shown by.
 static SHOWN: [&str; 2] = ["opacity", "strict"];
 
-const CRITERION_HELP: &str =
-    "What the run is judged by: opacity or strict serializability; `judge` takes both too, with a line for each";
+// A line of help has at most 80 columns, and a command's help 40 lines: nothing here wraps a text.
 
-const MEMORY_HELP: &str = "The memory that the workload is run over";
+const JUDGE_CRITERION_HELP: &str = "By opacity, strict or both";
 
-const TRACE_HELP: &str = "Write the trace of the run before the report";
+const SHOW_CRITERION_HELP: &str = "By opacity or strict, not both";
 
-const SHOW_TRACE_HELP: &str =
-    "Write the last window as a trace of its own, one for each state from which it may begin, and nothing else";
+const MEMORY_HELP: &str = "Memory: norec, lock or torn (faulty)";
 
-const BENCH_SHOW_HELP: &str =
-    "Write what `show` writes of the run: the last window, drawn, or as a trace of its own with --trace";
+const TRACE_HELP: &str = "Write the run's trace before the report";
 
-const QUIET_HELP: &str =
-    "Do not tell on standard error how far the run has come, as is done each 100000 rounds where it is a terminal";
+const SHOW_TRACE_HELP: &str = "Write only the window, as traces";
 
-const RING_HELP: &str =
-    "The cells of the ring that the threads record in, 1 to 4096: no fewer than the workload has scripts";
+const BENCH_SHOW_HELP: &str = "Write what `show` writes in place of the report";
 
-const PATIENCE_HELP: &str =
-    "How often in all a thread tries a record for which the ring lacks room, 1 to 1000000000, before it stops";
+const QUIET_HELP: &str = "Show no progress on a terminal";
 
-const ROUNDS_HELP: &str =
-    "How often the workload is run over the memory, one run after another, 1 to 1000000000";
+const RING_HELP: &str = "Cells, from one per script to 4096";
 
-const WINDOW_HELP: &str =
-    "The most transactions that a window may have, 1 to 8: past it the verdict is `undecided`";
+const PATIENCE_HELP: &str = "Tries if the ring is full, 1 to 10^9";
 
-const STATES_HELP: &str =
-    "The most outcomes that the history may have at a cut, 1 to 64: past it the verdict is `undecided`";
+const ROUNDS_HELP: &str = "Runs of the workload, 1 to 10^9";
 
-const PROGRAM_HELP: &str =
-    "Each command reads standard input and writes standard output; `tmwatch COMMAND --help` tells what goes in and what comes out, and gives an example.\n\nExit status: 0 where the run is opaque (or strict) so far, 1 violated, 2 undecided, 3 malformed; 4 for a fault of the command line, of the input, of memory, or of reading or writing, which one line names.";
+const WINDOW_HELP: &str = "Most transactions per window, 1 to 8";
+
+const STATES_HELP: &str = "Most outcomes at a cut, 1 to 64";
+
+const PROGRAM_HELP: &str = "Each command reads standard input and writes standard output.
+`tmwatch COMMAND --help` says what, and gives an example.
+
+Exit status:
+  0  opaque (or strict) so far; also after help, the version and `steps`
+  1  violated
+  2  undecided: a window or a cut passed a bound
+  3  malformed: the events fit no run
+  4  fault: of the command line, the input, memory, reading or writing
+One line on standard output names the fault. If the output could not be written,
+standard error says so.";
 
 const JUDGE_HELP: &str =
-    "In goes a trace: a first line `opacity-trace 1 R` for R registers that begin at 0, or `opacity-trace 2 R V ..` with what each begins at, then a line `THREAD KIND ..` an event (docs/FORMATS.md). Out comes one line of JSON, or two for both criteria: the verdict, the number of events, and at which event it fell. It comes at the end of the input.\n\nExit status: 0 where the run is opaque (or strict) so far, 1 violated, 2 undecided, 3 malformed; 4 for a fault of the input, of memory, or of reading or writing, which one line names.\n\nExample: tmwatch judge --criterion both < run.trace";
+    "Reads a trace from standard input. Its first line is `opacity-trace 1 R`, for R
+registers that start at 0, or `opacity-trace 2 R V ..`, with each start value.
+Every further line is one event, such as `0 W 1 5`: thread 0 writes 5 to
+register 1. docs/FORMATS.md lists the events.
+
+Writes one line of JSON when the input has ended, with `both` one per criterion:
+the verdict, how many events there are, and at which of them it went wrong.
+
+A cut is where no transaction is open, and a window begins at a cut. One that
+passes its bound makes the verdict `undecided`.
+
+Exit status: 0 opaque (or strict) so far, 1 violated, 2 undecided, 3 malformed,
+4 for a fault, which one line on standard output names.
+
+Example: tmwatch judge --criterion both < run.trace";
 
 const SHOW_HELP: &str =
-    "In goes a trace, as `judge` reads it. Out comes the line that `judge` writes; then a line for each state in which the registers may have been when each transaction had ended, the last time before the event at which something is wrong, or before the last one; then the events since, up to that one, each with its number, in a column for each thread. With --trace, these events alone come out, as a trace that begins with such a state, and one behind the other where there are several.\n\nExit status: 0 where the run is opaque (or strict) so far, 1 violated, 2 undecided, 3 malformed; 4 for a fault of the input, of memory, or of reading or writing, which one line names.\n\nExample: tmwatch show < run.trace";
+    "Reads a trace from standard input, as `judge` does. `both` is a wrong criterion
+here: two windows seldom begin and end at the same events. Run `show` for each.
+
+Writes the line that `judge` writes; the states of the registers from which the
+last window may begin, one per line; and the window's events, numbered, in one
+column per thread. The window begins where no transaction was open, and ends at
+the event where the run went wrong, or at the last event.
+
+With --trace it writes, for each state, a trace that starts with this state and
+has the window's events, and nothing else.
+
+Exit status: 0 opaque (or strict) so far, 1 violated, 2 undecided, 3 malformed,
+4 for a fault, which one line on standard output names.
+
+Example: tmwatch show < run.trace";
 
 const DRIVE_HELP: &str =
-    "In goes a workload in JSON: the number of registers, a script for each thread, and the order in which they make their calls. Out comes the verdict on the run, as one line of JSON, and before it the trace where it is asked for.\n\nExit status: 0 where the run is opaque so far, 1 violated, 2 undecided; 4 for a fault, which one line names.\n\nExample: tmwatch drive --memory torn --trace < workload.json";
+    "Reads a workload in JSON from standard input: the number of registers, a script
+of transactions per thread, and the order in which threads make their calls:
+  {\"registers\":1,\"scripts\":[[[\"W 0 5\",\"T\"]]],\"order\":[0,0]}
+
+Writes the verdict by opacity, as one line of JSON; with --trace the run's trace
+before it.
+
+Exit status: 0 opaque so far, 1 violated, 2 undecided,
+4 for a fault, which one line on standard output names.
+
+Example: tmwatch drive --memory torn --trace < workload.json";
 
 const BENCH_HELP: &str =
-    "In goes a workload in JSON, whose order is not used. Out comes the verdict on the run, as one line of JSON, then how each thread ended; before both the trace where it is asked for. With --show the last window stands between them, as `show` draws it; with --show and --trace that window alone comes out, as a trace that begins with one of its states, and one behind the other where there are several.\n\nExit status: 0 where the run is opaque so far, 1 violated, 2 undecided; 4 for a fault, which one line names.\n\nExample: tmwatch bench --memory norec --rounds 1000 < workload.json";
+    "Reads a workload in JSON from standard input, as `drive` does. Its order is not
+used: each script has its own thread.
+
+Writes the verdict by opacity, as one line of JSON, then how each thread ended;
+with --trace the run's trace before both. With --show it writes what `show`
+writes of the run, then the ends; with --show and --trace it writes only what
+`show --trace` writes. A thread that has found the ring full as often as
+--patience says stops; its end is `full`.
+
+Exit status: 0 opaque so far, 1 violated, 2 undecided,
+4 for a fault, which one line on standard output names.
+
+Example: tmwatch bench --memory norec --rounds 1000 < workload.json";
 
 const STEPS_HELP: &str =
-    "In goes a first line `ring-steps 1 CELLS WRITERS LIMIT`, then a line a step. Out comes a line for the reply to each step, then how many places were claimed and how many events were taken.\n\nExit status: 0, or 4 for a fault, which one line names.\n\nExample: tmwatch steps < stopped_writer.steps";
+    "Reads from standard input a line `ring-steps 1 CELLS WRITERS LIMIT`, then one
+step per line, such as `front 0 W 0 5`. docs/FORMATS.md lists the steps.
 
-/// The program's commands, with their options and help.
+Writes the reply to each step, one per line, then how many places were claimed
+and how many events taken, such as `log 2 taken 1`.
+
+Exit status: 0, or 4 for a fault, which one line on standard output names.
+
+Example: tmwatch steps < stopped_writer.steps";
+
+/// Makes the program's commands, with their options and help.
 pub fn new_program<'a>(alloc: Global) -> Result<Command<'a>, AllocError>
     ensures { IfOk result (λ command. IsProgram (app_of command)) }
 {
@@ -92,8 +154,7 @@ fn with_command<'a>(
 fn bare_program<'a>(alloc: Global) -> Command<'a>
     ensures { app_of result ≡ wanting (new_app (codes "tmwatch")) }
 {
-    let about =
-        "A monitor of opacity, and of strict serializability, for transactional memories, and the ring that events reach it by";
+    let about = "Judge runs of transactional memories by opacity or strict serializability";
     described(alloc, "tmwatch", about, PROGRAM_HELP)
         .version("0.1.0")
         .subcommand_required(true)
@@ -104,20 +165,21 @@ fn bare_program<'a>(alloc: Global) -> Command<'a>
 fn new_judge<'a>(alloc: Global, criteria: &'a [&'a str]) -> Result<Command<'a>, AllocError>
     ensures { IfOk result (λ command. app_of command ≡ judge_among (Names criteria.entry)) }
 {
-    let about =
-        "Judge the trace on standard input: opaque so far, or strict so far, or which of its prefixes is the first that is not";
+    let about = "Judge a trace by opacity or strict serializability";
     let judge = described(alloc, "judge", about, JUDGE_HELP);
-    with_bounds(alloc, with_criterion(alloc, judge, criteria)?)
+    with_bounds(
+        alloc,
+        with_criterion(alloc, judge, criteria, JUDGE_CRITERION_HELP)?,
+    )
 }
 
 /// The command `show`, by criteria of these names.
 fn new_show<'a>(alloc: Global, criteria: &'a [&'a str]) -> Result<Command<'a>, AllocError>
     ensures { IfOk result (λ command. app_of command ≡ show_among (Names criteria.entry)) }
 {
-    let about =
-        "Judge the trace on standard input, and show where it went wrong: its last window, drawn in a column for each thread";
+    let about = "Judge a trace, and draw its last window, where it went wrong";
     let show = described(alloc, "show", about, SHOW_HELP);
-    let judged = with_criterion(alloc, show, criteria)?;
+    let judged = with_criterion(alloc, show, criteria, SHOW_CRITERION_HELP)?;
     with_bounds(alloc, with_flag(alloc, judged, "trace", SHOW_TRACE_HELP)?)
 }
 
@@ -125,7 +187,7 @@ fn new_show<'a>(alloc: Global, criteria: &'a [&'a str]) -> Result<Command<'a>, A
 fn new_drive<'a>(alloc: Global, memories: &'a [&'a str]) -> Result<Command<'a>, AllocError>
     ensures { IfOk result (λ command. app_of command ≡ drive_among (Names memories.entry)) }
 {
-    let about = "Run the workload on standard input over a transactional memory, and judge the run";
+    let about = "Run a workload on a memory in one thread, and judge the run";
     let drive = described(alloc, "drive", about, DRIVE_HELP);
     with_bounds(alloc, with_memory(alloc, drive, memories)?)
 }
@@ -134,8 +196,7 @@ fn new_drive<'a>(alloc: Global, memories: &'a [&'a str]) -> Result<Command<'a>, 
 fn new_bench<'a>(alloc: Global, memories: &'a [&'a str]) -> Result<Command<'a>, AllocError>
     ensures { IfOk result (λ command. app_of command ≡ bench_among (Names memories.entry)) }
 {
-    let about =
-        "Run the workload on standard input over a transactional memory, with a thread for each of its scripts, and judge what they record";
+    let about = "Run a workload on a memory in threads, and judge the run";
     let bench = described(alloc, "bench", about, BENCH_HELP);
     let remembered = with_memory(alloc, bench, memories)?;
     let shown = with_flag(alloc, remembered, "show", BENCH_SHOW_HELP)?;
@@ -147,8 +208,7 @@ fn new_bench<'a>(alloc: Global, memories: &'a [&'a str]) -> Result<Command<'a>, 
 fn new_steps<'a>(alloc: Global) -> Command<'a>
     ensures { app_of result ≡ steps }
 {
-    let about =
-        "Take the ring's steps that standard input lists, one by one, and write what each of them answers";
+    let about = "Run a ring step by step, and write each reply";
     described(alloc, "steps", about, STEPS_HELP)
 }
 
@@ -166,6 +226,7 @@ fn with_criterion<'a>(
     alloc: Global,
     command: Command<'a>,
     criteria: &'a [&'a str],
+    help: &'a str,
 ) -> Result<Command<'a>, AllocError>
     ensures { IfOk result
         (λ given. app_of given ≡ with_criterion (Names criteria.entry) (app_of command.entry)) }
@@ -176,7 +237,7 @@ fn with_criterion<'a>(
         "CRITERION",
         ValueParser::Names(criteria),
         "opacity",
-        CRITERION_HELP,
+        help,
     );
     command.arg(criterion)
 }
@@ -280,7 +341,7 @@ fn count_option<'a>(
     )
 }
 
-/// An option that takes one of these values.
+/// An option that takes one of these values, which its help names itself.
 fn value_option<'a>(
     alloc: Global,
     name: &'a str,
@@ -298,4 +359,5 @@ fn value_option<'a>(
         .help(help)
         .default_value(default)
         .value_parser(values)
+        .hide_possible_values(true)
 }

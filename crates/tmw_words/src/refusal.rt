@@ -7,6 +7,6 @@ pub enum Refusal {
     Version,
     /// They are no command line of the program: the text that tells what is wrong with them.
     Usage(String),
-    /// Memory was refused.
+    /// An allocation failed.
     Memory,
 }

@@ -14,7 +14,7 @@ pub enum Which {
 }
 
 impl Which {
-    /// The memory of this name: `norec`, `lock` or `torn`. There is none of another name.
+    /// Returns the memory of this name: `norec`, `lock` or `torn`. No other name has one.
     pub fn named(name: &str) -> Option<Which>
         ensures some { IfSome result (λ memory. name.now ≡ memory_name memory) }
         ensures none { IfNone result ((memory : Which) → name.now ≡ memory_name memory → ⊥) }

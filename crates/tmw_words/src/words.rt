@@ -10,8 +10,8 @@ use clap::error::ErrorKind;
 use std::alloc::Global;
 use std::convert::AsStr;
 
-/// Reads the words of the command line, of which the first is the program's name and is passed over. Right words are refused
-/// only for want of memory.
+/// Reads the words of the command line. The first is the program's name, and is passed over. Right words are refused
+/// only after a failed allocation.
 pub fn read_words<S: AsStr>(alloc: Global, words: &[S]) -> Result<Order, Refusal>
     ensures { IsReading (map S.text words.now) result }
 {

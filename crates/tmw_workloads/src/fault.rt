@@ -9,7 +9,7 @@ pub enum WorkloadFault {
     /// The bytes are JSON, but the value is no workload's.
     #[error("the JSON is no workload")]
     Shape,
-    /// A growth was refused.
+    /// An allocation failed.
     #[error("out of memory")]
     Memory,
 }

@@ -15,14 +15,18 @@ use std::alloc::Global;
 
 /// Reads a workload from JSON text in UTF-8.
 ///
-/// The value is an object with exactly the keys `registers`, a whole number from 1 to 8; `scripts`, an array of 1 to 8
-/// scripts; and `order`, an array of at most 100,000 whole numbers, each below the number of scripts. A script is an array
-/// of at most 1,000 transactions, and a transaction one of 1 to 64 strings, each the text of a call as a trace has it: `R`,
-/// `W` or `N` of a register below `registers`, and at the end alone `T` or `X`. Of equal keys the last counts. A whole number
-/// is one that is written without a sign, a fraction or an exponent, in 64 bits.
+/// The value is an object with exactly these keys:
+/// - `registers`: a whole number from 1 to 8.
+/// - `scripts`: an array of 1 to 8 scripts. A script is an array of at most 1,000 transactions, and a transaction one
+///   of 1 to 64 strings. Each is the text of a call as in a trace: the last is `T` or `X`, and each other is an `R`,
+///   `W` or `N` of a register below `registers`.
+/// - `order`: an array of at most 100,000 whole numbers, each below the number of scripts.
 ///
-/// `Json` answers what is no JSON text, by the limits of `serde_json`: arrays and objects nest at most 127 deep. `Shape`
-/// answers the JSON of any other value. `Memory` answers want of memory; only tests show that a growth was refused.
+/// Of equal keys the last counts. A whole number is written without a sign, a fraction or an exponent, and has at most
+/// 64 bits.
+///
+/// Errors: `Json` for what is no JSON text, by the limits of `serde_json`, where arrays and objects nest at most 127
+/// deep; `Shape` for JSON of any other value; `Memory` for a failed allocation, which only tests show.
 pub fn read_workload(alloc: Global, bytes: &[u8]) -> Result<Workload, WorkloadFault>
     ensures ok { IfOk result (λ workload.
         IsWorkloadText workload.registers.number (scripts_of workload.scripts.items)

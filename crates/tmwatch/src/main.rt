@@ -5,8 +5,10 @@
 //! `tmwatch steps`: reads a list of a ring's steps, and writes what each of them answers.
 #![tactic(auto)]
 
+mod output;
 mod terminal;
 
+use output::Output;
 use std::alloc::AllocError;
 use std::io::{ErrorKind, IsTerminal};
 use std::process::ExitCode;
@@ -19,17 +21,28 @@ use tmw_command::{Memories, run_command};
 use tmw_events::Registers;
 use tmw_memories::{GlobalLock, NoRec, Torn};
 use tmw_report::{Fault, answer_fault};
-use tmw_streams::{Sink, Source, StdSink, StdSource};
+use tmw_streams::{Sink, Source, StdSink, StdSource, put_all};
 use tmw_tm::Tm;
 
 /// How many registers each memory has: as many as a workload may have.
 const REGISTERS: Registers = Registers { number: 8 };
 
+/// What standard error is told of a word that is not UTF-8.
+const NOT_UTF8: &[u8] =
+    b"error: a word of the command line is not UTF-8\n\nFor more information, try '--help'.\n";
+
+/// What standard error is told of a failed write to standard output.
+const NOT_WRITTEN: &[u8] =
+    b"error: the output could not be written: disk full? Trust no verdict; run again\n";
+
 fn main(rt: HostRuntime) -> ExitCode {
     let mut source = StdSource::new(rt.stdin());
-    let mut sink = StdSink::new(rt.stdout());
+    let mut sink = Output::new(StdSink::new(rt.stdout()));
     let mut errors = StdSink::new(rt.stderr());
     let words = words_of(&rt);
+    if matches!(words, Err(Fault::Usage)) {
+        let _told = put_all(&mut errors, NOT_UTF8);
+    }
     let terminal = Terminal::new(rt.stderr());
     let told = if rt.stderr().is_terminal() {
         Some(&terminal)
@@ -40,6 +53,9 @@ fn main(rt: HostRuntime) -> ExitCode {
         Ok(status) => status,
         Err(_) => answer_fault(&mut sink, Fault::Memory),
     };
+    if sink.has_failed() {
+        let _told = put_all(&mut errors, NOT_WRITTEN);
+    }
     ExitCode::from(status)
 }
 
@@ -52,6 +68,7 @@ fn run<R: AllocGlobal + Threads + Wait + Sync, S: Source, K: Sink, E: Sink, P: P
     errors: &mut E,
     progress: &P,
 ) -> Result<u8, AllocError> {
+    // Made before the words are read, so that a failed allocation is `memory` whatever the command.
     let norec: Box<dyn Tm + Sync> = Box::new(rt.alloc(), NoRec::new(REGISTERS))?;
     let lock: Box<dyn Tm + Sync> = Box::new(rt.alloc(), GlobalLock::new(REGISTERS))?;
     let torn: Box<dyn Tm + Sync> = Box::new(rt.alloc(), Torn::new(REGISTERS))?;

@@ -6,7 +6,7 @@ use tmw_streams::{BoundedSink, IoFault, StdSink, put_all, put_with_number};
 /// Clears the terminal's line, and goes back to its start.
 const CLEAR: &[u8] = b"\r\x1b[K";
 
-/// Tells on a terminal how far a bench has come, in one line that is written over each time, and cleared at the end.
+/// A progress on a terminal: one line, which is written over each time and cleared at the end.
 #[derive(Drop)]
 pub struct Terminal<W> {
     errors: W,
@@ -31,7 +31,7 @@ impl<W: Write + Copy> Progress for Terminal<W> {
 }
 
 impl<W: Write + Copy> Terminal<W> {
-    /// Nothing is shown yet.
+    /// Makes a progress that shows nothing yet.
     pub fn new(errors: W) -> Terminal<W> {
         Terminal {
             errors,

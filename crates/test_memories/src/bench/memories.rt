@@ -7,13 +7,13 @@ use std::{hint, thread};
 use tmw_events::{Ix, Registers};
 use tmw_tm::{Did, Got, Tm, Tx};
 
-/// So often a thread looks for the other one.
+/// How often a thread looks for the other one.
 const LOOKS: u64 = 1_000_000_000;
 
-/// So many turns a commit is held: for longer than a worker that begins too early would wait for the others.
+/// How many turns a commit is held: for longer than a worker that begins too early would wait for the others.
 const TURNS: u64 = 20_000_000;
 
-/// So often a read lets others run. Where processors are busy this takes as long as another thread waits for its turn.
+/// How often a read lets others run. If processors are busy this takes as long as another thread waits for its turn.
 const YIELDS: u64 = 3;
 
 /// Waits until there are so many, and answers whether there were. It does not wait for ever.
@@ -168,7 +168,7 @@ impl Overlapping {
         }
     }
 
-    /// How often a transaction began while another was live.
+    /// Returns how often a transaction began while another was live.
     pub fn overlaps(&self) -> u64 {
         self.overlaps.load(Ordering::SeqCst)
     }
@@ -239,7 +239,7 @@ impl Holding {
         }
     }
 
-    /// How often the first thread had begun when the second thread's first commit was held, and its second one.
+    /// Returns how often the first thread had begun when the second thread's first commit was held, and its second one.
     pub fn noted(&self) -> [u64; 2] {
         [
             self.first.load(Ordering::SeqCst),

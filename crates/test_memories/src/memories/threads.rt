@@ -4,7 +4,7 @@ use std::sync::Wait;
 use std::thread;
 use std::thread::Threads;
 
-/// So many transactions each thread makes.
+/// How many transactions each thread makes.
 const EACH: u64 = 20_000;
 
 /// Whether a transaction that adds 1 to both registers was committed.

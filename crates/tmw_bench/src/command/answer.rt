@@ -17,8 +17,8 @@ use tmw_report::{FAULT_STATUS, Fault, answer_fault, report_text, status_of};
 use tmw_show::shown_text;
 use tmw_streams::{Sink, put_all};
 
-/// Writes the log's trace, the report's line and the line of the ends, and answers the exit status. The two lines are made before
-/// anything is written: where memory for them is refused, that fault stands in place of all.
+/// Writes the log's trace, the report line and the line of the ends, and returns the exit status. The two lines are
+/// made before anything is written: after a failed allocation only that fault's line is written.
 pub fn answer_run<K: Sink>(alloc: Global, sink: &mut K, run: &BenchRun) -> u8
     requires { run.now.driven.outcome.verdict ≢ StrictSoFar }
     ensures { IsPut K.to sink.old sink.new (bench_text run.now) (bench_status run.now) result
@@ -39,9 +39,11 @@ pub fn answer_run<K: Sink>(alloc: Global, sink: &mut K, run: &BenchRun) -> u8
     }
 }
 
-/// Writes what these flags ask for, and answers the exit status: the report's line and the line of the ends; or, by `show`, what `show`
-/// draws of the log, and the line of the ends; or, by both, the traces of the last window alone. The text is made before any of it
-/// goes out: where memory for it is refused, that fault stands in the place of all.
+/// Writes what these flags request, and returns the exit status.
+///
+/// Without `show`: the report line and the line of the ends. With `show`: what the command `show` draws of the log, and
+/// the line of the ends. With `show` and `trace`: the traces of the last window alone. The text is made before any of
+/// it is written: after a failed allocation only that fault's line is written.
 pub fn answer_hunt<K: Sink>(alloc: Global, sink: &mut K, flags: Flags, run: &HuntRun) -> u8
     requires own { run.now.shown.showing.verdict ≢ StrictSoFar }
     requires within { run.now.shown.showing.from + length

@@ -4,6 +4,6 @@ use tmw_drive::Driven;
 #[derive(Debug, Drop)]
 pub struct BenchRun {
     pub driven: Driven,
-    /// So many rounds were begun.
+    /// How many rounds were begun.
     pub rounds: u64,
 }

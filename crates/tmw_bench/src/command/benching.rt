@@ -19,7 +19,7 @@ use tmw_show::Shown;
 use tmw_streams::Source;
 use tmw_tm::Tm;
 
-/// Reads a workload up to the source's end, and carries it out by threads on the memory. The log is kept.
+/// Reads a workload up to the source's end, and runs it in threads on the memory. The log is kept.
 pub fn bench_source<S: Source, R: Threads + Wait + Sync>(
     rt: &R,
     alloc: Global,
@@ -38,7 +38,8 @@ pub fn bench_source<S: Source, R: Threads + Wait + Sync>(
     Ok(with_header(workload.registers, benched))
 }
 
-/// Reads a workload up to the source's end, and carries it out by threads on the memory. Of the log the last window is kept.
+/// Reads a workload up to the source's end, and runs it in threads on the memory. Of the log only the last window is
+/// kept.
 pub fn hunt_source<S: Source, R: Threads + Wait + Sync, P: Progress>(
     rt: &R,
     alloc: Global,

@@ -8,8 +8,8 @@ use std::alloc::{AllocError, Global};
 use tmw_drive::Ending;
 use tmw_ring::Refused;
 
-/// The line that tells how each thread has ended: an object in compact JSON with one text for each end, in their order, and then
-/// a line feed. It fails only where memory is refused.
+/// Returns the line that tells how each thread has ended: an object in compact JSON with one text for each end, in
+/// order, and a line feed. It fails only after a failed allocation.
 pub fn ends_text(alloc: Global, ends: &[Ending]) -> Result<String, AllocError>
     ensures { IfOk result (λ line. string_bytes line ≡ ends_line ends.now) }
 {

@@ -11,7 +11,7 @@ pub struct Flags {
 }
 
 impl Flags {
-    /// Whether the log's trace is asked for, and so the log is kept.
+    /// Tells whether the log's trace is requested, and so the log is kept.
     pub const fn asks_for_log(self) -> bool
         ensures { result ≡ asks_for_log self }
     {

@@ -12,14 +12,17 @@ use tmw_report::answer_fault;
 use tmw_streams::{Sink, Source};
 use tmw_tm::Tm;
 
-/// Carries the workload that the source tells out on the memory, by a thread for each of its scripts, judges what they record,
-/// and writes what the flags ask for: the line that reports the verdict, and the line that tells how each thread has ended; the
-/// log's trace before them, by `trace`; in the report's place what `show` draws of the log, by `show`; or no more than the traces of
-/// the last window, as `show --trace` writes them, by both. Only for the log's trace more of the log is kept than its last window;
-/// else `progress` is told how far the run has come. The memory should be fresh. The result is the exit status: 0 for a log that is
-/// opaque so far, 1 for one that is violated, 2 for one that is undecided, 4 for any fault, whose line alone is written.
+/// Runs the workload that the source has on the memory, in a thread for each of its scripts, judges what they record,
+/// and writes what the flags request.
 ///
-/// It returns if each call of the memory, of the source, of the sink and of `progress` does.
+/// Without flags it writes the report line, then the line that tells how each thread has ended. With `trace` the log's
+/// trace comes before both. With `show` what the command `show` draws comes in the report's place. With both it writes
+/// only the traces of the last window, as `show --trace` does. It keeps the whole log only for the log's trace; else it
+/// tells `progress` how far the run has come.
+///
+/// The memory should be new. The result is the exit status: 0 if the log is opaque so far, 1 if it is violated, 2 if it
+/// is undecided, 4 after any fault, whose line alone is written. It returns if each call of the memory, of the source,
+/// of the sink and of `progress` does.
 pub fn run_bench_cmd<S: Source, K: Sink, R: Threads + Wait + Sync, P: Progress>(
     rt: &R,
     alloc: Global,

@@ -12,8 +12,8 @@ use tmw_report::{FAULT_STATUS, Fault, answer_fault, report_text, status_of};
 use tmw_streams::{IoFault, Sink, put_all};
 use tmw_trace::write_trace;
 
-/// Writes the log's trace, where it is asked for, and the report's line, and answers the exit status. The line is made before
-/// anything is written: where memory for it is refused, that fault stands in place of all.
+/// Writes the log's trace if it is requested, then the report line, and returns the exit status. The line is made
+/// before anything is written: after a failed allocation only that fault's line is written.
 pub fn answer_driven<K: Sink>(alloc: Global, sink: &mut K, driven: &Driven, trace: bool) -> u8
     requires { driven.now.outcome.verdict ≢ StrictSoFar }
     ensures { IsPut K.to sink.old sink.new (driven_text trace driven.now) (driven_status driven.now)
@@ -30,8 +30,8 @@ pub fn answer_driven<K: Sink>(alloc: Global, sink: &mut K, driven: &Driven, trac
     }
 }
 
-/// Writes the log's trace, where it is asked for, and then this line. After a failed write a beginning of these went out, and not
-/// all.
+/// Writes the log's trace if it is requested, then this line. After a failed write a beginning of these was written,
+/// and not all.
 pub fn put_driven<K: Sink>(
     sink: &mut K,
     driven: &Driven,

@@ -11,7 +11,8 @@ pub struct Driven {
     pub outcome: Outcome,
 }
 
-/// The header of a log that begins with 0 in all registers: version two where it holds an add call.
+/// Returns the header of a log that begins with 0 in all registers: of version 2 if it has an add call, else of version
+/// 1.
 pub fn header_of(registers: Registers, log: &[Event]) -> Header
     ensures { IsHeaderOf registers log.now result }
 {

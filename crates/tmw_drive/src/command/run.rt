@@ -9,10 +9,11 @@ use tmw_report::answer_fault;
 use tmw_streams::{Sink, Source};
 use tmw_tm::Tm;
 
-/// Drives the workload that the source tells on the memory, judges its log within these bounds, and writes the log's trace,
-/// where it is asked for, and the line that reports the verdict. The memory should be fresh. The result is the exit status: 0
-/// for a log that is opaque so far, 1 for one that is violated, 2 for one that is undecided, 4 for any fault, whose line alone
-/// is written.
+/// Drives the workload that the source has on the memory, and judges its log within these bounds. It writes the log's
+/// trace if that is requested, then the report line.
+///
+/// The memory should be new. The result is the exit status: 0 if the log is opaque so far, 1 if it is violated, 2 if it
+/// is undecided, 4 after any fault, whose line alone is written.
 pub fn run_drive<S: Source, K: Sink>(
     alloc: Global,
     source: &mut S,
