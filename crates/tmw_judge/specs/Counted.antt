@@ -1,0 +1,59 @@
+-- What is counted of the events of a trace beside their verdict: those up to the event that the verdict names.
+use Rattle.std.specs.Prelude.{◌≡◌, ℕ, Bool, true, false, ◌-◌, ◌||◌, ◌++◌, List, length, max, take}
+use Rattle.tmw_events.specs.declared.event.Event.{Event}
+use Rattle.tmw_trace.specs.declared.header.Header.{Header}
+use Rattle.tmw_defs.specs.declared.criterion.Asked.{Asked}
+use Rattle.tmw_defs.specs.declared.verdict.Verdict.{Verdict}
+use Rattle.tmw_defs.specs.declared.verdict.Verdict.TheVariants.{OpaqueSoFar, StrictSoFar, Violated, Undecided, Malformed}
+use Rattle.tmw_monitor.specs.declared.bounds.Bounds.{Bounds}
+use Rattle.tmw_monitor.specs.declared.monitor.Monitor.{Monitor}
+use Rattle.tmw_monitor.specs.Monitor.{verdict_of}
+use Rattle.tmw_judge.specs.declared.by_criterion.ByCriterion.{ByCriterion}
+use Rattle.tmw_judge.specs.declared.by_criterion.ByCriterion.TheVariants.{Opacity, Strict, Both}
+use Rattle.tmw_judge.specs.declared.judges.Judges.{Judges}
+use Rattle.tmw_judge.specs.Judging.{AreFed}
+
+-- How many of so many events are counted: those up to the verdict's event, or before it where the history is malformed, or all.
+abbrev pub counted_by : ℕ → Verdict → ℕ
+counted_by events OpaqueSoFar = events
+counted_by events StrictSoFar = events
+counted_by events (Violated at) = at
+counted_by events (Undecided at why) = at
+counted_by events (Malformed at) = at - 1
+
+-- Of two verdicts the later one counts.
+abbrev pub counted_of : ℕ → ByCriterion Verdict → ℕ
+counted_of events (Opacity verdict) = counted_by events verdict
+counted_of events (Strict verdict) = counted_by events verdict
+counted_of events (Both opacity strict) = max (counted_by events opacity) (counted_by events strict)
+
+abbrev pub verdicts_of : ByCriterion Monitor → ByCriterion Verdict
+verdicts_of (Opacity monitor) = Opacity (verdict_of monitor)
+verdicts_of (Strict monitor) = Strict (verdict_of monitor)
+verdicts_of (Both opacity strict) = Both (verdict_of opacity) (verdict_of strict)
+
+-- The part of a history that is counted.
+abbrev pub counted_part : ByCriterion Verdict → List Event → List Event
+counted_part verdicts history = take (counted_of (length history) verdicts) history
+
+-- What it means that a value has counted this history of a run with so many registers.
+abbrev pub CountsFor : Type 0 → Type 1
+CountsFor C = ℕ → List Event → C → Type 0
+
+-- The monitors have been fed this history, and the part of it that is counted has been counted.
+pub record AreJudged {C : Type 0} (Counts : CountsFor C) (header : Header) (bounds : Bounds) (asked : Asked) (history : List Event)
+    (judges : Judges C) : Type 0 where
+  pub fed : AreFed header bounds asked history judges.monitors
+  pub counted : Counts header.registers.number (counted_part (verdicts_of judges.monitors) history) judges.counting
+
+-- The verdict says that nothing is wrong so far.
+abbrev pub is_open : Verdict → Bool
+is_open OpaqueSoFar = true
+is_open StrictSoFar = true
+is_open _ = false
+
+-- So does one of these.
+abbrev pub any_open : ByCriterion Verdict → Bool
+any_open (Opacity verdict) = is_open verdict
+any_open (Strict verdict) = is_open verdict
+any_open (Both opacity strict) = is_open opacity || is_open strict

@@ -1,0 +1,64 @@
+-- What is answered of a trace whose events are counted beside their verdict.
+use Rattle.std.specs.Prelude.{◌≡◌, ◌++◌, ℕ, List, Result, Ok, Err, length}
+use Rattle.tmw_lines.specs.TextFault.{HasTextFault}
+use Rattle.tmw_trace.specs.Text.{trace_grammar, trace_text, AreEvents}
+use Rattle.tmw_events.specs.declared.event.Event.{Event}
+use Rattle.tmw_trace.specs.declared.header.Header.{Header}
+use Rattle.tmw_defs.specs.declared.criterion.Asked.{Asked}
+use Rattle.tmw_defs.specs.declared.verdict.Verdict.{Verdict}
+use Rattle.tmw_defs.specs.Counts.{HasCounts}
+use Rattle.tmw_monitor.specs.declared.bounds.Bounds.{Bounds}
+use Rattle.tmw_report.specs.declared.fault.Fault.{Fault}
+use Rattle.tmw_report.specs.CommandRun.{AnswersTextFault, IsCommandRun}
+use Rattle.tmw_report.specs.SummaryLine.{summary_text}
+use Rattle.tmw_streams.specs.Streams.{FromSource, ToSink}
+use Rattle.tmw_judge.specs.declared.by_criterion.ByCriterion.{ByCriterion}
+use Rattle.tmw_judge.specs.declared.by_criterion.ByCriterion.TheVariants.{Opacity, Strict, Both}
+use Rattle.tmw_judge.specs.declared.judges.Judges.{Judges}
+use Rattle.tmw_judge.specs.declared.report.Report.{Report}
+use Rattle.tmw_judge.specs.declared.summed.Summed.{Summed}
+use Rattle.tmw_judge.specs.Counted.{AreJudged, CountsFor, counted_part}
+use Rattle.tmw_judge.specs.Judging.{AreReports, report_lines, report_status}
+
+abbrev pub told_verdicts : ByCriterion Report → ByCriterion Verdict
+told_verdicts (Opacity report) = Opacity report.verdict
+told_verdicts (Strict report) = Strict report.verdict
+told_verdicts (Both opacity strict) = Both opacity.verdict strict.verdict
+
+-- The bytes are the text of a trace, these are the reports on its history, and these the counts of the part of it up to the event
+-- that the last verdict names, before it where that is malformed, or of all of it.
+pub record IsSummedOf (bounds : Bounds) (asked : Asked) (bytes : List ℕ) (summed : Summed) : Type 0 where
+  pub header : Header
+  pub history : List Event
+  pub are_events : AreEvents header history
+  pub text : bytes ≡ trace_text header history
+  pub tell : AreReports header bounds asked history summed.reports
+  pub counts : HasCounts (counted_part (told_verdicts summed.reports) history) summed.counts
+
+-- This answers the bytes that a source told as `AnswersTrace` does, and tells the counts too.
+abbrev pub AnswersSummed : Bounds → Asked → Type 0 → List ℕ → Result Summed Fault → Type 0
+AnswersSummed bounds asked Ended bytes (Ok summed) = Ended × IsSummedOf bounds asked bytes summed
+AnswersSummed bounds asked Ended bytes (Err fault) = AnswersTextFault (HasTextFault trace_grammar Ended bytes) fault
+
+-- The lines of the reports, and behind them that of the counts. The status is the reports'.
+abbrev pub summed_lines : Summed → List ℕ
+summed_lines summed = report_lines summed.reports ++ summary_text summed.counts
+
+abbrev pub summed_status : Summed → ℕ
+summed_status summed = report_status summed.reports
+
+-- What a run of `judge --summary` does.
+abbrev pub SumsBytes : {S K : Type 0} → FromSource S → ToSink K → Bounds → Asked → S → S → K → K → ℕ → Type 0
+SumsBytes From To bounds asked = IsCommandRun From To (AnswersSummed bounds asked) summed_lines summed_status
+
+-- On the way there: the judges of a trace have been fed its history.
+pub record AreJudgesOf {C : Type 0} (Counts : CountsFor C) (bounds : Bounds) (asked : Asked) (bytes : List ℕ) (judges : Judges C) : Type 0 where
+  pub header : Header
+  pub history : List Event
+  pub are_events : AreEvents header history
+  pub text : bytes ≡ trace_text header history
+  pub judged : AreJudged Counts header bounds asked history judges
+
+abbrev pub AnswersFed : {C : Type 0} → CountsFor C → Bounds → Asked → Type 0 → List ℕ → Result (Judges C) Fault → Type 0
+AnswersFed Counts bounds asked Ended bytes (Ok judges) = Ended × AreJudgesOf Counts bounds asked bytes judges
+AnswersFed Counts bounds asked Ended bytes (Err fault) = AnswersTextFault (HasTextFault trace_grammar Ended bytes) fault

@@ -1,0 +1,32 @@
+-- The line that tells what a history has shown: compact JSON with its keys in byte order, and a line feed.
+use Rattle.std.specs.Prelude.{ℕ, List, ◌++◌, codes}
+use Rattle.std.specs.Fmt.{decimal}
+use Rattle.serde_json.specs.Data.{Data, Members, member, no_members, number, object, unsigned}
+use Rattle.tmw_defs.specs.declared.counts.Counts.{Counts}
+
+abbrev pub summary_text : Counts → List ℕ
+summary_text counts =
+    codes "{\"aborted\":" ++ (decimal counts.aborted
+    ++ (codes ",\"committed\":" ++ (decimal counts.committed
+    ++ (codes ",\"cuts\":" ++ (decimal counts.cuts
+    ++ (codes ",\"live\":" ++ (decimal counts.live
+    ++ (codes ",\"overlapping\":" ++ (decimal counts.overlapping
+    ++ (codes ",\"transactions\":" ++ (decimal counts.transactions
+    ++ (codes ",\"unasked\":" ++ (decimal counts.unasked
+    ++ (codes ",\"widest\":" ++ (decimal counts.widest ++ codes "}\n")))))))))))))))
+
+-- a member whose value is a number, and those behind it
+abbrev pub counted : List ℕ → ℕ → Members → Members
+counted key value rest = member key (number (unsigned value)) rest
+
+-- the object of which the line is the compact text
+abbrev pub summary_object : Counts → Data
+summary_object counts = object (
+    counted (codes "aborted") counts.aborted (
+    counted (codes "committed") counts.committed (
+    counted (codes "cuts") counts.cuts (
+    counted (codes "live") counts.live (
+    counted (codes "overlapping") counts.overlapping (
+    counted (codes "transactions") counts.transactions (
+    counted (codes "unasked") counts.unasked (
+    counted (codes "widest") counts.widest no_members))))))))
