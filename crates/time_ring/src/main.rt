@@ -13,7 +13,7 @@ use run::run;
 use std::env;
 use std::process::ExitCode;
 
-/// The exit status where the words are wrong, or the ring or its threads can't be made.
+/// The exit status if the words are wrong, or the ring or its threads can't be made.
 const FAULT_STATUS: u8 = 4;
 
 fn main(rt: HostRuntime) -> ExitCode {

@@ -20,7 +20,7 @@ pub enum Step {
     Read,
     /// The reader stores the next front. It has taken the event.
     Free,
-    /// The writer stops for good, wherever it is.
+    /// The writer stops forever, however far it has come.
     Stop(Ix),
 }
 
