@@ -1,5 +1,5 @@
-//! Times a running ring, and is no part of the product: `measure/ring.sh` runs it. Writers record events in threads of their own,
-//! the main thread takes them, and one line says how many it has taken.
+//! Times a running ring, and is no part of the product: `measure/ring.sh` runs it. Writers record events in threads
+//! of their own, the main thread takes them, and one line says how many it has taken.
 #![tactic(auto)]
 
 mod pause;

@@ -11,8 +11,8 @@ use std::sync::Arc;
 use tmw_pump::{ForgettingPump, Pumped};
 use tmw_ring::Ring;
 
-/// The end by which one thread has judged what the recorders record, by the definition of opacity (Guerraoui and Kapalka 2008,
-/// section 5). It keeps no event that it has judged.
+/// The end by which one thread has judged what the recorders record, by the definition of opacity (Guerraoui and
+/// Kapalka 2008, section 5). It keeps no event that it has judged.
 #[derive(Drop)]
 pub struct Watch {
     pub(crate) alloc: Global,
