@@ -20,7 +20,7 @@ pub struct Watch {
     pub(crate) pump: ForgettingPump,
     // How many recorders there are.
     pub(crate) recorders: u64,
-    pub ghost of_ring: { ReaderOf ring.value pump.reader },
+    pub ghost of_ring: { ReaderOf ring.value (reader_of pump) },
     pub ghost counted: { recorders ≡ ring.value.size.writers },
 }
 
