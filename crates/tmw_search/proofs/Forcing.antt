@@ -1,12 +1,13 @@
 -- The masks of a window's writers: a register that two of them write, or that one writes blindly, has its bit.
-use Rattle.std.proofs.Common.{◌≡◌, ◌==◌, ◌&&◌, ◌||◌, ◌⊎◌, ◌+◌, ◌*◌, ◌%◌, ◌^◌, ◌<◌, ◌≤◌, ℕ, zero, suc, Bool, true, false, not, List, [], ◌∷◌, map, Option, Some, None, IsTrue, bit_and, bit_or, cond, w8, refl, sym, ap, ◌∙◌, inl, inr, arith}
+use Rattle.std.proofs.Common.{◌≡◌, ◌==◌, ◌&&◌, ◌||◌, ◌⊎◌, ◌+◌, ◌-◌, ◌*◌, ◌%◌, ◌^◌, ◌<◌, ◌≤◌, min, ℕ, zero, suc, Bool, true, false, not, List, [], ◌∷◌, length, map, take, Option, Some, None, IsTrue, bit_and, bit_or, cond, w8, refl, sym, ap, ◌∙◌, inl, inr, arith}
 use Rattle.std.specs.Int.{bit_at, bit_not}
 use Rattle.std.specs.List.{list_all, list_any, count_by}
-use Rattle.std.specs.Prelude.{slice_get, option_map}
-use Rattle.std.proofs.lemmas.Option.{slice_get-map}
-use Rattle.std.proofs.lemmas.Bool.{and_parts, and_from, or_right, cases_Bool, not-true, cases_lt, eqb-true, eqb-false, eq-eqb}
+use Rattle.std.specs.Prelude.{nat_le, slice_get, option_map}
+use Rattle.std.proofs.lemmas.Option.{slice_get-map, slice_get_within, get_or_from_slice_get}
+use Rattle.std.proofs.lemmas.Bool.{and_parts, and_from, or_right, cases_Bool, not-true, cases_lt, eqb-true, eqb-false, eq-eqb, le-leb, lt-leb}
 use Rattle.std.proofs.lemmas.List.Folds.{list_all-map}
-use Rattle.std.proofs.lemmas.List.Sums.{sum_by-cons}
+use Rattle.std.proofs.lemmas.List.{take_all}
+use Rattle.std.proofs.lemmas.List.Sums.{sum_by-cons, sum_by_more}
 use Rattle.std.proofs.Math.Nat.{mod-lt}
 use Rattle.std.proofs.lemmas.Nat.{or_of_8, pow_pos}
 use Rattle.std.proofs.lemmas.Nat.Bits.{bit_at-zero, bit_at-lt, bit_at_and, bit_at_not, bit_at_or, bit_at_set_same, bit_at_set_other}
@@ -21,7 +22,7 @@ use Rattle.tmw_cuts.specs.Standing.{before_of, view_of}
 use Rattle.tmw_cuts.proofs.Bits.{bit_at-before_of}
 use Rattle.tmw_cuts.specs.Views.{View, bit}
 use Rattle.tmw_cuts.specs.Written.{with_bit, with_new, written_by, needed_by, blind_by}
-use Rattle.tmw_search.specs.ForcedEnds.{shared_by, is_without_blind, shows_writer, shows_way, AreSettled, AreDecided, AreForced}
+use Rattle.tmw_search.specs.ForcedEnds.{IsMaskOf, is_shared, is_without_blind, shows_writer, shows_way, AreSettled, AreDecided, AreForced}
 
 -- a bit that was set stays, and that of the register is set
 set-here : (mask r : ℕ) (q : Ix) → (q.number == r) ≡ true → bit_at (with_bit mask q.number) r ≡ 1
@@ -164,61 +165,72 @@ blind-has ops r some =
     let none = needed-blind ops 0 0 r (bit_at-zero r) (bit_at-zero r) some in
     omega (arith, bit_at_and (written_by 0 ops) (bit_not w8 (needed_by 0 0 ops)) r, one, none, bit_at_not w8 (needed_by 0 0 ops) r (needed-lt ops 0 0 (omega arith)) (writes-lt ops r written))
 
-shared-stays : (xs : List View) (once twice r : ℕ) → bit_at twice r ≡ 1 → bit_at (shared_by once twice xs) r ≡ 1
-shared-stays [] once twice r has = has
-shared-stays (x ∷ xs) once twice r has =
-    elim (cases_Bool (is_committed x.status)) [
-      | inl is ↦
-          let own = written_by 0 x.ops in
-          let more : bit_at (bit_or twice (bit_and once own)) r ≡ 1 =
-          omega (arith, bit_at_or twice (bit_and once own) r, has, bit_at-lt (bit_and once own) r) in
-          rw is (shared-stays xs (bit_or once own) (bit_or twice (bit_and once own)) r more)
-      | inr other ↦ rw other (shared-stays xs once twice r has)
-    ]
-
 abbrev flag : Bool → ℕ
 flag b = cond b 1 0
 
-count-one : (r : ℕ) (x : View) (xs : List View) → shows_writer r x ≡ true → count_by (shows_writer r) (x ∷ xs) ≡ 1 + count_by (shows_writer r) xs
-count-one r x xs is = sum_by-cons (λ y. flag (shows_writer r y)) x xs ∙ ap (λ b. flag b + count_by (shows_writer r) xs) is
+writer-flag : (r : ℕ) (x : View) → is_committed x.status ≡ true → flag (shows_writer r x) ≡ bit (writes r x.ops)
+writer-flag r x is = rw is (flag_is (writes r x.ops))
+  where
+    flag_is : (b : Bool) → flag b ≡ bit b
+    flag_is true = refl
+    flag_is false = refl
 
-count-none : (r : ℕ) (x : View) (xs : List View) → shows_writer r x ≡ false → count_by (shows_writer r) (x ∷ xs) ≡ 0 + count_by (shows_writer r) xs
-count-none r x xs other = sum_by-cons (λ y. flag (shows_writer r y)) x xs ∙ ap (λ b. flag b + count_by (shows_writer r) xs) other
+-- The one mask has the registers that at least one of these writes, and the other those that at least two of them write.
+pub record TellWriters (once twice : ℕ) (xs : List View) : Type 0 where
+  pub one : (r : ℕ) → bit_at once r ≡ min 1 (count_by (shows_writer r) xs)
+  pub two : (r : ℕ) → bit_at twice r ≡ min 1 (count_by (shows_writer r) xs - 1)
 
--- a register that two write is shared
-shared-has : (xs : List View) (once twice r : ℕ) → 2 ≤ bit_at once r + count_by (shows_writer r) xs → bit_at (shared_by once twice xs) r ≡ 1
-shared-has [] once twice r two = absurd (omega (arith, two, bit_at-lt once r))
-shared-has (x ∷ xs) once twice r two =
-    let own = written_by 0 x.ops in
-    elim (cases_Bool (is_committed x.status)) [
-      | inl is ↦
-          let both = bit_at_or once own r in
-          elim (cases_Bool (writes r x.ops)) [
-            | inl some ↦
-                let own_has = written-has x.ops 0 r some in
-                let one = count-one r x xs (rw is some) in
-                elim (bit_cases once r) [
-                  | inl none ↦ rw is (shared-has xs (bit_or once own) (bit_or twice (bit_and once own)) r
-                      (omega (arith, one, two, none, both, own_has)))
-                  | inr has ↦
-                      let more : bit_at (bit_or twice (bit_and once own)) r ≡ 1 =
-                      omega (arith, bit_at_or twice (bit_and once own) r, bit_at_and once own r, has, own_has, bit_at-lt twice r) in
-                      rw is (shared-stays xs (bit_or once own) (bit_or twice (bit_and once own)) r more)
-                ]
-            | inr none ↦
-                let same = count-none r x xs (rw is none) in
-                rw is (shared-has xs (bit_or once own) (bit_or twice (bit_and once own)) r (omega (arith, same, two, both)))
-          ]
-      | inr other ↦
-          let same = count-none r x xs (rw other refl) in
-          rw other (shared-has xs once twice r (omega (arith, same, two)))
-    ]
+pub tell-none : (xs : List View) → TellWriters 0 0 (take 0 xs)
+tell-none xs = record { one = bit_at-zero; two = bit_at-zero }
 
-few-writers : (xs : List View) (r : ℕ) → bit_at (shared_by 0 0 xs) r ≡ 0 → count_by (shows_writer r) xs ≤ 1
-few-writers xs r none =
-    elim (cases_lt 1 (count_by (shows_writer r) xs)) [
-      | inl more ↦ absurd (omega (arith, none, shared-has xs 0 0 r (omega (arith, more))))
-      | inr few ↦ few
+count-more : (xs : List View) (i r : ℕ) (x : View) → slice_get xs i ≡ Some x
+    → count_by (shows_writer r) (take (i + 1) xs) ≡ count_by (shows_writer r) (take i xs) + flag (shows_writer r x)
+count-more xs i r x at =
+    sum_by_more (λ y. flag (shows_writer r y)) xs i x (slice_get_within xs i x at)
+    ∙ ap (λ y. count_by (shows_writer r) (take i xs) + flag (shows_writer r y)) (get_or_from_slice_get xs i x x at)
+
+pub tell-other : (xs : List View) (i once twice : ℕ) (x : View) → slice_get xs i ≡ Some x → is_committed x.status ≡ false
+    → TellWriters once twice (take i xs) → TellWriters once twice (take (i + 1) xs)
+tell-other xs i once twice x at other tells = record {
+  one = λ r. tells.one r ∙ ap (λ n. min 1 n) (same r);
+  two = λ r. tells.two r ∙ ap (λ n. min 1 (n - 1)) (same r);
+}
+  where
+    same : (r : ℕ) → count_by (shows_writer r) (take i xs) ≡ count_by (shows_writer r) (take (i + 1) xs)
+    same r =
+        let none : flag (shows_writer r x) ≡ 0 = rw other refl in
+        omega (arith, count-more xs i r x at, none)
+
+pub tell-more : (xs : List View) (i once twice own : ℕ) (x : View) → slice_get xs i ≡ Some x → is_committed x.status ≡ true
+    → own ≡ written_by 0 x.ops → TellWriters once twice (take i xs)
+    → TellWriters (bit_or once own) (bit_or twice (bit_and once own)) (take (i + 1) xs)
+tell-more xs i once twice own x at is own_is tells = record {
+  one = λ r. omega (arith, bit_at_or once own r, tells.one r, own_has r, more r, bit_at-lt own r);
+  two = λ r. omega (arith, bit_at_or twice (bit_and once own) r, bit_at_and once own r, tells.one r, tells.two r, own_has r, more r, bit_at-lt own r);
+}
+  where
+    own_has : (r : ℕ) → bit_at own r ≡ bit (writes r x.ops)
+    own_has r = rw own_is (bit_at-written_by x.ops r)
+
+    more : (r : ℕ) → count_by (shows_writer r) (take (i + 1) xs) ≡ count_by (shows_writer r) (take i xs) + bit (writes r x.ops)
+    more r = count-more xs i r x at ∙ ap (λ n. count_by (shows_writer r) (take i xs) + n) (writer-flag r x is)
+
+pub tell-all : (xs : List View) (i once twice : ℕ) → length xs ≤ i → TellWriters once twice (take i xs) → IsMaskOf (is_shared xs) twice
+tell-all xs i once twice over tells r = rw (take_all i xs over) at tells.two r ∙ least (count_by (shows_writer r) xs)
+  where
+    least : (n : ℕ) → min 1 (n - 1) ≡ bit (nat_le 2 n)
+    least n =
+        elim (cases_lt n 2) [
+          | inl few ↦ rw (lt-leb 2 n few) (omega (arith, few))
+          | inr two ↦ rw (le-leb 2 n two) (omega (arith, two))
+        ]
+
+few-writers : (xs : List View) (registers r : ℕ) → IsMaskOf (is_shared xs) registers → bit_at registers r ≡ 0
+    → count_by (shows_writer r) xs ≤ 1
+few-writers xs registers r is none =
+    elim (cases_lt (count_by (shows_writer r) xs) 2) [
+      | inl few ↦ omega (arith, few)
+      | inr two ↦ absurd (let one = is r in let shared = rw (le-leb 2 (count_by (shows_writer r) xs) two) at one in omega (arith, none, shared))
     ]
 
 -- one that writes none of the registers blindly does not write this one so
@@ -245,15 +257,12 @@ none-blind registers r (x ∷ xs) one all =
     and_from _ _ (not-blind registers r x one here) (none-blind registers r xs one rest)
 
 -- what the two tests tell
-pub none-shared : (xs : List View) → shared_by 0 0 xs ≡ 0 → AreForced xs
-none-shared xs none = λ r. inl (few-writers xs r (ap (λ n. bit_at n r) none ∙ bit_at-zero r))
+pub none-shared : (xs : List View) (registers : ℕ) → IsMaskOf (is_shared xs) registers → registers ≡ 0 → AreForced xs
+none-shared xs registers is none = λ r. inl (few-writers xs registers r is (ap (λ n. bit_at n r) none ∙ bit_at-zero r))
 
-pub shared-decided : (xs : List View) (registers : ℕ) → registers ≡ shared_by 0 0 xs → AreDecided registers xs → AreForced xs
+pub shared-decided : (xs : List View) (registers : ℕ) → IsMaskOf (is_shared xs) registers → AreDecided registers xs → AreForced xs
 shared-decided xs registers is decided = λ r.
-    elim (bit_cases registers r) [
-      | inl none ↦ inl (few-writers xs r (ap (λ n. bit_at n r) (sym is) ∙ none))
-      | inr one ↦ inr (decided r one)
-    ]
+    elim (bit_cases registers r) [ inl none ↦ inl (few-writers xs registers r is none) | inr one ↦ inr (decided r one) ]
 
 -- what a window shows is forced where its transactions are
 count-map : (r : ℕ) (all ts : List Txn) → count_by (shows_writer r) (map (view_of all) ts) ≡ count_by (is_writer r) ts

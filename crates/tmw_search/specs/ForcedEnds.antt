@@ -1,5 +1,5 @@
 -- What the search sees of a forced end state, and the end states that it finds where the end state is forced.
-use Rattle.std.specs.Prelude.{◌≡◌, ◌==◌, ◌&&◌, ◌||◌, ◌≤◌, ◌⊎◌, ℕ, Bool, not, List, [], ◌∷◌, Some, IsTrue, bit_and, bit_or, slice_get, if◌then◌else◌}
+use Rattle.std.specs.Prelude.{◌≡◌, ◌==◌, ◌&&◌, ◌||◌, ◌≤◌, ◌⊎◌, ℕ, Bool, not, nat_le, List, Some, IsTrue, bit_and, slice_get}
 use Rattle.std.specs.Int.{bit_at}
 use Rattle.std.specs.List.{Contains, list_all, count_by}
 use Rattle.tmw_defs.specs.declared.criterion.Criterion.{Criterion}
@@ -7,19 +7,11 @@ use Rattle.tmw_search.specs.ForcedTransactions.{is_committed, writes, writes_bli
 use Rattle.tmw_defs.specs.Criteria.{EndsBy}
 use Rattle.tmw_defs.specs.History.{Txn, is_ended}
 use Rattle.tmw_defs.specs.Opaque.{State}
-use Rattle.tmw_cuts.specs.Views.{View}
-use Rattle.tmw_cuts.specs.Written.{written_by, blind_by}
+use Rattle.tmw_cuts.specs.Views.{View, bit}
+use Rattle.tmw_cuts.specs.Written.{blind_by}
 use Rattle.tmw_search.specs.declared.end_states.EndStates.{EndStates}
 use Rattle.tmw_search.specs.Ended.{AreMembers}
 use Rattle.tmw_search.specs.ShownTransactions.{ShowsTransactions}
-
--- the registers of `twice`, and those that two of these write that have committed, or one of them where it is in `once`
-abbrev pub shared_by : ℕ → ℕ → List View → ℕ
-shared_by once twice [] = twice
-shared_by once twice (x ∷ xs) =
-    if is_committed x.status
-    then shared_by (bit_or once (written_by 0 x.ops)) (bit_or twice (bit_and once (written_by 0 x.ops))) xs
-    else shared_by once twice xs
 
 -- it has not committed, or writes none of these registers blindly
 abbrev pub is_without_blind : ℕ → View → Bool
@@ -27,6 +19,14 @@ is_without_blind registers x = not (is_committed x.status) || (bit_and registers
 
 abbrev pub shows_writer : ℕ → View → Bool
 shows_writer r x = is_committed x.status && writes r x.ops
+
+-- two or more of them have committed and write the register
+abbrev pub is_shared : List View → ℕ → Bool
+is_shared xs r = nat_le 2 (count_by (shows_writer r) xs)
+
+-- Bit r of the mask is 1 exactly where the test holds of r.
+abbrev pub IsMaskOf : (ℕ → Bool) → ℕ → Type 0
+IsMaskOf holds mask = (r : ℕ) → bit_at mask r ≡ bit (holds r)
 
 -- The one at this place does not write the register, or precedes the other, or leaves this value there.
 abbrev pub shows_way : ℕ → ℕ → View → ℕ → View → Bool

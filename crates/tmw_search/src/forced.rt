@@ -1,7 +1,7 @@
 ghost use Rattle.std.specs.Prelude.{◌≡◌, ◌<◌, ◌≤◌, IfOk, IfSome, IsTrue, length, map};
 ghost use Rattle.std.specs.List.{list_all};
 ghost use Rattle.tmw_cuts.specs.Views.{view};
-ghost use Rattle.tmw_search.specs.ForcedEnds.{shared_by, is_without_blind, shows_writer, shows_way, IsWriterAt, AreSettled, AreDecided, AreForced, AreForcedEnds};
+ghost use Rattle.tmw_search.specs.ForcedEnds.{IsMaskOf, is_shared, is_without_blind, shows_writer, shows_way, IsWriterAt, AreSettled, AreDecided, AreForced, AreForcedEnds};
 ghost use Rattle.tmw_search.specs.ForcedTransactions.{left_in};
 
 use crate::end_states::EndStates;
@@ -11,8 +11,8 @@ use tmw_cuts::{State, States, Txn};
 use tmw_defs::{Criterion, Status};
 
 /// The registers that more than one committed transaction writes, as a mask.
-fn shared_by(items: &[Txn]) -> u8
-    ensures { result ≡ shared_by 0 0 (map view items.now) }
+fn shared_registers(items: &[Txn]) -> u8
+    ensures { IsMaskOf (is_shared (map view items.now)) result }
 {
     let mut once = 0;
     let mut twice = 0;
@@ -122,7 +122,7 @@ pub fn is_forced(items: &[Txn]) -> bool
     if items.len() < 2 {
         return true;
     }
-    let shared = shared_by(items);
+    let shared = shared_registers(items);
     shared == 0 || are_settled(items, shared)
 }
 
