@@ -1,10 +1,10 @@
 -- Layers in which a transaction that leaves each state as it is is placed as soon as it can be: each end state is still reached.
-use Rattle.std.proofs.Common.{◌≡◌, ◌↔◌, ◌==◌, ◌||◌, ◌+◌, ◌-◌, ◌*◌, ◌%◌, ◌^◌, ◌<◌, ◌≤◌, ℕ, zero, suc, Bool, true, false, List, [], ◌∷◌, length, map, flat_map, Option, Some, None, IsTrue, bit_or, refl, sym, ap, subst, ◌∙◌, inl, inr, arith}
+use Rattle.std.proofs.Common.{◌≡◌, ◌↔◌, ◌==◌, ◌+◌, ◌-◌, ◌*◌, ◌%◌, ◌^◌, ◌<◌, ◌≤◌, ℕ, zero, suc, Bool, true, false, List, [], ◌∷◌, length, map, flat_map, Option, Some, None, IsTrue, bit_or, refl, sym, ap, subst, ◌∙◌, inl, inr, arith}
 use Rattle.std.specs.Int.{bit_at}
-use Rattle.std.specs.List.{Contains}
+use Rattle.std.specs.List.{Contains, list_all}
 use Rattle.std.specs.Prelude.{slice_get}
-use Rattle.std.proofs.lemmas.Bool.{and_parts, cases_Bool, eqb-true, eq-eqb}
-use Rattle.std.proofs.lemmas.Nat.Bits.{bit_at-zero, bit_at_ones}
+use Rattle.std.proofs.lemmas.Bool.{and_parts, cases_Bool, eqb-true}
+use Rattle.std.proofs.lemmas.Nat.Bits.{bit_at_ones}
 use Rattle.std.proofs.lemmas.Option.{slice_get_within}
 use Rattle.tmw_defs.specs.declared.criterion.Criterion.{Criterion}
 use Rattle.tmw_defs.specs.declared.op.Op.{Op}
@@ -16,30 +16,25 @@ use Rattle.tmw_defs.specs.Criteria.{EndsBy}
 use Rattle.tmw_defs.specs.History.{Txn, status_of}
 use Rattle.tmw_defs.specs.Opaque.{State, Placed, may_hold, may_be, reads_hold, after, after_writes}
 use Rattle.tmw_cuts.specs.Views.{View}
-use Rattle.tmw_cuts.specs.Written.{written_by}
-use Rattle.tmw_search.specs.ForcedTransactions.{writes}
+use Rattle.tmw_cuts.specs.Written.{is_read}
 use Rattle.tmw_search.specs.Layers.{reads_asked, AreAside, InLayerBy, IsStep}
 use Rattle.tmw_search.specs.Nexts.{end_at, is_next, is_idle, is_idle_next, idle_from, idle_or_all, pruned_from}
 use Rattle.tmw_search.specs.Pairs.{IsAside, first_pair}
 use Rattle.tmw_search.specs.ShownTransactions.{ShowsTransaction, ShowsTransactions, NoneBeforeItself}
 use Rattle.tmw_search.specs.Ended.{HaveLast}
 use Rattle.tmw_cuts.proofs.FirstMembers.{contains_here, contains_cases, contains_none}
-use Rattle.tmw_search.proofs.Forcing.{written-has}
 use Rattle.tmw_search.proofs.LayerLists.{contains_flat, contains-flat, first-layer}
 use Rattle.tmw_search.proofs.LayersBy.{fits-by, layer-step_by, layer_step-by, layer-first, layer_first, layer-last_by, layer_last-by}
 use Rattle.tmw_search.proofs.LayersProof.{same_place}
 use Rattle.tmw_cuts.proofs.Bits.{mask-set, bit_at-more_same, bit_at-more_other}
 use Rattle.tmw_search.proofs.LayerSteps.{IsMade, after-way, step-made_at, step_of, step-made, slice_get_some}
 
-itself : (n : ℕ) (b : Bool) → ((n == n) || b) ≡ false → ⊥
-itself n b none = let is : (n == n) ≡ true = eq-eqb n n refl in let k = rw is at none in cc
-
--- operations that write no register leave each state
-none-written : (ops : List Op) (s : State) → ((r : ℕ) → writes r ops ≡ false) → after_writes s ops ≡ s
-none-written [] s none = refl
-none-written (Read q v ∷ ops) s none = none-written ops s none
-none-written (Write q v ∷ ops) s none = absurd (itself q.number (writes q.number ops) (none q.number))
-none-written (Add q d v ∷ ops) s none = absurd (itself q.number (writes q.number ops) (none q.number))
+-- operations that are reads leave each state
+only-read : (ops : List Op) (s : State) → list_all is_read ops ≡ true → after_writes s ops ≡ s
+only-read [] s all = refl
+only-read (Read q v ∷ ops) s all = only-read ops s all
+only-read (Write q v ∷ ops) s all = absurd (cc)
+only-read (Add q d v ∷ ops) s all = absurd (cc)
 
 -- the transaction leaves each state as it is, however it is placed
 abbrev pub LeavesEach : Txn → Type 0
@@ -109,14 +104,8 @@ placed-first criterion ts (suc n) mask i s end t out at leaves (above, u, x, res
 leaves-view : (x : View) (s : State) (by : Bool) → IsTrue (is_idle x) → IsTrue (may_hold x.status by) → end_at x s by ≡ s
 leaves-view x s false idle may = refl
 leaves-view x s true idle may =
-    let none : (written_by 0 x.ops == 0) ≡ true = rw may at idle in
-    none-written x.ops s (λ r. elim (cases_Bool (writes r x.ops)) [
-      | inl some ↦ absurd (
-          let one = written-has x.ops 0 r some in
-          let zero_is = ap (λ (m : ℕ). bit_at m r) (eqb-true (written_by 0 x.ops) 0 none) ∙ bit_at-zero r in
-          omega (arith, one, zero_is))
-      | inr other ↦ other
-    ])
+    let reads : list_all is_read x.ops ≡ true = rw may at idle in
+    only-read x.ops s reads
 
 leaves-each : (ts : List Txn) (x : View) (t : Txn) → ShowsTransaction ts x t → IsTrue (is_idle x) → LeavesEach t
 leaves-each ts x t shows idle = λ by s may.

@@ -4,8 +4,8 @@ use Rattle.std.specs.Int.{bit_at}
 use Rattle.std.specs.List.{list_all}
 use Rattle.tmw_defs.specs.Opaque.{zeros, after_writes}
 use Rattle.tmw_cuts.specs.Views.{View, bit}
-use Rattle.tmw_cuts.specs.Written.{is_write}
-use Rattle.tmw_search.specs.ForcedTransactions.{is_committed, writes}
+use Rattle.tmw_cuts.specs.Written.{is_write, writes}
+use Rattle.tmw_search.specs.ForcedTransactions.{is_committed}
 use Rattle.tmw_search.specs.declared.lasts.Last.{Last}
 use Rattle.tmw_search.specs.declared.reach.Writers.{Writers}
 

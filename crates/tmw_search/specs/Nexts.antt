@@ -1,10 +1,11 @@
 -- What placing one transaction more makes of a set of placed ones and the state that they have led to.
 use Rattle.std.specs.Prelude.{◌==◌, ◌&&◌, ◌||◌, ◌+◌, ◌*◌, ◌^◌, ◌%◌, ◌++◌, ℕ, Bool, true, false, not, List, [], ◌∷◌, Option, Some, None, bit_and, bit_or, if◌then◌else◌}
 use Rattle.std.specs.Int.{bit_at, bit_not, w8}
+use Rattle.std.specs.List.{list_all}
 use Rattle.tmw_defs.specs.declared.criterion.Criterion.{Criterion}
 use Rattle.tmw_defs.specs.Opaque.{State, may_hold, reads_hold, after_writes}
 use Rattle.tmw_cuts.specs.Views.{View}
-use Rattle.tmw_cuts.specs.Written.{written_by}
+use Rattle.tmw_cuts.specs.Written.{is_read}
 use Rattle.tmw_search.specs.Layers.{reads_asked}
 
 -- the transaction at the place isn't placed, and none that isn't precedes it
@@ -30,9 +31,9 @@ abbrev pub nexts_from : Criterion → ℕ → List View → ℕ × State → Lis
 nexts_from criterion place [] p = []
 nexts_from criterion place (x ∷ xs) p = next_at criterion x place p ++ nexts_from criterion (place + 1) xs p
 
--- no completion holds it, or its operations write nothing: it leaves each state as it is
+-- no completion holds it, or each of its operations is a read: it leaves each state as it is
 abbrev pub is_idle : View → Bool
-is_idle x = not (may_hold x.status true) || (written_by 0 x.ops == 0)
+is_idle x = not (may_hold x.status true) || list_all is_read x.ops
 
 -- it may come next, leaves each state as it is, and read what the state has
 abbrev pub is_idle_next : View → ℕ → ℕ × State → Bool

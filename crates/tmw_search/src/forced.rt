@@ -1,7 +1,8 @@
 ghost use Rattle.std.specs.Prelude.{◌≡◌, ◌<◌, ◌≤◌, IfOk, IfSome, IsTrue, length, map};
 ghost use Rattle.std.specs.List.{list_all};
+ghost use Rattle.tmw_cuts.specs.Registers.{IsMaskOf};
 ghost use Rattle.tmw_cuts.specs.Views.{view};
-ghost use Rattle.tmw_search.specs.ForcedEnds.{IsMaskOf, is_shared, is_without_blind, shows_writer, shows_way, IsWriterAt, AreSettled, AreDecided, AreForced, AreForcedEnds};
+ghost use Rattle.tmw_search.specs.ForcedEnds.{is_shared, is_without_blind, shows_writer, shows_way, IsWriterAt, AreSettled, AreDecided, AreForced, AreForcedEnds};
 ghost use Rattle.tmw_search.specs.ForcedTransactions.{left_in};
 
 use crate::end_states::EndStates;
@@ -26,18 +27,20 @@ fn shared_registers(items: &[Txn]) -> u8
     twice
 }
 
-/// Whether it has not committed, or writes none of these registers blindly.
-fn is_without_blind(item: &Txn, registers: u8) -> bool
-    ensures { result ≡ is_without_blind registers (view item.now) }
+/// Whether it has not committed, or does not write the register blindly.
+fn is_without_blind(item: &Txn, register: usize) -> bool
+    requires { register < 8 }
+    ensures { result ≡ is_without_blind register (view item.now) }
 {
-    item.status != Status::Committed || registers & item.blind() == 0
+    item.status != Status::Committed || item.blind() >> register & 1 == 0
 }
 
-/// Whether none of them has committed and writes one of these registers blindly.
-fn are_without_blind(items: &[Txn], registers: u8) -> bool
-    ensures { result ≡ list_all (λ item. is_without_blind registers (view item)) items.now }
+/// Whether none of them has committed and writes the register blindly.
+fn are_without_blind(items: &[Txn], register: usize) -> bool
+    requires { register < 8 }
+    ensures { result ≡ list_all (λ item. is_without_blind register (view item)) items.now }
 {
-    items.iter().all(|item| is_without_blind(item, registers))
+    items.iter().all(|item| is_without_blind(item, register))
 }
 
 /// Whether it has committed and writes the register.
@@ -104,7 +107,7 @@ fn are_settled(items: &[Txn], registers: u8) -> bool
 {
     for register in 0..8usize {
         if registers >> register & 1 == 1
-            && !are_without_blind(items, 1 << register)
+            && !are_without_blind(items, register)
             && !is_settled(items, register)
         {
             return false;
