@@ -1,14 +1,11 @@
 use Rattle.std.proofs.Common.{◌∙◌, refl}
 use Rattle.tmw_defs.specs.Opaque.{zeros}
-use Rattle.tmw_cuts.specs.Written.{writes}
-use Rattle.tmw_search.proofs.Forcing.{mask-bit}
 use Rattle.tmw_search.proofs.BlindProof.{reads-writes}
 use Rattle.tmw_search.proofs.lasts.last_of.Goals as goal
 
 pub returns-in-Some : goal.returns-in-Some
 returns-in-Some c = λ blind. (
-  λ r within.
-      mask-bit (λ k. writes k c.args.item.now.ops.items) c.written.result r c.written.ensures ∙ rw c.in-Committed.is refl,
+  λ r. c.written.ensures r ∙ rw c.in-Committed.is refl,
   λ is. c.in-Some.ensures.1,
 )
 
