@@ -33,7 +33,7 @@ mask-bit holds mask r is =
 pub no-bit : (mask r : ℕ) → (bit_at mask r == 0) ≡ not (bit_at mask r == 1)
 no-bit mask r = elim (bit_cases mask r) [ inl none ↦ rw none refl | inr one ↦ rw one refl ]
 
--- the mask of what operations write has no bit where each of them is a read
+-- the mask of what operations write has no bit exactly where each of them is a read
 pub reads-mask : (ops : List Op) (mask : ℕ) → IsMaskOf (λ r. writes r ops) mask → (mask == 0) ≡ list_all is_read ops
 reads-mask ops mask is =
     elim (cases_Bool (list_all is_read ops)) [
