@@ -1,5 +1,5 @@
-//! Times a running ring, and is no part of the product: `measure/ring.sh` runs it. Writers record events in threads of their own,
-//! the main thread takes them, and one line says how many it has taken.
+//! Times a running ring, and is no part of the product: `measure/ring.sh` runs it. Writers record events in threads
+//! of their own, the main thread takes them, and one line says how many it has taken.
 #![tactic(auto)]
 
 mod pause;
@@ -13,7 +13,7 @@ use run::run;
 use std::env;
 use std::process::ExitCode;
 
-/// The exit status where the words are wrong, or the ring or its threads can't be made.
+/// The exit status if the words are wrong, or the ring or its threads can't be made.
 const FAULT_STATUS: u8 = 4;
 
 fn main(rt: HostRuntime) -> ExitCode {

@@ -31,7 +31,7 @@ pub fn plan_of(words: &[String]) -> Option<Plan> {
     })
 }
 
-/// The number that the word is.
+/// Returns the number that the word is.
 fn number(word: &String) -> Option<u64> {
     word.as_str().parse::<u64>().ok()
 }

@@ -38,7 +38,7 @@ pub fn run<R: Threads + Wait + Sync>(
     Ok((started * share, reader))
 }
 
-/// Starts the writers' threads and takes what they record. It answers with the number of threads and with the reader.
+/// Starts the writers' threads and takes what they record. Returns the number of threads and the reader.
 fn record_and_take<'s, E, R: Wait + Sync>(
     scope: &Scope<'s, E>,
     rt: &'s R,
@@ -55,7 +55,7 @@ fn record_and_take<'s, E, R: Wait + Sync>(
     (started, reader)
 }
 
-/// Starts a thread for each writer, in which it records its events, and answers with the number of threads: the first that
+/// Starts a thread for each writer, in which it records its events, and returns the number of threads. The first that
 /// can't be made is the last that is tried.
 fn start_all<'s, E, R: Wait + Sync>(
     scope: &Scope<'s, E>,
@@ -77,7 +77,7 @@ fn start_all<'s, E, R: Wait + Sync>(
     started
 }
 
-/// Starts a thread in which the writer records its events, and answers whether there is one.
+/// Starts a thread in which the writer records its events, and tells whether there is one.
 fn start<'s, E, R: Wait + Sync>(
     scope: &Scope<'s, E>,
     rt: &'s R,

@@ -1,6 +1,6 @@
 -- How a bench stands after so many rounds were begun.
 use Rattle.std.specs.Prelude.{◌≡◌, ◌≢◌, ◌+◌, ◌⊎◌, ℕ, List, Option, length, All}
-use Rattle.tmw_bench.specs.Judges.{judged_of, monitor_of, verdict_on}
+use Rattle.tmw_pump.specs.Fronts.{judged_of, monitor_of, verdict_on}
 use Rattle.tmw_bench.specs.Playing.{SomeStop}
 use Rattle.tmw_bench.specs.Rounds.{AllOpaque, HaveAllPlayedLast}
 use Rattle.tmw_defs.specs.Verdict.{Rules}

@@ -4,7 +4,9 @@ use Rattle.tmw_bench.specs.Benched.{HasBenched}
 use Rattle.tmw_bench.specs.declared.bench.Carried.{Carried}
 use Rattle.tmw_bench.specs.declared.judge.Judge.{Judge}
 use Rattle.tmw_bench.specs.declared.settings.Settings.{Settings}
-use Rattle.tmw_bench.specs.Judges.{held_of, judge_front, judged_of, left_of, monitor_of, rest_front, verdict_on}
+use Rattle.tmw_bench.specs.Judges.{judge_front}
+use Rattle.tmw_pump.specs.Fronts.{held_of, judged_of, monitor_of, verdict_on, HasJudged}
+use Rattle.tmw_pump.specs.Resting.{left_of, rest_front, all_of}
 use Rattle.tmw_defs.specs.Opaque.{zeros}
 use Rattle.tmw_defs.specs.Verdict.{Rules}
 use Rattle.tmw_defs.specs.declared.verdict.Verdict.{Verdict}
@@ -12,8 +14,6 @@ use Rattle.tmw_events.specs.declared.event.Event.{Event}
 use Rattle.tmw_events.specs.declared.event.Kind.{Kind}
 use Rattle.tmw_events.specs.declared.registers.Registers.{Registers}
 use Rattle.tmw_monitor.specs.Fitting.{Fits, rules_of}
-use Rattle.tmw_pump.specs.Fronts.{HasJudged}
-use Rattle.tmw_pump.specs.Resting.{all_of}
 use Rattle.tmw_pump.specs.declared.forgetting_rest.ForgettingRest.{ForgettingRest}
 use Rattle.tmw_pump.specs.declared.front.Front.{Front}
 use Rattle.tmw_tm.specs.Answers.{Call, Answer}

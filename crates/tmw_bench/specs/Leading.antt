@@ -1,7 +1,7 @@
 -- What the leader of a bench has done, that tells its workers where each round has ended.
 use Rattle.std.specs.Prelude.{◌≡◌, ◌≤◌, ◌<◌, ◌+◌, ◌++◌, ℕ, List, [], ◌∷◌, Some, length, get_or}
 use Rattle.rtrb.specs.Ring.{received, sent, SameConsumer, SameProducer}
-use Rattle.tmw_bench.specs.Judges.{judged_of, monitor_of}
+use Rattle.tmw_pump.specs.Fronts.{judged_of, monitor_of}
 use Rattle.tmw_bench.specs.Rounds.{AllOpaque}
 use Rattle.tmw_defs.specs.Verdict.{Rules}
 use Rattle.tmw_bench.specs.Workers.{in_order}

@@ -1,5 +1,6 @@
 ghost use Rattle.std.specs.Prelude.{◌≡◌, ◌≤◌, ◌<◌, Some, IfOk, OnOk};
-ghost use Rattle.tmw_bench.specs.Judges.{held_of, judge_front, judge_reader};
+ghost use Rattle.tmw_bench.specs.Judges.{judge_front, judge_reader};
+ghost use Rattle.tmw_pump.specs.Fronts.{held_of};
 ghost use Rattle.tmw_ring.specs.Ends.{ReaderIs, ReaderOf};
 ghost use Rattle.tmw_ring.specs.Takes.{HasFoundNone};
 

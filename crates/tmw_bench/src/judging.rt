@@ -1,6 +1,7 @@
 //! Judging a ring up to a length of its log.
 ghost use Rattle.std.specs.Prelude.{◌≡◌, ◌+◌, ◌≤◌, length, IfOk, OnOk};
-ghost use Rattle.tmw_bench.specs.Judges.{judge_front, judge_reader, judged_of};
+ghost use Rattle.tmw_bench.specs.Judges.{judge_front, judge_reader};
+ghost use Rattle.tmw_pump.specs.Fronts.{judged_of};
 ghost use Rattle.tmw_bench.specs.Keeping.{HasGoneOn};
 ghost use Rattle.tmw_ring.specs.Ends.{ReaderOf};
 

@@ -2,7 +2,8 @@
 ghost use Rattle.std.specs.Prelude.{◌≡◌, ◌≢◌, ◌≤◌, ◌<◌, ◌⊎◌, [], length, IfOk, OnOk, MatchBool};
 ghost use Rattle.tmw_defs.specs.Verdict.{Rules};
 ghost use Rattle.tmw_defs.specs.declared.verdict.Verdict.TheVariants.{OpaqueSoFar};
-ghost use Rattle.tmw_bench.specs.Judges.{judge_front, judge_reader, judged_of, monitor_of, verdict_on};
+ghost use Rattle.tmw_bench.specs.Judges.{judge_front, judge_reader};
+ghost use Rattle.tmw_pump.specs.Fronts.{judged_of, monitor_of, verdict_on};
 ghost use Rattle.tmw_bench.specs.Keeping.{HasGoneOn};
 ghost use Rattle.tmw_bench.specs.Leading.{AreNewLines, HasLed, SomeToldStop};
 ghost use Rattle.tmw_monitor.specs.Fitting.{Fits};

@@ -1,7 +1,8 @@
 //! All rounds, by workers that live as long.
 ghost use Rattle.std.specs.Prelude.{◌≡◌, ◌≤◌, ◌<◌, [], length, IfOk, IfErr};
 ghost use Rattle.tmw_bench.specs.Begun.{HaveBegun, IsOver};
-ghost use Rattle.tmw_bench.specs.Judges.{judge_front, judge_reader, judged_of, monitor_of};
+ghost use Rattle.tmw_bench.specs.Judges.{judge_front, judge_reader};
+ghost use Rattle.tmw_pump.specs.Fronts.{judged_of, monitor_of};
 ghost use Rattle.tmw_bench.specs.Keeping.{IsKept};
 ghost use Rattle.tmw_bench.specs.Playing.{AreTransactions, GivesWithin, IsOfThreads};
 ghost use Rattle.tmw_defs.specs.Verdict.{Rules};

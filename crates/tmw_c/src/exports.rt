@@ -27,8 +27,8 @@ pub extern "C" fn tmwatch_open(
     opening::open(alloc, watch, recorders, wanted).number()
 }
 
-/// Closes a watch with all its recorders, each in the handle at the place of its number, and tells the verdict on all that was
-/// recorded.
+/// Closes a watch with all its recorders, each in the handle at the place of its number, and tells the verdict on all
+/// that was recorded.
 #[unsafe(no_mangle)]
 pub extern "C" fn tmwatch_close(
     alloc: Global,

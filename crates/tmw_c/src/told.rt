@@ -10,7 +10,7 @@ use tmw_watch::Report;
 pub struct Told {
     /// How many events were judged.
     pub events: u64,
-    /// The length of the prefix that the verdict names; 0 where it names none.
+    /// The length of the prefix that the verdict names; 0 if it names none.
     pub at: u64,
     /// 0 opaque so far, 1 violated, 2 undecided, 3 malformed.
     pub verdict: u32,

@@ -229,12 +229,30 @@ counted-push registers h e note others asked live old counts low so taken step =
       all = all;
       committed =
           let more = ap (count_by (λ (t : Txn). is_committed (status_of t.text))) same ∙ committed-add (length h) e ts in
-          omega (arith, step.committed, was.committed, more, ap (λ (o : Option End). one_if (commits o)) ended,
-          count-length (λ (t : Txn). is_committed (status_of t.text)) ts, few, low, one_if-le (commits note.ends));
+          omega (
+            arith,
+            step.committed,
+            was.committed,
+            more,
+            ap (λ (o : Option End). one_if (commits o)) ended,
+            count-length (λ (t : Txn). is_committed (status_of t.text)) ts,
+            few,
+            low,
+            one_if-le (commits note.ends),
+          );
       aborted =
           let more = ap (count_by (λ (t : Txn). is_aborted (status_of t.text))) same ∙ aborted-add (length h) e ts in
-          omega (arith, step.aborted, was.aborted, more, ap (λ (o : Option End). one_if (aborts o)) ended,
-          count-length (λ (t : Txn). is_aborted (status_of t.text)) ts, few, low, one_if-le (aborts note.ends));
+          omega (
+            arith,
+            step.aborted,
+            was.aborted,
+            more,
+            ap (λ (o : Option End). one_if (aborts o)) ended,
+            count-length (λ (t : Txn). is_aborted (status_of t.text)) ts,
+            few,
+            low,
+            one_if-le (aborts note.ends),
+          );
       live = step.live_now ∙ taken.count;
       unasked =
           let text = pending-text e.thread.number h in
@@ -242,8 +260,17 @@ counted-push registers h e note others asked live old counts low so taken step =
           let more = ap (count_by (λ (t : Txn). is_unasked t.text)) same ∙ unasked-add (length h) e ts asked
           (λ aborted. subst (λ (p : Option Kind). is_some p ≡ true) text (answers_call registers (pending_call e.thread.number h) e.kind on aborted))
           (λ holds. sym text ∙ taken.asks.0 holds, λ is. taken.asks.1 (text ∙ is)) in
-          omega (arith, step.unasked, was.unasked, more, ap (λ (o : Option End). one_if (aborts o && not asked)) ended,
-          count-length (λ (t : Txn). is_unasked t.text) ts, few, low, one_if-le (aborts note.ends && not asked));
+          omega (
+            arith,
+            step.unasked,
+            was.unasked,
+            more,
+            ap (λ (o : Option End). one_if (aborts o && not asked)) ended,
+            count-length (λ (t : Txn). is_unasked t.text) ts,
+            few,
+            low,
+            one_if-le (aborts note.ends && not asked),
+          );
       overlapping =
           let more = (meets-push registers h e note others asked old.apart live taken so.apart).overlapping in
           let most = count-length (overlaps_any (transactions (h ++ e ∷ []))) (transactions (h ++ e ∷ [])) in
@@ -278,7 +305,7 @@ counts-push registers h e note others asked live old new tracker low so tracks t
         cut = length h + 1;
         last = last-cut h e holds;
         before = step.before ∙ ap (λ (b : Bool). if b then new.counts.transactions else old.before) (cut ∙ holds) ∙ counts.all
-        ∙ ap (λ (xs : List Event). length (transactions xs)) (sym (take_all-push h e));
+            ∙ ap (λ (xs : List Event). length (transactions xs)) (sym (take_all-push h e));
         apart = apart;
       }
       | inr fails ↦ record {
@@ -287,7 +314,7 @@ counts-push registers h e note others asked live old new tracker low so tracks t
         cut = so.cut;
         last = last-uncut so.cut h e so.last fails;
         before = step.before ∙ ap (λ (b : Bool). if b then new.counts.transactions else old.before) (cut ∙ fails) ∙ so.before
-        ∙ ap (λ (xs : List Event). length (transactions xs)) (sym (take-push so.cut h e so.last.is.0));
+            ∙ ap (λ (xs : List Event). length (transactions xs)) (sym (take-push so.cut h e so.last.is.0));
         apart = apart;
       }
     ]

@@ -30,8 +30,12 @@ count_text-add p empty place e (t ∷ ts) =
           (omega (arith, count-cons (λ u. p u.text) (longer place e t) ts, count-cons (λ u. p u.text) t ts))
       | inr past ↦
           rw (add_event_past place e t ts past, past)
-          (omega (arith, count-cons (λ u. p u.text) t (add_event place e ts), count-cons (λ u. p u.text) t ts,
-          count_text-add p empty place e ts))
+          (omega (
+            arith,
+            count-cons (λ u. p u.text) t (add_event place e ts),
+            count-cons (λ u. p u.text) t ts,
+            count_text-add p empty place e ts,
+          ))
     ]
 
 pub status_of-push : (text : List Kind) (k : Kind) → status_of (text ++ k ∷ []) ≡ status_after (Some k)

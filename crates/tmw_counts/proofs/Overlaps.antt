@@ -137,12 +137,23 @@ count-filter p q (t ∷ ts) =
     elim (cases_Bool (q t)) [
       | inl own ↦
           let kept : filter q (t ∷ ts) ≡ t ∷ filter q ts = rw own refl in
-          omega (arith, count-cons (λ u. q u && p u) t ts, ap (λ (b : Bool). one_if (b && p t)) own, ap (count_by p) kept,
-          count-cons p t (filter q ts), count-filter p q ts)
+          omega (
+            arith,
+            count-cons (λ u. q u && p u) t ts,
+            ap (λ (b : Bool). one_if (b && p t)) own,
+            ap (count_by p) kept,
+            count-cons p t (filter q ts),
+            count-filter p q ts,
+          )
       | inr other ↦
           let left : filter q (t ∷ ts) ≡ filter q ts = rw other refl in
-          omega (arith, count-cons (λ u. q u && p u) t ts, ap (λ (b : Bool). one_if (b && p t)) other, ap (count_by p) left,
-          count-filter p q ts)
+          omega (
+            arith,
+            count-cons (λ u. q u && p u) t ts,
+            ap (λ (b : Bool). one_if (b && p t)) other,
+            ap (count_by p) left,
+            count-filter p q ts,
+          )
     ]
 
 few_still : (ts : List Txn) → IsTrue (ended_but_last ts) → count_by still ts ≤ 1

@@ -48,8 +48,14 @@ or-one false false = refl
 pub count-or : {A : Type 0} (p q : A → Bool) (xs : List A)
     → count_by (λ x. p x || q x) xs ≡ count_by p xs + count_by (λ x. q x && not (p x)) xs
 count-or p q [] = refl
-count-or p q (x ∷ xs) = omega (arith, count-cons (λ y. p y || q y) x xs, count-cons p x xs, count-cons (λ y. q y && not (p y)) x xs,
-    or-one (p x) (q x), count-or p q xs)
+count-or p q (x ∷ xs) = omega (
+  arith,
+  count-cons (λ y. p y || q y) x xs,
+  count-cons p x xs,
+  count-cons (λ y. q y && not (p y)) x xs,
+  or-one (p x) (q x),
+  count-or p q xs,
+)
 
 -- some member passes exactly where more than none are counted
 pub any-count : {A : Type 0} (p : A → Bool) (xs : List A) → 0 < count_by p xs → list_any p xs ≡ true

@@ -95,8 +95,7 @@ HasWide-push most c h e last w = elim w.window.closes [
 pub widest-push : (w c : ℕ) (h : List Event) (e : Event) → IsLastCut h c → ((most : ℕ) → HasWide most h ↔ most < w)
     → (most : ℕ) → HasWide most (h ++ e ∷ []) ↔ most < max w (length (transactions (h ++ e ∷ [])) - length (transactions (take c h)))
 widest-push w c h e last is most =
-    let lasts = open-count c h e last in
-    (
+    let lasts = open-count c h e last in (
       λ wide. elim (HasWide_push most c h e last wide) [
         | inl before ↦ (let less = (is most).0 before in omega (arith, less))
         | inr now ↦ omega (arith, now, lasts)

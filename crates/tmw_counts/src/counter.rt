@@ -98,7 +98,9 @@ impl Counter {
             live: u64::from(live),
             overlapping: was.overlapping.saturating_add(met),
             transactions,
-            unasked: was.unasked.saturating_add(u64::from(aborts(note.ends) && !asked)),
+            unasked: was
+                .unasked
+                .saturating_add(u64::from(aborts(note.ends) && !asked)),
             widest: was.widest.max(transactions.saturating_sub(self.before)),
         }
     }

@@ -1,5 +1,6 @@
 -- The registers of a mask, one at a time, and a mask with one more.
-use Rattle.std.proofs.Common.{◌≡◌, ◌==◌, ◌<◌, ℕ, Bool, true, List, [], ◌∷◌, length, map, get_or, set, refl, sym, ap, ◌∙◌, ◌⊎◌, inl, inr, arith, w8}
+use Rattle.std.proofs.Common.{◌≡◌, ◌==◌, ◌||◌, ◌*◌, ◌%◌, ◌^◌, ◌<◌, bit_or, ℕ, Bool, true, List, [], ◌∷◌, length, map, get_or, set, refl, sym, ap, ◌∙◌, ◌⊎◌, inl, inr, arith, w8}
+use Rattle.std.specs.Prelude.{if◌then◌else◌}
 use Rattle.std.specs.Int.{bit_at}
 use Rattle.std.specs.List.{range_with_len}
 use Rattle.std.proofs.lemmas.Bool.{cases_Bool, eqb-true, eqb-false}
@@ -8,10 +9,24 @@ use Rattle.std.proofs.lemmas.List.FromFn.{get_or-map-range_with_len, length-map-
 use Rattle.std.proofs.lemmas.Nat.Bits.{bit_at_set_same, bit_at_set_other, bit_at-zero, same_from_bits}
 use Rattle.tmw_defs.specs.Opaque.{State}
 use Rattle.tmw_cuts.specs.Registers.{chosen, have, put}
-use Rattle.tmw_cuts.specs.Written.{with_bit}
 
 abbrev has_bit : ℕ → ℕ → Bool
 has_bit mask r = bit_at mask r == 1
+
+-- the mask with this register
+abbrev pub with_bit : ℕ → ℕ → ℕ
+with_bit mask r = bit_or mask (1 * 2 ^ r % 2 ^ 8)
+
+-- the mask with this register, unless the other mask has it
+abbrev pub with_new : ℕ → ℕ → ℕ → ℕ
+with_new left mask r = if bit_at left r == 1 then mask else with_bit mask r
+
+pub has_bit-with_bit : (mask r k : ℕ) → r < 8 → has_bit (with_bit mask r) k ≡ ((r == k) || has_bit mask k)
+has_bit-with_bit mask r k below =
+    elim (cases_Bool (r == k)) [
+      | inl same ↦ rw (same, ← eqb-true r k same, bit_at_set_same w8 mask r below) refl
+      | inr other ↦ rw (other, bit_at_set_other w8 mask r below k (λ is. eqb-false r k other (sym is))) refl
+    ]
 
 pub length-chosen : (mask : ℕ) → length (chosen mask) ≡ 8
 unfolding chosen

@@ -12,11 +12,12 @@ use Rattle.tmw_events.specs.declared.ix.Ix.{Ix}
 use Rattle.tmw_defs.specs.declared.op.Op.{Op}
 use Rattle.tmw_defs.specs.declared.op.Op.TheVariants.{Read, Write, Add}
 use Rattle.tmw_cuts.specs.declared.effect.Effect.{Effect}
+use Rattle.tmw_cuts.specs.Registers.{IsMaskOf}
 use Rattle.tmw_cuts.specs.Effects.{SumsUp, LeavesLast, IsEffectOf, left_at}
-use Rattle.tmw_cuts.specs.Written.{is_write, with_bit, with_new, written_by, needed_by, left_by}
-use Rattle.tmw_cuts.proofs.Chosen.{with_bit-has}
+use Rattle.tmw_cuts.specs.Written.{is_write, writes, needs, left_by}
+use Rattle.tmw_cuts.proofs.Chosen.{with_bit, with_new, with_bit-has}
 use Rattle.tmw_cuts.proofs.Effects.{add-split, read-left, read-needed, read-first}
-use Rattle.tmw_cuts.proofs.WrittenMore.{written_by-append, needed_by-append, left_by-append}
+use Rattle.tmw_cuts.proofs.WrittenMore.{with-write, needs-write, writes-read, with-read, writes-add, needs-add, left_by-append}
 
 -- operations with one that is no write are not all writes
 not_writes : (ops : List Op) (op : Op) → is_write op ≡ false → list_all is_write (ops ++ op ∷ []) ≡ false
@@ -29,15 +30,16 @@ not_writes ops op is = list_all-append is_write ops (op ∷ []) ∙ rw is (and_f
 pub with_read : (e f : Effect) (ops : List Op) (r : Ix) (v : ℕ) → IsEffectOf e ops → f.left ≡ e.left → f.leaves ≡ e.leaves
     → f.needed ≡ with_new e.left e.needed r.number → f.only_writes ≡ false → SumsUp f (ops ++ Read r v ∷ []) → IsEffectOf f (ops ++ Read r v ∷ [])
 with_read e f ops r v is left leaves needed only sums =
-    (sums, (last, (left ∙ is.1.1.0 ∙ sym (written_by-append 0 ops (Read r v ∷ [])), (needs, only ∙ sym (not_writes ops (Read r v) refl)))))
+    (sums, (last, (written, (needs_is, only ∙ sym (not_writes ops (Read r v) refl)))))
   where
     last : LeavesLast f (ops ++ Read r v ∷ [])
     last k low = rw (left, leaves) (is.1.0 k low ∙ sym (left_by-append k None ops (Read r v ∷ [])))
 
-    needs : f.needed ≡ needed_by 0 0 (ops ++ Read r v ∷ [])
-    needs =
-        needed ∙ ap (λ m. with_new m e.needed r.number) is.1.1.0 ∙ ap (λ m. with_new (written_by 0 ops) m r.number) is.1.1.1.0
-        ∙ sym (needed_by-append 0 0 ops (Read r v ∷ []))
+    written : IsMaskOf (λ k. writes k (ops ++ Read r v ∷ [])) f.left
+    written k = rw left (is.1.1.0 k ∙ sym (writes-read ops r v k))
+
+    needs_is : IsMaskOf (λ k. needs k (ops ++ Read r v ∷ [])) f.needed
+    needs_is = rw needed (with-read e.left e.needed ops r v is.1.1.0 is.1.1.1.0)
 
 -- What the operations tell of the register, where they tell of it: what they leave in it, or else what they need there.
 abbrev pub known_of : Effect → ℕ → ℕ → ℕ
@@ -96,9 +98,9 @@ with_write e f ops r v is left leaves needed only long sums = (
   (
     leaves_last e f ops r v is.1.0 left leaves long,
     (
-      left ∙ ap (λ m. with_bit m r.number) is.1.1.0 ∙ sym (written_by-append 0 ops (Write r v ∷ [])),
+      rw left (with-write e.left ops r v is.1.1.0),
       (
-        needed ∙ is.1.1.1.0 ∙ sym (needed_by-append 0 0 ops (Write r v ∷ [])),
+        λ k. rw needed (is.1.1.1.0 k ∙ sym (needs-write ops r v k)),
         only ∙ is.1.1.1.1 ∙ sym (list_all-append is_write ops (Write r v ∷ []) ∙ and-true (list_all is_write ops)),
       ),
     ),
@@ -108,14 +110,12 @@ with_write e f ops r v is left leaves needed only long sums = (
 pub with_add : (e : Effect) (ops : List Op) (r : Ix) (d v : ℕ)
     → IsEffectOf e ((ops ++ Read r v ∷ []) ++ Write r ((v + d) % 2 ^ 64) ∷ []) → IsEffectOf e (ops ++ Add r d v ∷ [])
 with_add e ops r d v is =
-    let read : List Op = Read r v ∷ [] in
-    let w : List Op = Write r ((v + d) % 2 ^ 64) ∷ [] in
-    let add : List Op = Add r d v ∷ [] in
-    let written = written_by-append 0 (ops ++ read) w ∙ ap (λ m. written_by m w) (written_by-append 0 ops read) ∙ sym (written_by-append 0 ops add) in
-    let needs = needed_by-append 0 0 (ops ++ read) w ∙ needed_by-append 0 0 ops read ∙ sym (needed_by-append 0 0 ops add) in
-    let writes = list_all-append is_write (ops ++ read) w ∙ ap (λ b. b && true) (not_writes ops (Read r v) refl)
+    let s = (v + d) % 2 ^ 64 in
+    let written : IsMaskOf (λ k. writes k (ops ++ Add r d v ∷ [])) e.left = λ k. is.1.1.0 k ∙ writes-add ops r d v s k in
+    let needed : IsMaskOf (λ k. needs k (ops ++ Add r d v ∷ [])) e.needed = λ k. is.1.1.1.0 k ∙ needs-add ops r d v s k in
+    let only = list_all-append is_write (ops ++ Read r v ∷ []) (Write r s ∷ []) ∙ ap (λ b. b && true) (not_writes ops (Read r v) refl)
     ∙ sym (not_writes ops (Add r d v) refl) in
-    (add-split e ops r d v is.0, (λ k low. is.1.0 k low ∙ last k, (is.1.1.0 ∙ written, (is.1.1.1.0 ∙ needs, is.1.1.1.1 ∙ writes))))
+    (add-split e ops r d v is.0, (λ k low. is.1.0 k low ∙ last k, (written, (needed, is.1.1.1.1 ∙ only))))
   where
     last : (k : ℕ) → left_by k None ((ops ++ Read r v ∷ []) ++ Write r ((v + d) % 2 ^ 64) ∷ []) ≡ left_by k None (ops ++ Add r d v ∷ [])
     last k =

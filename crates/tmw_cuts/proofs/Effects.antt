@@ -11,8 +11,7 @@ use Rattle.tmw_defs.specs.Opaque.{State, reads_hold, after_writes}
 use Rattle.tmw_cuts.specs.declared.effect.Effect.{Effect}
 use Rattle.tmw_cuts.specs.Effects.{SumsUp}
 use Rattle.tmw_cuts.specs.Registers.{chosen, have, put}
-use Rattle.tmw_cuts.specs.Written.{with_bit}
-use Rattle.tmw_cuts.proofs.Chosen.{length-chosen, get_or-chosen, chosen-with_bit}
+use Rattle.tmw_cuts.proofs.Chosen.{with_bit, length-chosen, get_or-chosen, chosen-with_bit}
 
 with_first : (a b c d : Bool) → b ≡ (c && d) → (a && b) ≡ ((a && c) && d)
 with_first true b c d same = same

@@ -1,22 +1,166 @@
 -- What operations write, need and leave where others follow them.
-use Rattle.std.proofs.Common.{◌≡◌, ◌==◌, ◌+◌, ◌%◌, ◌^◌, ℕ, List, [], ◌∷◌, ◌++◌, Option, Some, refl}
+use Rattle.std.proofs.Common.{◌≡◌, ◌==◌, ◌&&◌, ◌||◌, ◌+◌, ◌-◌, ◌%◌, ◌^◌, ◌<◌, min, ℕ, zero, suc, Bool, true, false, not, List, [], ◌∷◌, ◌++◌, Option, Some, refl, sym, ap, ◌∙◌, inl, inr, arith, bit_and, w8}
 use Rattle.std.specs.Prelude.{if◌then◌else◌}
+use Rattle.std.specs.Int.{bit_at, bit_not}
+use Rattle.std.proofs.lemmas.Bool.{cases_Bool, cases_lt, eqb-true}
+use Rattle.std.proofs.lemmas.Nat.Bits.{bit_at_above, bit_at_and, bit_at_not, bit_at-lt}
+use Rattle.tmw_events.specs.declared.ix.Ix.{Ix}
 use Rattle.tmw_defs.specs.declared.op.Op.{Op}
 use Rattle.tmw_defs.specs.declared.op.Op.TheVariants.{Read, Write, Add}
-use Rattle.tmw_cuts.specs.Written.{with_bit, with_new, written_by, needed_by, left_by}
+use Rattle.tmw_cuts.specs.Registers.{IsMaskOf}
+use Rattle.tmw_cuts.specs.Written.{writes, needs, writes_blindly, left_by}
+use Rattle.tmw_cuts.proofs.Chosen.{with_bit, with_new, has_bit-with_bit}
 
-pub written_by-append : (mask : ℕ) (one two : List Op) → written_by mask (one ++ two) ≡ written_by (written_by mask one) two
-written_by-append mask [] two = refl
-written_by-append mask (Read q v ∷ one) two = written_by-append mask one two
-written_by-append mask (Write q v ∷ one) two = written_by-append (with_bit mask q.number) one two
-written_by-append mask (Add q d v ∷ one) two = written_by-append (with_bit mask q.number) one two
+or_after : (a b c : Bool) → b ≡ c → (a || b) ≡ (a || c)
+or_after true b c same = refl
+or_after false b c same = same
 
-pub needed_by-append : (left mask : ℕ) (one two : List Op)
-    → needed_by left mask (one ++ two) ≡ needed_by (written_by left one) (needed_by left mask one) two
-needed_by-append left mask [] two = refl
-needed_by-append left mask (Read q v ∷ one) two = needed_by-append left (with_new left mask q.number) one two
-needed_by-append left mask (Write q v ∷ one) two = needed_by-append (with_bit left q.number) mask one two
-needed_by-append left mask (Add q d v ∷ one) two = needed_by-append (with_bit left q.number) (with_new left mask q.number) one two
+and_after : (a b c : Bool) → b ≡ c → (a && b) ≡ (a && c)
+and_after true b c same = same
+and_after false b c same = refl
+
+or_later : (a b c d : Bool) → d ≡ (b || c) → (a || d) ≡ (b || (a || c))
+or_later true true c d same = refl
+or_later true false c d same = refl
+or_later false b c d same = same
+
+-- a write more
+writes-more : (ops : List Op) (r : Ix) (v k : ℕ) → writes k (ops ++ Write r v ∷ []) ≡ ((r.number == k) || writes k ops)
+writes-more [] r v k = refl
+writes-more (Read q w ∷ ops) r v k = writes-more ops r v k
+writes-more (Write q w ∷ ops) r v k = or_later (q.number == k) (r.number == k) (writes k ops) _ (writes-more ops r v k)
+writes-more (Add q e w ∷ ops) r v k = or_later (q.number == k) (r.number == k) (writes k ops) _ (writes-more ops r v k)
+
+pub with-write : (mask : ℕ) (ops : List Op) (r : Ix) (v : ℕ) → IsMaskOf (λ k. writes k ops) mask
+    → IsMaskOf (λ k. writes k (ops ++ Write r v ∷ [])) (with_bit mask r.number)
+with-write mask ops r v is k =
+    has_bit-with_bit mask r.number k r.below ∙ or_after (r.number == k) _ _ (is k) ∙ sym (writes-more ops r v k)
+
+pub needs-write : (ops : List Op) (r : Ix) (v k : ℕ) → needs k (ops ++ Write r v ∷ []) ≡ needs k ops
+needs-write [] r v k = none (r.number == k)
+  where
+    none : (a : Bool) → (not a && false) ≡ false
+    none true = refl
+    none false = refl
+needs-write (Read q w ∷ ops) r v k = or_after (q.number == k) _ _ (needs-write ops r v k)
+needs-write (Write q w ∷ ops) r v k = and_after (not (q.number == k)) _ _ (needs-write ops r v k)
+needs-write (Add q e w ∷ ops) r v k = or_after (q.number == k) _ _ (needs-write ops r v k)
+
+-- a read more
+pub writes-read : (ops : List Op) (r : Ix) (v k : ℕ) → writes k (ops ++ Read r v ∷ []) ≡ writes k ops
+writes-read [] r v k = refl
+writes-read (Read q w ∷ ops) r v k = writes-read ops r v k
+writes-read (Write q w ∷ ops) r v k = or_after (q.number == k) _ _ (writes-read ops r v k)
+writes-read (Add q e w ∷ ops) r v k = or_after (q.number == k) _ _ (writes-read ops r v k)
+
+needs-other : (ops : List Op) (r : Ix) (v k : ℕ) → (r.number == k) ≡ false → needs k (ops ++ Read r v ∷ []) ≡ needs k ops
+needs-other [] r v k other = rw other refl
+needs-other (Read q w ∷ ops) r v k other = or_after (q.number == k) _ _ (needs-other ops r v k other)
+needs-other (Write q w ∷ ops) r v k other = and_after (not (q.number == k)) _ _ (needs-other ops r v k other)
+needs-other (Add q e w ∷ ops) r v k other = or_after (q.number == k) _ _ (needs-other ops r v k other)
+
+-- of a register that was written before, and of one that wasn't
+needs-old : (ops : List Op) (r : Ix) (v k : ℕ) → writes k ops ≡ true → needs k (ops ++ Read r v ∷ []) ≡ needs k ops
+needs-old [] r v k some = absurd (cc)
+needs-old (Read q w ∷ ops) r v k some = or_after (q.number == k) _ _ (needs-old ops r v k some)
+needs-old (Write q w ∷ ops) r v k some =
+    elim (cases_Bool (q.number == k)) [ inl is ↦ rw is refl | inr other ↦ rw other (needs-old ops r v k (rw other at some)) ]
+needs-old (Add q e w ∷ ops) r v k some =
+    elim (cases_Bool (q.number == k)) [ inl is ↦ rw is refl | inr other ↦ rw other (needs-old ops r v k (rw other at some)) ]
+
+needs-new : (ops : List Op) (r : Ix) (v k : ℕ) → (r.number == k) ≡ true → writes k ops ≡ false → needs k (ops ++ Read r v ∷ []) ≡ true
+needs-new [] r v k same none = rw same refl
+needs-new (Read q w ∷ ops) r v k same none =
+    elim (cases_Bool (q.number == k)) [ inl is ↦ rw is refl | inr other ↦ rw other (needs-new ops r v k same none) ]
+needs-new (Write q w ∷ ops) r v k same none =
+    elim (cases_Bool (q.number == k)) [
+      | inl is ↦ absurd (let k = rw is at none in cc)
+      | inr other ↦ rw other (needs-new ops r v k same (rw other at none))
+    ]
+needs-new (Add q e w ∷ ops) r v k same none =
+    elim (cases_Bool (q.number == k)) [ inl is ↦ rw is refl | inr other ↦ rw other (needs-new ops r v k same (rw other at none)) ]
+
+pub with-read : (left mask : ℕ) (ops : List Op) (r : Ix) (v : ℕ) → IsMaskOf (λ k. writes k ops) left → IsMaskOf (λ k. needs k ops) mask
+    → IsMaskOf (λ k. needs k (ops ++ Read r v ∷ [])) (with_new left mask r.number)
+with-read left mask ops r v written is k =
+    elim (cases_Bool (r.number == k)) [
+      | inl same ↦ (let at : r.number ≡ k = eqb-true r.number k same in elim (cases_Bool (writes k ops)) [
+        | inl some ↦
+            let old : (bit_at left r.number == 1) ≡ true = rw at (written k ∙ some) in
+            rw old (is k ∙ sym (needs-old ops r v k some))
+        | inr none ↦
+            let new : (bit_at left r.number == 1) ≡ false = rw at (written k ∙ none) in
+            rw new (has_bit-with_bit mask r.number k r.below ∙ (rw same (sym (needs-new ops r v k same none))))
+      ])
+      | inr other ↦ elim (cases_Bool (bit_at left r.number == 1)) [
+        | inl old ↦ rw old (is k ∙ sym (needs-other ops r v k other))
+        | inr new ↦ rw new (has_bit-with_bit mask r.number k r.below ∙ (rw other (is k ∙ sym (needs-other ops r v k other))))
+      ]
+    ]
+
+-- an add is a read and then a write
+pub writes-add : (ops : List Op) (r : Ix) (d v s k : ℕ)
+    → writes k ((ops ++ Read r v ∷ []) ++ Write r s ∷ []) ≡ writes k (ops ++ Add r d v ∷ [])
+writes-add [] r d v s k = refl
+writes-add (Read q w ∷ ops) r d v s k = writes-add ops r d v s k
+writes-add (Write q w ∷ ops) r d v s k = or_after (q.number == k) _ _ (writes-add ops r d v s k)
+writes-add (Add q e w ∷ ops) r d v s k = or_after (q.number == k) _ _ (writes-add ops r d v s k)
+
+pub needs-add : (ops : List Op) (r : Ix) (d v s k : ℕ)
+    → needs k ((ops ++ Read r v ∷ []) ++ Write r s ∷ []) ≡ needs k (ops ++ Add r d v ∷ [])
+needs-add [] r d v s k = either (r.number == k)
+  where
+    either : (a : Bool) → (a || (not a && false)) ≡ (a || false)
+    either true = refl
+    either false = refl
+needs-add (Read q w ∷ ops) r d v s k = or_after (q.number == k) _ _ (needs-add ops r d v s k)
+needs-add (Write q w ∷ ops) r d v s k = and_after (not (q.number == k)) _ _ (needs-add ops r d v s k)
+needs-add (Add q e w ∷ ops) r d v s k = or_after (q.number == k) _ _ (needs-add ops r d v s k)
+
+-- the first on a register is a write where it is written and not needed
+blind-is : (ops : List Op) (k : ℕ) → writes_blindly k ops ≡ (writes k ops && not (needs k ops))
+blind-is [] k = refl
+blind-is (Read q w ∷ ops) k = read (q.number == k) _ _ _ (blind-is ops k)
+  where
+    read : (a b c d : Bool) → b ≡ (c && not d) → (not a && b) ≡ (c && not (a || d))
+    read true b true d same = refl
+    read true b false d same = refl
+    read false b c d same = same
+blind-is (Write q w ∷ ops) k = write (q.number == k) _ _ _ (blind-is ops k)
+  where
+    write : (a b c d : Bool) → b ≡ (c && not d) → (a || b) ≡ ((a || c) && not (not a && d))
+    write true b c d same = refl
+    write false b c d same = same
+blind-is (Add q e w ∷ ops) k = add (q.number == k) _ _ _ (blind-is ops k)
+  where
+    add : (a b c d : Bool) → b ≡ (c && not d) → (not a && b) ≡ ((a || c) && not (a || d))
+    add true b c d same = refl
+    add false b c d same = same
+
+both_bits : (l n : ℕ) → l < 2 → n < 2 → (min l (1 - n) == 1) ≡ ((l == 1) && not (n == 1))
+both_bits zero n l_bit n_bit = let none : min 0 (1 - n) ≡ 0 = omega arith in rw none refl
+both_bits (suc zero) zero l_bit n_bit = refl
+both_bits (suc zero) (suc zero) l_bit n_bit = refl
+both_bits (suc zero) (suc (suc n)) l_bit n_bit = absurd (omega (arith, n_bit))
+both_bits (suc (suc l)) n l_bit n_bit = absurd (omega (arith, l_bit))
+
+pub blind-mask : (left needed : ℕ) (ops : List Op) → left < 2 ^ 8 → needed < 2 ^ 8 → IsMaskOf (λ k. writes k ops) left
+    → IsMaskOf (λ k. needs k ops) needed → IsMaskOf (λ k. writes_blindly k ops) (bit_and left (bit_not w8 needed))
+blind-mask left needed ops left_fits needed_fits written is k = bits k ∙ sym (blind-is ops k ∙ rw (← written k, ← is k) refl)
+  where
+    bits : (k : ℕ) → (bit_at (bit_and left (bit_not w8 needed)) k == 1) ≡ ((bit_at left k == 1) && not (bit_at needed k == 1))
+    bits k =
+        elim (cases_lt k 8) [
+          | inl below ↦
+              let both : bit_at (bit_and left (bit_not w8 needed)) k ≡ min (bit_at left k) (1 - bit_at needed k) =
+              bit_at_and left (bit_not w8 needed) k ∙ ap (min (bit_at left k)) (bit_at_not w8 needed k needed_fits below) in
+              rw both (both_bits (bit_at left k) (bit_at needed k) (bit_at-lt left k) (bit_at-lt needed k))
+          | inr above ↦
+              let none : bit_at left k ≡ 0 = bit_at_above left 8 k left_fits above in
+              let neither : bit_at (bit_and left (bit_not w8 needed)) k ≡ 0 =
+              bit_at_and left (bit_not w8 needed) k ∙ omega (arith, none) in
+              rw (none, neither) refl
+        ]
 
 pub left_by-append : (r : ℕ) (value : Option ℕ) (one two : List Op) → left_by r value (one ++ two) ≡ left_by r (left_by r value one) two
 left_by-append r value [] two = refl

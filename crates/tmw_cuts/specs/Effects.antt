@@ -6,8 +6,8 @@ use Rattle.std.specs.Coded.{Π_prop, ×_prop, Coded-set, coded_bool, coded_list,
 use Rattle.tmw_defs.specs.declared.op.Op.{Op}
 use Rattle.tmw_defs.specs.Opaque.{State, reads_hold, after_writes}
 use Rattle.tmw_cuts.specs.declared.effect.Effect.{Effect}
-use Rattle.tmw_cuts.specs.Registers.{chosen, have, put}
-use Rattle.tmw_cuts.specs.Written.{is_write, written_by, needed_by, left_by}
+use Rattle.tmw_cuts.specs.Registers.{IsMaskOf, chosen, have, put}
+use Rattle.tmw_cuts.specs.Written.{is_write, writes, needs, left_by}
 
 -- The operations are answered what the registers hold exactly where they agree with one another and the registers that they
 -- need have the values needed, and they leave the values left in the registers left.
@@ -24,14 +24,14 @@ abbrev pub LeavesLast : Effect → List Op → Type 0
 LeavesLast e ops = (r : ℕ) → r < 8 → left_at e r ≡ left_by r None ops
 
 abbrev pub IsEffectOf : Effect → List Op → Type 0
-IsEffectOf e ops = SumsUp e ops × (LeavesLast e ops × ((e.left ≡ written_by 0 ops) × ((e.needed ≡ needed_by 0 0 ops)
+IsEffectOf e ops = SumsUp e ops × (LeavesLast e ops × (IsMaskOf (λ r. writes r ops) e.left × (IsMaskOf (λ r. needs r ops) e.needed
     × (e.only_writes ≡ list_all is_write ops))))
 
 pub IsEffectOf-prop : (e : Effect) (ops : List Op) → IsProp (IsEffectOf e ops)
 IsEffectOf-prop e ops =
     ×_prop (Π_prop λ s. Π_prop λ long. ×_prop (Coded-set coded_bool _ _) (Coded-set (coded_list coded_ℕ) _ _))
     (×_prop (Π_prop λ r. Π_prop λ below. Coded-set (coded_option coded_ℕ) _ _)
-    (×_prop (Coded-set coded_ℕ _ _) (×_prop (Coded-set coded_ℕ _ _) (Coded-set coded_bool _ _))))
+    (×_prop (Π_prop λ r. Coded-set coded_bool _ _) (×_prop (Π_prop λ r. Coded-set coded_bool _ _) (Coded-set coded_bool _ _))))
 
 -- The register is needed, and has the needed value in the one state and not in the other.
 abbrev pub tells_at : Effect → State → State → ℕ → Bool

@@ -4,9 +4,9 @@ ghost use Rattle.std.specs.List.{list_all};
 ghost use Rattle.tmw_defs.specs.declared.op.Op.{Op};
 ghost use Rattle.tmw_defs.specs.declared.op.Op.TheVariants.{Read, Write, Add};
 ghost use Rattle.tmw_defs.specs.Opaque.{reads_hold, after_writes};
-ghost use Rattle.tmw_cuts.specs.Registers.{chosen, have, put};
+ghost use Rattle.tmw_cuts.specs.Registers.{IsMaskOf, chosen, have, put};
 ghost use Rattle.tmw_cuts.specs.Replaying.{Replays};
-ghost use Rattle.tmw_cuts.specs.Written.{is_write, written_by, blind_by, left_by};
+ghost use Rattle.tmw_cuts.specs.Written.{is_write, writes, writes_blindly, left_by};
 
 use crate::states::State;
 use tmw_defs::Op;
@@ -205,14 +205,15 @@ impl Effect {
 
     /// Returns the registers that the operations write or add to, as a mask.
     pub fn written(&self) -> u8
-        ensures { (ops : List Op) → IsEffectOf self.now ops → result ≡ written_by 0 ops }
+        ensures { (ops : List Op) → IsEffectOf self.now ops → IsMaskOf (λ r. writes r ops) result }
     {
         self.left
     }
 
     /// Returns the registers that the operations write before they read or add to them, as a mask.
     pub fn blind(&self) -> u8
-        ensures { (ops : List Op) → IsEffectOf self.now ops → result ≡ blind_by ops }
+        ensures { (ops : List Op) → IsEffectOf self.now ops
+            → IsMaskOf (λ r. writes_blindly r ops) result }
     {
         self.left & !self.needed
     }

@@ -4,8 +4,9 @@ ghost use Rattle.tmw_events.specs.declared.event.Kind.TheVariants.{V};
 ghost use Rattle.tmw_defs.specs.History.{is_over};
 ghost use Rattle.tmw_defs.specs.Opaque.{State, reads_hold, after_writes};
 ghost use Rattle.tmw_cuts.specs.Effects.{IsEffectOf, IsEffectOf-prop, tells, leaves_none};
+ghost use Rattle.tmw_cuts.specs.Registers.{IsMaskOf};
 ghost use Rattle.tmw_cuts.specs.Replaying.{Replays};
-ghost use Rattle.tmw_cuts.specs.Written.{is_write, written_by, blind_by, left_by};
+ghost use Rattle.tmw_cuts.specs.Written.{is_write, writes, writes_blindly, left_by};
 
 use crate::effect::Effect;
 use crate::kinds::{operation, status_after};
@@ -137,14 +138,14 @@ impl Txn {
 
     /// Returns the registers that its operations write or add to, as a mask.
     pub fn written(&self) -> u8
-        ensures { result ≡ written_by 0 self.now.ops.items }
+        ensures { IsMaskOf (λ r. writes r self.now.ops.items) result }
     {
         self.effect.written()
     }
 
     /// Returns the registers that its operations write before they read or add to them, as a mask.
     pub fn blind(&self) -> u8
-        ensures { result ≡ blind_by self.now.ops.items }
+        ensures { IsMaskOf (λ r. writes_blindly r self.now.ops.items) result }
     {
         self.effect.blind()
     }

@@ -1,10 +1,10 @@
 -- The judged front, and how it grows.
 use Rattle.std.specs.Prelude.{◌≡◌, ◌<◌, ◌++◌, ℕ, List, Option, Some, length}
 use Rattle.tmw_events.specs.declared.event.Event.{Event}
-use Rattle.tmw_defs.specs.Criteria.{so_far}
 use Rattle.tmw_defs.specs.Verdict.{Rules, IsVerdict}
 use Rattle.tmw_defs.specs.declared.verdict.Verdict.{Verdict}
 use Rattle.tmw_monitor.specs.Fitting.{Fits}
+use Rattle.tmw_monitor.specs.Monitor.{IsOpen, verdict_of}
 use Rattle.tmw_monitor.specs.declared.monitor.Monitor.{Monitor}
 use Rattle.tmw_pump.specs.Held.{listed}
 use Rattle.tmw_pump.specs.declared.front.Front.{Front}
@@ -23,11 +23,11 @@ monitor_of front = front.monitor
 
 -- the monitor's verdict on what was judged
 abbrev pub verdict_on : Front → Verdict
-verdict_on front = front.monitor.verdict
+verdict_on front = verdict_of (monitor_of front)
 
 -- The verdict is final: no event changes it.
 abbrev pub HasFinalVerdict : Front → Type 0
-HasFinalVerdict front = front.monitor.verdict ≡ so_far front.monitor.criterion → ⊥
+HasFinalVerdict front = IsOpen (monitor_of front) → ⊥
 
 -- all events that came: those that were judged, and then the one that is held
 abbrev pub came : Front → List Event

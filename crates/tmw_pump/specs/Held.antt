@@ -4,6 +4,7 @@ use Rattle.tmw_events.specs.declared.event.Event.{Event}
 use Rattle.tmw_defs.specs.Verdict.{Rules}
 use Rattle.tmw_defs.specs.declared.criterion.Criterion.TheVariants.{Opacity}
 use Rattle.tmw_monitor.specs.Fitting.{Fits}
+use Rattle.tmw_monitor.specs.Monitor.{criterion_of}
 use Rattle.tmw_monitor.specs.declared.monitor.Monitor.{Monitor}
 
 -- the event that is held, if any, as a list
@@ -13,7 +14,7 @@ listed (Some event) = event ∷ []
 
 -- The monitor judges by opacity.
 abbrev pub JudgesOpacity : Monitor → Type 0
-JudgesOpacity monitor = monitor.criterion ≡ Opacity
+JudgesOpacity monitor = criterion_of monitor ≡ Opacity
 
 -- By some rules the monitor has judged just these events.
 abbrev pub WasFed : List Event → Monitor → Type 0

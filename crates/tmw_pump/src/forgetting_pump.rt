@@ -107,7 +107,7 @@ impl ForgettingPump {
 
     /// Returns the answer of a call to `pump` that has judged so many events.
     pub(crate) fn pumped(&self, judged: u64) -> Pumped
-        ensures { result ≡ record { judged = judged; verdict = self.now.front.monitor.verdict } }
+        ensures { result ≡ record { judged = judged; verdict = verdict_on (pump_front self.now) } }
     {
         self.front.pumped(judged)
     }

@@ -1,7 +1,5 @@
 ghost use Rattle.std.specs.Prelude.{◌≡◌, ◌∷◌, ◌++◌, ◌+◌, ◌<◌, ◌≤◌, ◌^◌, [], length, Some, None, IsOk, OnOk, OnErr};
-ghost use Rattle.tmw_defs.specs.Criteria.{so_far};
-ghost use Rattle.tmw_defs.specs.declared.criterion.Criterion.TheVariants.{Opacity};
-ghost use Rattle.tmw_pump.specs.Held.{listed, WasFed};
+ghost use Rattle.tmw_pump.specs.Held.{JudgesOpacity, WasFed, listed};
 
 use crate::judged::Judged;
 use crate::pumped::Pumped;
@@ -17,17 +15,17 @@ pub struct Front {
     monitor: Monitor,
     judged: Judged,
     held: Option<Event>,
-    pub ghost opacity: { monitor.criterion ≡ Opacity },
+    pub ghost opacity: { JudgesOpacity monitor },
     pub ghost fed: { ∥ WasFed judged.items monitor ∥₁ },
     pub ghost few: { length judged.items + length (listed held) ≤ 2 ^ 40 },
 }
 
 impl Front {
-    ghost use Rattle.tmw_pump.specs.Fronts.{HasCome, KeepsFit, TellsVerdict};
+    ghost use Rattle.tmw_pump.specs.Fronts.{HasCome, HasFinalVerdict, KeepsFit, TellsVerdict, verdict_on};
 
     /// Makes a front without events, over a monitor by opacity that was fed none.
     pub(crate) fn new(monitor: Monitor) -> Front
-        requires opacity { monitor.criterion ≡ Opacity }
+        requires opacity { JudgesOpacity monitor }
         requires fed { WasFed [] monitor }
         ensures judged { result.judged.items ≡ [] }
         ensures held { result.held ≡ None }
@@ -56,8 +54,7 @@ impl Front {
         ensures free { OnOk result (self.new.held ≡ None) }
         ensures stays { OnErr result (self.new.judged.items ≡ self.old.judged.items) }
         ensures held { OnErr result (self.new.held ≡ self.old.held) }
-        ensures after { (self.old.monitor.verdict ≡ so_far self.old.monitor.criterion → ⊥)
-            → IsOk result }
+        ensures after { HasFinalVerdict self.old → IsOk result }
     {
         self.monitor.feed(event)?;
         self.judged = self.judged.then(&event);
@@ -95,7 +92,7 @@ impl Front {
 
     /// Returns the answer of a call to `pump` that has judged so many events.
     pub(crate) fn pumped(&self, judged: u64) -> Pumped
-        ensures { result ≡ record { judged = judged; verdict = self.now.monitor.verdict } }
+        ensures { result ≡ record { judged = judged; verdict = verdict_on self.now } }
     {
         Pumped {
             judged,

@@ -17,7 +17,7 @@ pub(crate) trait Turns<S> {
     ghost holds: { Self → Option Event };
     /// So many events more were judged since.
     ghost has_judged: { ℕ → Self → Self → Type 0 };
-    /// So many events more were judged since, and behind them none was found.
+    /// So many events more were judged since, and after them none was found.
     ghost has_ended: { ℕ → Self → Self → Type 0 };
 
     /// Returns the event to be judged next, which is held from then on, or `None` if there is none.

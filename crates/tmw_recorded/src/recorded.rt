@@ -8,6 +8,6 @@ pub struct Recorded {
     /// All events, in the order of the one log.
     pub events: Vec<Event>,
     pub verdict: Verdict,
-    /// For each thread the refusal at which it stopped; none where it has recorded all that it was given.
+    /// For each thread the refusal at which it stopped, or none if it has recorded all that it was given.
     pub stops: Vec<Option<Refused>>,
 }

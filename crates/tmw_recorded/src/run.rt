@@ -104,8 +104,8 @@ fn record_in_threads<R: Threads + Wait>(
     )
 }
 
-/// Lets each writer record its list in a thread of this scope while the events are judged. Where it fails, threads that find the ring
-/// full stop.
+/// Lets each writer record its list in a thread of this scope while the events are judged. If it fails, threads that
+/// find the ring full stop.
 fn record_within<'s, E, R: Threads + Wait>(
     rt: &R,
     scope: &Scope<'s, E>,

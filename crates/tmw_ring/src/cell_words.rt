@@ -12,7 +12,7 @@ pub(crate) struct CellWords {
     pub(crate) value: usize,
 }
 
-/// The number of the place's cell. Where there are as many cells as a power of two it is masked, which takes less than to divide.
+/// Returns the number of the place's cell. For a power of two cells it is masked, which costs less than to divide.
 fn cell_of(cells: u64, place: u64) -> u64
     requires { 0 < cells }
     ensures { result ≡ place % cells }
@@ -24,7 +24,8 @@ fn cell_of(cells: u64, place: u64) -> u64
     place % cells
 }
 
-/// Where the words of the place's cell stand, in a ring with so many cells. Each call that touches a cell does this once.
+/// Returns where the words of the place's cell stand, in a ring with so many cells. Each call that touches a cell
+/// does this once.
 pub(crate) fn words_at(cells: u64, place: u64) -> CellWords
     requires some { 0 < cells }
     requires small { cells ≤ 4096 }

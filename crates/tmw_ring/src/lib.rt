@@ -1,5 +1,5 @@
-//! A running ring in which threads record events: words that change in single steps, with what each writer and the reader know
-//! of them.
+//! A running ring in which threads record events: words that change in single steps, with what each writer and the
+//! reader know of them.
 #![tactic(auto)]
 
 mod cell_words;

@@ -1,4 +1,5 @@
-//! A writer records an event: it looks at front and at tail, claims a place, fills in the value and publishes the place.
+//! A writer records an event: it looks at front and at tail, claims a place, fills in the value and publishes the
+//! place.
 ghost use Rattle.std.specs.Prelude.{◌≡◌, ◌<◌, ◌^◌, true, false, IfOk, IfErr};
 ghost use Rattle.tmw_ring_defs.specs.declared.ring_phase.WriterPhase.TheVariants.{Idle, Looked, Cleared, Claimed};
 ghost use Rattle.tmw_events.specs.Packing.{packed_header, kind_value, IsHeader};

@@ -33,7 +33,7 @@ impl Ring {
     }
 }
 
-/// Puts each writer's part into the seat, behind the parts that it has.
+/// Puts each writer's part into the seat, after the parts that it has.
 fn join_all(ring: &Ring, seat: &mut RingSeat, writers: Vec<Writer>)
     requires table { seat.old.table_id ≡ ring.now.table }
     requires writers { All (WriterOf ring.now) writers.items }

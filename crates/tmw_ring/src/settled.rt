@@ -7,7 +7,8 @@ use std::alloc::Global;
 use std::marker::Model;
 use tmw_events::{Event, split, unpack};
 
-/// The words of a ring that no thread uses any more. It is seen as the events that are left, in the order of their places.
+/// The words of a ring that no thread uses any more. It is seen as the events that are left, in the order of their
+/// places.
 pub struct Settled {
     pub(crate) closed: Closed<(), Global>,
     pub(crate) cells: u64,

@@ -11,8 +11,8 @@ pub const MOST_CELLS: u64 = 4096;
 /// The most places that a ring may give.
 pub const MOST_PLACES: u64 = 1 << 40;
 
-/// The size of a ring of events. A ring has 1 to 8 writers, no fewer cells than writers and at most 4,096 cells, and gives no
-/// fewer places than it has writers and at most 2^40 of them.
+/// The size of a ring of events. A ring has 1 to 8 writers, no fewer cells than writers and at most 4,096 cells, and
+/// gives no fewer places than it has writers and at most 2^40 of them.
 #[derive(Clone, Copy, PartialEq, Eq, Debug)]
 pub struct RingSize {
     /// How many events stand in the ring at once.

@@ -1,7 +1,7 @@
 use tmw_events::{Event, Ix, Kind};
 
-/// One step of a ring's writer, which it names, or of its reader. All but the last are one load, one store or one addition to
-/// one of the ring's words.
+/// One step of a ring's writer, which it names, or of its reader. All but the last are one load, one store or one
+/// addition to one of the ring's words.
 #[derive(Clone, Copy, PartialEq, Eq, Debug)]
 pub enum Step {
     /// The writer, which has an event of this kind to record, loads front.
@@ -20,7 +20,7 @@ pub enum Step {
     Read,
     /// The reader stores the next front. It has taken the event.
     Free,
-    /// The writer stops for good, wherever it is.
+    /// The writer stops forever, however far it has come.
     Stop(Ix),
 }
 

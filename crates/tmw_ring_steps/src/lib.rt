@@ -1,4 +1,5 @@
-//! The ring as a machine that a user steps: what each of its writers and its reader does next, and how that is answered.
+//! The ring as a machine that a user steps: what each of its writers and its reader does next, and how that is
+//! answered.
 #![tactic(auto)]
 
 mod reading;

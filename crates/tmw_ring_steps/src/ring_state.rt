@@ -15,8 +15,8 @@ const EMPTY: RingCell = RingCell {
     value: 0,
 };
 
-/// A ring's words, how far its writers and its reader have come, the events that were claimed for and those that were taken,
-/// and which writers have stopped.
+/// A ring's words, how far its writers and its reader have come, the events that were claimed for and those that were
+/// taken, and which writers have stopped.
 #[derive(Debug, Drop)]
 pub struct RingState {
     pub size: RingSize,

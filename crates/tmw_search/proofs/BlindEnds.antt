@@ -1,5 +1,5 @@
 -- The ends of all of a window's transactions, where they are blind: those of the orders that ranks tell.
-use Rattle.std.proofs.Common.{◌≡◌, ◌⊎◌, ◌+◌, ◌*◌, ◌-◌, ◌^◌, ◌<◌, ◌≤◌, ℕ, zero, suc, Bool, true, false, List, [], ◌∷◌, length, map, Option, Some, None, IsTrue, nat_lt, w8, refl, sym, ap, subst, ◌∙◌, inl, inr, arith}
+use Rattle.std.proofs.Common.{◌≡◌, ◌&&◌, ◌⊎◌, ◌+◌, ◌*◌, ◌-◌, ◌^◌, ◌<◌, ◌≤◌, ℕ, zero, suc, Bool, true, false, List, [], ◌∷◌, length, map, Option, Some, None, IsTrue, nat_lt, w8, refl, sym, ap, subst, ◌∙◌, inl, inr, arith}
 use Rattle.std.specs.Int.{bit_at}
 use Rattle.std.specs.List.{Contains, list_all}
 use Rattle.std.specs.Prelude.{slice_get, slice_index, slice_index_or, get_or, if◌then◌else◌}
@@ -10,7 +10,8 @@ use Rattle.std.proofs.lemmas.List.Folds.{list_all-map}
 use Rattle.std.proofs.lemmas.Option.{slice_get_within}
 use Rattle.tmw_search.specs.BlindTransactions.{is_blind}
 use Rattle.tmw_search.specs.Choices.{ShowsReach, IsReach, EndsFrom, AgreeOutside}
-use Rattle.tmw_search.specs.ForcedTransactions.{is_committed, writes, is_writer}
+use Rattle.tmw_cuts.specs.Written.{writes}
+use Rattle.tmw_search.specs.ForcedTransactions.{is_committed, is_writer}
 use Rattle.tmw_search.specs.LastWrites.{LeaveLasts, AreWritten, AllWritten, NoneFrom, nothing}
 use Rattle.tmw_search.specs.declared.lasts.Last.{Last}
 use Rattle.tmw_defs.specs.declared.criterion.Criterion.{Criterion}
@@ -23,6 +24,7 @@ use Rattle.tmw_defs.specs.Opaque.{State, precedes}
 use Rattle.tmw_defs.specs.Outcomes.{Ends}
 use Rattle.tmw_search.proofs.BlindProof.{blind_at, blind-written, blind-kept}
 use Rattle.tmw_search.proofs.Choosing.{or-left}
+use Rattle.tmw_search.proofs.Forcing.{mask-bit}
 use Rattle.tmw_search.proofs.LayerSteps.{slice_get_some}
 use Rattle.tmw_search.proofs.LayersProof.{layer-last, same_place, bit_cases}
 use Rattle.tmw_search.proofs.OrderRanks.{AreLast, ranked_of}
@@ -66,7 +68,7 @@ written_as xs ts lasts reach k i r t at within =
     let one = k.shows.each i x.0 t x.1 at in
     let (ended, writes_all) = and_parts (is_ended t.text) _ (blind_at ts i t k.blind at) in
     let left = k.leave.each i x.0 x.1 (rw one.ops writes_all) in
-    left.0 r within ∙ rw (one.status, one.ops) refl
+    mask-bit (λ q. is_committed x.0.status && writes q x.0.ops) (get_or lasts i nothing).registers r left.0 ∙ rw (one.status, one.ops) refl
 
 are-last : (xs : List View) (ts : List Txn) (lasts : List Last) (reach : List ℕ) → IsRead xs ts lasts reach → AreLast ts lasts
 are-last xs ts lasts reach k = record {

@@ -8,9 +8,9 @@ use Rattle.std.proofs.lemmas.Nat.Bits.{bit_at_above}
 use Rattle.tmw_defs.specs.declared.criterion.Criterion.TheVariants.{Opacity}
 use Rattle.tmw_defs.specs.declared.op.Op.{Op}
 use Rattle.tmw_defs.specs.declared.op.Op.TheVariants.{Read, Write, Add}
-use Rattle.tmw_cuts.specs.Written.{is_write}
+use Rattle.tmw_cuts.specs.Written.{is_write, writes}
 use Rattle.tmw_search.specs.BlindTransactions.{is_blind, blind_after, Reaches}
-use Rattle.tmw_search.specs.ForcedTransactions.{is_committed, writes, is_writer}
+use Rattle.tmw_search.specs.ForcedTransactions.{is_committed, is_writer}
 use Rattle.tmw_defs.specs.History.{Txn, is_ended, status_of, operations}
 use Rattle.tmw_search.specs.Layers.{LeavesNone, IsStep}
 use Rattle.tmw_defs.specs.Opaque.{State, zeros, Placed, may_be, reads_hold, after, after_writes}

@@ -8,12 +8,12 @@ use Rattle.std.proofs.lemmas.List.{get_or-set_same, get_or-set_other, length-set
 use Rattle.std.proofs.lemmas.List.Sums.{sum_by-cons}
 use Rattle.tmw_defs.specs.declared.op.Op.{Op}
 use Rattle.tmw_defs.specs.declared.op.Op.TheVariants.{Read, Write, Add}
-use Rattle.tmw_search.specs.ForcedTransactions.{is_committed, writes, writes_blindly, is_writer, is_blind_writer, left_in, gives_way, settles, IsForced}
+use Rattle.tmw_search.specs.ForcedTransactions.{is_committed, is_writer, is_blind_writer, left_in, gives_way, settles, IsForced}
 use Rattle.tmw_defs.specs.History.{Txn, is_ended, status_of, operations}
 use Rattle.tmw_defs.specs.Opaque.{State, Placed, PlacesEach, precedes, may_be, keeps_order, reads_hold, after, after_writes, is_legal}
 use Rattle.tmw_defs.specs.Outcomes.{end_state, Leads}
 use Rattle.tmw_defs.proofs.Removals.{list_all-places}
-use Rattle.tmw_cuts.specs.Written.{left_by}
+use Rattle.tmw_cuts.specs.Written.{writes, writes_blindly, left_by}
 use Rattle.tmw_search.proofs.Completions.{held_is}
 
 -- a sum over an order is the sum over the transactions that it places

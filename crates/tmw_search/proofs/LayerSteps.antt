@@ -1,7 +1,7 @@
 -- What is made of a pair is just what one step makes of it.
-use Rattle.std.proofs.Common.{◌≡◌, ◌&&◌, ◌+◌, ◌*◌, ◌%◌, ◌^◌, ◌<◌, ◌≤◌, ℕ, zero, suc, Bool, true, false, List, [], ◌∷◌, length, Some, IsTrue, bit_or, refl, sym, ap, subst, ◌∙◌, inl, inr, arith}
+use Rattle.std.proofs.Common.{◌≡◌, ◌&&◌, ◌+◌, ◌*◌, ◌%◌, ◌^◌, ◌<◌, ◌≤◌, ℕ, zero, suc, Bool, true, false, List, [], ◌∷◌, length, flat_map, Some, IsTrue, bit_or, refl, sym, ap, subst, ◌∙◌, inl, inr, arith}
 use Rattle.std.specs.Int.{bit_at}
-use Rattle.std.specs.List.{Contains}
+use Rattle.std.specs.List.{Contains, enumerate_from}
 use Rattle.std.specs.Prelude.{slice_get}
 use Rattle.std.proofs.lemmas.Bool.{and_parts, and_from, cases_Bool}
 use Rattle.std.proofs.lemmas.List.Elements.{Contains-append_left, Contains-append_right, Contains-append_cases}
@@ -12,7 +12,7 @@ use Rattle.tmw_defs.specs.History.{Txn, operations}
 use Rattle.tmw_search.specs.Layers.{reads_asked, IsStep}
 use Rattle.tmw_defs.specs.Opaque.{State, precedes, may_hold, after, after_writes}
 use Rattle.tmw_cuts.specs.Views.{View}
-use Rattle.tmw_search.specs.Nexts.{is_next, end_at, way, ways, next_at, nexts_from}
+use Rattle.tmw_search.specs.Nexts.{is_next, end_at, way, ways, next_at, nexts_of, Follows}
 use Rattle.tmw_search.specs.ShownTransactions.{ShowsTransaction, ShowsTransactions}
 use Rattle.tmw_search.proofs.LayersProof.{same_place}
 use Rattle.tmw_search.proofs.FreeNext.{next_free, free-next}
@@ -70,17 +70,21 @@ way-in criterion x above s true may reads =
 way-in criterion x above s false may reads =
     Contains-append_right (way criterion x above s true) (way criterion x above s false) _ (is-way criterion x above s false may reads)
 
--- members of the whole come from one place
-pub record ComesFrom (criterion : Criterion) (base : ℕ) (xs : List View) (p q : ℕ × State) : Type 0 where
-  pub place : ℕ
-  pub shown : View
-  pub at : slice_get xs place ≡ Some shown
-  pub made : Contains (next_at criterion shown (base + place) p) q
+-- what placing each of them makes, where the first is at this place
+abbrev pub nexts_at : Criterion → ℕ → List View → ℕ × State → List (ℕ × State)
+nexts_at criterion base xs p = flat_map (λ (at : ℕ × View). next_at criterion at.1 at.0 p) (enumerate_from base xs)
 
-pub comes_from : (criterion : Criterion) (base : ℕ) (xs : List View) (p q : ℕ × State) → Contains (nexts_from criterion base xs p) q → ComesFrom criterion base xs p q
+-- members of the whole come from one place
+record ComesFrom (criterion : Criterion) (base : ℕ) (xs : List View) (p q : ℕ × State) : Type 0 where
+  place : ℕ
+  shown : View
+  at : slice_get xs place ≡ Some shown
+  made : Contains (next_at criterion shown (base + place) p) q
+
+comes_from : (criterion : Criterion) (base : ℕ) (xs : List View) (p q : ℕ × State) → Contains (nexts_at criterion base xs p) q → ComesFrom criterion base xs p q
 comes_from criterion base [] p q has = absurd (contains_none q has)
 comes_from criterion base (x ∷ xs) p q has =
-    elim (Contains-append_cases (next_at criterion x base p) (nexts_from criterion (base + 1) xs p) q has) [
+    elim (Contains-append_cases (next_at criterion x base p) (nexts_at criterion (base + 1) xs p) q has) [
       | inl here ↦
           let same : base + 0 ≡ base = omega arith in
           record { place = zero; shown = x; at = refl; made = rw same here }
@@ -90,36 +94,39 @@ comes_from criterion base (x ∷ xs) p q has =
           record { place = suc c.place; shown = c.shown; at = c.at; made = rw same c.made }
     ]
 
-pub comes-from : (criterion : Criterion) (base : ℕ) (xs : List View) (p q : ℕ × State) (place : ℕ) (x : View) → slice_get xs place ≡ Some x
-    → Contains (next_at criterion x (base + place) p) q → Contains (nexts_from criterion base xs p) q
+comes-from : (criterion : Criterion) (base : ℕ) (xs : List View) (p q : ℕ × State) (place : ℕ) (x : View) → slice_get xs place ≡ Some x
+    → Contains (next_at criterion x (base + place) p) q → Contains (nexts_at criterion base xs p) q
 comes-from criterion base [] p q place x at made = absurd (cc)
 comes-from criterion base (y ∷ xs) p q zero x at made =
     let is : y ≡ x = cc in
     let same : base + 0 ≡ base = omega arith in
-    Contains-append_left (next_at criterion y base p) (nexts_from criterion (base + 1) xs p) q (rw (is, ← same) made)
+    Contains-append_left (next_at criterion y base p) (nexts_at criterion (base + 1) xs p) q (rw (is, ← same) made)
 comes-from criterion base (y ∷ xs) p q (suc place) x at made =
     let same : base + suc place ≡ base + 1 + place = omega arith in
-    Contains-append_right (next_at criterion y base p) (nexts_from criterion (base + 1) xs p) q
+    Contains-append_right (next_at criterion y base p) (nexts_at criterion (base + 1) xs p) q
     (comes-from criterion (base + 1) xs p q place x at (rw same at made))
+
+pub follows_of : (criterion : Criterion) (xs : List View) (p q : ℕ × State) → Contains (nexts_of criterion xs p) q → Follows criterion xs p q
+follows_of criterion xs p q has =
+    let c = comes_from criterion 0 xs p q has in
+    let same : 0 + c.place ≡ c.place = omega arith in
+    let made : Contains (next_at criterion c.shown c.place p) q = rw same at c.made in
+    elim (cases_Bool (is_next c.shown c.place p.0)) [
+      | inl is ↦ record { place = c.place; shown = c.shown; at = c.at; next = is; way = rw is at made }
+      | inr other ↦ absurd (contains_none q (rw other at made))
+    ]
+
+pub follows-in : (criterion : Criterion) (xs : List View) (p q : ℕ × State) → Follows criterion xs p q → Contains (nexts_of criterion xs p) q
+follows-in criterion xs p q f =
+    let same : f.place ≡ 0 + f.place = omega arith in
+    let made : Contains (next_at criterion f.shown f.place p) q = rw f.next f.way in
+    comes-from criterion 0 xs p q f.place f.shown f.at
+    (subst (λ (k : ℕ). Contains (next_at criterion f.shown k p) q) same made)
 
 -- what is made at a place, where it is made
 pub record IsMade (criterion : Criterion) (x : View) (place : ℕ) (p q : ℕ × State) : Type 0 where
   pub next : IsTrue (is_next x place p.0)
   pub way : IsWay criterion x (bit_or p.0 (1 * 2 ^ place % 2 ^ 8)) p.1 q
-
-made_of : (criterion : Criterion) (x : View) (place : ℕ) (p q : ℕ × State) → Contains (next_at criterion x place p) q
-    → IsMade criterion x place p q
-made_of criterion x place p q has =
-    elim (cases_Bool (is_next x place p.0)) [
-      | inl is ↦ record { next = is; way = way_of criterion x _ p.1 q (rw is at has) }
-      | inr other ↦ absurd (contains_none q (rw other at has))
-    ]
-
-made-in : (criterion : Criterion) (x : View) (place : ℕ) (p : ℕ × State) (by : Bool) → IsTrue (is_next x place p.0)
-    → IsTrue (may_hold x.status by) → IsTrue (reads_asked criterion by p.1 x.ops)
-    → Contains (next_at criterion x place p) (let r : ℕ × State = (bit_or p.0 (1 * 2 ^ place % 2 ^ 8), end_at x p.1 by) in r)
-made-in criterion x place p by next may reads =
-    rw next (way-in criterion x (bit_or p.0 (1 * 2 ^ place % 2 ^ 8)) p.1 by may reads)
 
 -- a place of the one list is one of the other
 pub slice_get_some : {A : Type 0} (xs : List A) (i : ℕ) → i < length xs → (x : A) × (slice_get xs i ≡ Some x)
@@ -152,22 +159,28 @@ step-made_at criterion ts x t place mask above r u one at few fits made =
       to = made.way.state ∙ after-way r x t made.way.by one.ops;
     }
 
--- what is made of a pair is a step from it
+-- what follows a pair is a step from it
 pub step_of : (criterion : Criterion) (xs : List View) (ts : List Txn) (mask above : ℕ) (r u : State) → ShowsTransactions xs ts → length ts ≤ 8 → mask < 2 ^ length ts
-    → Contains (nexts_from criterion 0 xs (mask, r)) (above, u) → IsStep criterion ts mask r above u
-step_of criterion xs ts mask above r u shows few fits has =
-    let c = comes_from criterion 0 xs (mask, r) (above, u) has in
-    let within = slice_get_within xs c.place c.shown c.at in
-    let there = slice_get_some ts c.place (omega (arith, shows.same_length)) in
-    let same : 0 + c.place ≡ c.place = omega arith in
-    step-made_at criterion ts c.shown there.0 c.place mask above r u (shows.each c.place c.shown there.0 c.at there.1) there.1 few fits
-    (made_of criterion c.shown c.place (mask, r) (above, u) (rw same at c.made))
+    → Follows criterion xs (mask, r) (above, u) → IsStep criterion ts mask r above u
+step_of criterion xs ts mask above r u shows few fits f =
+    let within = slice_get_within xs f.place f.shown f.at in
+    let there = slice_get_some ts f.place (omega (arith, within, shows.same_length)) in
+    let made : IsMade criterion f.shown f.place (mask, r) (above, u) = record {
+      next = f.next;
+      way = way_of criterion f.shown (bit_or mask (1 * 2 ^ f.place % 2 ^ 8)) r (above, u) f.way;
+    } in
+    step-made_at criterion ts f.shown there.0 f.place mask above r u (shows.each f.place f.shown there.0 f.at there.1) there.1 few fits made
 
-step-in : (criterion : Criterion) (ts : List Txn) (x : View) (mask above : ℕ) (r u : State) (s : IsStep criterion ts mask r above u)
-    → ShowsTransaction ts x s.placed.txn → length ts ≤ 8 → mask < 2 ^ length ts
-    → ((i : ℕ) (t : Txn) → slice_get ts i ≡ Some t → precedes t t ≡ false) → Contains (next_at criterion x s.place (mask, r)) (above, u)
-step-in criterion ts x mask above r u s one few fits none_self =
+-- and each step from it follows it
+pub step-made : (criterion : Criterion) (xs : List View) (ts : List Txn) (mask above : ℕ) (r u : State) → ShowsTransactions xs ts
+    → length ts ≤ 8 → mask < 2 ^ length ts → ((i : ℕ) (t : Txn) → slice_get ts i ≡ Some t → precedes t t ≡ false)
+    → IsStep criterion ts mask r above u → Follows criterion xs (mask, r) (above, u)
+step-made criterion xs ts mask above r u shows few fits none_self s =
     let t = s.placed.txn in
+    let within = slice_get_within ts s.place t s.at in
+    let there = slice_get_some xs s.place (omega (arith, within, shows.same_length)) in
+    let x = there.0 in
+    let one = shows.each s.place x t there.1 s.at in
     let free : (i : ℕ) (v : Txn) → slice_get ts i ≡ Some v → bit_at mask i ≡ 0 → precedes v t ≡ false = λ i v at out.
     elim (same_place i s.place) [
       | inl same ↦ let is : v ≡ t = (let k = rw same at at in let m = s.at in cc) in rw is (none_self s.place t s.at)
@@ -177,23 +190,15 @@ step-in criterion ts x mask above r u s one few fits none_self =
     (eight_bits x.before (length ts) few one.fits) s.new free in
     let reads : IsTrue (reads_asked criterion s.placed.held r x.ops) = rw one.ops s.reads in
     let may : IsTrue (may_hold x.status s.placed.held) = rw one.status s.may in
-    let within = slice_get_within ts s.place t s.at in
-    let made = made-in criterion x s.place (mask, r) s.placed.held next may reads in
-    let mask_is : bit_or mask (1 * 2 ^ s.place % 2 ^ 8) ≡ above =
-    mask-set mask s.place (omega (arith, within, few)) s.new ∙ sym s.is in
+    let set = bit_or mask (1 * 2 ^ s.place % 2 ^ 8) in
+    let mask_is : set ≡ above = mask-set mask s.place (omega (arith, within, few)) s.new ∙ sym s.is in
     let state_is : end_at x r s.placed.held ≡ u = after-way r x t s.placed.held one.ops ∙ sym s.to in
-    let one_is = subst (λ (m : ℕ). Contains (next_at criterion x s.place (mask, r)) (m, end_at x r s.placed.held)) mask_is made in
-    subst (λ (z : State). Contains (next_at criterion x s.place (mask, r)) (above, z)) state_is one_is
-
--- and each step from it is made
-pub step-made : (criterion : Criterion) (xs : List View) (ts : List Txn) (mask above : ℕ) (r u : State) → ShowsTransactions xs ts
-    → length ts ≤ 8 → mask < 2 ^ length ts → ((i : ℕ) (t : Txn) → slice_get ts i ≡ Some t → precedes t t ≡ false)
-    → IsStep criterion ts mask r above u → Contains (nexts_from criterion 0 xs (mask, r)) (above, u)
-step-made criterion xs ts mask above r u shows few fits none_self s =
-    let within = slice_get_within ts s.place s.placed.txn s.at in
-    let there = slice_get_some xs s.place (omega (arith, shows.same_length)) in
-    let one = shows.each s.place there.0 s.placed.txn there.1 s.at in
-    let same : s.place ≡ 0 + s.place = omega arith in
-    comes-from criterion 0 xs (mask, r) (above, u) s.place there.0 there.1
-    (subst (λ (k : ℕ). Contains (next_at criterion there.0 k (mask, r)) (above, u)) same
-    (step-in criterion ts there.0 mask above r u s one few fits none_self))
+    let made = way-in criterion x set r s.placed.held may reads in
+    let one_is = subst (λ (m : ℕ). Contains (ways criterion x set r) (m, end_at x r s.placed.held)) mask_is made in
+    record {
+      place = s.place;
+      shown = x;
+      at = there.1;
+      next = next;
+      way = subst (λ (z : State). Contains (ways criterion x set r) (above, z)) state_is one_is;
+    }

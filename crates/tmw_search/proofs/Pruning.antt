@@ -1,11 +1,13 @@
 -- Layers in which a transaction that leaves each state as it is is placed as soon as it can be: each end state is still reached.
-use Rattle.std.proofs.Common.{◌≡◌, ◌↔◌, ◌==◌, ◌||◌, ◌+◌, ◌-◌, ◌*◌, ◌%◌, ◌^◌, ◌<◌, ◌≤◌, ℕ, zero, suc, Bool, true, false, List, [], ◌∷◌, length, map, flat_map, Option, Some, None, IsTrue, bit_or, refl, sym, ap, subst, ◌∙◌, inl, inr, arith}
+use Rattle.std.proofs.Common.{◌≡◌, ◌↔◌, ◌==◌, ◌+◌, ◌-◌, ◌*◌, ◌%◌, ◌^◌, ◌<◌, ◌≤◌, ℕ, zero, suc, Bool, true, false, List, [], ◌∷◌, length, map, flat_map, cond, get_or, Option, Some, None, IsTrue, bit_or, refl, sym, ap, subst, ◌∙◌, inl, inr, arith}
 use Rattle.std.specs.Int.{bit_at}
-use Rattle.std.specs.List.{Contains}
-use Rattle.std.specs.Prelude.{slice_get}
-use Rattle.std.proofs.lemmas.Bool.{and_parts, cases_Bool, eqb-true, eq-eqb}
-use Rattle.std.proofs.lemmas.Nat.Bits.{bit_at-zero, bit_at_ones}
-use Rattle.std.proofs.lemmas.Option.{slice_get_within}
+use Rattle.std.specs.List.{Contains, list_all, enumerate_from}
+use Rattle.std.specs.Prelude.{nat_lt, option_map, position, slice_get, if◌then◌else◌}
+use Rattle.std.proofs.lemmas.Bool.{and_parts, cases_Bool, cases_lt, lt-ltb, le-ltb, eqb-true}
+use Rattle.std.proofs.lemmas.Nat.Bits.{bit_at_ones}
+use Rattle.std.proofs.lemmas.Option.{slice_get_within, slice_get-get_or}
+use Rattle.std.proofs.lemmas.List.FromFn.{length-enumerate_from, get_or-enumerate_from}
+use Rattle.std.proofs.lemmas.List.Quantifiers.{position-Some}
 use Rattle.tmw_defs.specs.declared.criterion.Criterion.{Criterion}
 use Rattle.tmw_defs.specs.declared.op.Op.{Op}
 use Rattle.tmw_defs.specs.declared.op.Op.TheVariants.{Read, Write, Add}
@@ -16,30 +18,25 @@ use Rattle.tmw_defs.specs.Criteria.{EndsBy}
 use Rattle.tmw_defs.specs.History.{Txn, status_of}
 use Rattle.tmw_defs.specs.Opaque.{State, Placed, may_hold, may_be, reads_hold, after, after_writes}
 use Rattle.tmw_cuts.specs.Views.{View}
-use Rattle.tmw_cuts.specs.Written.{written_by}
-use Rattle.tmw_search.specs.ForcedTransactions.{writes}
+use Rattle.tmw_cuts.specs.Written.{is_read}
 use Rattle.tmw_search.specs.Layers.{reads_asked, AreAside, InLayerBy, IsStep}
-use Rattle.tmw_search.specs.Nexts.{end_at, is_next, is_idle, is_idle_next, idle_from, idle_or_all, pruned_from}
+use Rattle.tmw_search.specs.Nexts.{end_at, is_next, is_idle, is_idle_next, first_idle, idle_or_all, pruned_from}
 use Rattle.tmw_search.specs.Pairs.{IsAside, first_pair}
 use Rattle.tmw_search.specs.ShownTransactions.{ShowsTransaction, ShowsTransactions, NoneBeforeItself}
 use Rattle.tmw_search.specs.Ended.{HaveLast}
 use Rattle.tmw_cuts.proofs.FirstMembers.{contains_here, contains_cases, contains_none}
-use Rattle.tmw_search.proofs.Forcing.{written-has}
 use Rattle.tmw_search.proofs.LayerLists.{contains_flat, contains-flat, first-layer}
 use Rattle.tmw_search.proofs.LayersBy.{fits-by, layer-step_by, layer_step-by, layer-first, layer_first, layer-last_by, layer_last-by}
 use Rattle.tmw_search.proofs.LayersProof.{same_place}
 use Rattle.tmw_cuts.proofs.Bits.{mask-set, bit_at-more_same, bit_at-more_other}
-use Rattle.tmw_search.proofs.LayerSteps.{IsMade, after-way, step-made_at, step_of, step-made, slice_get_some}
+use Rattle.tmw_search.proofs.LayerSteps.{IsMade, after-way, follows_of, follows-in, step-made_at, step_of, step-made, slice_get_some}
 
-itself : (n : ℕ) (b : Bool) → ((n == n) || b) ≡ false → ⊥
-itself n b none = let is : (n == n) ≡ true = eq-eqb n n refl in let k = rw is at none in cc
-
--- operations that write no register leave each state
-none-written : (ops : List Op) (s : State) → ((r : ℕ) → writes r ops ≡ false) → after_writes s ops ≡ s
-none-written [] s none = refl
-none-written (Read q v ∷ ops) s none = none-written ops s none
-none-written (Write q v ∷ ops) s none = absurd (itself q.number (writes q.number ops) (none q.number))
-none-written (Add q d v ∷ ops) s none = absurd (itself q.number (writes q.number ops) (none q.number))
+-- operations that are reads leave each state
+only-read : (ops : List Op) (s : State) → list_all is_read ops ≡ true → after_writes s ops ≡ s
+only-read [] s all = refl
+only-read (Read q v ∷ ops) s all = only-read ops s all
+only-read (Write q v ∷ ops) s all = absurd (cc)
+only-read (Add q d v ∷ ops) s all = absurd (cc)
 
 -- the transaction leaves each state as it is, however it is placed
 abbrev pub LeavesEach : Txn → Type 0
@@ -109,14 +106,8 @@ placed-first criterion ts (suc n) mask i s end t out at leaves (above, u, x, res
 leaves-view : (x : View) (s : State) (by : Bool) → IsTrue (is_idle x) → IsTrue (may_hold x.status by) → end_at x s by ≡ s
 leaves-view x s false idle may = refl
 leaves-view x s true idle may =
-    let none : (written_by 0 x.ops == 0) ≡ true = rw may at idle in
-    none-written x.ops s (λ r. elim (cases_Bool (writes r x.ops)) [
-      | inl some ↦ absurd (
-          let one = written-has x.ops 0 r some in
-          let zero_is = ap (λ (m : ℕ). bit_at m r) (eqb-true (written_by 0 x.ops) 0 none) ∙ bit_at-zero r in
-          omega (arith, one, zero_is))
-      | inr other ↦ other
-    ])
+    let reads : list_all is_read x.ops ≡ true = rw may at idle in
+    only-read x.ops s reads
 
 leaves-each : (ts : List Txn) (x : View) (t : Txn) → ShowsTransaction ts x t → IsTrue (is_idle x) → LeavesEach t
 leaves-each ts x t shows idle = λ by s may.
@@ -133,26 +124,62 @@ asked-held Opacity by s ops reads = reads
 asked-held Strict true s ops reads = reads
 asked-held Strict false s ops reads = refl
 
+-- the first that is such, where the first of these is at this place
+abbrev pub idle_from : ℕ → List View → ℕ × State → Option ℕ
+idle_from place [] p = None
+idle_from place (x ∷ xs) p = if is_idle_next x place p then Some place else idle_from (place + 1) xs p
+
+abbrev idle_next_at : ℕ × State → ℕ × View → Bool
+idle_next_at p at = is_idle_next at.1 at.0 p
+
+from-place : (base : ℕ) (xs : List View) (p : ℕ × State)
+    → idle_from base xs p ≡ option_map (λ i. base + i) (position (idle_next_at p) (enumerate_from base xs))
+from-place base [] p = refl
+from-place base (x ∷ xs) p =
+    elim (cases_Bool (is_idle_next x base p)) [
+      | inl is ↦ rw is (here _)
+      | inr other ↦ rw other (from-place (base + 1) xs p ∙ later _ _)
+    ]
+  where
+    here : (all : ℕ) → Some base ≡ option_map (λ i. base + i) (cond (nat_lt 0 (suc all)) (Some 0) None)
+    here all = rw (lt-ltb 0 (suc all) (omega arith)) (ap (λ i. Some i) (omega arith))
+
+    later : (n all : ℕ) → option_map (λ i. base + 1 + i) (cond (nat_lt n all) (Some n) None)
+        ≡ option_map (λ i. base + i) (cond (nat_lt (1 + n) (suc all)) (Some (1 + n)) None)
+    later n all =
+        elim (cases_lt n all) [
+          | inl less ↦ (let same : base + 1 + n ≡ base + (1 + n) = omega arith in
+              rw (lt-ltb n all less, lt-ltb (1 + n) (suc all) (omega (arith, less))) (ap (λ i. Some i) same))
+          | inr over ↦ rw (le-ltb n all over, le-ltb (1 + n) (suc all) (omega (arith, over))) refl
+        ]
+
+pub idle-first : (xs : List View) (p : ℕ × State) → idle_from 0 xs p ≡ first_idle xs p
+unfolding first_idle
+idle-first xs p = from-place 0 xs p ∙ none (first_idle xs p)
+  where
+    none : (o : Option ℕ) → option_map (λ i. 0 + i) o ≡ o
+    none None = refl
+    none (Some i) = ap (λ n. Some n) (omega arith)
+
 -- the transaction that is placed alone
-record IsIdleAt (xs : List View) (base place : ℕ) (p : ℕ × State) : Type 0 where
-  index : ℕ
+record IsIdleAt (xs : List View) (place : ℕ) (p : ℕ × State) : Type 0 where
   shown : View
-  at : slice_get xs index ≡ Some shown
-  is : place ≡ base + index
+  at : slice_get xs place ≡ Some shown
   idle : IsTrue (is_idle_next shown place p)
 
-idle_at : (xs : List View) (base place : ℕ) (p : ℕ × State) → idle_from base xs p ≡ Some place → IsIdleAt xs base place p
-idle_at [] base place p found = absurd (cc)
-idle_at (x ∷ xs) base place p found =
-    elim (cases_Bool (is_idle_next x base p)) [
-      | inl is ↦
-          let same : base ≡ place = (let k = rw is at found in cc) in
-          record { index = zero; shown = x; at = refl; is = omega (arith, same); idle = rw (← same) is }
-      | inr other ↦
-          let rest = idle_at xs (base + 1) place p (rw other at found) in
-          let there = rest.is in
-          record { index = suc rest.index; shown = rest.shown; at = rest.at; is = omega (arith, there); idle = rest.idle }
-    ]
+idle_at : (xs : List View) (place : ℕ) (p : ℕ × State) → first_idle xs p ≡ Some place → IsIdleAt xs place p
+unfolding first_idle
+idle_at [] place p found = absurd (cc)
+idle_at (x ∷ xs) place p found =
+    let d : ℕ × View = (0, x) in
+    let (inside, is, first) = position-Some (idle_next_at p) (enumerate_from 0 (x ∷ xs)) place d found in
+    let within : place < length (x ∷ xs) = omega (arith, inside, length-enumerate_from 0 (x ∷ xs)) in
+    let same : 0 + place ≡ place = omega arith in
+    record {
+      shown = get_or (x ∷ xs) place x;
+      at = slice_get-get_or (x ∷ xs) place x within;
+      idle = rw (get_or-enumerate_from 0 (x ∷ xs) place d within, same) at is;
+    }
 
 -- placing it is a step
 record IsIdleStep (criterion : Criterion) (ts : List Txn) (place : ℕ) (p : ℕ × State) : Type 0 where
@@ -164,13 +191,11 @@ record IsIdleStep (criterion : Criterion) (ts : List Txn) (place : ℕ) (p : ℕ
   step : IsStep criterion ts p.0 p.1 (bit_or p.0 (1 * 2 ^ place % 2 ^ 8)) p.1
 
 idle-step : (criterion : Criterion) (xs : List View) (ts : List Txn) (place : ℕ) (p : ℕ × State) → ShowsTransactions xs ts
-    → length ts ≤ 8 → p.0 < 2 ^ length ts → idle_from 0 xs p ≡ Some place → IsIdleStep criterion ts place p
+    → length ts ≤ 8 → p.0 < 2 ^ length ts → first_idle xs p ≡ Some place → IsIdleStep criterion ts place p
 idle-step criterion xs ts place p shows few fits found =
-    let i = idle_at xs 0 place p found in
-    let is : i.index ≡ place = (let k = i.is in omega (arith, k)) in
-    let shown = i.shown in
-    let at : slice_get xs place ≡ Some shown = subst (λ (n : ℕ). slice_get xs n ≡ Some shown) is i.at in
-    let within : place < length ts = (let inside = slice_get_within xs place i.shown at in omega (arith, inside, shows.same_length)) in
+    let i = idle_at xs place p found in
+    let at = i.at in
+    let within : place < length ts = (let inside = slice_get_within xs place i.shown i.at in omega (arith, inside, shows.same_length)) in
     let t = slice_get_some ts place within in
     let one = shows.each place i.shown t.0 at t.1 in
     let (next, more) = and_parts (is_next i.shown place p.0) _ i.idle in
@@ -251,11 +276,12 @@ comes-first criterion start xs mask count aside begun = λ ts shows none_self. r
 
 -- what is made of a pair is of the next layer
 made-only : (criterion : Criterion) (start : List State) (xs : List View) (ts : List Txn) (k : ℕ) (p q : ℕ × State) (o : Option ℕ)
-    → ShowsTransactions xs ts → length ts ≤ 8 → InLayerBy criterion (Contains start) ts k p.0 p.1 → idle_from 0 xs p ≡ o
+    → ShowsTransactions xs ts → length ts ≤ 8 → InLayerBy criterion (Contains start) ts k p.0 p.1 → first_idle xs p ≡ o
     → Contains (idle_or_all criterion xs p o) q → InLayerBy criterion (Contains start) ts (k + 1) q.0 q.1
 made-only criterion start xs ts k p q None shows few l found has =
     let S = Contains start in
-    layer-step_by criterion S ts k p.0 q.0 p.1 q.1 l (step_of criterion xs ts p.0 q.0 p.1 q.1 shows few (fits-by criterion S ts k p.0 p.1 l) has)
+    layer-step_by criterion S ts k p.0 q.0 p.1 q.1 l (step_of criterion xs ts p.0 q.0 p.1 q.1 shows few (fits-by criterion S ts k p.0 p.1 l)
+    (follows_of criterion xs p q has))
 made-only criterion start xs ts k p q (Some place) shows few l found has =
     let S = Contains start in
     let i = idle-step criterion xs ts place p shows few (fits-by criterion S ts k p.0 p.1 l) found in
@@ -267,11 +293,15 @@ made-only criterion start xs ts k p q (Some place) shows few l found has =
 
 -- and from there each end state is reached that was reached from the pair
 made-each : (criterion : Criterion) (xs : List View) (ts : List Txn) (n : ℕ) (p : ℕ × State) (end : State) (o : Option ℕ)
-    → ShowsTransactions xs ts → NoneBeforeItself ts → length ts ≤ 8 → p.0 < 2 ^ length ts → idle_from 0 xs p ≡ o
+    → ShowsTransactions xs ts → NoneBeforeItself ts → length ts ≤ 8 → p.0 < 2 ^ length ts → first_idle xs p ≡ o
     → GoesTo criterion ts (suc n) p.0 p.1 end → Goes criterion ts n (idle_or_all criterion xs p o) end
 made-each criterion xs ts n p end None shows none_self few fits found (above, u, x, rest) =
     let q : ℕ × State = (above, u) in
-    record { pair = q; within = step-made criterion xs ts p.0 above p.1 u shows few fits none_self x; goes = rest }
+    record {
+      pair = q;
+      within = follows-in criterion xs p q (step-made criterion xs ts p.0 above p.1 u shows few fits none_self x);
+      goes = rest;
+    }
 made-each criterion xs ts n p end (Some place) shows none_self few fits found goes =
     let i = idle-step criterion xs ts place p shows few fits found in
     let r : ℕ × State = (bit_or p.0 (1 * 2 ^ place % 2 ^ 8), p.1) in
@@ -291,12 +321,12 @@ comes-next criterion start xs k layer nexts few less comes made = λ ts shows no
     record {
       only = λ q has.
           let c = contains_flat (pruned_from criterion xs) layer q ((made q).0 has) in
-          made-only criterion start xs ts k c.0 q (idle_from 0 xs c.0) shows few_ts (r.only c.0 c.1) refl c.2;
+          made-only criterion start xs ts k c.0 q (first_idle xs c.0) shows few_ts (r.only c.0 c.1) refl c.2;
       each = λ end ends.
           let g = r.each end ends in
           let one_less : length ts - k ≡ suc (length ts - (k + 1)) = (let same = shows.same_length in omega (arith, less, same)) in
           let fits = fits-by criterion (Contains start) ts k g.pair.0 g.pair.1 (r.only g.pair g.within) in
-          let m = made-each criterion xs ts (length ts - (k + 1)) g.pair end (idle_from 0 xs g.pair) shows none_self few_ts fits refl
+          let m = made-each criterion xs ts (length ts - (k + 1)) g.pair end (first_idle xs g.pair) shows none_self few_ts fits refl
           (rw one_less at g.goes) in
           record {
             pair = m.pair;

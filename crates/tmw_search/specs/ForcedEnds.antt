@@ -1,32 +1,28 @@
 -- What the search sees of a forced end state, and the end states that it finds where the end state is forced.
-use Rattle.std.specs.Prelude.{◌≡◌, ◌==◌, ◌&&◌, ◌||◌, ◌≤◌, ◌⊎◌, ℕ, Bool, not, List, [], ◌∷◌, Some, IsTrue, bit_and, bit_or, slice_get, if◌then◌else◌}
+use Rattle.std.specs.Prelude.{◌≡◌, ◌==◌, ◌&&◌, ◌||◌, ◌≤◌, ◌⊎◌, ℕ, Bool, not, nat_le, List, Some, IsTrue, slice_get}
 use Rattle.std.specs.Int.{bit_at}
 use Rattle.std.specs.List.{Contains, list_all, count_by}
 use Rattle.tmw_defs.specs.declared.criterion.Criterion.{Criterion}
-use Rattle.tmw_search.specs.ForcedTransactions.{is_committed, writes, writes_blindly, left_in, IsForced}
+use Rattle.tmw_search.specs.ForcedTransactions.{is_committed, left_in, IsForced}
 use Rattle.tmw_defs.specs.Criteria.{EndsBy}
 use Rattle.tmw_defs.specs.History.{Txn, is_ended}
 use Rattle.tmw_defs.specs.Opaque.{State}
 use Rattle.tmw_cuts.specs.Views.{View}
-use Rattle.tmw_cuts.specs.Written.{written_by, blind_by}
+use Rattle.tmw_cuts.specs.Written.{writes, writes_blindly}
 use Rattle.tmw_search.specs.declared.end_states.EndStates.{EndStates}
 use Rattle.tmw_search.specs.Ended.{AreMembers}
 use Rattle.tmw_search.specs.ShownTransactions.{ShowsTransactions}
 
--- the registers of `twice`, and those that two of these write that have committed, or one of them where it is in `once`
-abbrev pub shared_by : ℕ → ℕ → List View → ℕ
-shared_by once twice [] = twice
-shared_by once twice (x ∷ xs) =
-    if is_committed x.status
-    then shared_by (bit_or once (written_by 0 x.ops)) (bit_or twice (bit_and once (written_by 0 x.ops))) xs
-    else shared_by once twice xs
-
--- it has not committed, or writes none of these registers blindly
+-- it has not committed, or does not write the register blindly
 abbrev pub is_without_blind : ℕ → View → Bool
-is_without_blind registers x = not (is_committed x.status) || (bit_and registers (blind_by x.ops) == 0)
+is_without_blind r x = not (is_committed x.status && writes_blindly r x.ops)
 
 abbrev pub shows_writer : ℕ → View → Bool
 shows_writer r x = is_committed x.status && writes r x.ops
+
+-- two or more of them have committed and write the register
+abbrev pub is_shared : List View → ℕ → Bool
+is_shared xs r = nat_le 2 (count_by (shows_writer r) xs)
 
 -- The one at this place does not write the register, or precedes the other, or leaves this value there.
 abbrev pub shows_way : ℕ → ℕ → View → ℕ → View → Bool
@@ -47,7 +43,7 @@ pub record AreSettled (r : ℕ) (xs : List View) : Type 0 where
   pub others : (i : ℕ) (x : View) → slice_get xs i ≡ Some x → IsTrue (shows_way r value last i x)
 
 abbrev pub IsNotBlind : ℕ → List View → Type 0
-IsNotBlind r xs = IsTrue (list_all (λ x. not (is_committed x.status && writes_blindly r x.ops)) xs)
+IsNotBlind r xs = IsTrue (list_all (is_without_blind r) xs)
 
 -- Each of these registers is written blindly by no committed transaction, or is settled.
 abbrev pub AreDecided : ℕ → List View → Type 0

@@ -1,33 +1,18 @@
 -- When transactions that have ended leave the same state in all their legal serial orders: each register has one writer, or there are
 -- no blind writes to it, so that each writer reads the version before its own and the versions form one chain, or whoever can be the
 -- last to write it leaves one value.
-use Rattle.std.specs.Prelude.{◌==◌, ◌&&◌, ◌||◌, ◌≤◌, ◌⊎◌, ℕ, Bool, true, false, not, List, [], ◌∷◌, None, IsTrue, unwrap_or}
+use Rattle.std.specs.Prelude.{◌==◌, ◌&&◌, ◌||◌, ◌≤◌, ◌⊎◌, ℕ, Bool, true, false, not, List, None, IsTrue, unwrap_or}
 use Rattle.std.specs.List.{list_all, list_any, count_by}
 use Rattle.tmw_defs.specs.declared.op.Op.{Op}
-use Rattle.tmw_defs.specs.declared.op.Op.TheVariants.{Read, Write, Add}
 use Rattle.tmw_defs.specs.declared.status.Status.{Status}
 use Rattle.tmw_defs.specs.declared.status.Status.TheVariants.{Committed}
 use Rattle.tmw_defs.specs.History.{Txn, status_of, operations}
 use Rattle.tmw_defs.specs.Opaque.{precedes}
-use Rattle.tmw_cuts.specs.Written.{left_by}
+use Rattle.tmw_cuts.specs.Written.{writes, writes_blindly, left_by}
 
 abbrev pub is_committed : Status → Bool
 is_committed Committed = true
 is_committed _ = false
-
--- One of the operations writes the register.
-abbrev pub writes : ℕ → List Op → Bool
-writes r [] = false
-writes r (Read q v ∷ ops) = writes r ops
-writes r (Write q v ∷ ops) = (q.number == r) || writes r ops
-writes r (Add q d v ∷ ops) = (q.number == r) || writes r ops
-
--- The first of the operations on the register is a write. An add reads before it writes.
-abbrev pub writes_blindly : ℕ → List Op → Bool
-writes_blindly r [] = false
-writes_blindly r (Read q v ∷ ops) = not (q.number == r) && writes_blindly r ops
-writes_blindly r (Write q v ∷ ops) = (q.number == r) || writes_blindly r ops
-writes_blindly r (Add q d v ∷ ops) = not (q.number == r) && writes_blindly r ops
 
 abbrev pub is_writer : ℕ → Txn → Bool
 is_writer r t = is_committed (status_of t.text) && writes r (operations t.text)

@@ -3,16 +3,17 @@ use Rattle.std.specs.Prelude.{◌≡◌, ◌&&◌, ◌^◌, ◌<◌, ◌≤◌, 
 use Rattle.std.specs.Int.{bit_at}
 use Rattle.std.specs.List.{list_all}
 use Rattle.tmw_defs.specs.Opaque.{zeros, after_writes}
-use Rattle.tmw_cuts.specs.Views.{View, bit}
-use Rattle.tmw_cuts.specs.Written.{is_write}
-use Rattle.tmw_search.specs.ForcedTransactions.{is_committed, writes}
+use Rattle.tmw_cuts.specs.Registers.{IsMaskOf}
+use Rattle.tmw_cuts.specs.Views.{View}
+use Rattle.tmw_cuts.specs.Written.{is_write, writes}
+use Rattle.tmw_search.specs.ForcedTransactions.{is_committed}
 use Rattle.tmw_search.specs.declared.lasts.Last.{Last}
 use Rattle.tmw_search.specs.declared.reach.Writers.{Writers}
 
 -- If it does nothing but write, these are the registers that it writes, where it has committed, and what they hold after it.
 abbrev pub LeavesLast : View → Last → Type 0
 LeavesLast x last = IsTrue (list_all is_write x.ops)
-    → ((r : ℕ) → r < 8 → bit_at last.registers r ≡ bit (is_committed x.status && writes r x.ops))
+    → IsMaskOf (λ r. is_committed x.status && writes r x.ops) last.registers
     × (is_committed x.status ≡ true → last.values ≡ after_writes zeros x.ops)
 
 abbrev pub nothing : Last

@@ -1,10 +1,11 @@
 -- What placing one transaction more makes of a set of placed ones and the state that they have led to.
-use Rattle.std.specs.Prelude.{◌==◌, ◌&&◌, ◌||◌, ◌+◌, ◌*◌, ◌^◌, ◌%◌, ◌++◌, ℕ, Bool, true, false, not, List, [], ◌∷◌, Option, Some, None, bit_and, bit_or, if◌then◌else◌}
+use Rattle.std.specs.Prelude.{◌≡◌, ◌==◌, ◌&&◌, ◌||◌, ◌*◌, ◌^◌, ◌%◌, ◌++◌, ℕ, Bool, true, false, not, List, [], ◌∷◌, Option, Some, None, IsTrue, bit_and, bit_or, flat_map, position, slice_get, if◌then◌else◌}
 use Rattle.std.specs.Int.{bit_at, bit_not, w8}
+use Rattle.std.specs.List.{Contains, list_all, enumerate_from}
 use Rattle.tmw_defs.specs.declared.criterion.Criterion.{Criterion}
 use Rattle.tmw_defs.specs.Opaque.{State, may_hold, reads_hold, after_writes}
 use Rattle.tmw_cuts.specs.Views.{View}
-use Rattle.tmw_cuts.specs.Written.{written_by}
+use Rattle.tmw_cuts.specs.Written.{is_read}
 use Rattle.tmw_search.specs.Layers.{reads_asked}
 
 -- the transaction at the place isn't placed, and none that isn't precedes it
@@ -26,27 +27,38 @@ ways criterion x above s = way criterion x above s true ++ way criterion x above
 abbrev pub next_at : Criterion → View → ℕ → ℕ × State → List (ℕ × State)
 next_at criterion x place p = if is_next x place p.0 then ways criterion x (bit_or p.0 (1 * 2 ^ place % 2 ^ 8)) p.1 else []
 
-abbrev pub nexts_from : Criterion → ℕ → List View → ℕ × State → List (ℕ × State)
-nexts_from criterion place [] p = []
-nexts_from criterion place (x ∷ xs) p = next_at criterion x place p ++ nexts_from criterion (place + 1) xs p
+-- what placing each of them makes, in the order of their places
+abbrev pub nexts_of : Criterion → List View → ℕ × State → List (ℕ × State)
+nexts_of criterion xs p = flat_map (λ (at : ℕ × View). next_at criterion at.1 at.0 p) (enumerate_from 0 xs)
 
--- no completion holds it, or its operations write nothing: it leaves each state as it is
+-- One of these may come next after the one pair, and the other is a way to place it.
+pub record Follows (criterion : Criterion) (xs : List View) (p q : ℕ × State) : Type 0 where
+  pub place : ℕ
+  pub shown : View
+  pub at : slice_get xs place ≡ Some shown
+  pub next : IsTrue (is_next shown place p.0)
+  pub way : Contains (ways criterion shown (bit_or p.0 (1 * 2 ^ place % 2 ^ 8)) p.1) q
+
+-- It follows one of the layer.
+abbrev pub FollowsOne : Criterion → List View → List (ℕ × State) → ℕ × State → Type 0
+FollowsOne criterion xs layer q = (p : ℕ × State) × Contains layer p × Follows criterion xs p q
+
+-- no completion holds it, or each of its operations is a read: it leaves each state as it is
 abbrev pub is_idle : View → Bool
-is_idle x = not (may_hold x.status true) || (written_by 0 x.ops == 0)
+is_idle x = not (may_hold x.status true) || list_all is_read x.ops
 
 -- it may come next, leaves each state as it is, and read what the state has
 abbrev pub is_idle_next : View → ℕ → ℕ × State → Bool
 is_idle_next x place p = is_next x place p.0 && (is_idle x && reads_hold p.1 x.ops)
 
 -- the first such place
-abbrev pub idle_from : ℕ → List View → ℕ × State → Option ℕ
-idle_from place [] p = None
-idle_from place (x ∷ xs) p = if is_idle_next x place p then Some place else idle_from (place + 1) xs p
+unfoldable pub first_idle : List View → ℕ × State → Option ℕ
+first_idle xs p = position (λ (at : ℕ × View). is_idle_next at.1 at.0 p) (enumerate_from 0 xs)
 
 abbrev pub idle_or_all : Criterion → List View → ℕ × State → Option ℕ → List (ℕ × State)
-idle_or_all criterion xs p None = nexts_from criterion 0 xs p
+idle_or_all criterion xs p None = nexts_of criterion xs p
 idle_or_all criterion xs p (Some place) = (bit_or p.0 (1 * 2 ^ place % 2 ^ 8), p.1) ∷ []
 
 -- The pairs after one placing more: one that leaves each state as it is is placed as soon as it can be, and no other in its place.
 abbrev pub pruned_from : Criterion → List View → ℕ × State → List (ℕ × State)
-pruned_from criterion xs p = idle_or_all criterion xs p (idle_from 0 xs p)
+pruned_from criterion xs p = idle_or_all criterion xs p (first_idle xs p)

@@ -1,7 +1,8 @@
 ghost use Rattle.std.specs.Prelude.{◌≡◌, ◌<◌, ◌≤◌, IfOk, IfSome, IsTrue, length, map};
 ghost use Rattle.std.specs.List.{list_all};
+ghost use Rattle.tmw_cuts.specs.Registers.{IsMaskOf};
 ghost use Rattle.tmw_cuts.specs.Views.{view};
-ghost use Rattle.tmw_search.specs.ForcedEnds.{shared_by, is_without_blind, shows_writer, shows_way, IsWriterAt, AreSettled, AreDecided, AreForced, AreForcedEnds};
+ghost use Rattle.tmw_search.specs.ForcedEnds.{is_shared, is_without_blind, shows_writer, shows_way, IsWriterAt, AreSettled, AreDecided, AreForced, AreForcedEnds};
 ghost use Rattle.tmw_search.specs.ForcedTransactions.{left_in};
 
 use crate::end_states::EndStates;
@@ -11,8 +12,8 @@ use tmw_cuts::{State, States, Txn};
 use tmw_defs::{Criterion, Status};
 
 /// The registers that more than one committed transaction writes, as a mask.
-fn shared_by(items: &[Txn]) -> u8
-    ensures { result ≡ shared_by 0 0 (map view items.now) }
+fn shared_registers(items: &[Txn]) -> u8
+    ensures { IsMaskOf (is_shared (map view items.now)) result }
 {
     let mut once = 0;
     let mut twice = 0;
@@ -26,18 +27,20 @@ fn shared_by(items: &[Txn]) -> u8
     twice
 }
 
-/// Tells whether the transaction has not committed, or writes none of these registers blindly.
-fn is_without_blind(item: &Txn, registers: u8) -> bool
-    ensures { result ≡ is_without_blind registers (view item.now) }
+/// Tells whether the transaction has not committed, or does not write the register blindly.
+fn is_without_blind(item: &Txn, register: usize) -> bool
+    requires { register < 8 }
+    ensures { result ≡ is_without_blind register (view item.now) }
 {
-    item.status != Status::Committed || registers & item.blind() == 0
+    item.status != Status::Committed || item.blind() >> register & 1 == 0
 }
 
-/// Tells whether none of the transactions has committed and writes one of these registers blindly.
-fn are_without_blind(items: &[Txn], registers: u8) -> bool
-    ensures { result ≡ list_all (λ item. is_without_blind registers (view item)) items.now }
+/// Tells whether none of the transactions has committed and writes the register blindly.
+fn are_without_blind(items: &[Txn], register: usize) -> bool
+    requires { register < 8 }
+    ensures { result ≡ list_all (λ item. is_without_blind register (view item)) items.now }
 {
-    items.iter().all(|item| is_without_blind(item, registers))
+    items.iter().all(|item| is_without_blind(item, register))
 }
 
 /// Tells whether the transaction has committed and writes the register.
@@ -104,7 +107,7 @@ fn are_settled(items: &[Txn], registers: u8) -> bool
 {
     for register in 0..8usize {
         if registers >> register & 1 == 1
-            && !are_without_blind(items, 1 << register)
+            && !are_without_blind(items, register)
             && !is_settled(items, register)
         {
             return false;
@@ -122,7 +125,7 @@ pub fn is_forced(items: &[Txn]) -> bool
     if items.len() < 2 {
         return true;
     }
-    let shared = shared_by(items);
+    let shared = shared_registers(items);
     shared == 0 || are_settled(items, shared)
 }
 

@@ -1,6 +1,6 @@
 ghost use Rattle.std.specs.Prelude.{◌≡◌, ◌≤◌, ◌<◌, ◌++◌, IfSome, OnOk, length, flat_map, map};
 ghost use Rattle.tmw_cuts.specs.Views.{view};
-ghost use Rattle.tmw_search.specs.Nexts.{is_idle, is_idle_next, idle_from, pruned_from};
+ghost use Rattle.tmw_search.specs.Nexts.{is_idle, is_idle_next, first_idle, pruned_from};
 
 use crate::nexts::{Reached, is_next, may_hold, push_nexts};
 use std::alloc::AllocError;
@@ -25,7 +25,7 @@ fn is_idle_next(item: &Txn, place: usize, reached: &Reached) -> bool
 /// The first such transaction.
 fn idle_place(items: &[Txn], reached: &Reached) -> Option<usize>
     requires { length items.now ≤ 8 }
-    ensures first { result ≡ idle_from 0 (map view items.now) reached.now }
+    ensures first { result ≡ first_idle (map view items.now) reached.now }
     ensures within { IfSome result (λ place. place < length items.now) }
 {
     for (place, item) in items.iter().enumerate() {

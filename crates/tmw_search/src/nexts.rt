@@ -2,7 +2,7 @@ ghost use Rattle.std.specs.Prelude.{◌≡◌, ◌<◌, ◌≤◌, ◌++◌, OnO
 ghost use Rattle.tmw_cuts.specs.Views.{view};
 ghost use Rattle.tmw_defs.specs.Opaque.{may_hold};
 ghost use Rattle.tmw_search.specs.Layers.{reads_asked};
-ghost use Rattle.tmw_search.specs.Nexts.{is_next, end_at, ways, next_at, nexts_from};
+ghost use Rattle.tmw_search.specs.Nexts.{is_next, end_at, ways, next_at, nexts_of};
 
 use std::alloc::AllocError;
 use tmw_cuts::{State, Txn};
@@ -98,7 +98,7 @@ pub fn push_nexts(
 ) -> Result<(), AllocError>
     requires { length items.now ≤ 8 }
     ensures { OnOk result (nexts.new.items
-        ≡ nexts.old.items ++ nexts_from criterion 0 (map view items.now) reached.now) }
+        ≡ nexts.old.items ++ nexts_of criterion (map view items.now) reached.now) }
 {
     for (place, item) in items.iter().enumerate() {
         push_next(criterion, nexts, item, place, reached)?;
@@ -115,7 +115,7 @@ pub fn push_all(
 ) -> Result<(), AllocError>
     requires { length items.now ≤ 8 }
     ensures { OnOk result (nexts.new.items
-        ≡ nexts.old.items ++ flat_map (nexts_from criterion 0 (map view items.now)) layer.now) }
+        ≡ nexts.old.items ++ flat_map (nexts_of criterion (map view items.now)) layer.now) }
 {
     for reached in layer {
         push_nexts(criterion, nexts, items, reached)?;

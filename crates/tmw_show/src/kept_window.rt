@@ -107,7 +107,8 @@ impl KeptWindow {
     /// Returns what is shown of the run that the monitor was fed, if no event follows.
     pub fn finish(self, monitor: &Monitor) -> Showing
         ensures { (rules : Rules) (history : List Event) → Fits rules history monitor.now
-            → KeepsShown rules history (verdict_of monitor.now) self → IsShowing rules history result }
+            → KeepsShown rules history (verdict_of monitor.now) self
+            → IsShowing rules history result }
     {
         Showing {
             fed: monitor.fed(),

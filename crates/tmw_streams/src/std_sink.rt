@@ -53,7 +53,8 @@ impl<W: Write> Sink for StdSink<W> {
         Ok(count)
     }
 
-    ghost took_some = { λ sink. (replicate (taken_count sink) 0, Prim.search (rules, common_steps)) };
+    ghost took_some = { λ sink.
+        (replicate (taken_count sink) 0, Prim.search (rules, common_steps)) };
 }
 
 /// Writes once, and again after a signal has interrupted it. A write that takes none of some bytes has failed.

@@ -83,7 +83,8 @@ impl<R: Read> Source for StdSource<R> {
         Ok(count)
     }
 
-    ghost tells_some = { λ source. (replicate (told_count source) 0, Prim.search (rules, common_steps)) };
+    ghost tells_some = { λ source.
+        (replicate (told_count source) 0, Prim.search (rules, common_steps)) };
 
     ghost none_left = { λ source over. source.at_end over };
 }

@@ -1,5 +1,5 @@
-//! A watch in the program's own process: threads record what they do with a transactional memory, and one of them has it judged
-//! meanwhile. The watch and the recorders own their ring together, so that none has a lifetime.
+//! A watch in the program's own process: threads record what they do with a transactional memory, and one of them has
+//! it judged meanwhile. The watch and the recorders own their ring together, so that none has a lifetime.
 #![tactic(auto)]
 
 mod close;

@@ -9,8 +9,8 @@ use std::sync::Arc;
 use tmw_events::{Ix, Kind};
 use tmw_ring::{Refused, Ring, Writer};
 
-/// The end by which one thread records what it calls and what it is answered. It may go to another thread, and is used by one call at
-/// a time.
+/// The end by which one thread records what it calls and what it is answered. It may go to another thread, and is
+/// used by one call at a time.
 #[derive(Drop)]
 pub struct Recorder {
     pub(crate) ring: Arc<Ring, Global>,

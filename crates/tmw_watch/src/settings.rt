@@ -8,7 +8,8 @@ pub struct Settings {
     pub registers: Registers,
     /// What they hold at first, by their numbers. Of those that the memory does not have nothing is read.
     pub start: [u64; 8],
-    /// How many transactions a window may have, and how many outcomes there may be at a cut: past either the verdict is undecided.
+    /// How many transactions a window may have, and how many outcomes there may be at a cut: past either the verdict
+    /// is undecided.
     pub bounds: Bounds,
     /// How many events stand in the ring at once: from as many as there are recorders to 4,096.
     pub cells: u64,

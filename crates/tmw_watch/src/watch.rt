@@ -11,8 +11,8 @@ use std::sync::Arc;
 use tmw_pump::{ForgettingPump, Pumped};
 use tmw_ring::Ring;
 
-/// The end by which one thread has judged what the recorders record, by the definition of opacity (Guerraoui and Kapalka 2008,
-/// section 5). It keeps no event that it has judged.
+/// The end by which one thread has judged what the recorders record, by the definition of opacity (Guerraoui and
+/// Kapalka 2008, section 5). It keeps no event that it has judged.
 #[derive(Drop)]
 pub struct Watch {
     pub(crate) alloc: Global,
@@ -20,7 +20,7 @@ pub struct Watch {
     pub(crate) pump: ForgettingPump,
     // How many recorders there are.
     pub(crate) recorders: u64,
-    pub ghost of_ring: { ReaderOf ring.value pump.reader },
+    pub ghost of_ring: { ReaderOf ring.value (reader_of pump) },
     pub ghost counted: { recorders ≡ ring.value.size.writers },
 }
 

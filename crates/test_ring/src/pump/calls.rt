@@ -204,7 +204,7 @@ fn judge_rest(rest: &mut Rest) -> bool {
     rest.judged().len() == 4
 }
 
-/// Also where any one growth of memory in it is refused, as tests/refused.sh does.
+/// Passes also if any one allocation in it fails, as tests/refused.sh lets it.
 #[test]
 fn a_refused_growth_loses_no_event(rt: HostRuntime) -> Result<(), Fail> {
     let (ring, mut writers, reader) = ring(rt.alloc(), 8, 2, 100)?;
@@ -214,7 +214,7 @@ fn a_refused_growth_loses_no_event(rt: HostRuntime) -> Result<(), Fail> {
     Ok(())
 }
 
-/// Also of what a settled ring has left no event is lost where any one growth is refused, as tests/refused.sh does.
+/// No event that a settled ring has left is lost if any one allocation fails, as tests/refused.sh lets it.
 #[test]
 fn a_refused_growth_loses_nothing_that_was_left(rt: HostRuntime) -> Result<(), Fail> {
     let (ring, mut writers, reader) = ring(rt.alloc(), 8, 2, 100)?;

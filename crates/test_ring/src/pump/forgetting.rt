@@ -104,7 +104,7 @@ fn pump_all(ring: &Ring, pump: &mut ForgettingPump) -> bool
     pump.fed() == 4
 }
 
-/// Also where any one growth of memory in it is refused, as tests/refused.sh does.
+/// Passes also if any one allocation in it fails, as tests/refused.sh lets it.
 #[test]
 fn a_refused_growth_loses_no_event_that_is_forgotten(rt: HostRuntime) -> Result<(), Fail> {
     let (ring, mut writers, reader) = ring(rt.alloc(), 8, 2, 100)?;

@@ -323,7 +323,7 @@ fn run_all<R: Abort + AllocGlobal + Threads + Wait + Sync>(rt: &R, runs: u64) ->
     sums
 }
 
-/// Also where the growth of memory that `rt try --test --fail-alloc` chooses is refused.
+/// Passes also if the allocation that `rt try --test --fail-alloc` chooses fails.
 #[test]
 fn writers_stop_anywhere(rt: HostRuntime) -> Result<(), Fail> {
     let sums = run_all(&rt, RUNS);

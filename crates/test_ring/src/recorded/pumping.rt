@@ -94,7 +94,7 @@ fn judges_as_it_says<R: Wait>(rt: &R, ring: &Ring, pump: &mut Pump, signals: &Si
     }
 }
 
-/// Also where any one growth of memory in it is refused, as tests/refused.sh does.
+/// Passes also if any one allocation in it fails, as tests/refused.sh lets it.
 #[test]
 fn a_refused_growth_stops_the_pump_and_loses_no_event(rt: HostRuntime) -> Result<(), Fail> {
     let alloc = rt.alloc();

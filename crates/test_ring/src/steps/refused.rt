@@ -87,7 +87,7 @@ fn run_rest(
     }
 }
 
-/// Also where the growth of memory that `rt try --test --fail-alloc` chooses is refused.
+/// Passes also if the allocation that `rt try --test --fail-alloc` chooses fails.
 #[test]
 fn a_refused_growth_loses_no_step(rt: HostRuntime) -> Result<(), Fail> {
     let (pairs, events) = ([PAIR; 5], [[one(VALUE), other(Kind::T)]; 5]);

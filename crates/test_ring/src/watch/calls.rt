@@ -275,7 +275,7 @@ fn close_again(watch: Watch, recorders: Vec<Recorder>) -> Option<Report>
     }
 }
 
-/// Also where any one growth of memory in it is refused, as tests/refused.sh does.
+/// Passes also if any one allocation in it fails, as tests/refused.sh lets it.
 #[test]
 #[tactic(auto, using(crate::proofs::Pairs::of_ring_two))]
 fn a_refused_growth_loses_no_event_of_a_watch(rt: HostRuntime) -> Result<(), Fail> {
@@ -287,7 +287,7 @@ fn a_refused_growth_loses_no_event_of_a_watch(rt: HostRuntime) -> Result<(), Fai
     Ok(())
 }
 
-/// Also of what is judged at the end alone no event is lost where any one growth is refused, as tests/refused.sh does.
+/// No event that only the end judges is lost if any one allocation fails, as tests/refused.sh lets it.
 #[test]
 #[tactic(auto, using(crate::proofs::Pairs::of_ring_two))]
 fn a_refused_growth_loses_no_event_of_the_end(rt: HostRuntime) -> Result<(), Fail> {

@@ -109,7 +109,7 @@ fn run<R: Threads + Wait + Sync>(
     first: Recorder,
     second: Recorder,
 ) -> (Watch, Recorder, Recorder)
-    ensures watch { recorder_ring result.0 ≡ watch_ring watch }
+    ensures watch { watch_ring result.0 ≡ watch_ring watch }
     ensures first { recorder_ring result.1 ≡ recorder_ring first }
     ensures second { recorder_ring result.2 ≡ recorder_ring second }
 {

@@ -1,14 +1,12 @@
-use Rattle.std.proofs.Common.{rules, ◌≡◌, ◌^◌, ◌*◌, ◌%◌, map, sym, ◌∙◌, inl, inr, arith}
+use Rattle.std.proofs.Common.{rules, ◌≡◌, sym, ◌∙◌, inl, inr, arith}
 use Rattle.std.specs.Int.{bit_at}
 use Rattle.std.proofs.lemmas.Bool.{cases_lt}
 use Rattle.std.proofs.lemmas.List.Folds.{list_all-map}
-use Rattle.std.proofs.lemmas.Nat.Bits.{shr_and_one, bit_at_above, bit_at-pow_same}
+use Rattle.std.proofs.lemmas.Nat.Bits.{shr_and_one, bit_at_above}
 use Rattle.tmw_cuts.specs.Views.{view}
 use Rattle.tmw_search.specs.ForcedEnds.{is_without_blind}
-use Rattle.tmw_search.proofs.Forcing.{none-blind}
 use Rattle.tmw_search.proofs.LayersProof.{same_place}
 use Rattle.tmw_search.proofs.forced.are_settled.Goals.{else-registers-register-eq1-via-then-registers-register-eq1+then-not-are_without_blind+else-not-is_settled, else-registers-register-eq1-via-then-registers-register-eq1+else-not-are_without_blind, else-registers-register-eq1-via-else-registers-register-eq1}
-use Rattle.tmw_cuts.proofs.Bits.{shift_is}
 use Rattle.tmw_search.proofs.forced.are_settled.Goals as goal
 
 pub loop-register-preserved : goal.loop-register-preserved
@@ -19,11 +17,8 @@ loop-register-preserved c = λ r below has.
         | else-registers-register-eq1-via-then-registers-register-eq1+then-not-are_without_blind+else-not-is_settled w ↦
             rw same (inr (w.is_settled.ensures (search (w.if-not-is_settled.false, rules))))
         | else-registers-register-eq1-via-then-registers-register-eq1+else-not-are_without_blind w ↦
-            let i = c.loop-register.register in
-            let one : bit_at (1 * 2 ^ i % 2 ^ 8) i ≡ 1 = rw (shift_is i c.loop-register-test.true) (bit_at-pow_same i) in
-            rw same (inl (none-blind (1 * 2 ^ i % 2 ^ 8) i (map view c.args.items.now) one
-            (list_all-map (is_without_blind (1 * 2 ^ i % 2 ^ 8)) view c.args.items.now ∙ sym w.are_without_blind.ensures
-            ∙ search (w.if-not-are_without_blind.false, rules))))
+            rw same (inl (list_all-map (is_without_blind c.loop-register.register) view c.args.items.now
+            ∙ sym w.are_without_blind.ensures ∙ search (w.if-not-are_without_blind.false, rules)))
         | else-registers-register-eq1-via-else-registers-register-eq1 w ↦
             absurd (w.if-registers-register-eq1.false (shr_and_one c.args.registers c.loop-register.register ∙ rw same at has))
       ]

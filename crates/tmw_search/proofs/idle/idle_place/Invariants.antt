@@ -1,6 +1,6 @@
 use Rattle.std.proofs.Common.{◌≡◌, drop, map}
 use Rattle.tmw_cuts.specs.Views.{view}
-use Rattle.tmw_search.specs.Nexts.{idle_from}
+use Rattle.tmw_search.proofs.Pruning.{idle_from}
 use Rattle.tmw_search.proofs.idle.idle_place.Given as goal
 
 abbrev pub invariant-loop-place : goal.invariant-loop-place

@@ -4,7 +4,7 @@ use Rattle.std.specs.Prelude.{slice_set, if◌then◌else◌}
 use Rattle.std.specs.Int.{bit_at}
 use Rattle.std.specs.Int.Bits.{bit_or, or_zero_r}
 use Rattle.std.proofs.lemmas.List.{set-get_or}
-use Rattle.tmw_cuts.specs.Written.{with_new}
+use Rattle.tmw_cuts.proofs.Chosen.{with_new}
 use Rattle.tmw_cuts.proofs.EffectSteps.{known_of, is_known, with_answer}
 use Rattle.tmw_cuts.proofs.effect.Effect.read.Goals.{then-own, else-own+then-asked, else-own+else-asked, then-own-2, else-own-2, then-own-asked, else-own-asked}
 use Rattle.tmw_cuts.proofs.effect.Effect.read.Goals as goal
