@@ -1,4 +1,4 @@
--- Reading on to the end: the monitors have been fed the events of the lines read.
+-- Reading on to the end: the judges have been fed the events of the lines read.
 use Rattle.std.proofs.Common.{◌≡◌, ℕ, Option, Result, Ok, Err, List, [], ◌∷◌, ◌++◌, length, sym}
 use Rattle.tmw_lines.specs.ItemsGiven.{GivesAll}
 use Rattle.tmw_lines.specs.declared.lines.Lines.{Lines}
@@ -6,15 +6,15 @@ use Rattle.tmw_lines.specs.declared.text_fault.TextFault.{TextFault}
 use Rattle.tmw_lines.specs.declared.text_fault.TextFault.TheVariants.{BadHeader, BadLine, Cut, Memory, Io, TooLong}
 use Rattle.tmw_trace.specs.Text.{trace_grammar}
 use Rattle.tmw_trace.specs.declared.version.Version.{Version}
-use Rattle.tmw_monitor.specs.declared.monitor.Monitor.{Monitor}
-use Rattle.tmw_judge.specs.declared.by_criterion.ByCriterion.{ByCriterion}
+use Rattle.tmw_judge.specs.Counted.{CountsFor}
+use Rattle.tmw_judge.specs.declared.judges.Judges.{Judges}
 use Rattle.tmw_judge.specs.Feeding.{AreFedAllRead, AreFedSoMany, FeedsEvents, TakeEvents, LackAnEvent}
 use Rattle.tmw_streams.specs.Streams.{FromSource}
 
--- the monitors have been fed as many events as lines were read behind the header's
-pub fed-so_many : (lines : Lines Version) (monitors : ByCriterion Monitor) → AreFedAllRead lines monitors
-    → AreFedSoMany monitors lines.count
-fed-so_many lines monitors fed = record {
+-- the judges have been fed as many events as lines were read behind the header's
+pub fed-so_many : {C : Type 0} (Counts : CountsFor C) (lines : Lines Version) (judges : Judges C) → AreFedAllRead Counts lines judges
+    → AreFedSoMany Counts judges lines.count
+fed-so_many Counts lines judges fed = record {
   header = fed.header;
   bounds = fed.bounds;
   asked = fed.asked;
@@ -23,12 +23,12 @@ fed-so_many lines monitors fed = record {
   counted = sym fed.read.counted;
 }
 
-module _ {S Done : Type 0} (From : FromSource S) (Ended : Type 0) (a b : S)
-    (lines after : Lines Version) (monitors fed : ByCriterion Monitor) where
+module _ {S C Done : Type 0} (From : FromSource S) (Counts : CountsFor C) (Ended : Type 0) (a b : S)
+    (lines after : Lines Version) (judges fed : Judges C) where
   -- a fault was read behind them, or memory was refused for the last
   feeds-fault : (fault : TextFault)
-      → (g : GivesAll {Done = Done} trace_grammar From Ended TakeEvents LackAnEvent a b lines after monitors fed (Err fault))
-      → FeedsEvents {Done = Done} From Ended a b lines after monitors fed (Err fault)
+      → (g : GivesAll {Done = Done} trace_grammar From Ended (TakeEvents Counts) (LackAnEvent Counts) a b lines after judges fed (Err fault))
+      → FeedsEvents {Done = Done} From Counts Ended a b lines after judges fed (Err fault)
   feeds-fault BadHeader g = record {
     bytes = g.bytes;
     events = g.items;
@@ -69,10 +69,10 @@ module _ {S Done : Type 0} (From : FromSource S) (Ended : Type 0) (a b : S)
     fed = λ header bounds asked given before r f. (g.given.0 header given before r, g.given.1 header bounds asked given f);
   }
 
-  -- what the monitors took, they have been fed
+  -- what the judges took, they have been fed
   pub feeds-given : (result : Result Done TextFault)
-      → GivesAll trace_grammar From Ended TakeEvents LackAnEvent a b lines after monitors fed result
-      → FeedsEvents From Ended a b lines after monitors fed result
+      → GivesAll trace_grammar From Ended (TakeEvents Counts) (LackAnEvent Counts) a b lines after judges fed result
+      → FeedsEvents From Counts Ended a b lines after judges fed result
   feeds-given (Ok done) g = record {
     bytes = g.bytes;
     events = g.items;

@@ -1,3 +1,4 @@
+mod CountedParts
 mod Each
 mod FedEvents
 mod Taken

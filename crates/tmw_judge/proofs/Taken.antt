@@ -15,69 +15,67 @@ use Rattle.tmw_trace.specs.declared.header.Header.{Header}
 use Rattle.tmw_trace.specs.declared.version.Version.{Version}
 use Rattle.tmw_defs.specs.declared.criterion.Asked.{Asked}
 use Rattle.tmw_monitor.specs.declared.bounds.Bounds.{Bounds}
-use Rattle.tmw_monitor.specs.declared.monitor.Monitor.{Monitor}
 use Rattle.tmw_report.specs.declared.fault.Fault.{Fault}
 use Rattle.tmw_report.specs.Putting.{fault_of}
 use Rattle.tmw_report.specs.CommandRun.{failures_after_answer}
-use Rattle.tmw_judge.specs.declared.by_criterion.ByCriterion.{ByCriterion}
-use Rattle.tmw_judge.specs.declared.report.Report.{Report}
 use Rattle.tmw_judge.specs.Feeding.{IsBeginning, ReadsBeginning, AreFedAllRead, AreReadAndFed, FeedsEvents}
-use Rattle.tmw_judge.specs.Judging.{AnswersTrace, AreFed, AreReports}
+use Rattle.tmw_judge.specs.Counted.{CountsFor}
+use Rattle.tmw_judge.specs.declared.judges.Judges.{Judges}
+use Rattle.tmw_judge.specs.Summing.{AnswersFed, AreJudgesOf}
 
--- the fault of the first line, or want of memory behind it, is the text's
-first-fault : (Ended : Type 0) (lines : Lines Version) (bounds : Bounds) (asked : Asked) (bytes : List ℕ) (fault : TextFault)
-    → IsBeginning Ended lines bounds asked bytes (Err fault) → HasTextFault trace_grammar Ended bytes fault
-first-fault Ended lines bounds asked bytes BadHeader is = text_fault-first trace_grammar Ended bytes BadHeader is
-first-fault Ended lines bounds asked bytes (BadLine number) is = text_fault-first trace_grammar Ended bytes (BadLine number) is
-first-fault Ended lines bounds asked bytes (Cut number) is = text_fault-first trace_grammar Ended bytes (Cut number) is
-first-fault Ended lines bounds asked bytes Memory is = soon-behind trace_grammar lines is.0 [] bytes is.1
-first-fault Ended lines bounds asked bytes Io is = text_fault-first trace_grammar Ended bytes Io is
-first-fault Ended lines bounds asked bytes TooLong is = text_fault-first trace_grammar Ended bytes TooLong is
+module _ {C : Type 0} (Counts : CountsFor C) where
+  -- the fault of the first line, or want of memory behind it, is the text's
+  first-fault : (Ended : Type 0) (lines : Lines Version) (bounds : Bounds) (asked : Asked) (bytes : List ℕ) (fault : TextFault)
+      → IsBeginning Counts Ended lines bounds asked bytes (Err fault) → HasTextFault trace_grammar Ended bytes fault
+  first-fault Ended lines bounds asked bytes BadHeader is = text_fault-first trace_grammar Ended bytes BadHeader is
+  first-fault Ended lines bounds asked bytes (BadLine number) is = text_fault-first trace_grammar Ended bytes (BadLine number) is
+  first-fault Ended lines bounds asked bytes (Cut number) is = text_fault-first trace_grammar Ended bytes (Cut number) is
+  first-fault Ended lines bounds asked bytes Memory is = soon-behind trace_grammar lines is.0 [] bytes is.1
+  first-fault Ended lines bounds asked bytes Io is = text_fault-first trace_grammar Ended bytes Io is
+  first-fault Ended lines bounds asked bytes TooLong is = text_fault-first trace_grammar Ended bytes TooLong is
 
--- what was read, whatever was fed of it
-read-of-fed : (Done : Type 0) (Ended : Type 0) (lines : Lines Version) (header : Header) (bounds : Bounds) (asked : Asked)
-    (history : List Event) (bytes : List ℕ) (monitors : ByCriterion Monitor) (fault : TextFault)
-    → AreReadAndFed {Done = Done} Ended lines header bounds asked history bytes monitors (Err fault)
-    → AreReadFor {Done = Done} trace_grammar Ended lines header history bytes (Err fault)
-read-of-fed Done Ended lines header bounds asked history bytes monitors BadHeader is = is.0
-read-of-fed Done Ended lines header bounds asked history bytes monitors (BadLine number) is = is.0
-read-of-fed Done Ended lines header bounds asked history bytes monitors (Cut number) is = is.0
-read-of-fed Done Ended lines header bounds asked history bytes monitors Memory is = is.0
-read-of-fed Done Ended lines header bounds asked history bytes monitors Io is = is.0
-read-of-fed Done Ended lines header bounds asked history bytes monitors TooLong is = is.0
+  -- what was read, whatever was fed of it
+  read-of-fed : (Done : Type 0) (Ended : Type 0) (lines : Lines Version) (header : Header) (bounds : Bounds) (asked : Asked)
+      (history : List Event) (bytes : List ℕ) (judges : Judges C) (fault : TextFault)
+      → AreReadAndFed {Done = Done} Counts Ended lines header bounds asked history bytes judges (Err fault)
+      → AreReadFor {Done = Done} trace_grammar Ended lines header history bytes (Err fault)
+  read-of-fed Done Ended lines header bounds asked history bytes judges BadHeader is = is.0
+  read-of-fed Done Ended lines header bounds asked history bytes judges (BadLine number) is = is.0
+  read-of-fed Done Ended lines header bounds asked history bytes judges (Cut number) is = is.0
+  read-of-fed Done Ended lines header bounds asked history bytes judges Memory is = is.0
+  read-of-fed Done Ended lines header bounds asked history bytes judges Io is = is.0
+  read-of-fed Done Ended lines header bounds asked history bytes judges TooLong is = is.0
 
--- no trace was begun
-pub answers-first : {S : Type 0} (From : FromSource S) (Ended : Type 0) (a b : S)
-    (lines : Lines Version) (bounds : Bounds) (asked : Asked) (told : TextFault) (fault : Fault)
-    → ReadsBeginning From Ended a b lines bounds asked (Err told) → fault ≡ fault_of told
-    → (bytes : List ℕ) × Tells From a bytes b × AnswersTrace bounds asked Ended bytes (Err fault)
-answers-first From Ended a b lines bounds asked told fault reads is =
-    (reads.bytes, reads.told, (told, is, first-fault Ended lines bounds asked reads.bytes told reads.is))
+  -- no trace was begun
+  pub answers-first : {S : Type 0} (From : FromSource S) (Ended : Type 0) (a b : S)
+      (lines : Lines Version) (bounds : Bounds) (asked : Asked) (told : TextFault) (fault : Fault)
+      → ReadsBeginning From Counts Ended a b lines bounds asked (Err told) → fault ≡ fault_of told
+      → (bytes : List ℕ) × Tells From a bytes b × AnswersFed Counts bounds asked Ended bytes (Err fault)
+  answers-first From Ended a b lines bounds asked told fault reads is =
+      (reads.bytes, reads.told, (told, is, first-fault Ended lines bounds asked reads.bytes told reads.is))
 
--- a trace was begun
-pub begun-fed : {S : Type 0} (From : FromSource S) (Ended : Type 0) (a b : S)
-    (lines : Lines Version) (bounds : Bounds) (asked : Asked) (monitors : ByCriterion Monitor)
-    → ReadsBeginning From Ended a b lines bounds asked (Ok monitors) → AreFedAllRead lines monitors
-begun-fed From Ended a b lines bounds asked monitors reads = record {
-  header = reads.is.0;
-  bounds = bounds;
-  asked = asked;
-  history = [];
-  bytes = reads.bytes;
-  read = reads.is.1;
-  fed = reads.is.2;
-}
+  -- a trace was begun
+  pub begun-fed : {S : Type 0} (From : FromSource S) (Ended : Type 0) (a b : S)
+      (lines : Lines Version) (bounds : Bounds) (asked : Asked) (judges : Judges C)
+      → ReadsBeginning From Counts Ended a b lines bounds asked (Ok judges) → AreFedAllRead Counts lines judges
+  begun-fed From Ended a b lines bounds asked judges reads = record {
+    header = reads.is.0;
+    bounds = bounds;
+    asked = asked;
+    history = [];
+    bytes = reads.bytes;
+    read = reads.is.1;
+    fed = reads.is.2;
+  }
 
-module _ {S : Type 0} (From : FromSource S) (First Ended : Type 0) (a b c : S)
-    (lines after : Lines Version) (bounds : Bounds) (asked : Asked) (monitors fed : ByCriterion Monitor)
-    (begins : ReadsBeginning From First a b lines bounds asked (Ok monitors)) where
+module _ {S C : Type 0} (From : FromSource S) (Counts : CountsFor C) (First Ended : Type 0) (a b c : S)
+    (lines after : Lines Version) (bounds : Bounds) (asked : Asked) (judges fed : Judges C)
+    (begins : ReadsBeginning From Counts First a b lines bounds asked (Ok judges)) where
   -- and all its events were fed
-  pub answers-end : {Done : Type 0} (done : Done) (reports : ByCriterion Report)
-      → FeedsEvents From Ended b c lines after monitors fed (Ok done)
-      → ((header : Header) (within : Bounds) (wanted : Asked) (history : List Event) → AreFed header within wanted history fed
-      → AreReports header within wanted history reports)
-      → (all : List ℕ) × Tells From a all c × AnswersTrace bounds asked Ended all (Ok reports)
-  answers-end done reports feeds report =
+  pub answers-end : {Done : Type 0} (done : Done)
+      → FeedsEvents From Counts Ended b c lines after judges fed (Ok done)
+      → (all : List ℕ) × Tells From a all c × AnswersFed Counts bounds asked Ended all (Ok fed)
+  answers-end done feeds =
       let end = feeds.fed begins.is.0 bounds asked [] begins.bytes begins.is.1 begins.is.2 in (
         begins.bytes ++ feeds.bytes,
         Tells-more From a b c begins.bytes feeds.bytes begins.told feeds.told,
@@ -88,15 +86,15 @@ module _ {S : Type 0} (From : FromSource S) (First Ended : Type 0) (a b c : S)
             history = feeds.events;
             are_events = end.0.are_lines;
             text = end.0.text;
-            tell = report begins.is.0 bounds asked feeds.events end.1;
+            judged = end.1;
           },
         ),
       )
 
   -- and then came a fault
   pub answers-fault : (Done : Type 0) (told : TextFault) (fault : Fault)
-      → FeedsEvents {Done = Done} From Ended b c lines after monitors fed (Err told) → fault ≡ fault_of told
-      → (all : List ℕ) × Tells From a all c × AnswersTrace bounds asked Ended all (Err fault)
+      → FeedsEvents {Done = Done} From Counts Ended b c lines after judges fed (Err told) → fault ≡ fault_of told
+      → (all : List ℕ) × Tells From a all c × AnswersFed Counts bounds asked Ended all (Err fault)
   answers-fault Done told fault feeds is =
       let stop = feeds.fed begins.is.0 bounds asked [] begins.bytes begins.is.1 begins.is.2 in (
         begins.bytes ++ feeds.bytes,
@@ -105,16 +103,16 @@ module _ {S : Type 0} (From : FromSource S) (First Ended : Type 0) (a b c : S)
           told,
           is,
           text_fault-read Done trace_grammar Ended after begins.is.0 feeds.events (begins.bytes ++ feeds.bytes) told
-              (read-of-fed Done Ended after begins.is.0 bounds asked feeds.events (begins.bytes ++ feeds.bytes) fed told stop),
+              (read-of-fed Counts Done Ended after begins.is.0 bounds asked feeds.events (begins.bytes ++ feeds.bytes) fed told stop),
         ),
       )
 
 -- a failed read is counted, and no other fault is
-pub failures_after-fault : (told : TextFault) (fault : Fault) (count : ℕ) → fault ≡ fault_of told
-    → failures_after told count ≡ failures_after_answer {Found = ByCriterion Report} (Err fault) count
-failures_after-fault BadHeader fault count is = rw is refl
-failures_after-fault (BadLine line) fault count is = rw is refl
-failures_after-fault (Cut line) fault count is = rw is refl
-failures_after-fault Memory fault count is = rw is refl
-failures_after-fault Io fault count is = rw is refl
-failures_after-fault TooLong fault count is = rw is refl
+pub failures_after-fault : (Found : Type 0) (told : TextFault) (fault : Fault) (count : ℕ) → fault ≡ fault_of told
+    → failures_after told count ≡ failures_after_answer {Found = Found} (Err fault) count
+failures_after-fault Found BadHeader fault count is = rw is refl
+failures_after-fault Found (BadLine line) fault count is = rw is refl
+failures_after-fault Found (Cut line) fault count is = rw is refl
+failures_after-fault Found Memory fault count is = rw is refl
+failures_after-fault Found Io fault count is = rw is refl
+failures_after-fault Found TooLong fault count is = rw is refl

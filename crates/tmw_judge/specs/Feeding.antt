@@ -1,4 +1,4 @@
--- What is read where the events of a trace are fed to its monitors as their lines are read, and what the monitors have taken of it.
+-- What is read where the events of a trace are fed to its judges as their lines are read, and what the judges have taken of it.
 use Rattle.std.specs.Prelude.{◌≡◌, ◌⊎◌, ℕ, Option, Result, Ok, Err, List, [], ◌∷◌, ◌++◌, length}
 use Rattle.tmw_lines.specs.ItemsRead.{EndsBehind, FailsBehind, StopsBehind}
 use Rattle.tmw_lines.specs.Lines.{HasRead}
@@ -20,6 +20,8 @@ use Rattle.tmw_monitor.specs.declared.monitor.Monitor.{Monitor}
 use Rattle.tmw_monitor.specs.Fitting.{Fits}
 use Rattle.tmw_judge.specs.declared.by_criterion.ByCriterion.{ByCriterion}
 use Rattle.tmw_judge.specs.declared.by_criterion.ByCriterion.TheVariants.{Opacity, Strict, Both}
+use Rattle.tmw_judge.specs.Counted.{AreJudged, CountsFor}
+use Rattle.tmw_judge.specs.declared.judges.Judges.{Judges}
 use Rattle.tmw_judge.specs.Judging.{AreFed, trace_rules}
 
 -- Of two monitors the first has been fed this history and the event, and the second the history.
@@ -35,67 +37,67 @@ abbrev pub LackEvent : Header → Bounds → Asked → List Event → Event → 
 LackEvent header bounds asked history event monitors =
     AreFed header bounds asked history monitors ⊎ IsFirstFed header bounds asked history event monitors
 
--- From the one to the other the monitors have been fed these events.
-abbrev pub TakeEvents : ByCriterion Monitor → List Event → ByCriterion Monitor → Type 0
-TakeEvents old events new = (header : Header) (bounds : Bounds) (asked : Asked) (history : List Event)
-    → AreFed header bounds asked history old → AreFed header bounds asked (history ++ events) new
+-- From the one to the other the judges have been fed these events.
+abbrev pub TakeEvents : {C : Type 0} → CountsFor C → Judges C → List Event → Judges C → Type 0
+TakeEvents Counts old events new = (header : Header) (bounds : Bounds) (asked : Asked) (history : List Event)
+    → AreJudged Counts header bounds asked history old → AreJudged Counts header bounds asked (history ++ events) new
 
--- From the one to the other not each of them has been fed this event.
-abbrev pub LackAnEvent : ByCriterion Monitor → Event → ByCriterion Monitor → Type 0
-LackAnEvent old event new = (header : Header) (bounds : Bounds) (asked : Asked) (history : List Event)
-    → AreFed header bounds asked history old → LackEvent header bounds asked history event new
+-- From the one to the other not each monitor has been fed this event.
+abbrev pub LackAnEvent : {C : Type 0} → CountsFor C → Judges C → Event → Judges C → Type 0
+LackAnEvent Counts old event new = (header : Header) (bounds : Bounds) (asked : Asked) (history : List Event)
+    → AreJudged Counts header bounds asked history old → LackEvent header bounds asked history event new.monitors
 
 -- They have been fed a history of so many events.
-pub record AreFedSoMany (monitors : ByCriterion Monitor) (count : ℕ) : Type 0 where
+pub record AreFedSoMany {C : Type 0} (Counts : CountsFor C) (judges : Judges C) (count : ℕ) : Type 0 where
   pub header : Header
   pub bounds : Bounds
   pub asked : Asked
   pub history : List Event
-  pub fed : AreFed header bounds asked history monitors
+  pub fed : AreJudged Counts header bounds asked history judges
   pub counted : length history ≡ count
 
--- What was read of a trace where its first line alone is asked for. Where there are monitors, and for want of memory, it is that
+-- What was read of a trace where its first line alone is asked for. Where there are judges, and for want of memory, it is that
 -- line, and at most 4,096 bytes that the reader holds; else the line has the fault.
-abbrev pub IsBeginning : Type 0 → Lines Version → Bounds → Asked → List ℕ → Result (ByCriterion Monitor) TextFault → Type 0
-IsBeginning Ended lines bounds asked bytes (Ok monitors) =
-    (header : Header) × HasRead trace_grammar lines header [] bytes × AreFed header bounds asked [] monitors
-IsBeginning Ended lines bounds asked bytes (Err Memory) = (header : Header) × HasRead trace_grammar lines header [] bytes
-IsBeginning Ended lines bounds asked bytes (Err fault) = HasFirstLineFault trace_grammar Ended bytes fault
+abbrev pub IsBeginning : {C : Type 0} → CountsFor C → Type 0 → Lines Version → Bounds → Asked → List ℕ → Result (Judges C) TextFault → Type 0
+IsBeginning Counts Ended lines bounds asked bytes (Ok judges) =
+    (header : Header) × HasRead trace_grammar lines header [] bytes × AreJudged Counts header bounds asked [] judges
+IsBeginning Counts Ended lines bounds asked bytes (Err Memory) = (header : Header) × HasRead trace_grammar lines header [] bytes
+IsBeginning Counts Ended lines bounds asked bytes (Err fault) = HasFirstLineFault trace_grammar Ended bytes fault
 
 -- What the source told is what was read so.
-pub record ReadsBeginning {S : Type 0} (From : FromSource S) (Ended : Type 0) (old new : S)
-    (lines : Lines Version) (bounds : Bounds) (asked : Asked) (result : Result (ByCriterion Monitor) TextFault) : Type 0 where
+pub record ReadsBeginning {S C : Type 0} (From : FromSource S) (Counts : CountsFor C) (Ended : Type 0) (old new : S)
+    (lines : Lines Version) (bounds : Bounds) (asked : Asked) (result : Result (Judges C) TextFault) : Type 0 where
   pub bytes : List ℕ
   pub told : Tells From old bytes new
-  pub is : IsBeginning Ended lines bounds asked bytes result
+  pub is : IsBeginning Counts Ended lines bounds asked bytes result
 
--- The monitors have been fed the events of all lines that were read behind the header's.
-pub record AreFedAllRead (lines : Lines Version) (monitors : ByCriterion Monitor) : Type 0 where
+-- The judges have been fed the events of all lines that were read behind the header's.
+pub record AreFedAllRead {C : Type 0} (Counts : CountsFor C) (lines : Lines Version) (judges : Judges C) : Type 0 where
   pub header : Header
   pub bounds : Bounds
   pub asked : Asked
   pub history : List Event
   pub bytes : List ℕ
   pub read : HasRead trace_grammar lines header history bytes
-  pub fed : AreFed header bounds asked history monitors
+  pub fed : AreJudged Counts header bounds asked history judges
 
--- These are the bytes read where the monitors have been fed this history: its text, and behind it nothing up to the end, the line
+-- These are the bytes read where the judges have been fed this history: its text, and behind it nothing up to the end, the line
 -- that has the fault, or for want of memory one event's line, which not each of them has been fed, and what the reader holds.
-abbrev pub AreReadAndFed : {Done : Type 0} → Type 0 → Lines Version → Header → Bounds → Asked → List Event → List ℕ → ByCriterion Monitor
-    → Result Done TextFault → Type 0
-AreReadAndFed Ended lines header bounds asked history bytes monitors (Ok done) =
-    EndsBehind trace_grammar Ended header history bytes × AreFed header bounds asked history monitors
-AreReadAndFed Ended lines header bounds asked history bytes monitors (Err Memory) =
-    (stop : StopsBehind trace_grammar lines header history bytes) × LackEvent header bounds asked history stop.last monitors
-AreReadAndFed Ended lines header bounds asked history bytes monitors (Err fault) =
-    FailsBehind trace_grammar Ended header history bytes fault × AreFed header bounds asked history monitors
+abbrev pub AreReadAndFed : {C Done : Type 0} → CountsFor C → Type 0 → Lines Version → Header → Bounds → Asked → List Event → List ℕ
+    → Judges C → Result Done TextFault → Type 0
+AreReadAndFed Counts Ended lines header bounds asked history bytes judges (Ok done) =
+    EndsBehind trace_grammar Ended header history bytes × AreJudged Counts header bounds asked history judges
+AreReadAndFed Counts Ended lines header bounds asked history bytes judges (Err Memory) =
+    (stop : StopsBehind trace_grammar lines header history bytes) × LackEvent header bounds asked history stop.last judges.monitors
+AreReadAndFed Counts Ended lines header bounds asked history bytes judges (Err fault) =
+    FailsBehind trace_grammar Ended header history bytes fault × AreJudged Counts header bounds asked history judges
 
 -- What the source told makes, behind whatever had been read and fed before, lines of events that were fed.
-pub record FeedsEvents {S Done : Type 0} (From : FromSource S) (Ended : Type 0) (old new : S)
-    (lines lines_after : Lines Version) (monitors monitors_after : ByCriterion Monitor) (result : Result Done TextFault) : Type 0 where
+pub record FeedsEvents {S C Done : Type 0} (From : FromSource S) (Counts : CountsFor C) (Ended : Type 0) (old new : S)
+    (lines lines_after : Lines Version) (judges judges_after : Judges C) (result : Result Done TextFault) : Type 0 where
   pub bytes : List ℕ
   pub events : List Event
   pub told : Tells From old bytes new
   pub fed : (header : Header) (bounds : Bounds) (asked : Asked) (given : List Event) (before : List ℕ)
-      → HasRead trace_grammar lines header given before → AreFed header bounds asked given monitors
-      → AreReadAndFed Ended lines_after header bounds asked (given ++ events) (before ++ bytes) monitors_after result
+      → HasRead trace_grammar lines header given before → AreJudged Counts header bounds asked given judges
+      → AreReadAndFed Counts Ended lines_after header bounds asked (given ++ events) (before ++ bytes) judges_after result

@@ -4,16 +4,21 @@ ghost use Rattle.tmw_lines.specs.Lines.{IsNew};
 ghost use Rattle.tmw_lines.specs.TextFault.{failures_after};
 ghost use Rattle.tmw_judge.specs.Feeding.{ReadsBeginning};
 ghost use Rattle.tmw_judge.specs.Judging.{AnswersTrace};
+ghost use Rattle.tmw_judge.specs.Summing.{AnswersFed, AnswersSummed};
 ghost use Rattle.tmw_report.specs.CommandRun.{failures_after_answer};
 
 use crate::by_criterion::ByCriterion;
+use crate::counting::{Counting, Uncounted};
 use crate::feeding::feed_events;
+use crate::judges::Judges;
 use crate::monitors::{monitors_for, reports_of};
 use crate::report::Report;
+use crate::summed::Summed;
 use std::alloc::Global;
+use tmw_counts::Counter;
 use tmw_defs::Asked;
 use tmw_lines::TextFault;
-use tmw_monitor::{Bounds, Monitor};
+use tmw_monitor::Bounds;
 use tmw_report::{Fault, fault_of};
 use tmw_streams::Source;
 use tmw_trace::TraceLines;
@@ -32,29 +37,65 @@ pub fn judge<S: Source>(
     ensures failures { S.from.failures source.new ≡ failures_after_answer result
         (S.from.failures source.old) }
 {
+    let judges = judge_counting::<S, Uncounted>(alloc, source, bounds, asked)?;
+    Ok(reports_of(&judges.monitors))
+}
+
+/// Judges a trace as `judge` does, and counts what its history has shown: up to the event that the verdict names, before
+/// it where that event is malformed, or all. Of two verdicts the later one counts.
+pub fn judge_summed<S: Source>(
+    alloc: Global,
+    source: &mut S,
+    bounds: Bounds,
+    asked: Asked,
+) -> Result<Summed, Fault>
+    ensures right { (bytes : List ℕ) × Tells S.from source.old bytes source.new
+        × AnswersSummed bounds asked (S.from.ended source.new) bytes result }
+    ensures failures { S.from.failures source.new ≡ failures_after_answer result
+        (S.from.failures source.old) }
+{
+    let judges = judge_counting::<S, Counter>(alloc, source, bounds, asked)?;
+    Ok(Summed {
+        reports: reports_of(&judges.monitors),
+        counts: judges.counting.counts(),
+    })
+}
+
+/// Reads a trace up to the source's end, judges each event as its line is read, and counts those up to the last verdict's.
+fn judge_counting<S: Source, C: Counting>(
+    alloc: Global,
+    source: &mut S,
+    bounds: Bounds,
+    asked: Asked,
+) -> Result<Judges<C>, Fault>
+    ensures right { (bytes : List ℕ) × Tells S.from source.old bytes source.new
+        × AnswersFed C.counts bounds asked (S.from.ended source.new) bytes result }
+    ensures failures { S.from.failures source.new ≡ failures_after_answer result
+        (S.from.failures source.old) }
+{
     let mut lines = TraceLines::new();
-    let mut monitors = match begin(alloc, &mut lines, source, bounds, asked) {
-        Ok(monitors) => monitors,
+    let mut judges = match begin(alloc, &mut lines, source, bounds, asked) {
+        Ok(judges) => judges,
         Err(fault) => return Err(fault_of(fault)),
     };
-    match feed_events(&mut lines, source, &mut monitors) {
-        Ok(()) => Ok(reports_of(&monitors)),
+    match feed_events(&mut lines, source, &mut judges) {
+        Ok(()) => Ok(judges),
         Err(fault) => Err(fault_of(fault)),
     }
 }
 
-/// Reads a trace's first line, and makes the monitors for its history. `Memory` follows a failed allocation for them:
+/// Reads a trace's first line, and makes the judges for its history. `Memory` follows a failed allocation for them:
 /// nothing was read after that line.
-fn begin<S: Source>(
+fn begin<S: Source, C: Counting>(
     alloc: Global,
     lines: &mut TraceLines,
     source: &mut S,
     bounds: Bounds,
     asked: Asked,
-) -> Result<ByCriterion<Monitor>, TextFault>
+) -> Result<Judges<C>, TextFault>
     requires { IsNew lines.old }
-    ensures begins { ReadsBeginning S.from (S.from.ended source.new) source.old source.new lines.new
-        bounds asked result }
+    ensures begins { ReadsBeginning S.from C.counts (S.from.ended source.new) source.old source.new
+        lines.new bounds asked result }
     ensures well { OnOk result (S.from.failures source.new ≡ S.from.failures source.old) }
     ensures failed { IfErr result
         (λ fault. S.from.failures source.new ≡ failures_after fault (S.from.failures source.old)) }
@@ -66,5 +107,8 @@ fn begin<S: Source>(
     let Ok(monitors) = monitors_for(alloc, header, bounds, asked) else {
         return Err(TextFault::Memory);
     };
-    Ok(monitors)
+    Ok(Judges {
+        monitors,
+        counting: C::begin(header.registers),
+    })
 }

@@ -3,13 +3,16 @@
 #![tactic(auto)]
 
 mod by_criterion;
+mod counting;
 mod feeding;
+mod judges;
 mod judging;
 mod lines;
 mod monitors;
 mod report;
 mod run;
+mod summed;
 
 pub use by_criterion::ByCriterion;
 pub use report::Report;
-pub use run::run_judge;
+pub use run::{run_judge, run_summary};

@@ -1,11 +1,13 @@
 ghost use Rattle.std.specs.Prelude.{◌≡◌, IfOk, string_bytes};
 ghost use Rattle.tmw_judge.specs.ByCriterion.{Each};
 ghost use Rattle.tmw_judge.specs.Judging.{IsOwnVerdict, report_lines, report_status};
+ghost use Rattle.tmw_judge.specs.Summing.{summed_lines};
 
 use crate::by_criterion::ByCriterion;
 use crate::report::Report;
+use crate::summed::Summed;
 use std::alloc::{AllocError, Global};
-use tmw_report::{both_status, report_strict, report_text, status_of};
+use tmw_report::{both_status, report_strict, report_text, status_of, summary_text};
 
 /// Makes the lines that report what was found, a line for each report, and that by opacity first.
 pub fn report_lines(alloc: Global, reports: &ByCriterion<Report>) -> Result<String, AllocError>
@@ -22,6 +24,17 @@ pub fn report_lines(alloc: Global, reports: &ByCriterion<Report>) -> Result<Stri
             Ok(lines)
         }
     }
+}
+
+/// Makes the reports' lines, and behind them that of the counts.
+pub fn summed_lines(alloc: Global, summed: &Summed) -> Result<String, AllocError>
+    requires { Each IsOwnVerdict summed.now.reports }
+    ensures { IfOk result (λ lines. string_bytes lines ≡ summed_lines summed.now) }
+{
+    let mut lines = report_lines(alloc, &summed.reports)?;
+    let last = summary_text(alloc, &summed.counts)?;
+    lines.push_str(last.as_str())?;
+    Ok(lines)
 }
 
 /// Returns the exit status of the reports.

@@ -4,17 +4,18 @@ ghost use Rattle.tmw_defs.specs.Verdict.{Rules};
 ghost use Rattle.tmw_defs.specs.declared.criterion.Asked.{Asked};
 ghost use Rattle.tmw_events.specs.declared.event.Event.{Event};
 ghost use Rattle.tmw_monitor.specs.Fitting.{Fits};
-ghost use Rattle.tmw_monitor.specs.Monitor.{fed_of};
+ghost use Rattle.tmw_monitor.specs.Monitor.{fed_of, verdict_of};
 ghost use Rattle.tmw_monitor.specs.declared.bounds.Bounds.{Bounds};
 ghost use Rattle.tmw_trace.specs.declared.header.Header.{Header};
 ghost use Rattle.tmw_judge.specs.ByCriterion.{Each};
+ghost use Rattle.tmw_judge.specs.Counted.{any_open, is_open, verdicts_of};
 ghost use Rattle.tmw_judge.specs.Feeding.{LackEvent};
 ghost use Rattle.tmw_judge.specs.Judging.{AreFed, AreReports, IsReportOn, trace_rules};
 
 use crate::by_criterion::ByCriterion;
 use crate::report::Report;
 use std::alloc::{AllocError, Global};
-use tmw_defs::{Asked, Criterion};
+use tmw_defs::{Asked, Criterion, Verdict};
 use tmw_events::Event;
 use tmw_monitor::{Bounds, Monitor};
 use tmw_trace::Header;
@@ -55,6 +56,27 @@ fn monitor_for(
     ensures { IfOk result (λ monitor. Fits (trace_rules header bounds criterion) [] monitor) }
 {
     Monitor::for_criterion(alloc, criterion, header.registers, header.initial, bounds)
+}
+
+/// Tells whether some monitor has found nothing wrong so far.
+#[inline(always)]
+pub fn any_open(monitors: &ByCriterion<Monitor>) -> bool
+    ensures { result ≡ any_open (verdicts_of monitors.now) }
+{
+    match monitors {
+        ByCriterion::Opacity(monitor) | ByCriterion::Strict(monitor) => is_open(monitor),
+        ByCriterion::Both(opacity, strict) => is_open(opacity) || is_open(strict),
+    }
+}
+
+#[inline(always)]
+fn is_open(monitor: &Monitor) -> bool
+    ensures { result ≡ is_open (verdict_of monitor.now) }
+{
+    match monitor.verdict() {
+        Verdict::OpaqueSoFar | Verdict::StrictSoFar => true,
+        _ => false,
+    }
 }
 
 /// Feeds an event to each monitor. After a failed allocation none has taken it, or of two the first alone. Where

@@ -4,11 +4,13 @@ ghost use Rattle.tmw_report.specs.Lines.{fault_line};
 ghost use Rattle.tmw_report.specs.Putting.{IsPut};
 ghost use Rattle.tmw_judge.specs.ByCriterion.{Each};
 ghost use Rattle.tmw_judge.specs.Judging.{IsOwnVerdict, JudgesBytes, report_lines, report_status};
+ghost use Rattle.tmw_judge.specs.Summing.{SumsBytes, summed_lines, summed_status};
 
 use crate::by_criterion::ByCriterion;
-use crate::judging::judge;
-use crate::lines::{report_lines, status_of_reports};
+use crate::judging::{judge, judge_summed};
+use crate::lines::{report_lines, status_of_reports, summed_lines};
 use crate::report::Report;
+use crate::summed::Summed;
 use std::alloc::Global;
 use tmw_defs::Asked;
 use tmw_monitor::Bounds;
@@ -35,6 +37,25 @@ pub fn run_judge<S: Source, K: Sink>(
     }
 }
 
+/// Judges a trace as `run_judge` does, and writes behind the report's line, or both, one that counts what the history has
+/// shown: up to the event that the verdict names, before it where that event is malformed, or all. Of two verdicts the
+/// later one counts.
+pub fn run_summary<S: Source, K: Sink>(
+    alloc: Global,
+    source: &mut S,
+    sink: &mut K,
+    bounds: Bounds,
+    asked: Asked,
+) -> u8
+    ensures { SumsBytes S.from K.to bounds asked
+        source.old source.new sink.old sink.new result }
+{
+    match judge_summed(alloc, source, bounds, asked) {
+        Ok(summed) => answer_summed(alloc, sink, summed),
+        Err(fault) => answer_fault(sink, fault),
+    }
+}
+
 /// Writes the reports' lines and returns their exit status. The lines are made before any goes out: after a failed
 /// allocation for one, that fault's line is written instead.
 fn answer_reports<K: Sink>(alloc: Global, sink: &mut K, reports: ByCriterion<Report>) -> u8
@@ -47,6 +68,22 @@ fn answer_reports<K: Sink>(alloc: Global, sink: &mut K, reports: ByCriterion<Rep
     };
     match put_all(sink, lines.as_bytes()) {
         Ok(()) => status_of_reports(&reports),
+        Err(_) => FAULT_STATUS,
+    }
+}
+
+/// Writes the reports' lines and that of the counts, and returns the reports' exit status. If memory for a line is
+/// lacking, that fault stands in the place of all.
+fn answer_summed<K: Sink>(alloc: Global, sink: &mut K, summed: Summed) -> u8
+    requires { Each IsOwnVerdict summed.reports }
+    ensures { IsPut K.to sink.old sink.new (summed_lines summed) (summed_status summed) result
+        ⊎ IsPut K.to sink.old sink.new (fault_line Memory) 4 result }
+{
+    let Ok(lines) = summed_lines(alloc, &summed) else {
+        return answer_fault(sink, Fault::Memory);
+    };
+    match put_all(sink, lines.as_bytes()) {
+        Ok(()) => status_of_reports(&summed.reports),
         Err(_) => FAULT_STATUS,
     }
 }

@@ -2,3 +2,4 @@ pub mod CommandRun
 pub mod Lines
 pub mod Putting
 pub mod ReportObject
+pub mod SummaryLine
