@@ -1,0 +1,5 @@
+use Rattle.std.proofs.Common.{rules}
+use Rattle.tmw_counts.proofs.counter.Counter.counted.Goals as goal
+
+pub returns : goal.returns
+returns c = search rules
