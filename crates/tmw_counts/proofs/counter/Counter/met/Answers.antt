@@ -1,5 +1,5 @@
 use Rattle.std.proofs.Common.{rules}
 use Rattle.tmw_counts.proofs.counter.Counter.met.Goals as goal
 
-pub returns-then-others : goal.returns-then-begins
+pub returns-then-others : goal.returns-then-others
 returns-then-others c = search rules
