@@ -1,5 +1,6 @@
 mod CountedParts
 mod Each
 mod FedEvents
+mod SummaryLines
 mod Taken
 mod Taking

@@ -2,4 +2,5 @@ pub mod ByCriterion
 pub mod Counted
 pub mod Feeding
 pub mod Judging
+pub mod SummaryLine
 pub mod Summing

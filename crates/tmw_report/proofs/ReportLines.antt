@@ -1,5 +1,4 @@
--- The compact text of the object that reports a verdict, and a line feed after it, are the verdict's line, by either criterion; and so
--- are those of the counts.
+-- The compact text of the object that reports a verdict, and a line feed after it, are the verdict's line, by either criterion.
 use Rattle.std.proofs.Common.{◌≡◌, ◌≢◌, ◌++◌, ℕ, List, [], ◌∷◌, append_assoc, refl, false, ap, ◌∙◌}
 use Rattle.serde_json.specs.Data.{Data}
 use Rattle.serde_json.specs.Written.{compact_text, has_float}
@@ -8,9 +7,7 @@ use Rattle.tmw_defs.specs.declared.verdict.Verdict.{Verdict}
 use Rattle.tmw_defs.specs.declared.verdict.Verdict.TheVariants.{OpaqueSoFar, StrictSoFar, Violated, Undecided, Malformed}
 use Rattle.tmw_defs.specs.declared.verdict.Why.TheVariants.{Transactions, States}
 use Rattle.tmw_report.specs.Lines.{report_text, strict_text}
-use Rattle.tmw_defs.specs.declared.counts.Counts.{Counts}
 use Rattle.tmw_report.specs.ReportObject.{report_object, strict_object}
-use Rattle.tmw_report.specs.SummaryLine.{summary_object, summary_text}
 
 has_float-report_object : (events : ℕ) (verdict : Verdict) → has_float (report_object events verdict) ≡ false
 has_float-report_object events OpaqueSoFar = refl
@@ -62,12 +59,3 @@ pub strict_object-line : (events : ℕ) (verdict : Verdict) (value : Data) (text
 strict_object-line events verdict value text other is told =
     line_of (strict_object events verdict) value text is (has_float-strict_object events verdict) told
     ∙ compact_text-strict_object events verdict other
-
-compact_text-summary_object : (counts : Counts) → compact_text (summary_object counts) ++ 10 ∷ [] ≡ summary_text counts
-unfolding serde_json_on_literals
-compact_text-summary_object counts = simp append_assoc refl
-
-pub summary_object-line : (counts : Counts) (value : Data) (text : List ℕ)
-    → value ≡ summary_object counts → (has_float value ≡ false → text ≡ compact_text value) → text ++ 10 ∷ [] ≡ summary_text counts
-summary_object-line counts value text is told =
-    line_of (summary_object counts) value text is refl told ∙ compact_text-summary_object counts

@@ -2,4 +2,3 @@ pub mod CommandRun
 pub mod Lines
 pub mod Putting
 pub mod ReportObject
-pub mod SummaryLine

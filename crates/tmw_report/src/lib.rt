@@ -7,7 +7,6 @@ mod fault_line;
 mod report_line;
 mod status;
 mod strict_line;
-mod summary_line;
 
 pub use answer::{answer_fault, fault_of};
 pub use fault::Fault;
@@ -15,4 +14,3 @@ pub use fault_line::write_fault;
 pub use report_line::report_text;
 pub use status::{FAULT_STATUS, both_status, status_of};
 pub use strict_line::report_strict;
-pub use summary_line::summary_text;
