@@ -1,22 +1,22 @@
 -- A counter that stands for a history, one event further.
-use Rattle.std.proofs.Common.{◌≡◌, ◌==◌, ◌&&◌, ◌+◌, ◌-◌, ◌^◌, ◌++◌, ◌<◌, ◌≤◌, ◌↔◌, ℕ, zero, suc, Bool, true, false, not, List, [], ◌∷◌, length, min, max, Option, Some, None, IsTrue, IsFalse, refl, sym, ap, subst, ◌∙◌, inl, inr, arith}
-use Rattle.std.specs.Prelude.{count_by, take, is_some, option_and_then, if◌then◌else◌}
+use Rattle.std.proofs.Common.{◌≡◌, ◌==◌, ◌&&◌, ◌+◌, ◌-◌, ◌^◌, ◌++◌, ◌<◌, ◌≤◌, ◌↔◌, ℕ, zero, suc, Bool, true, false, not, List, [], ◌∷◌, length, max, Option, Some, None, IsTrue, refl, sym, ap, subst, ◌∙◌, inl, inr, arith}
+use Rattle.std.specs.Prelude.{count_by, is_some, option_and_then, if◌then◌else◌}
 use Rattle.std.specs.List.{AllByRecursion}
 use Rattle.std.proofs.lemmas.Bool.{and_parts, cases_Bool, both_ways, eqb-true, eq-eqb}
 use Rattle.std.proofs.lemmas.List.{length-map}
 use Rattle.tmw_events.specs.declared.event.Event.{Event}
 use Rattle.tmw_events.specs.declared.event.Kind.{Kind}
-use Rattle.tmw_events.specs.declared.event.Kind.TheVariants.{R, V, W, K, T, C, X, A, N}
+use Rattle.tmw_events.specs.declared.event.Kind.TheVariants.{C, X, A}
 use Rattle.tmw_counts.specs.declared.counter.Counter.{Counter}
 use Rattle.tmw_defs.specs.declared.counts.Counts.{Counts}
 use Rattle.tmw_defs.specs.Windows.{HasWide}
 use Rattle.tmw_defs.specs.Counts.{HasCounts, prefixes, overlaps_any, is_committed, is_aborted, is_unasked}
 use Rattle.tmw_defs.specs.Cuts.{is_cut}
-use Rattle.tmw_defs.specs.History.{Txn, add_event, ends, is_call, is_ended, is_well_formed, status_of, transactions, transactions_from}
+use Rattle.tmw_defs.specs.History.{Txn, add_event, ends, is_call, is_well_formed, status_of, transactions, transactions_from}
 use Rattle.tmw_defs.proofs.OneMore.{begun, transactions-push}
 use Rattle.tmw_defs.proofs.Places.{Lies, lies-transactions}
 use Rattle.tmw_defs.proofs.TextsProof.{texts_law}
-use Rattle.tmw_defs.proofs.WindowsProof.{length-push, take-push, take_all-push}
+use Rattle.tmw_defs.proofs.WindowsProof.{take-push, take_all-push}
 use Rattle.tmw_wellformed.specs.declared.note.End.{End}
 use Rattle.tmw_wellformed.specs.declared.note.Note.{Note}
 use Rattle.tmw_wellformed.specs.declared.tracker.Tracker.{Tracker}
@@ -26,11 +26,11 @@ use Rattle.tmw_wellformed.specs.Tracks.{Tracks}
 use Rattle.tmw_wellformed.proofs.HistorySteps.{length-add, live_count-add, text_of, still}
 use Rattle.tmw_wellformed.proofs.TextSteps.{goes_on}
 use Rattle.tmw_wellformed.proofs.Tracking.{is_well_formed-push}
-use Rattle.tmw_counts.specs.Counting.{AreCounted, CountsSo, IsStep, aborts, commits, held, meets, one_if}
+use Rattle.tmw_counts.specs.Counting.{AreCounted, CountsSo, IsStep, aborts, commits, meets, one_if}
 use Rattle.tmw_counts.proofs.Ended.{aborted-add, committed-add, unasked-add}
 use Rattle.tmw_counts.proofs.Overlaps.{apart-begins, apart-ends, apart-grows, apart-none, begins-add, grows-add, is_apart, old-all, overlapping-begins, overlapping-grows}
 use Rattle.tmw_counts.proofs.Sums.{count-cons, count-length, one_if-le}
-use Rattle.tmw_counts.proofs.Windows.{cuts-push, last-cut, last-uncut, transactions-more, widest-push}
+use Rattle.tmw_counts.proofs.Windows.{cuts-push, last-cut, last-uncut, widest-push}
 
 -- a history has no more transactions than events, and no more cuts
 transactions-few : (h : List Event) → length (transactions h) ≤ length h

@@ -1,19 +1,19 @@
 -- How many transactions have ended in which way, with one event more.
 use Rattle.std.proofs.Common.{◌≡◌, ◌==◌, ◌&&◌, ◌+◌, ◌-◌, ◌++◌, ◌≤◌, ◌↔◌, ℕ, zero, suc, Bool, true, false, not, List, [], ◌∷◌, length, Option, Some, None, IsTrue, refl, sym, ap, ◌∙◌, inl, inr, arith, length-append}
-use Rattle.std.specs.Prelude.{count_by, slice_get, is_some, option_and_then}
+use Rattle.std.specs.Prelude.{count_by, slice_get, is_some}
 use Rattle.std.proofs.lemmas.Bool.{cases_Bool, and_parts, both_ways}
 use Rattle.tmw_events.specs.declared.event.Event.{Event}
 use Rattle.tmw_events.specs.declared.event.Kind.{Kind}
-use Rattle.tmw_events.specs.declared.event.Kind.TheVariants.{R, V, W, K, T, C, X, A, N}
+use Rattle.tmw_events.specs.declared.event.Kind.TheVariants.{T, C, X, A}
 use Rattle.tmw_defs.specs.declared.status.Status.{Status}
-use Rattle.tmw_defs.specs.declared.status.Status.TheVariants.{Live, Pending, Committed, Aborted}
+use Rattle.tmw_defs.specs.declared.status.Status.TheVariants.{Committed, Aborted}
 use Rattle.tmw_defs.specs.Counts.{is_committed, is_aborted, is_request, is_unasked}
 use Rattle.tmw_defs.specs.History.{Txn, add_event, is_ended, is_over, status_after, status_of}
 use Rattle.tmw_defs.proofs.OneMore.{joins, begun, longer, add_event_here, add_event_past}
 use Rattle.tmw_defs.proofs.TextsProof.{slice_get_end}
 use Rattle.tmw_wellformed.specs.Pending.{call_of, live_of}
 use Rattle.tmw_wellformed.specs.Notes.{end_of}
-use Rattle.tmw_wellformed.proofs.HistorySteps.{found, text_of}
+use Rattle.tmw_wellformed.proofs.HistorySteps.{text_of}
 use Rattle.tmw_counts.specs.Counting.{aborts, commits, one_if}
 use Rattle.tmw_counts.proofs.Sums.{count-cons}
 

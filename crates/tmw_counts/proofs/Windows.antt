@@ -1,5 +1,5 @@
 -- The cuts and the widest window of a history, with one event more.
-use Rattle.std.proofs.Common.{◌≡◌, ◌+◌, ◌-◌, ◌++◌, ◌<◌, ◌≤◌, ◌↔◌, ◌⊎◌, ℕ, List, [], ◌∷◌, length, map, max, IsTrue, IsFalse, refl, sym, ap, subst, ◌∙◌, inl, inr, arith}
+use Rattle.std.proofs.Common.{◌≡◌, ◌+◌, ◌-◌, ◌++◌, ◌<◌, ◌≤◌, ◌↔◌, ℕ, List, [], ◌∷◌, length, map, max, IsTrue, IsFalse, refl, sym, ap, subst, ◌∙◌, inl, inr, arith}
 use Rattle.std.specs.Prelude.{count_by, take, drop}
 use Rattle.std.proofs.lemmas.Bool.{cases_lt}
 use Rattle.std.proofs.lemmas.List.{map-append, take_all}
@@ -8,11 +8,11 @@ use Rattle.tmw_defs.specs.Counts.{prefixes}
 use Rattle.tmw_defs.specs.Cuts.{is_cut}
 use Rattle.tmw_defs.specs.History.{transactions}
 use Rattle.tmw_defs.specs.Summary.{IsLastCut}
-use Rattle.tmw_defs.specs.Windows.{IsCutAt, between, HasWide, IsWindow}
+use Rattle.tmw_defs.specs.Windows.{IsCutAt, HasWide}
 use Rattle.tmw_defs.proofs.OneMore.{transactions-push}
 use Rattle.tmw_defs.proofs.VerdictProof.{IsLastCut-open}
 use Rattle.tmw_defs.proofs.WindowsProof.{length-push, take-append-drop-push, take-push, take_all-push, IsCutAt-push, IsCutAt_push, is_cut-push, HasWide-open, HasWide_push}
-use Rattle.tmw_wellformed.proofs.HistorySteps.{length-add, flag}
+use Rattle.tmw_wellformed.proofs.HistorySteps.{length-add}
 use Rattle.tmw_counts.specs.Counting.{one_if}
 use Rattle.tmw_counts.proofs.Sums.{count-append, count-one, one_if-le}
 use Rattle.std.specs.Prelude.{is_some}

@@ -1,8 +1,8 @@
 -- The part of a history that is counted, with one event more.
-use Rattle.std.proofs.Common.{◌≡◌, ◌||◌, ◌+◌, ◌-◌, ◌++◌, ◌<◌, ◌≤◌, ℕ, Bool, true, false, List, [], ◌∷◌, length, max, IsTrue, IsFalse, refl, sym, ap, subst, ◌∙◌, inl, inr, arith}
+use Rattle.std.proofs.Common.{◌≡◌, ◌||◌, ◌+◌, ◌++◌, ◌≤◌, ℕ, zero, suc, Bool, true, false, List, [], ◌∷◌, length, IsTrue, IsFalse, refl, sym, ap, subst, ◌∙◌, inl, inr, arith}
 use Rattle.std.specs.Prelude.{take, if◌then◌else◌}
 use Rattle.std.proofs.lemmas.Bool.{both_ways, cases_Bool, cases_lt}
-use Rattle.std.proofs.lemmas.List.{take-length}
+use Rattle.std.proofs.lemmas.List.{take_all}
 use Rattle.tmw_events.specs.declared.event.Event.{Event}
 use Rattle.tmw_trace.specs.declared.header.Header.{Header}
 use Rattle.tmw_defs.specs.declared.criterion.Asked.{Asked}
@@ -15,15 +15,19 @@ use Rattle.tmw_defs.specs.Verdict.{AreFine, IsFine, IsFirst, IsMalformed, IsTooM
 use Rattle.tmw_defs.proofs.Criteria.{formed-final}
 use Rattle.tmw_defs.proofs.VerdictProof.{verdict-one}
 use Rattle.tmw_defs.proofs.WindowsProof.{length-push, take-push, take_all-push}
-use Rattle.tmw_monitor.specs.Fitting.{Fits}
 use Rattle.tmw_monitor.specs.Monitor.{verdict_of}
 use Rattle.tmw_monitor.specs.declared.bounds.Bounds.{Bounds}
 use Rattle.tmw_monitor.specs.declared.monitor.Monitor.{Monitor}
-use Rattle.tmw_judge.specs.ByCriterion.{asked_of, Each}
-use Rattle.tmw_judge.specs.Counted.{any_open, counted_by, counted_of, counted_part, is_open, verdicts_of}
-use Rattle.tmw_judge.specs.Judging.{AreFed, trace_rules}
+use Rattle.tmw_judge.specs.Counted.{any_open, AreJudged, counted_by, counted_of, counted_part, CountsFor, is_open, verdicts_of}
+use Rattle.tmw_judge.specs.declared.judges.Judges.{Judges}
+use Rattle.tmw_judge.specs.Judging.{AreFed, AreReports, trace_rules}
+use Rattle.tmw_judge.specs.Summing.{told_verdicts}
+use Rattle.tmw_judge.specs.declared.report.Report.{Report}
 use Rattle.tmw_judge.specs.declared.by_criterion.ByCriterion.{ByCriterion}
 use Rattle.tmw_judge.specs.declared.by_criterion.ByCriterion.TheVariants.{Opacity, Strict, Both}
+
+take_whole : (h : List Event) → take (length h) h ≡ h
+take_whole h = take_all (length h) h (omega arith)
 
 IsFirst-push : (Wrong : Rules → List Event → Type 0) (rules : Rules) (h : List Event) (e : Event) (m : ℕ) → IsFirst Wrong rules h m
     → IsFirst Wrong rules (h ++ e ∷ []) m
@@ -81,7 +85,7 @@ as_formed formed n = if formed then n + 1 else n
 
 formed_whole : (rules : Rules) (h : List Event) (e : Event) → AreFine rules (h ++ e ∷ []) → IsTrue (is_well_formed rules.registers (h ++ e ∷ []))
 formed_whole rules h e fine =
-    let whole : IsFine rules (h ++ e ∷ []) = rw (take-length (h ++ e ∷ [])) at (fine (length (h ++ e ∷ [])) (omega arith)) in
+    let whole : IsFine rules (h ++ e ∷ []) = rw (take_whole (h ++ e ∷ [])) at (fine (length (h ++ e ∷ [])) (omega arith)) in
     formed-final rules.criterion rules.registers rules.start (h ++ e ∷ []) whole.final
 
 counted-open : (rules : Rules) (h : List Event) (e : Event) (w : Verdict) → AreFine rules h → IsVerdict rules (h ++ e ∷ []) w
@@ -216,11 +220,11 @@ module _ (header : Header) (bounds : Bounds) (asked : Asked) (h : List Event) (e
   part-ill old new s is ill =
       let n : counted_of (length (h ++ e ∷ [])) (verdicts_of new) ≡ length h =
       ap (λ k. counted_of k (verdicts_of new)) (length-push h e) ∙ s.next is ∙ ap (λ b. as_formed b (length h)) ill in
-      ap (λ k. take k (h ++ e ∷ [])) n ∙ take-push (length h) h e (omega arith) ∙ take-length h
+      ap (λ k. take k (h ++ e ∷ [])) n ∙ take-push (length h) h e (omega arith) ∙ take_whole h
 
   pub part-before : (old new : ByCriterion Monitor) → Steps old new → any_open (verdicts_of old) ≡ true
       → counted_part (verdicts_of old) h ≡ h
-  part-before old new s is = ap (λ k. take k h) (s.all is) ∙ take-length h
+  part-before old new s is = ap (λ k. take k h) (s.all is) ∙ take_whole h
 
   pub part-same : (old new : ByCriterion Monitor) → Steps old new → any_open (verdicts_of old) ≡ false
       → counted_part (verdicts_of new) (h ++ e ∷ []) ≡ counted_part (verdicts_of old) h
@@ -228,3 +232,70 @@ module _ (header : Header) (bounds : Bounds) (asked : Asked) (h : List Event) (e
       let n : counted_of (length (h ++ e ∷ [])) (verdicts_of new) ≡ counted_of (length h) (verdicts_of old) =
       ap (λ k. counted_of k (verdicts_of new)) (length-push h e) ∙ s.same is in
       ap (λ k. take k (h ++ e ∷ [])) n ∙ take-push (counted_of (length h) (verdicts_of old)) h e s.within
+
+abbrev none : List Event
+none = []
+
+take_nil : (n : ℕ) → take n none ≡ none
+take_nil zero = refl
+take_nil (suc n) = refl
+
+-- before the first event nothing is counted
+pub judged-nothing : {C : Type 0} (Counts : CountsFor C) (header : Header) (bounds : Bounds) (asked : Asked) (monitors : ByCriterion Monitor)
+    (counting : C) → AreFed header bounds asked [] monitors → Counts header.registers.number [] counting
+    → AreJudged Counts header bounds asked [] (record { monitors = monitors; counting = counting })
+judged-nothing Counts header bounds asked monitors counting fed counts = record {
+  fed = fed;
+  counted = rw (take_nil (counted_of 0 (verdicts_of monitors))) counts;
+}
+
+-- one event more is judged, and counted where some verdict was open
+pub judged-more : {C : Type 0} (Counts : CountsFor C) (header : Header) (bounds : Bounds) (asked : Asked) (h : List Event) (e : Event)
+    (old new : Judges C) → AreJudged Counts header bounds asked h old → AreFed header bounds asked (h ++ e ∷ []) new.monitors
+    → (any_open (verdicts_of old.monitors) ≡ true → IsTrue (is_well_formed header.registers.number (h ++ e ∷ []))
+    → Counts header.registers.number h old.counting → Counts header.registers.number (h ++ e ∷ []) new.counting)
+    → (any_open (verdicts_of old.monitors) ≡ true → IsFalse (is_well_formed header.registers.number (h ++ e ∷ []))
+    → Counts header.registers.number h old.counting → Counts header.registers.number h new.counting)
+    → (any_open (verdicts_of old.monitors) ≡ false → new.counting ≡ old.counting)
+    → AreJudged Counts header bounds asked (h ++ e ∷ []) new
+judged-more {C = C} Counts header bounds asked h e old new was fed formed ill same =
+    let s = steps header bounds asked h e old.monitors new.monitors was.fed fed in
+    record {
+      fed = fed;
+      counted = elim (cases_Bool (any_open (verdicts_of old.monitors))) [
+        | inl is ↦
+            let before : Counts header.registers.number h old.counting =
+            subst (λ (xs : List Event). Counts header.registers.number xs old.counting) (part-before header bounds asked h e old.monitors new.monitors s is) was.counted in
+            elim (cases_Bool (is_well_formed header.registers.number (h ++ e ∷ []))) [
+              | inl well ↦ subst (λ (xs : List Event). Counts header.registers.number xs new.counting)
+                  (sym (part-formed header bounds asked h e old.monitors new.monitors s is well)) (formed is well before)
+              | inr broken ↦ subst (λ (xs : List Event). Counts header.registers.number xs new.counting)
+                  (sym (part-ill header bounds asked h e old.monitors new.monitors s is broken)) (ill is broken before)
+            ]
+        | inr is ↦
+            subst (λ (xs : List Event). Counts header.registers.number xs new.counting)
+            (sym (part-same header bounds asked h e old.monitors new.monitors s is))
+            (subst (λ (c : C). Counts header.registers.number (counted_part (verdicts_of old.monitors) h) c) (sym (same is)) was.counted)
+      ];
+    }
+
+-- the verdicts that are reported are the monitors'
+pub told-same : (header : Header) (bounds : Bounds) (asked : Asked) (h : List Event) (monitors : ByCriterion Monitor) (reports : ByCriterion Report)
+    → AreFed header bounds asked h monitors → AreReports header bounds asked h reports → verdicts_of monitors ≡ told_verdicts reports
+told-same header bounds asked h (Opacity m) (Opacity r) fed tell =
+    ap (λ (v : Verdict). let b : ByCriterion Verdict = Opacity v in b)
+    (verdict-one (trace_rules header bounds by.Opacity) h (verdict_of m) r.verdict fed.each.judged tell.each.judged)
+told-same header bounds asked h (Strict m) (Strict r) fed tell =
+    ap (λ (v : Verdict). let b : ByCriterion Verdict = Strict v in b)
+    (verdict-one (trace_rules header bounds by.Strict) h (verdict_of m) r.verdict fed.each.judged tell.each.judged)
+told-same header bounds asked h (Both m n) (Both r s) fed tell =
+    ap (λ (v : Verdict). let b : ByCriterion Verdict = Both v (verdict_of n) in b)
+    (verdict-one (trace_rules header bounds by.Opacity) h (verdict_of m) r.verdict fed.each.0.judged tell.each.0.judged)
+    ∙ ap (λ (v : Verdict). let b : ByCriterion Verdict = Both r.verdict v in b)
+    (verdict-one (trace_rules header bounds by.Strict) h (verdict_of n) s.verdict fed.each.1.judged tell.each.1.judged)
+told-same header bounds asked h (Opacity m) (Strict s) fed tell = absurd (let is = fed.all ∙ sym tell.all in cc)
+told-same header bounds asked h (Opacity m) (Both r s) fed tell = absurd (let is = fed.all ∙ sym tell.all in cc)
+told-same header bounds asked h (Strict m) (Opacity s) fed tell = absurd (let is = fed.all ∙ sym tell.all in cc)
+told-same header bounds asked h (Strict m) (Both r s) fed tell = absurd (let is = fed.all ∙ sym tell.all in cc)
+told-same header bounds asked h (Both m n) (Opacity s) fed tell = absurd (let is = fed.all ∙ sym tell.all in cc)
+told-same header bounds asked h (Both m n) (Strict s) fed tell = absurd (let is = fed.all ∙ sym tell.all in cc)

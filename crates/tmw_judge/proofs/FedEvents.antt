@@ -1,5 +1,5 @@
 -- Reading on to the end: the judges have been fed the events of the lines read.
-use Rattle.std.proofs.Common.{◌≡◌, ℕ, Option, Result, Ok, Err, List, [], ◌∷◌, ◌++◌, length, sym}
+use Rattle.std.proofs.Common.{Result, Ok, Err, ◌++◌, sym}
 use Rattle.tmw_lines.specs.ItemsGiven.{GivesAll}
 use Rattle.tmw_lines.specs.declared.lines.Lines.{Lines}
 use Rattle.tmw_lines.specs.declared.text_fault.TextFault.{TextFault}

@@ -1,5 +1,5 @@
 -- Judging a trace: its first line is read, then its events are fed, and what was told is what was read.
-use Rattle.std.proofs.Common.{◌≡◌, ℕ, Option, List, [], ◌++◌, Ok, Err, refl}
+use Rattle.std.proofs.Common.{◌≡◌, ℕ, List, [], ◌++◌, Ok, Err, refl}
 use Rattle.tmw_lines.specs.ItemsRead.{AreReadFor}
 use Rattle.tmw_lines.specs.TextFault.{HasTextFault, failures_after}
 use Rattle.tmw_lines.specs.declared.lines.Lines.{Lines}
@@ -21,7 +21,7 @@ use Rattle.tmw_report.specs.CommandRun.{failures_after_answer}
 use Rattle.tmw_judge.specs.Feeding.{IsBeginning, ReadsBeginning, AreFedAllRead, AreReadAndFed, FeedsEvents}
 use Rattle.tmw_judge.specs.Counted.{CountsFor}
 use Rattle.tmw_judge.specs.declared.judges.Judges.{Judges}
-use Rattle.tmw_judge.specs.Summing.{AnswersFed, AreJudgesOf}
+use Rattle.tmw_judge.specs.Summing.{AnswersFed}
 
 module _ {C : Type 0} (Counts : CountsFor C) where
   -- the fault of the first line, or want of memory behind it, is the text's

@@ -1,5 +1,5 @@
 -- What is counted of the events of a trace beside their verdict: those up to the event that the verdict names.
-use Rattle.std.specs.Prelude.{◌≡◌, ℕ, Bool, true, false, ◌-◌, ◌||◌, ◌++◌, List, length, max, take}
+use Rattle.std.specs.Prelude.{ℕ, Bool, true, false, ◌-◌, ◌||◌, List, length, max, take}
 use Rattle.tmw_events.specs.declared.event.Event.{Event}
 use Rattle.tmw_trace.specs.declared.header.Header.{Header}
 use Rattle.tmw_defs.specs.declared.criterion.Asked.{Asked}

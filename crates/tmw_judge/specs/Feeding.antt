@@ -1,5 +1,5 @@
 -- What is read where the events of a trace are fed to its judges as their lines are read, and what the judges have taken of it.
-use Rattle.std.specs.Prelude.{◌≡◌, ◌⊎◌, ℕ, Option, Result, Ok, Err, List, [], ◌∷◌, ◌++◌, length}
+use Rattle.std.specs.Prelude.{◌≡◌, ◌⊎◌, ℕ, Result, Ok, Err, List, [], ◌∷◌, ◌++◌, length}
 use Rattle.tmw_lines.specs.ItemsRead.{EndsBehind, FailsBehind, StopsBehind}
 use Rattle.tmw_lines.specs.Lines.{HasRead}
 use Rattle.tmw_lines.specs.TextFault.{HasFirstLineFault}

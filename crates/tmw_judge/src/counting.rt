@@ -31,9 +31,7 @@ pub trait Counting: Drop {
 pub struct Uncounted;
 
 impl Counting for Uncounted {
-    ghost use Rattle.std.specs.Prelude.{Unit};
-
-    ghost counts = { λ registers history counting. Unit };
+    ghost counts = { λ registers history counting. Unit {0} };
 
     #[inline(always)]
     fn begin(_registers: Registers) -> Uncounted {

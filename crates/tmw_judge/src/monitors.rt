@@ -1,5 +1,5 @@
 //! The monitors that judge a trace: one for each requested criterion.
-ghost use Rattle.std.specs.Prelude.{◌<◌, ◌^◌, List, [], ◌∷◌, ◌++◌, IfOk, OnOk, OnErr};
+ghost use Rattle.std.specs.Prelude.{◌≡◌, ◌<◌, ◌^◌, List, [], ◌∷◌, ◌++◌, IfOk, OnOk, OnErr};
 ghost use Rattle.tmw_defs.specs.Verdict.{Rules};
 ghost use Rattle.tmw_defs.specs.declared.criterion.Asked.{Asked};
 ghost use Rattle.tmw_events.specs.declared.event.Event.{Event};

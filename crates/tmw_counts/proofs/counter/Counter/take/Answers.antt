@@ -1,5 +1,5 @@
 -- The tracker tells what the event is to its transaction, and the counts follow.
-use Rattle.std.proofs.Common.{◌≡◌, ◌++◌, ◌<◌, ℕ, true, false, List, [], ◌∷◌, inl, inr, arith}
+use Rattle.std.proofs.Common.{◌++◌, [], ◌∷◌, inl, inr, arith}
 use Rattle.std.proofs.lemmas.Bool.{both_ways, cases_lt, lt-ltb, ltb-true}
 use Rattle.tmw_counts.proofs.Counting.{counts-push}
 use Rattle.tmw_counts.proofs.counter.Counter.take.Goals as goal

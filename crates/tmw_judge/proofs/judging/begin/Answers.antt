@@ -1,0 +1,16 @@
+-- A trace is begun where its first line is read, and nothing is counted yet.
+use Rattle.tmw_judge.proofs.CountedParts.{judged-nothing}
+use Rattle.tmw_judge.proofs.judging.begin.Goals as goal
+
+pub returns-clause-begins : goal.returns-clause-begins
+returns-clause-begins g c =
+    let read = c.in-Ok.ensures.header in record {
+      bytes = read.0;
+      told = read.1;
+      is = (
+        c.in-Ok.header,
+        read.2,
+        judged-nothing g.C.Counting.counts c.in-Ok.header c.args.bounds c.args.asked
+            c.in-Ok-monitors_for.monitors c.begin.result c.in-Ok-monitors_for.ensures c.begin.ensures,
+      );
+    }
