@@ -99,10 +99,11 @@ def rows_of(top):
 
 
 class Thread:
-    """A thread of a random run: the state from which its transaction reads, what it has written, and its call that waits."""
+    """A thread of a random run: the state from which its transaction reads, what it has read and written, and its call that waits."""
 
     def __init__(self):
         self.start = None
+        self.reads = set()
         self.writes = {}
         self.call = None
 
@@ -116,21 +117,25 @@ def call_of(rng, registers):
 
 
 def answer_of(rng, thread, state, wrong):
-    """The answer to the call that waits. A read may be answered wrongly; a commit is refused where another came between."""
+    """The answer to the call that waits. A read may be answered wrongly; a commit is refused if what was read has changed."""
     words = thread.call.split()
     if words[0] == "X" or rng.random() < 0.08:
         return "A"
     if words[0] == "T":
-        if thread.start != state:
+        if any(thread.start[register] != state[register] for register in thread.reads):
             return "A"
         for register, value in thread.writes.items():
             state[register] = value
         return "C"
     register = int(words[1])
-    held = thread.writes.get(register, thread.start[register])
     if words[0] == "W":
         thread.writes[register] = int(words[2])
         return "K"
+    held = thread.start[register]
+    if register in thread.writes:
+        held = thread.writes[register]
+    else:
+        thread.reads.add(register)
     if words[0] == "N":
         thread.writes[register] = held + 1
     return f"V {rng.randrange(4) if rng.random() < wrong else held}"
@@ -156,7 +161,7 @@ def random_trace(rng):
         lines.append(f"{number} {answer}")
         thread.call = None
         if answer in "CA":
-            thread.start, thread.writes = None, {}
+            thread.start, thread.reads, thread.writes = None, set(), {}
     if lines and rng.random() < 0.2:
         event = rng.choice(["V 0", "K", "C", "A", f"R {registers}", "T", "R 0"])
         lines.insert(rng.randrange(len(lines) + 1), f"{rng.randrange(8)} {event}")
