@@ -112,14 +112,14 @@ def call_of(rng, registers):
     """A call: mostly a read, a write or an add, else a request."""
     register = rng.randrange(registers)
     return rng.choices(
-        [f"R {register}", f"W {register} {rng.randrange(3)}", f"N {register} 1", "T", "X"], weights=[5, 4, 1, 5, 1]
+        [f"R {register}", f"W {register} {rng.randrange(9)}", f"N {register} 1", "T", "X"], weights=[3, 6, 1, 6, 1]
     )[0]
 
 
 def answer_of(rng, thread, state, wrong):
     """The answer to the call that waits. A read may be answered wrongly; a commit is refused if what was read has changed."""
     words = thread.call.split()
-    if words[0] == "X" or rng.random() < 0.08:
+    if words[0] == "X" or rng.random() < 0.05:
         return "A"
     if words[0] == "T":
         if any(thread.start[register] != state[register] for register in thread.reads):
@@ -146,7 +146,7 @@ def random_trace(rng):
     registers, threads = rng.randint(1, 3), [Thread() for _ in range(rng.choice([1, 2, 2, 3, 3, 4, 8]))]
     state = [0] * registers
     wrong = rng.choice([0, 0, 0.1])
-    begins = rng.choice([0.02, 0.1, 0.5])
+    begins = rng.choice([0.02, 0.1, 0.3, 0.3, 0.5])
     lines = []
     for _ in range(rng.randint(0, 60)):
         open_ones = [thread for thread in threads if thread.start is not None]
@@ -173,7 +173,7 @@ def words_of(rng):
     """The options of `judge`: a criterion and bounds, which are wide in every second run."""
     words = rng.choice([[], ["--criterion", "strict"], ["--criterion", "both"]])
     if rng.random() < 0.5:
-        words = [*words, "--window", str(rng.randint(1, 8)), "--states", str(rng.randint(1, 4))]
+        words = [*words, "--window", str(rng.randint(1, 8)), "--states", str(rng.choice([1, 1, 2, 4]))]
     return words
 
 
