@@ -337,6 +337,8 @@ expect_usage "error: the argument '--show' cannot be used multiple times" bench 
 expect_usage "error: unexpected argument '--show' found" drive --show
 expect_usage "error: unexpected argument '--rounds' found" drive --rounds 1
 expect_usage "error: unexpected argument '--trace' found" judge --trace
+expect_usage "error: the argument '--summary' cannot be used multiple times" judge --summary --summary
+expect_usage "error: unexpected argument '--summary' found" show --summary
 expect_usage "error: unexpected argument 'further' found" judge further
 expect_usage "error: unexpected argument '--window' found" steps --window 3
 expect_usage 'error: a word of the command line is not UTF-8' judge $'\xff'
@@ -504,7 +506,7 @@ for text in 'opacity-trace 1 1\n0 R 01\n:{"fault":"bad line","line":2}' '~\n:{"f
 done
 
 # standard output that takes nothing, which standard error tells, and standard error that takes nothing
-for words in 'judge' 'show' 'drive' 'bench' 'steps' '--help' 'replay'; do
+for words in 'judge' 'judge --summary' 'show' 'drive' 'bench' 'steps' '--help' 'replay'; do
     status=0
     "$top/tmwatch" $words <"$top/examples/dirty_read.trace" >/dev/full 2>"$folder/errors" || status=$?
     count "$words > /dev/full" '4 error: the output could not be written: disk full? Trust no verdict; run again' \

@@ -259,6 +259,7 @@ echo '{"registers":3,"scripts":[[["R 0","W 0 1","T"]],[["R 1","W 1 1","T"]],[["R
 kinds='growth growths read interrupted_read write interrupted_write'
 row 'judge, one window' 0 1 "$top/examples/own_write.trace" judge
 row 'judge, many windows' 0 16 "$folder/windows" judge
+row 'judge, many windows, with counts' 0 16 "$folder/windows" judge --summary
 row 'judge, violated' 1 4 "$top/examples/dirty_read.trace" judge
 row 'judge, too many transactions' 2 4 "$top/examples/left_open.trace" judge
 row 'judge, malformed' 3 4 "$folder/malformed" judge

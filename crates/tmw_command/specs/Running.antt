@@ -1,6 +1,6 @@
 -- What a run of the command line does: from its words and the bytes that its source tells to what its two sinks take and the
 -- exit status. The second sink is for errors.
-use Rattle.std.specs.Prelude.{◌≡◌, ℕ, List, Result, Ok, Err, string_bytes}
+use Rattle.std.specs.Prelude.{◌≡◌, ℕ, true, false, List, Result, Ok, Err, string_bytes}
 use Rattle.clap.specs.Words.{Text}
 use Rattle.tmw_report.specs.Lines.{fault_line}
 use Rattle.tmw_report.specs.Putting.{IsPut, IsSent}
@@ -8,6 +8,7 @@ use Rattle.tmw_streams.specs.Streams.{FromSource, ToSink}
 use Rattle.tmw_report.specs.declared.fault.Fault.{Fault}
 use Rattle.tmw_report.specs.declared.fault.Fault.TheVariants.{Memory as WantsMemory, Usage as IsUsage}
 use Rattle.tmw_judge.specs.Judging.{JudgesBytes}
+use Rattle.tmw_judge.specs.Summing.{SumsBytes}
 use Rattle.tmw_bench.specs.Running.{BenchesBytes}
 use Rattle.tmw_drive.specs.Running.{DrivesBytes}
 use Rattle.tmw_show.specs.Running.{ShowsBytes}
@@ -34,7 +35,8 @@ by_name is memories name = is (memory_named memories name)
 
 -- What the order's command does.
 abbrev pub RunsOrder : {S K : Type 0} → FromSource S → ToSink K → MemoriesAre → Order → S → S → K → K → ℕ → Type 0
-RunsOrder From To memories (Judge bounds asked) = JudgesBytes From To bounds asked
+RunsOrder From To memories (Judge bounds asked false) = JudgesBytes From To bounds asked
+RunsOrder From To memories (Judge bounds asked true) = SumsBytes From To bounds asked
 RunsOrder From To memories (Show criterion trace bounds) = ShowsBytes From To criterion trace bounds
 RunsOrder From To memories (Drive memory trace bounds) = DrivesBytes From To (memories memory) trace bounds
 RunsOrder From To memories (Bench memory trace options) = BenchesBytes From To (memories memory) (flags_of trace options) (settings_of options)

@@ -11,7 +11,7 @@ use std::sync::Wait;
 use std::thread::Threads;
 use tmw_bench::{Plan, Progress, run_bench_cmd};
 use tmw_drive::run_drive;
-use tmw_judge::run_judge;
+use tmw_judge::{run_judge, run_summary};
 use tmw_report::{FAULT_STATUS, Fault, answer_fault};
 use tmw_show::run_show;
 use tmw_steps::run_steps;
@@ -104,7 +104,17 @@ fn run_order<S: Source, K: Sink, R: AllocGlobal + Threads + Wait + Sync, P: Prog
 {
     let alloc = rt.alloc();
     match order {
-        Order::Judge { bounds, asked } => run_judge(alloc, source, sink, bounds, asked),
+        Order::Judge {
+            bounds,
+            asked,
+            summary,
+        } => {
+            if summary {
+                run_summary(alloc, source, sink, bounds, asked)
+            } else {
+                run_judge(alloc, source, sink, bounds, asked)
+            }
+        }
         Order::Show {
             criterion,
             trace,

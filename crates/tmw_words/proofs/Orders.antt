@@ -5,7 +5,7 @@ use Rattle.clap.specs.Words.{Row, Text}
 use Rattle.tmw_defs.specs.declared.criterion.Asked.{Asked}
 use Rattle.tmw_defs.specs.declared.criterion.Criterion.{Criterion}
 use Rattle.tmw_monitor.specs.declared.bounds.Bounds.{Bounds}
-use Rattle.tmw_words.specs.Words.{HasBounds, HasOptions, HasTrace, IsOrder, NamesCriteria, NamesCriterion, NamesMemory}
+use Rattle.tmw_words.specs.Words.{HasBounds, HasFlag, HasOptions, HasTrace, IsOrder, NamesCriteria, NamesCriterion, NamesMemory}
 use Rattle.tmw_words.specs.declared.bench_options.BenchOptions.{BenchOptions}
 use Rattle.tmw_words.specs.declared.order.Order.{Order}
 use Rattle.tmw_words.specs.declared.order.Order.TheVariants.{Judge, Show, Drive, Bench, Steps}
@@ -24,12 +24,15 @@ one_name = same_letter 0
 own_rows : (found : Option (Text × List Row)) (name : Text) (rows given : List Row) → found ≡ Some (name, rows) → found ≡ Some (name, given) → given ≡ rows
 own_rows found name rows given is same = ap (λ (o : Option (Text × List Row)). (unwrap_or o (name, rows)).1) (sym same ∙ is)
 
--- without criteria or bounds `judge` is no order
+-- without criteria, a flag or bounds `judge` is no order
 pub judge-lacking : (found : Option (Text × List Row)) (rows : List Row) → found ≡ Some (codes "judge", rows)
-    → ((asked : Asked) (bounds : Bounds) → NamesCriteria rows asked → HasBounds rows bounds → ⊥) → (order : Order) → IsOrder found order → ⊥
-judge-lacking found rows is none (Judge bounds asked) (given, same, named, has) =
+    → ((asked : Asked) (summary : Bool) (bounds : Bounds) → NamesCriteria rows asked → HasFlag (codes "summary") rows summary
+    → HasBounds rows bounds → ⊥)
+    → (order : Order) → IsOrder found order → ⊥
+judge-lacking found rows is none (Judge bounds asked summary) (given, same, named, flagged, has) =
     let own = own_rows found (codes "judge") rows given is same in
-    none asked bounds (subst (λ (r : List Row). NamesCriteria r asked) own named) (subst (λ (r : List Row). HasBounds r bounds) own has)
+    none asked summary bounds (subst (λ (r : List Row). NamesCriteria r asked) own named)
+    (subst (λ (r : List Row). HasFlag (codes "summary") r summary) own flagged) (subst (λ (r : List Row). HasBounds r bounds) own has)
 judge-lacking found rows is none (Drive memory trace bounds) (given, same, named, traced, has) =
     let first = one_name found (codes "judge") (codes "drive") rows given is same in
     absurd (omega (arith, first))
@@ -51,7 +54,7 @@ show-lacking found rows is none (Show criterion trace bounds) (given, same, name
     let own = own_rows found (codes "show") rows given is same in
     none criterion trace bounds (subst (λ (r : List Row). NamesCriterion r criterion) own named) (subst (λ (r : List Row). HasTrace r trace) own traced)
     (subst (λ (r : List Row). HasBounds r bounds) own has)
-show-lacking found rows is none (Judge bounds asked) (given, same, named, has) =
+show-lacking found rows is none (Judge bounds asked summary) (given, same, named, flagged, has) =
     let letter = same_letter 0 found (codes "show") (codes "judge") rows given is same in
     absurd (omega (arith, letter))
 show-lacking found rows is none (Drive memory trace bounds) (given, same, named, traced, has) =
@@ -72,7 +75,7 @@ drive-lacking found rows is none (Drive memory trace bounds) (given, same, named
     let own = own_rows found (codes "drive") rows given is same in
     none memory trace bounds (subst (λ (r : List Row). NamesMemory r memory) own named) (subst (λ (r : List Row). HasTrace r trace) own traced)
     (subst (λ (r : List Row). HasBounds r bounds) own has)
-drive-lacking found rows is none (Judge bounds asked) (given, same, named, has) =
+drive-lacking found rows is none (Judge bounds asked summary) (given, same, named, flagged, has) =
     let first = one_name found (codes "drive") (codes "judge") rows given is same in
     absurd (omega (arith, first))
 drive-lacking found rows is none (Bench memory trace options) (given, same, named, traced, has) =
@@ -93,7 +96,7 @@ bench-lacking found rows is none (Bench memory trace options) (given, same, name
     let own = own_rows found (codes "bench") rows given is same in
     none memory trace options (subst (λ (r : List Row). NamesMemory r memory) own named) (subst (λ (r : List Row). HasTrace r trace) own traced)
     (subst (λ (r : List Row). HasOptions r options) own has)
-bench-lacking found rows is none (Judge bounds asked) (given, same, named, has) =
+bench-lacking found rows is none (Judge bounds asked summary) (given, same, named, flagged, has) =
     let first = one_name found (codes "bench") (codes "judge") rows given is same in
     absurd (omega (arith, first))
 bench-lacking found rows is none (Drive memory trace bounds) (given, same, named, traced, has) =

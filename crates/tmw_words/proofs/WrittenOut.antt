@@ -44,6 +44,34 @@ trace_of_judge : kinds_of (said (codes "judge" ∷ codes "--trace" ∷ [])) ≡ 
 unfolding clap_on_literals
 trace_of_judge = refl
 
+-- whether `judge` counts
+abbrev summary_of : List Text → Option (Option Text)
+summary_of words = option_map (λ p. one_of (codes "summary") p.1) (subcommand_of program (help_as_flag (said (codes "judge" ∷ words))))
+
+no_summary_by_default : summary_of (codes "--window=3" ∷ []) ≡ Some (Some (codes "false"))
+unfolding clap_on_literals
+no_summary_by_default = refl
+
+summary_given : summary_of (codes "--criterion=both" ∷ codes "--summary" ∷ []) ≡ Some (Some (codes "true"))
+unfolding clap_on_literals
+summary_given = refl
+
+summary_taken : kinds_of (said (codes "judge" ∷ codes "--summary" ∷ codes "--states=2" ∷ [])) ≡ []
+unfolding clap_on_literals
+summary_taken = refl
+
+summary_twice : kinds_of (said (codes "judge" ∷ codes "--summary" ∷ codes "--summary" ∷ [])) ≡ ArgumentConflict ∷ []
+unfolding clap_on_literals
+summary_twice = refl
+
+summary_with_value : kinds_of (said (codes "judge" ∷ codes "--summary=1" ∷ [])) ≡ TooManyValues ∷ []
+unfolding clap_on_literals
+summary_with_value = refl
+
+summary_of_show : kinds_of (said (codes "show" ∷ codes "--summary" ∷ [])) ≡ UnknownArgument ∷ []
+unfolding clap_on_literals
+summary_of_show = refl
+
 -- by which criteria `judge` judges
 abbrev the_criteria : List Text → Option (Option Text)
 the_criteria words = option_map (λ p. first_of (codes "criterion") p.1) (subcommand_of program (help_as_flag (said (codes "judge" ∷ words))))

@@ -93,7 +93,7 @@ with_counts app = with_rule (with_rule (with_rule app (value_rule (codes "ring")
 
 -- `judge`, by one of these criteria
 abbrev pub judge_among : ValueParser → App
-judge_among criteria = with_bounds (with_criterion criteria (new_app (codes "judge")))
+judge_among criteria = with_bounds (with_flag (codes "summary") (with_criterion criteria (new_app (codes "judge"))))
 
 -- `show`, by one of these criteria
 abbrev pub show_among : ValueParser → App

@@ -72,8 +72,9 @@ pub record HasOptions (rows : List Row) (options : BenchOptions) : Type 0 where
 
 -- This is the order of a command and of what was found for its options.
 abbrev pub IsOrder : Option (Text × List Row) → Order → Type 0
-IsOrder found (Judge bounds asked) =
-    (rows : List Row) × (found ≡ Some (codes "judge", rows)) × NamesCriteria rows asked × HasBounds rows bounds
+IsOrder found (Judge bounds asked summary) =
+    (rows : List Row) × (found ≡ Some (codes "judge", rows)) × NamesCriteria rows asked × HasFlag (codes "summary") rows summary
+    × HasBounds rows bounds
 IsOrder found (Show criterion trace bounds) =
     (rows : List Row) × (found ≡ Some (codes "show", rows)) × NamesCriterion rows criterion × HasTrace rows trace × HasBounds rows bounds
 IsOrder found (Drive memory trace bounds) =

@@ -6,10 +6,12 @@ use tmw_monitor::Bounds;
 /// What the command line asks the program to do.
 #[derive(Clone, Copy, PartialEq, Eq, Debug)]
 pub enum Order {
-    /// To judge the trace on standard input within these bounds, by these criteria.
+    /// To judge the trace on standard input within these bounds, by these criteria. By `summary` its transactions,
+    /// overlaps and cuts are counted too.
     Judge {
         bounds: Bounds,
         asked: Asked,
+        summary: bool,
     },
     /// To judge the trace on standard input by this criterion within these bounds, and to show where it went wrong: its
     /// last window, drawn, or by `trace` as traces of its own.

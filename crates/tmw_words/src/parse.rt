@@ -110,10 +110,17 @@ fn judge_of(judge: &ArgMatches<'_>) -> Option<Order>
     let Some(asked) = asked_of(judge) else {
         return None;
     };
+    let Some(summary) = flag_of(judge, "summary") else {
+        return None;
+    };
     let Some(bounds) = bounds_of(judge) else {
         return None;
     };
-    Some(Order::Judge { bounds, asked })
+    Some(Order::Judge {
+        bounds,
+        asked,
+        summary,
+    })
 }
 
 /// The criteria that the matches of `judge` name.

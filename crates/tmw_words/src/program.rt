@@ -20,6 +20,8 @@ static SHOWN: [&str; 2] = ["opacity", "strict"];
 
 const JUDGE_CRITERION_HELP: &str = "By opacity, strict or both";
 
+const SUMMARY_HELP: &str = "Also count transactions, overlaps and cuts";
+
 const SHOW_CRITERION_HELP: &str = "By opacity or strict, not both";
 
 const MEMORY_HELP: &str = "Memory: norec, lock or torn (faulty)";
@@ -62,6 +64,8 @@ register 1. docs/FORMATS.md lists the events.
 
 Writes one line of JSON when the input has ended, with `both` one per criterion:
 the verdict, how many events there are, and at which of them it went wrong.
+--summary adds a line of counts up to that event, or to the last: transactions,
+how they ended, how many overlap another, cuts, and the widest window.
 
 A cut is where no transaction is open, and a window begins at a cut. One that
 passes its bound makes the verdict `undecided`.
@@ -167,10 +171,8 @@ fn new_judge<'a>(alloc: Global, criteria: &'a [&'a str]) -> Result<Command<'a>, 
 {
     let about = "Judge a trace by opacity or strict serializability";
     let judge = described(alloc, "judge", about, JUDGE_HELP);
-    with_bounds(
-        alloc,
-        with_criterion(alloc, judge, criteria, JUDGE_CRITERION_HELP)?,
-    )
+    let judged = with_criterion(alloc, judge, criteria, JUDGE_CRITERION_HELP)?;
+    with_bounds(alloc, with_flag(alloc, judged, "summary", SUMMARY_HELP)?)
 }
 
 /// The command `show`, by criteria of these names.

@@ -1,8 +1,11 @@
 -- Each order's command does what its own contract says, over the memory that was picked by its name.
 use Rattle.tmw_command.proofs.run.run_order.Goals as goal
 
-pub returns-in-Judge : goal.returns-in-Judge
-returns-in-Judge g c = rw c.in-Judge.is c.run_judge.ensures
+pub returns-then-summary : goal.returns-then-summary
+returns-then-summary g c = rw (c.in-Judge.is, c.if-summary.true) c.run_summary.ensures
+
+pub returns-else-summary : goal.returns-else-summary
+returns-else-summary g c = rw (c.in-Judge.is, c.if-summary.false) c.run_judge.ensures
 
 pub returns-in-Show : goal.returns-in-Show
 returns-in-Show g c = rw c.in-Show.is c.run_show.ensures

@@ -1,12 +1,13 @@
 -- Each step adds its options to those that are there.
-use Rattle.std.proofs.Common.{◌∙◌, ap}
+use Rattle.std.proofs.Common.{◌∙◌, ap, codes}
 use Rattle.std.proofs.lemmas.Result.{IfOk-weaker}
 use Rattle.clap.specs.Words.{App}
 use Rattle.clap.specs.declared.builder.value_parser.ValueParser.TheVariants.{Names}
-use Rattle.tmw_words.specs.Program.{with_bounds, with_criterion}
+use Rattle.tmw_words.specs.Program.{with_bounds, with_criterion, with_flag}
 use Rattle.tmw_words.proofs.program.new_judge.Goals as goal
 
 pub returns : goal.returns
 returns c =
-    let given = c.in_ok-with_criterion.ensures ∙ ap (λ (app : App). with_criterion (Names c.args.criteria) app) c.described-judge.ensures in
-    IfOk-weaker c.with_bounds.result _ _ (λ command bounded. bounded ∙ ap with_bounds given) c.with_bounds.ensures
+    let given = c.in_ok-judged.ensures ∙ ap (λ (app : App). with_criterion (Names c.args.criteria) app) c.described-judge.ensures in
+    let counted = c.in_ok-with_flag.ensures ∙ ap (λ (app : App). with_flag (codes "summary") app) given in
+    IfOk-weaker c.with_bounds.result _ _ (λ command bounded. bounded ∙ ap with_bounds counted) c.with_bounds.ensures

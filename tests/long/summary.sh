@@ -1,0 +1,20 @@
+#!/usr/bin/env bash
+# Compares the counts of `tmwatch judge --summary` with counts made from the trace's text by the plain definitions.
+#
+#   tests/long/summary.sh [RUNS]
+#
+# First tests/long/summary.py counts the traces of tests/rows/summary.rows, whose counts were worked out by hand. Then it makes RUNS
+# (2000) random histories: right ones, ones with wrong reads, ones with open transactions, ones with an event that fits no run. Each is
+# judged by a random criterion within random bounds, with --summary and without: what comes with it has to be what comes without it,
+# with the same status, and the line of the counts that it made itself, up to the event of the later verdict. With 0 RUNS nothing is
+# built.
+#
+# Each row and each history that fails is told, as a row. Then come how many reports had each verdict; one that none had has failed.
+# The last line is 'N passed, M failed', and the exit status is 1 where one failed.
+# Environment: SEED (1).
+set -eu
+# shellcheck source=tests/common.sh
+. "$(dirname "${BASH_SOURCE[0]}")/../common.sh"
+runs=${1:-2000}
+[ "$runs" -eq 0 ] || "$top/build"
+python3 "$top/tests/long/summary.py" "$top" "$program" "$runs" "${SEED:-1}"
