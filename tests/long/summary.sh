@@ -6,7 +6,7 @@
 # First tests/long/summary.py counts the traces of tests/rows/summary.rows, whose counts were worked out by hand. Then it makes RUNS
 # (2000) random histories: right ones, ones with wrong reads, ones with open transactions, ones with an event that fits no run. Each is
 # judged by a random criterion within random bounds, with --summary and without: what comes with it has to be what comes without it,
-# with the same status, and the line of the counts that it made itself, up to the event of the later verdict. With 0 RUNS nothing is
+# with the same status, and the line of the counts that it made itself, of the longest part that a verdict covers. With 0 RUNS nothing is
 # built.
 #
 # Each row and each history that fails is told, as a row. Then come how many reports had each verdict; one that none had has failed.

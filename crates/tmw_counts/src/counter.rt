@@ -42,7 +42,7 @@ impl Counter {
     }
 
     /// Counts the next event where the history stays well-formed with it. A refusal changes nothing, and names the first of the
-    /// faults that the event has.
+    /// faults that the event has. A history of 2^64 - 1 events or more is not counted right.
     pub fn take(&mut self, event: Event) -> Result<(), Malformed>
         ensures takes { IfOk result (λ _. (registers : ℕ) (history : List Event)
             → length history < 2 ^ 64 - 1 → CountsSo registers history self.old

@@ -21,7 +21,7 @@ counted_by events (Violated at) = at
 counted_by events (Undecided at why) = at
 counted_by events (Malformed at) = at - 1
 
--- Of two verdicts the later one counts.
+-- With two verdicts it is the larger of the two numbers.
 abbrev pub counted_of : ℕ → ByCriterion Verdict → ℕ
 counted_of events (Opacity verdict) = counted_by events verdict
 counted_of events (Strict verdict) = counted_by events verdict

@@ -25,8 +25,8 @@ told_verdicts (Opacity report) = Opacity report.verdict
 told_verdicts (Strict report) = Strict report.verdict
 told_verdicts (Both opacity strict) = Both opacity.verdict strict.verdict
 
--- The bytes are the text of a trace, these are the reports on its history, and these the counts of the part of it up to the event
--- that the last verdict names, before it where that is malformed, or of all of it.
+-- The bytes are the text of a trace, these are the reports on its history, and these the counts of the part of it that its verdicts
+-- cover.
 pub record IsSummedOf (bounds : Bounds) (asked : Asked) (bytes : List ℕ) (summed : Summed) : Type 0 where
   pub header : Header
   pub history : List Event

@@ -15,7 +15,8 @@ pub trait Counting: Drop {
     fn begin(registers: Registers) -> Self
         ensures { counts registers.number [] result };
 
-    /// Counts the next event where the history stays well-formed with it, and else none.
+    /// Counts the next event where the history stays well-formed with it, and else none. The history has fewer than
+    /// 2^64 - 1 events.
     fn take(&mut self, event: Event)
         ensures formed { (registers : ℕ) (history : List Event) → length history < 2 ^ 64 - 1
             → IsTrue (is_well_formed registers (history ++ event ∷ []))

@@ -14,7 +14,7 @@ use tmw_lines::{Taker, TextFault, give_items};
 use tmw_streams::Source;
 use tmw_trace::TraceLines;
 
-/// Judges take events by being fed them. Each is counted up to the last verdict's.
+/// Judges take events by being fed them. Each event is counted while some verdict says that nothing is wrong.
 impl<C: Counting> Taker<Event> for Judges<C> {
     ghost takes = { TakeEvents C.counts };
 

@@ -42,7 +42,7 @@ pub fn judge<S: Source>(
 }
 
 /// Judges a trace as `judge` does, and counts what its history has shown: up to the event that the verdict names, before
-/// it where that event is malformed, or all. Of two verdicts the later one counts.
+/// it where that event is malformed, or all. With two verdicts it is the longer of the two parts.
 pub fn judge_summed<S: Source>(
     alloc: Global,
     source: &mut S,
@@ -61,7 +61,8 @@ pub fn judge_summed<S: Source>(
     })
 }
 
-/// Reads a trace up to the source's end, judges each event as its line is read, and counts those up to the last verdict's.
+/// Reads a trace up to the source's end, judges each event as its line is read, and counts those of the longest part
+/// that a verdict covers.
 fn judge_counting<S: Source, C: Counting>(
     alloc: Global,
     source: &mut S,

@@ -38,8 +38,8 @@ pub fn run_judge<S: Source, K: Sink>(
 }
 
 /// Judges a trace as `run_judge` does, and writes behind the report's line, or both, one that counts what the history has
-/// shown: up to the event that the verdict names, before it where that event is malformed, or all. Of two verdicts the
-/// later one counts.
+/// shown: up to the event that the verdict names, before it where that event is malformed, or all. With two verdicts it is
+/// the longer of the two parts.
 pub fn run_summary<S: Source, K: Sink>(
     alloc: Global,
     source: &mut S,

@@ -64,8 +64,8 @@ register 1. docs/FORMATS.md lists the events.
 
 Writes one line of JSON when the input has ended, with `both` one per criterion:
 the verdict, how many events there are, and at which of them it went wrong.
---summary adds a line of counts up to that event, or to the last: transactions,
-how they ended, how many overlap another, cuts, and the widest window.
+--summary adds a line of counts up to that event, a malformed one left out, or
+to the last: transactions, how they ended, overlaps, cuts, the widest window.
 
 A cut is where no transaction is open, and a window begins at a cut. One that
 passes its bound makes the verdict `undecided`.
