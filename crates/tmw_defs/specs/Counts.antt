@@ -1,5 +1,5 @@
--- What a history has shown beside its verdict: how many transactions it has and how they ended, how many overlap another, and into
--- which windows it falls.
+-- What a history has shown beside its verdict: how many transactions it has and how they ended, how many overlap another, its cuts
+-- and its widest window.
 use Rattle.std.specs.Prelude.{◌≡◌, ◌==◌, ◌&&◌, ◌-◌, ◌<◌, ◌↔◌, ℕ, Bool, true, false, not, List, [], ◌∷◌, length, map, count_by, slice_get, Option, Some}
 use Rattle.std.specs.List.{list_any}
 use Rattle.tmw_events.specs.declared.event.Event.{Event}
@@ -53,3 +53,12 @@ pub record HasCounts (history : List Event) (counts : Counts) : Type 0 where
   pub overlapping : counts.overlapping ≡ count_by (overlaps_any (transactions history)) (transactions history)
   pub cuts : counts.cuts ≡ count_by is_cut (prefixes history)
   pub widest : (most : ℕ) → HasWide most history ↔ most < counts.widest
+
+-- The history has events of two threads or more.
+abbrev pub has_two_threads : List Event → Bool
+has_two_threads [] = false
+has_two_threads (e ∷ es) = list_any (λ other. not (other.thread.number == e.thread.number)) es
+
+-- No two transactions have overlapped, although there are two threads or more.
+abbrev pub none_overlapped : List Event → Counts → Bool
+none_overlapped history counts = has_two_threads history && (counts.overlapping == 0)

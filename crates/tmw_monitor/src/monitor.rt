@@ -180,6 +180,14 @@ impl Monitor {
         self.criterion
     }
 
+    /// Returns how many registers the run has. The result counts only if nothing is wrong with the history.
+    pub fn registers(&self) -> Registers
+        ensures { (rules : Rules) (history : List Event) → Fits rules history self.now
+            → IsOpen self.now → result.number ≡ rules.registers }
+    {
+        self.kept.tracker.registers()
+    }
+
     /// Returns how many events were taken.
     pub fn fed(&self) -> u64
         ensures shown { result ≡ fed_of self.now }

@@ -145,6 +145,14 @@ impl Tracker {
         }
     }
 
+    /// Returns how many registers the run has.
+    pub fn registers(&self) -> Registers
+        ensures { (registers : ℕ) (history : List Event) → Tracks registers history self.now
+            → result.number ≡ registers }
+    {
+        self.registers
+    }
+
     /// Returns how many transactions have not ended, commit-pending ones included.
     #[inline(always)]
     pub fn live(&self) -> u8
