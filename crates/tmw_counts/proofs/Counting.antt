@@ -8,6 +8,8 @@ use Rattle.tmw_events.specs.declared.event.Event.{Event}
 use Rattle.tmw_events.specs.declared.event.Kind.{Kind}
 use Rattle.tmw_events.specs.declared.event.Kind.TheVariants.{C, X, A}
 use Rattle.tmw_counts.specs.declared.counter.Counter.{Counter}
+use Rattle.tmw_counts.specs.declared.threads.Threads.{Threads}
+use Rattle.tmw_counts.specs.Threads.{HasThreads}
 use Rattle.tmw_defs.specs.declared.counts.Counts.{Counts}
 use Rattle.tmw_defs.specs.Windows.{HasWide}
 use Rattle.tmw_defs.specs.Counts.{HasCounts, prefixes, overlaps_any, is_committed, is_aborted, is_unasked}
@@ -288,15 +290,16 @@ counted-push registers h e note others asked live old counts low so taken step =
 
 -- the counter has taken the event
 pub counts-push : (registers : ℕ) (h : List Event) (e : Event) (note : Note) (others asked : Bool) (live : ℕ) (old new : Counter) (tracker : Tracker)
-    → length h < 2 ^ 64 - 1 → CountsSo registers h old → Tracks registers (h ++ e ∷ []) tracker
-    → Taken registers h e note others asked live → IsStep note others asked live (record old { tracker = tracker }) new
+    (threads : Threads) → length h < 2 ^ 64 - 1 → CountsSo registers h old → Tracks registers (h ++ e ∷ []) tracker → HasThreads (h ++ e ∷ []) threads
+    → Taken registers h e note others asked live → IsStep note others asked live (record old { tracker = tracker; threads = threads }) new
     → CountsSo registers (h ++ e ∷ []) new
-counts-push registers h e note others asked live old new tracker low so tracks taken step =
+counts-push registers h e note others asked live old new tracker threads low so tracks of_threads taken step =
     let counts : HasCounts (h ++ e ∷ []) new.counts =
     counted-push registers h e note others asked live old new.counts low so taken (as_old step.counts) in
     let apart : one_if new.apart ≡ count_by (is_apart (transactions (h ++ e ∷ []))) (transactions (h ++ e ∷ [])) =
     ap one_if step.apart ∙ (meets-push registers h e note others asked old.apart live taken so.apart).apart in
     let cut = zero_is live (is_cut (h ++ e ∷ [])) taken.cut in
+    let known : HasThreads (h ++ e ∷ []) new.threads = subst (λ (t : Threads). HasThreads (h ++ e ∷ []) t) (sym step.threads) of_threads in
     let followed : Tracks registers (h ++ e ∷ []) new.tracker = subst (λ (t : Tracker). Tracks registers (h ++ e ∷ []) t) (sym step.tracker) tracks in
     elim (cases_Bool (is_cut (h ++ e ∷ []))) [
       | inl holds ↦ record {
@@ -307,6 +310,7 @@ counts-push registers h e note others asked live old new tracker low so tracks t
         before = step.before ∙ ap (λ (b : Bool). if b then new.counts.transactions else old.before) (cut ∙ holds) ∙ counts.all
             ∙ ap (λ (xs : List Event). length (transactions xs)) (sym (take_all-push h e));
         apart = apart;
+        threads = known;
       }
       | inr fails ↦ record {
         tracks = followed;
@@ -316,10 +320,11 @@ counts-push registers h e note others asked live old new tracker low so tracks t
         before = step.before ∙ ap (λ (b : Bool). if b then new.counts.transactions else old.before) (cut ∙ fails) ∙ so.before
             ∙ ap (λ (xs : List Event). length (transactions xs)) (sym (take-push so.cut h e so.last.is.0));
         apart = apart;
+        threads = known;
       }
     ]
   where
-    as_old : AreCounted note others asked live (record old { tracker = tracker }) new.counts → AreCounted note others asked live old new.counts
+    as_old : AreCounted note others asked live (record old { tracker = tracker; threads = threads }) new.counts → AreCounted note others asked live old new.counts
     as_old counted = record {
       aborted = counted.aborted;
       committed = counted.committed;

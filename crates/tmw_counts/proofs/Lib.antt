@@ -1,5 +1,7 @@
-mod Sums
+mod Counting
 mod Ended
 mod Overlaps
+mod Parts
+mod Sums
+mod Taking
 mod Windows
-mod Counting

@@ -1,6 +1,7 @@
 -- Which history a counter stands for, and how one event more changes it.
 use Rattle.std.specs.Prelude.{◌≡◌, ◌==◌, ◌&&◌, ◌+◌, ◌-◌, ◌^◌, ℕ, Bool, true, false, not, List, Option, Some, length, take, count_by, min, max, if◌then◌else◌}
 use Rattle.tmw_events.specs.declared.event.Event.{Event}
+use Rattle.tmw_counts.specs.Threads.{HasThreads}
 use Rattle.tmw_counts.specs.declared.counter.Counter.{Counter}
 use Rattle.tmw_defs.specs.Counts.{HasCounts, overlaps_any}
 use Rattle.tmw_defs.specs.declared.counts.Counts.{Counts}
@@ -15,7 +16,7 @@ abbrev pub one_if : Bool → ℕ
 one_if b = if b then 1 else 0
 
 -- The counter has the counts of this history, of a run with so many registers, and the number of transactions at its last cut. It
--- knows whether a live transaction overlaps none.
+-- knows whether a live transaction overlaps none, and whether the history is of two threads.
 pub record CountsSo (registers : ℕ) (history : List Event) (counter : Counter) : Type 0 where
   pub tracks : Tracks registers history counter.tracker
   pub counts : HasCounts history counter.counts
@@ -24,6 +25,7 @@ pub record CountsSo (registers : ℕ) (history : List Event) (counter : Counter)
   pub before : counter.before ≡ length (transactions (take cut history))
   pub apart : one_if counter.apart
       ≡ count_by (λ t. not (is_ended t.text) && not (overlaps_any (transactions history) t)) (transactions history)
+  pub threads : HasThreads history counter.threads
 
 abbrev pub commits : Option End → Bool
 commits (Some Commit) = true
@@ -56,6 +58,7 @@ pub record AreCounted (note : Note) (others asked : Bool) (live : ℕ) (old : Co
 -- What that event makes of the counter.
 pub record IsStep (note : Note) (others asked : Bool) (live : ℕ) (old new : Counter) : Type 0 where
   pub tracker : new.tracker ≡ old.tracker
+  pub threads : new.threads ≡ old.threads
   pub counts : AreCounted note others asked live old new.counts
   pub before : new.before ≡ (if live == 0 then new.counts.transactions else old.before)
   pub apart : new.apart ≡ (if note.begins then not others else (old.apart && not (live == 0)))

@@ -1,9 +1,11 @@
 ghost use Rattle.std.specs.Prelude.{◌≡◌, ◌<◌, ◌-◌, ◌^◌, ℕ, List, [], ◌∷◌, ◌++◌, length, IfOk, IfErr, OnErr};
 ghost use Rattle.tmw_counts.specs.Counting.{AreCounted, CountsSo, IsStep, aborts, commits, meets};
-ghost use Rattle.tmw_defs.specs.Counts.{HasCounts};
+ghost use Rattle.tmw_counts.specs.Summaries.{IsSummary};
 ghost use Rattle.tmw_events.specs.declared.event.Event.{Event};
 ghost use Rattle.tmw_wellformed.specs.Faults.{Refuses};
 
+use crate::summary::Summary;
+use crate::threads::Threads;
 use tmw_defs::Counts;
 use tmw_events::{Event, Registers};
 use tmw_wellformed::{End, Malformed, Note, Tracker};
@@ -17,6 +19,7 @@ pub struct Counter {
     before: u64,
     // Whether a live transaction overlaps none: then it is the only live one.
     apart: bool,
+    threads: Threads,
 }
 
 impl Counter {
@@ -38,6 +41,7 @@ impl Counter {
             },
             before: 0,
             apart: false,
+            threads: Threads::new(),
         }
     }
 
@@ -55,16 +59,20 @@ impl Counter {
         let asked = self.tracker.asks_abort(event.thread);
         let note = self.tracker.step(event)?;
         let live = self.tracker.live();
+        self.threads = self.threads.with(event.thread);
         self.count(note, others, asked, live);
         Ok(())
     }
 
-    /// Returns the counts of the history so far.
-    pub fn counts(&self) -> Counts
+    /// Returns what the history so far has shown.
+    pub fn summary(&self) -> Summary
         ensures { (registers : ℕ) (history : List Event) → CountsSo registers history self.now
-            → HasCounts history result }
+            → IsSummary history result }
     {
-        self.counts
+        Summary {
+            counts: self.counts,
+            none_overlapped: self.threads.several() && self.counts.overlapping == 0,
+        }
     }
 
     /// Counts an event that the tracker has taken, after which so many transactions are live. Before it, other transactions were live

@@ -1,6 +1,5 @@
 mod CountedParts
 mod Each
 mod FedEvents
-mod SummaryLines
 mod Taken
 mod Taking

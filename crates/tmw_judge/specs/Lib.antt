@@ -2,5 +2,4 @@ pub mod ByCriterion
 pub mod Counted
 pub mod Feeding
 pub mod Judging
-pub mod SummaryLine
 pub mod Summing

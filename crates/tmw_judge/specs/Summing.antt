@@ -10,7 +10,7 @@ use Rattle.tmw_defs.specs.Counts.{HasCounts}
 use Rattle.tmw_monitor.specs.declared.bounds.Bounds.{Bounds}
 use Rattle.tmw_report.specs.declared.fault.Fault.{Fault}
 use Rattle.tmw_report.specs.CommandRun.{AnswersTextFault, IsCommandRun}
-use Rattle.tmw_judge.specs.SummaryLine.{summary_text}
+use Rattle.tmw_report.specs.SummaryLine.{summary_text}
 use Rattle.tmw_streams.specs.Streams.{FromSource, ToSink}
 use Rattle.tmw_judge.specs.declared.by_criterion.ByCriterion.{ByCriterion}
 use Rattle.tmw_judge.specs.declared.by_criterion.ByCriterion.TheVariants.{Opacity, Strict, Both}

@@ -11,7 +11,6 @@ mod lines;
 mod monitors;
 mod report;
 mod run;
-mod summary_line;
 mod summed;
 
 pub use by_criterion::ByCriterion;

@@ -5,10 +5,9 @@ ghost use Rattle.tmw_judge.specs.Summing.{summed_lines};
 
 use crate::by_criterion::ByCriterion;
 use crate::report::Report;
-use crate::summary_line::summary_text;
 use crate::summed::Summed;
 use std::alloc::{AllocError, Global};
-use tmw_report::{both_status, report_strict, report_text, status_of};
+use tmw_report::{both_status, report_strict, report_text, status_of, summary_text};
 
 /// Makes the lines that report what was found, a line for each report, and that by opacity first.
 pub fn report_lines(alloc: Global, reports: &ByCriterion<Report>) -> Result<String, AllocError>

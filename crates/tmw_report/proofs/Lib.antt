@@ -1,1 +1,2 @@
 mod ReportLines
+mod SummaryLines

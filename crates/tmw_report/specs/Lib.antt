@@ -1,4 +1,6 @@
 pub mod CommandRun
 pub mod Lines
 pub mod Putting
+pub mod Remark
 pub mod ReportObject
+pub mod SummaryLine

@@ -1,5 +1,5 @@
 -- The tracker tells what the event is to its transaction, and the counts follow.
-use Rattle.std.proofs.Common.{◌++◌, [], ◌∷◌, inl, inr, arith}
+use Rattle.std.proofs.Common.{◌++◌, [], ◌∷◌, refl, inl, inr, arith}
 use Rattle.std.proofs.lemmas.Bool.{both_ways, cases_lt, lt-ltb, ltb-true}
 use Rattle.tmw_counts.proofs.Counting.{counts-push}
 use Rattle.tmw_counts.proofs.counter.Counter.take.Goals as goal
@@ -8,7 +8,8 @@ pub returns-clause-takes : goal.returns-clause-takes
 returns-clause-takes c registers history low so =
     let others = c.live-others.ensures.count registers history so.tracks in
     let after = c.in_ok-note.ensures.takes registers history so.tracks in
-    counts-push registers history c.args.event c.in_ok-note.note _ _ _ c.args.self.now c.count.new.self _ low so after
+    counts-push registers history c.args.event c.in_ok-note.note _ _ _ c.args.self.now c.count.new.self _ _ low so after
+    (c.with.ensures history c.args.event refl so.threads)
     (record {
       before = so.tracks.formed;
       formed = after.formed;

@@ -1,6 +1,6 @@
 ghost use Rattle.std.specs.Prelude.{◌≡◌, IfOk, string_bytes};
 ghost use Rattle.serde_json.specs.View.{view};
-ghost use Rattle.tmw_judge.specs.SummaryLine.{summary_object, summary_text};
+ghost use Rattle.tmw_report.specs.SummaryLine.{summary_object, summary_text};
 
 use serde_json::{Value, json};
 use std::alloc::{AllocError, Global};

@@ -4,7 +4,7 @@ use Rattle.serde_json.specs.Data.{Data}
 use Rattle.serde_json.specs.Written.{compact_text, has_float}
 use Rattle.serde_json.proofs.OnLiterals.{serde_json_on_literals}
 use Rattle.tmw_defs.specs.declared.counts.Counts.{Counts}
-use Rattle.tmw_judge.specs.SummaryLine.{summary_object, summary_text}
+use Rattle.tmw_report.specs.SummaryLine.{summary_object, summary_text}
 
 compact_text-summary_object : (counts : Counts) → compact_text (summary_object counts) ++ 10 ∷ [] ≡ summary_text counts
 unfolding serde_json_on_literals

@@ -1,7 +1,7 @@
 -- The line is the text of the object of the counts, and its line feed.
 use Rattle.std.proofs.Common.{◌∙◌}
-use Rattle.tmw_judge.proofs.SummaryLines.{summary_object-line}
-use Rattle.tmw_judge.proofs.summary_line.summary_text.Goals as goal
+use Rattle.tmw_report.proofs.SummaryLines.{summary_object-line}
+use Rattle.tmw_report.proofs.summary_line.summary_text.Goals as goal
 
 pub returns : goal.returns
 unfolding lib.Utf8.encode

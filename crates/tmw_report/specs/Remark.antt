@@ -1,0 +1,26 @@
+-- What a command tells on the sink for errors of a run in which no two transactions overlapped.
+use Rattle.std.specs.Prelude.{◌≡◌, ℕ, Bool, true, false, List, Result, Ok, Err, codes}
+use Rattle.tmw_streams.specs.Streams.{FromSource, ToSink}
+use Rattle.tmw_report.specs.CommandRun.{IsCommandRun}
+use Rattle.tmw_report.specs.Putting.{IsSent}
+use Rattle.tmw_report.specs.declared.fault.Fault.{Fault}
+
+abbrev pub nothing_shown : List ℕ
+nothing_shown = codes "no two transactions overlapped: this run shows nothing\n"
+
+-- Where the run shows nothing, that is sent to the sink for errors, and else nothing is.
+abbrev pub Remarks : {E : Type 0} → ToSink E → Bool → E → E → Type 0
+Remarks Errors true old new = IsSent Errors old new nothing_shown
+Remarks Errors false old new = new ≡ old
+
+-- An answer tells that its run shows nothing. A fault does not.
+abbrev pub is_remarkable : {Found : Type 0} → (Found → Bool) → Result Found Fault → Bool
+is_remarkable shows_nothing (Ok found) = shows_nothing found
+is_remarkable shows_nothing (Err fault) = false
+
+-- A run of a command that tells beside its answer whether the run shows nothing.
+pub record IsRemarkedRun {S K E Found : Type 0} (From : FromSource S) (To : ToSink K) (Errors : ToSink E)
+    (IsRight : Type 0 → List ℕ → Result Found Fault → Type 0) (text : Found → List ℕ) (exit : Found → ℕ) (shows_nothing : Found → Bool)
+    (source source_after : S) (sink sink_after : K) (errors errors_after : E) (status : ℕ) : Type 0 where
+  pub run : IsCommandRun From To IsRight text exit source source_after sink sink_after status
+  pub remarked : Remarks Errors (is_remarkable shows_nothing run.answer) errors errors_after
