@@ -1,7 +1,8 @@
 mod Counting
+mod Covered
 mod Ended
 mod Overlaps
-mod Parts
 mod Sums
 mod Taking
+mod Widest
 mod Windows

@@ -1,3 +1,4 @@
+mod CountingOn
 pub mod Calls
 pub mod Feeding
 pub mod HeadlineProof

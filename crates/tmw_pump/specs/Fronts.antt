@@ -1,6 +1,7 @@
 -- The judged front, and how it grows.
 use Rattle.std.specs.Prelude.{◌≡◌, ◌<◌, ◌++◌, ℕ, List, Option, Some, length}
 use Rattle.tmw_events.specs.declared.event.Event.{Event}
+use Rattle.tmw_counts.specs.Parts.{part_by}
 use Rattle.tmw_defs.specs.Verdict.{Rules, IsVerdict}
 use Rattle.tmw_defs.specs.declared.verdict.Verdict.{Verdict}
 use Rattle.tmw_monitor.specs.Fitting.{Fits}
@@ -24,6 +25,10 @@ monitor_of front = front.monitor
 -- the monitor's verdict on what was judged
 abbrev pub verdict_on : Front → Verdict
 verdict_on front = verdict_of (monitor_of front)
+
+-- the part of what was judged that the verdict covers
+abbrev pub front_part : Front → List Event
+front_part front = part_by (verdict_on front) (judged_of front)
 
 -- The verdict is final: no event changes it.
 abbrev pub HasFinalVerdict : Front → Type 0

@@ -12,6 +12,7 @@ use crate::front::Front;
 use crate::pumped::Pumped;
 use crate::turn_by_turn::{Turns, judge_some};
 use std::alloc::AllocError;
+use tmw_counts::Summary;
 use tmw_defs::Verdict;
 use tmw_events::Event;
 use tmw_monitor::Monitor;
@@ -30,8 +31,9 @@ pub struct ForgettingPump {
 }
 
 impl ForgettingPump {
+    ghost use Rattle.tmw_counts.specs.Summaries.{IsSummary};
     ghost use Rattle.tmw_pump.specs.Headline.{IsLogOf, GivesHeadline};
-    ghost use Rattle.tmw_pump.specs.Fronts.{HasCome, HasFinalVerdict, KeepsFit, TellsVerdict, WasRefusedMemory, held_of, judged_of, monitor_of, verdict_on};
+    ghost use Rattle.tmw_pump.specs.Fronts.{HasCome, HasFinalVerdict, KeepsFit, TellsVerdict, WasRefusedMemory, front_part, held_of, judged_of, monitor_of, verdict_on};
     ghost use Rattle.tmw_pump.specs.Pumping.{HasTakenAll, HasPumped, IsPumped, pump_front, reader_of};
     ghost use Rattle.tmw_pump.specs.Resting.{all_of, left_of, rest_front};
 
@@ -131,6 +133,14 @@ impl ForgettingPump {
         ensures { IsTrue result ↔ IsSome (held_of (pump_front self.now)) }
     {
         self.front.held().is_some()
+    }
+
+    /// Returns what the judged front has shown: up to the event that the verdict names, or before it where the front is
+    /// malformed, or all of it.
+    pub fn summary(&self) -> Summary
+        ensures { IsSummary (front_part (pump_front self.now)) result }
+    {
+        self.front.summary()
     }
 
     /// Returns the verdict on the judged front.

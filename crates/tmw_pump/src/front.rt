@@ -1,9 +1,11 @@
 ghost use Rattle.std.specs.Prelude.{◌≡◌, ◌∷◌, ◌++◌, ◌+◌, ◌<◌, ◌≤◌, ◌^◌, [], length, Some, None, IsOk, OnOk, OnErr};
-ghost use Rattle.tmw_pump.specs.Held.{JudgesOpacity, WasFed, listed};
+ghost use Rattle.tmw_counts.specs.Summaries.{IsSummary};
+ghost use Rattle.tmw_pump.specs.Held.{JudgesOpacity, WasCounted, WasFed, listed};
 
 use crate::judged::Judged;
 use crate::pumped::Pumped;
 use std::alloc::AllocError;
+use tmw_counts::{Counter, Summary, is_open};
 use tmw_defs::Verdict;
 use tmw_events::Event;
 use tmw_monitor::Monitor;
@@ -13,15 +15,17 @@ use tmw_monitor::Monitor;
 #[derive(Drop)]
 pub struct Front {
     monitor: Monitor,
+    counter: Counter,
     judged: Judged,
     held: Option<Event>,
     pub ghost opacity: { JudgesOpacity monitor },
     pub ghost fed: { ∥ WasFed judged.items monitor ∥₁ },
+    pub ghost counted: { ∥ WasCounted judged.items monitor counter ∥₁ },
     pub ghost few: { length judged.items + length (listed held) ≤ 2 ^ 40 },
 }
 
 impl Front {
-    ghost use Rattle.tmw_pump.specs.Fronts.{HasCome, HasFinalVerdict, KeepsFit, TellsVerdict, verdict_on};
+    ghost use Rattle.tmw_pump.specs.Fronts.{HasCome, HasFinalVerdict, KeepsFit, TellsVerdict, front_part, verdict_on};
 
     /// Makes a front without events, over a monitor by opacity that was fed none.
     pub(crate) fn new(monitor: Monitor) -> Front
@@ -31,8 +35,10 @@ impl Front {
         ensures held { result.held ≡ None }
         ensures monitor { result.monitor ≡ monitor }
     {
+        let counter = Counter::new(monitor.registers());
         Front {
             monitor,
+            counter,
             judged: Judged::new(),
             held: None,
         }
@@ -56,7 +62,11 @@ impl Front {
         ensures held { OnErr result (self.new.held ≡ self.old.held) }
         ensures after { HasFinalVerdict self.old → IsOk result }
     {
+        let open = is_open(&self.monitor.verdict());
         self.monitor.feed(event)?;
+        if open {
+            let _refused = self.counter.take(event);
+        }
         self.judged = self.judged.then(&event);
         self.held = None;
         Ok(())
@@ -88,6 +98,14 @@ impl Front {
         ensures { TellsVerdict self.now result }
     {
         self.monitor.verdict()
+    }
+
+    /// Returns what the events that were judged have shown: up to the one that the verdict names, or before it where they
+    /// are malformed, or all.
+    pub(crate) fn summary(&self) -> Summary
+        ensures { IsSummary (front_part self.now) result }
+    {
+        self.counter.summary()
     }
 
     /// Returns the answer of a call to `pump` that has judged so many events.

@@ -9,7 +9,7 @@ returns-clause-takes c registers history low so =
     let others = c.live-others.ensures.count registers history so.tracks in
     let after = c.in_ok-note.ensures.takes registers history so.tracks in
     counts-push registers history c.args.event c.in_ok-note.note _ _ _ c.args.self.now c.count.new.self _ _ low so after
-    (c.with.ensures history c.args.event refl so.threads)
+    (c.with-self.ensures history c.args.event refl so.threads)
     (record {
       before = so.tracks.formed;
       formed = after.formed;

@@ -1,0 +1,99 @@
+-- What was counted of a judged front before and after one event more is judged.
+use Rattle.std.proofs.Common.{◌≡◌, ◌++◌, ◌<◌, ◌-◌, ◌^◌, ℕ, Bool, true, false, List, [], ◌∷◌, length, IsTrue, IsFalse, refl, sym, ap, subst, ◌∙◌, inl, inr}
+use Rattle.std.proofs.Math.Logic.{∥∥₁_map}
+use Rattle.std.proofs.lemmas.Bool.{both_ways, cases_Bool}
+use Rattle.tmw_counts.specs.Counting.{CountsSo}
+use Rattle.tmw_counts.specs.Parts.{is_open, part_by}
+use Rattle.tmw_counts.specs.declared.counter.Counter.{Counter}
+use Rattle.tmw_counts.proofs.Covered.{counted-more, part-none, stays}
+use Rattle.tmw_defs.proofs.VerdictProof.{verdict-one}
+use Rattle.tmw_defs.specs.Criteria.{so_far}
+use Rattle.tmw_defs.specs.History.{is_well_formed}
+use Rattle.tmw_defs.specs.Verdict.{IsVerdict, Rules}
+use Rattle.tmw_defs.specs.declared.criterion.Criterion.{Criterion}
+use Rattle.tmw_defs.specs.declared.verdict.Verdict.{Verdict}
+use Rattle.tmw_defs.specs.declared.verdict.Verdict.TheVariants.{OpaqueSoFar, StrictSoFar, Violated, Undecided, Malformed}
+use Rattle.tmw_events.specs.declared.event.Event.{Event}
+use Rattle.tmw_monitor.specs.Fitting.{Fits}
+use Rattle.tmw_monitor.specs.Monitor.{IsOpen, criterion_of, verdict_of}
+use Rattle.tmw_monitor.specs.declared.monitor.Monitor.{Monitor}
+use Rattle.tmw_pump.specs.Held.{WasCounted}
+
+-- a verdict that nothing is wrong is the criterion's
+is_so_far : (rules : Rules) (h : List Event) (c : Criterion) (v : Verdict) → c ≡ rules.criterion → is_open v ≡ true → IsVerdict rules h v
+    → v ≡ so_far c
+is_so_far rules h c OpaqueSoFar same is judged = sym (ap so_far (same ∙ judged.0))
+is_so_far rules h c StrictSoFar same is judged = sym (ap so_far (same ∙ judged.0))
+is_so_far rules h c (Violated m) same is judged = absurd (cc)
+is_so_far rules h c (Undecided m why) same is judged = absurd (cc)
+is_so_far rules h c (Malformed m) same is judged = absurd (cc)
+
+module _ (h : List Event) (before after : Monitor) (criterion : criterion_of after ≡ criterion_of before) where
+  -- a monitor with the same verdict was open before
+  was_open : verdict_of after ≡ verdict_of before → IsOpen after → IsOpen before
+  was_open same now = sym same ∙ now ∙ ap so_far criterion
+
+  -- where no event was taken
+  pub counted_still : (counter : Counter) → ((rules : Rules) → Fits rules h before → Fits rules h after)
+      → ∥ WasCounted h before counter ∥₁ → ∥ WasCounted h after counter ∥₁
+  counted_still counter fits counted = ∥∥₁_map counted (λ was.
+      let now = fits was.rules was.fits in
+      let same : verdict_of after ≡ verdict_of before =
+      verdict-one was.rules h (verdict_of after) (verdict_of before) now.judged was.fits.judged in
+      record {
+        rules = was.rules;
+        fits = now;
+        registers = was.registers;
+        counts = subst (λ (v : Verdict). CountsSo was.registers (part_by v h) counter) (sym same) was.counts;
+        same = λ is. was.same (was_open same is);
+      })
+
+  module _ (e : Event) (old new : Counter) where
+    -- what the counter makes of an event, whatever it has counted
+    abbrev pub Steps : Type 0
+    Steps = (registers : ℕ) → CountsSo registers h old
+        → (IsTrue (is_well_formed registers (h ++ e ∷ [])) → CountsSo registers (h ++ e ∷ []) new)
+        × (IsFalse (is_well_formed registers (h ++ e ∷ [])) → CountsSo registers h new)
+
+    -- where the event was taken
+    pub counted_next : ((rules : Rules) → Fits rules h before → Fits rules (h ++ e ∷ []) after)
+        → (is_open (verdict_of before) ≡ true → Steps) → (is_open (verdict_of before) ≡ false → new ≡ old)
+        → ∥ WasCounted h before old ∥₁ → ∥ WasCounted (h ++ e ∷ []) after new ∥₁
+    counted_next fits steps same counted = ∥∥₁_map counted (λ was.
+        let now = fits was.rules was.fits in
+        elim (cases_Bool (is_open (verdict_of before))) [
+          | inl is ↦
+              let number = was.same (is_so_far was.rules h (criterion_of before) (verdict_of before) was.fits.criterion is was.fits.judged) in
+              let counts : CountsSo was.rules.registers (part_by (verdict_of before) h) old =
+              subst (λ (n : ℕ). CountsSo n (part_by (verdict_of before) h) old) number was.counts in
+              record {
+                rules = was.rules;
+                fits = now;
+                registers = was.rules.registers;
+                counts = counted-more CountsSo was.rules h e (verdict_of before) (verdict_of after) old new was.fits.judged now.judged counts
+                    (λ _ formed so. (steps is was.rules.registers so).0 formed) (λ _ ill so. (steps is was.rules.registers so).1 ill)
+                    (λ shut. absurd (both_ways _ is shut));
+                same = λ _. refl;
+              }
+          | inr is ↦ record {
+            rules = was.rules;
+            fits = now;
+            registers = was.registers;
+            counts = counted-more (λ _ xs counter. CountsSo was.registers xs counter) was.rules h e (verdict_of before) (verdict_of after) old new
+                was.fits.judged now.judged was.counts (λ now_open formed so. absurd (both_ways _ now_open is))
+                (λ now_open ill so. absurd (both_ways _ now_open is)) same;
+            same = λ now_open.
+                was.same (was_open (stays was.rules h e (verdict_of before) (verdict_of after) is was.fits.judged now.judged) now_open);
+          }
+        ])
+
+-- before the first event
+pub counted_none : (monitor : Monitor) (counter : Counter) (rules : Rules) (registers : ℕ) → Fits rules [] monitor
+    → CountsSo registers [] counter → (IsOpen monitor → registers ≡ rules.registers) → WasCounted [] monitor counter
+counted_none monitor counter rules registers fits counts same = record {
+  rules = rules;
+  fits = fits;
+  registers = registers;
+  counts = subst (λ (xs : List Event). CountsSo registers xs counter) (sym (part-none (verdict_of monitor))) counts;
+  same = same;
+}
