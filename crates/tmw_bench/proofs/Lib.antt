@@ -18,7 +18,6 @@ pub mod RepeatedRuns
 pub mod Returns
 pub mod RoundsOver
 pub mod Starts
-pub mod UnaskedMore
 pub mod Whole
 pub mod WholeRounds
 mod Works

@@ -5,6 +5,8 @@ use Rattle.tmw_bench.specs.declared.fault.BenchFault.{BenchFault}
 use Rattle.tmw_bench.specs.declared.fault.BenchFault.TheVariants.{Registers as TooManyRegisters, Ring, Memory, Spawn}
 use Rattle.tmw_bench.specs.declared.hunted.Hunted.{Hunted}
 use Rattle.tmw_bench.specs.declared.settings.Settings.{Settings}
+use Rattle.tmw_counts.specs.Parts.{part_by}
+use Rattle.tmw_counts.specs.Summaries.{IsSummary}
 use Rattle.tmw_defs.specs.Opaque.{zeros}
 use Rattle.tmw_defs.specs.Texts.{kinds_of}
 use Rattle.tmw_defs.specs.Verdict.{Rules, IsVerdict}
@@ -94,16 +96,18 @@ pub record HasBenched (gives : Call → Answer → Type 0) (registers : Register
       ends writers
   pub over : begun < settings.rounds → (verdict ≢ OpaqueSoFar) ⊎ SomeStopped ends
 
--- The log is kept whole.
-abbrev pub IsBenched : (Call → Answer → Type 0) → Registers → List (List (List Kind)) → Settings → Benched → Type 0
-IsBenched gives registers scripts settings benched =
-    HasBenched gives registers scripts settings benched.outcome.log.items benched.outcome.verdict benched.outcome.ends.items benched.rounds
+-- The log is kept whole, and the summary is that of the part of it that its verdict covers.
+pub record IsBenched (gives : Call → Answer → Type 0) (registers : Registers) (scripts : List (List (List Kind))) (settings : Settings) (benched : Benched) : Type 0 where
+  pub benched : HasBenched gives registers scripts settings benched.outcome.log.items benched.outcome.verdict benched.outcome.ends.items
+      benched.rounds
+  pub summary : IsSummary (part_by benched.outcome.verdict benched.outcome.log.items) benched.summary
 
--- There is a log of which that holds. Its length, its verdict and its last window are told.
+-- There is a log of which that holds. Its length, its verdict, its summary and its last window are told.
 pub record IsHunted (gives : Call → Answer → Type 0) (registers : Registers) (scripts : List (List (List Kind))) (settings : Settings) (hunted : Hunted) : Type 0 where
   pub log : List Event
   pub benched : HasBenched gives registers scripts settings log hunted.showing.verdict hunted.ends.items hunted.rounds
   pub shown : IsShowing (rules_of registers zeros settings.bounds) log hunted.showing
+  pub summary : IsSummary (part_by hunted.showing.verdict log) hunted.summary
 
 -- The memory has no fewer registers than the workload, and a ring may have the settings' numbers of cells and of places, and a
 -- writer for each of so many threads.

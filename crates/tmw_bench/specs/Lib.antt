@@ -12,6 +12,5 @@ pub mod Meeting
 pub mod Playing
 pub mod Rounds
 pub mod Running
-pub mod Unasked
 pub mod Workers
 pub mod Working

@@ -6,12 +6,12 @@ use Rattle.tmw_bench.specs.declared.fault.BenchFault.{BenchFault}
 use Rattle.tmw_bench.specs.declared.fault.BenchFault.TheVariants.{Memory as LacksMemory, Registers as LacksRegisters, Ring as HasNoRing, Spawn as LacksThreads}
 use Rattle.tmw_bench.specs.declared.settings.Settings.{Settings}
 use Rattle.tmw_events.specs.declared.registers.Registers.{Registers}
-use Rattle.tmw_report.specs.CommandRun.{IsCommandRun}
+use Rattle.tmw_report.specs.Remark.{IsRemarkedRun}
 use Rattle.tmw_streams.specs.Streams.{FromSource, ToSink}
 use Rattle.tmw_report.specs.declared.fault.Fault.{Fault}
 use Rattle.tmw_report.specs.declared.fault.Fault.TheVariants.{Memory, Registers as TooManyRegisters, Ring, Spawn}
 use Rattle.tmw_ring_defs.specs.declared.ring_fault.RingFault.{RingFault}
-use Rattle.tmw_bench.specs.BenchRun.{asks_for_log, bench_status, bench_text, benched_of, hunt_status, hunt_text, hunted_of}
+use Rattle.tmw_bench.specs.BenchRun.{asks_for_log, bench_shows_nothing, bench_status, bench_text, benched_of, hunt_shows_nothing, hunt_status, hunt_text, hunted_of}
 use Rattle.tmw_bench.specs.declared.command.bench_run.BenchRun.{BenchRun}
 use Rattle.tmw_bench.specs.declared.command.flags.Flags.{Flags}
 use Rattle.tmw_bench.specs.declared.command.hunt_run.HuntRun.{HuntRun}
@@ -72,9 +72,13 @@ abbrev pub AnswersHunt : MemoryIs → Settings → Type 0 → List ℕ → Resul
 AnswersHunt memory settings = AnswersBy (IsHuntedFrom memory settings) memory.registers settings
 
 -- What a run of `bench` does: an answer to the bytes that its source tells in it, and the answer's text to its sink. Where the log's
--- trace is asked for the answer has the log, and else its length, its verdict and its last window.
-abbrev pub BenchesBytes : {S K : Type 0} → FromSource S → ToSink K → MemoryIs → Flags → Settings → S → S → K → K → ℕ → Type 0
-BenchesBytes From To memory flags settings source source_after sink sink_after status =
+-- trace is asked for the answer has the log, and else its length, its verdict and its last window. The sink for errors is told
+-- where the run shows nothing.
+abbrev pub BenchesBytes : {S K E : Type 0} → FromSource S → ToSink K → ToSink E → MemoryIs → Flags → Settings → S → S → K → K → E → E → ℕ
+    → Type 0
+BenchesBytes From To Errors memory flags settings source source_after sink sink_after errors errors_after status =
     MatchBool (asks_for_log flags)
-    (IsCommandRun From To (AnswersBench memory settings) bench_text bench_status source source_after sink sink_after status)
-    (IsCommandRun From To (AnswersHunt memory settings) (hunt_text flags) hunt_status source source_after sink sink_after status)
+    (IsRemarkedRun From To Errors (AnswersBench memory settings) (bench_text flags) bench_status bench_shows_nothing
+    source source_after sink sink_after errors errors_after status)
+    (IsRemarkedRun From To Errors (AnswersHunt memory settings) (hunt_text flags) hunt_status hunt_shows_nothing
+    source source_after sink sink_after errors errors_after status)

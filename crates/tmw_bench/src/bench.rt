@@ -57,6 +57,7 @@ pub fn run_bench<R: Threads + Wait + Sync>(
 {
     let carried = carry_out::<R, Log>(rt, alloc, memory, workload, settings, ())?;
     Ok(Benched {
+        summary: carried.rest.summary(),
         outcome: Outcome {
             log: carried.kept.events,
             verdict: carried.rest.verdict(),
@@ -91,6 +92,7 @@ pub fn hunt<R: Threads + Wait + Sync, P: Progress>(
     let Hunting { window, .. } = carried.kept;
     Ok(Hunted {
         showing: window.finish(carried.rest.monitor()),
+        summary: carried.rest.summary(),
         ends: carried.ends,
         rounds: carried.rounds,
     })

@@ -1,3 +1,4 @@
+use tmw_counts::Summary;
 use tmw_drive::Outcome;
 
 /// What threads have made of a memory.
@@ -5,6 +6,8 @@ use tmw_drive::Outcome;
 pub struct Benched {
     /// The log of all rounds, the verdict on it, and how each thread has ended.
     pub outcome: Outcome,
+    /// What the log has shown, up to the event that the verdict names.
+    pub summary: Summary,
     /// How many rounds were begun.
     pub rounds: u64,
 }

@@ -1,3 +1,4 @@
+use tmw_counts::Summary;
 use tmw_drive::Ending;
 use tmw_show::Showing;
 
@@ -6,6 +7,8 @@ use tmw_show::Showing;
 pub struct Hunted {
     /// How many events the log has, the verdict on it, and its last window.
     pub showing: Showing,
+    /// What the log has shown, up to the event that the verdict names.
+    pub summary: Summary,
     /// For each script, by its thread's number, how far it has come in the last round.
     pub ends: Vec<Ending>,
     /// How many rounds were begun.

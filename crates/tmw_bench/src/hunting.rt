@@ -2,7 +2,6 @@ ghost use Rattle.std.specs.Prelude.{◌≡◌, List, [], ◌∷◌, ◌++◌, If
 
 use crate::keep::Keep;
 use crate::progress::Progress;
-use crate::tally::Tally;
 use std::alloc::{AllocError, Global};
 use tmw_events::Event;
 use tmw_monitor::Monitor;
@@ -11,28 +10,25 @@ use tmw_show::{KeptWindow, NextShown};
 /// After so many rounds it is told, each time, how far the bench has come.
 const EVERY: u64 = 100_000;
 
-/// The last window, and how many aborts nobody has asked for. Somebody is told of these now and then.
+/// The last window. Somebody is told now and then how far the bench has come.
 #[derive(Drop)]
 pub struct Hunting<'a, P> {
     pub window: KeptWindow,
-    pub tally: Tally,
     pub progress: &'a P,
 }
 
 impl<'a, P: Progress> Keep for Hunting<'a, P> {
-    ghost use Rattle.tmw_bench.specs.Unasked.{IsTally};
     ghost use Rattle.tmw_show.specs.Keeping.{HasPlaceFor, IsNext, KeepsShown};
 
     type Told = &'a P;
 
-    ghost keeps = { λ rules history verdict hunting. KeepsShown rules history verdict hunting.window × IsTally history hunting.tally };
+    ghost keeps = { λ rules history verdict hunting. KeepsShown rules history verdict hunting.window };
 
     ghost awaits = { λ monitor next hunting. IsNext monitor next × HasPlaceFor next hunting.window };
 
     fn begin(alloc: Global, monitor: &Monitor, told: &'a P) -> Result<Hunting<'a, P>, AllocError> {
         Ok(Hunting {
             window: KeptWindow::new(alloc, monitor)?,
-            tally: Tally::new(),
             progress: told,
         })
     }
@@ -43,12 +39,11 @@ impl<'a, P: Progress> Keep for Hunting<'a, P> {
 
     fn take(&mut self, next: NextShown, event: Event) {
         self.window.take(next, event);
-        self.tally.take(event);
     }
 
-    fn tell(&self, rounds: u64, events: u64) {
+    fn tell(&self, rounds: u64, events: u64, unasked: u64) {
         if rounds % EVERY == 0 {
-            self.progress.tell(rounds, events, self.tally.unasked);
+            self.progress.tell(rounds, events, unasked);
         }
     }
 }

@@ -46,8 +46,9 @@ pub trait Keep: Drop {
             → keeps rules history before.verdict self.old
             → keeps rules (history ++ event ∷ []) verdict self.new };
 
-    /// Tells that so many rounds have ended, and so many events are judged.
-    fn tell(&self, rounds: u64, events: u64);
+    /// Tells that so many rounds have ended, and so many events are judged. Of these so many are aborts that answer no abort
+    /// request.
+    fn tell(&self, rounds: u64, events: u64, unasked: u64);
 }
 
 /// The whole log, whose progress nobody is told.
@@ -80,5 +81,5 @@ impl Keep for Log {
         self.events.push_reserved(event);
     }
 
-    fn tell(&self, _rounds: u64, _events: u64) {}
+    fn tell(&self, _rounds: u64, _events: u64, _unasked: u64) {}
 }

@@ -52,7 +52,8 @@ pub fn lead<R: Wait, K: Keep>(
         if !is_opaque_so_far(judge.forgetting.verdict()) {
             return Ok(round);
         }
-        judge.kept.tell(round, judge.forgetting.fed());
+        let unasked = judge.forgetting.summary().counts.unasked;
+        judge.kept.tell(round, judge.forgetting.fed(), unasked);
         tell_all(rt, lines, tail);
         orders.told.rise(1);
     }

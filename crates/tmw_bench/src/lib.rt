@@ -24,7 +24,6 @@ mod progress;
 mod rest;
 mod settings;
 mod stage;
-mod tally;
 mod threads;
 mod waits;
 mod worker;

@@ -1,10 +1,13 @@
 -- The text of what a memory made of a workload.
-use Rattle.std.specs.Prelude.{◌≡◌, ℕ, Bool, List, [], ◌++◌, length, cond}
+use Rattle.std.specs.Prelude.{◌≡◌, ◌||◌, ℕ, Bool, List, [], ◌++◌, length, cond}
 use Rattle.tmw_defs.specs.Opaque.{zeros}
 use Rattle.tmw_events.specs.declared.event.Event.{Event}
 use Rattle.tmw_events.specs.declared.registers.Registers.{Registers}
+use Rattle.tmw_counts.specs.declared.summary.Summary.{Summary}
 use Rattle.tmw_report.specs.Lines.{report_text, verdict_status}
+use Rattle.tmw_report.specs.SummaryLine.{summary_text}
 use Rattle.tmw_drive.specs.declared.command.driven.Driven.{Driven}
+use Rattle.tmw_drive.specs.declared.command.written.Written.{Written}
 use Rattle.tmw_trace.specs.Start.{version_of}
 use Rattle.tmw_trace.specs.Text.{trace_text}
 use Rattle.tmw_trace.specs.declared.header.Header.{Header}
@@ -24,9 +27,21 @@ log_text trace driven = cond trace (trace_text driven.header driven.outcome.log.
 abbrev pub driven_line : Driven → List ℕ
 driven_line driven = report_text (length driven.outcome.log.items) driven.outcome.verdict
 
--- What is written: the trace where it is asked for, and the report's line.
-abbrev pub driven_text : Bool → Driven → List ℕ
-driven_text trace driven = log_text trace driven ++ driven_line driven
+-- The line of the counts, where it is asked for.
+abbrev pub asked_line : Bool → Summary → List ℕ
+asked_line asked summary = cond asked (summary_text summary.counts) []
+
+-- The trace is asked for, before the report or in its place.
+abbrev pub asks_for_trace : Written → Bool
+asks_for_trace written = written.trace || written.trace_only
+
+-- The lines behind the trace: the report's, and then that of the counts where it is asked for. With the trace alone there are none.
+abbrev pub driven_lines : Written → Driven → List ℕ
+driven_lines written driven = cond written.trace_only [] (driven_line driven ++ asked_line written.summary driven.summary)
+
+-- What is written: the trace where it is asked for, and these lines.
+abbrev pub driven_text : Written → Driven → List ℕ
+driven_text written driven = log_text (asks_for_trace written) driven ++ driven_lines written driven
 
 abbrev pub driven_status : Driven → ℕ
 driven_status driven = verdict_status driven.outcome.verdict

@@ -1,8 +1,10 @@
 -- What `drive` promises: from the bytes that its source tells to what its sink takes and the exit status.
-use Rattle.std.specs.Prelude.{◌≡◌, ◌<◌, ◌≤◌, ℕ, Bool, List, Result, Ok, Err}
+use Rattle.std.specs.Prelude.{◌≡◌, ◌<◌, ◌≤◌, ℕ, List, Result, Ok, Err}
 use Rattle.tmw_defs.specs.Opaque.{zeros}
 use Rattle.tmw_defs.specs.Verdict.{IsVerdict}
 use Rattle.tmw_defs.specs.declared.verdict.Verdict.TheVariants.{Malformed}
+use Rattle.tmw_counts.specs.Parts.{part_by}
+use Rattle.tmw_counts.specs.Summaries.{IsSummary}
 use Rattle.tmw_drive.specs.Driving.{IsDriven}
 use Rattle.tmw_events.specs.declared.registers.Registers.{Registers}
 use Rattle.tmw_monitor.specs.Fitting.{rules_of}
@@ -14,12 +16,14 @@ use Rattle.tmw_report.specs.declared.fault.Fault.TheVariants.{Memory, Registers 
 use Rattle.tmw_drive.specs.Driven.{IsHeaderOf, driven_text, driven_status}
 use Rattle.tmw_drive.specs.Reading.{IsTextFault, IsTextOver}
 use Rattle.tmw_drive.specs.declared.command.driven.Driven.{Driven}
+use Rattle.tmw_drive.specs.declared.command.written.Written.{Written}
 use Rattle.tmw_drive.specs.declared.fault.DriveFault.{DriveFault}
 use Rattle.tmw_drive.specs.declared.fault.DriveFault.TheVariants.{Memory as LacksMemory, Registers as LacksRegisters}
 use Rattle.tmw_tm.specs.Memory.{MemoryIs}
 
 -- The bytes are the text of a workload over no more registers than the memory has, and this is what the memory made of it: its
--- scripts were driven in its order, and the verdict is the one on the log, from registers that all hold 0.
+-- scripts were driven in its order, and the verdict is the one on the log, from registers that all hold 0. The summary is that of the log
+-- up to the event that the verdict names.
 pub record IsDrivenFrom (memory : MemoryIs) (bounds : Bounds) (bytes : List ℕ) (driven : Driven) : Type 0 where
   pub registers : Registers
   pub enough : registers.number ≤ memory.registers
@@ -28,6 +32,7 @@ pub record IsDrivenFrom (memory : MemoryIs) (bounds : Bounds) (bytes : List ℕ)
   pub made : IsDriven memory.gives workload.scripts workload.order driven.outcome.log.items driven.outcome.ends.items
   pub judged : IsVerdict (rules_of registers zeros bounds) driven.outcome.log.items driven.outcome.verdict
   pub formed : (at : ℕ) → driven.outcome.verdict ≡ Malformed at → ⊥
+  pub summary : IsSummary (part_by driven.outcome.verdict driven.outcome.log.items) driven.summary
 
 -- The fault by which the command answers that a workload was not driven.
 abbrev pub fault_of : DriveFault → Fault
@@ -48,6 +53,6 @@ AnswersWorkload memory bounds Ended bytes (Ok driven) = Ended × IsDrivenFrom me
 AnswersWorkload memory bounds Ended bytes (Err fault) = IsRightFault memory.registers Ended bytes fault
 
 -- What a run of `drive` does: an answer to the bytes that its source tells in it, and the answer's text to its sink.
-abbrev pub DrivesBytes : {S K : Type 0} → FromSource S → ToSink K → MemoryIs → Bool → Bounds → S → S → K → K → ℕ → Type 0
-DrivesBytes From To memory trace bounds =
-    IsCommandRun From To (AnswersWorkload memory bounds) (driven_text trace) driven_status
+abbrev pub DrivesBytes : {S K : Type 0} → FromSource S → ToSink K → MemoryIs → Written → Bounds → S → S → K → K → ℕ → Type 0
+DrivesBytes From To memory written bounds =
+    IsCommandRun From To (AnswersWorkload memory bounds) (driven_text written) driven_status

@@ -5,8 +5,10 @@ mod driven;
 mod driving;
 mod reading;
 mod run;
+mod written;
 
-pub use answer::put_driven;
+pub use answer::{add_summary, put_driven};
 pub use driven::{Driven, header_of};
 pub use reading::read_source;
 pub use run::run_drive;
+pub use written::Written;

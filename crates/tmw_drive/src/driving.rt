@@ -1,4 +1,4 @@
-ghost use Rattle.std.specs.Prelude.{◌≡◌, ◌≢◌, ◌<◌, ◌≤◌, ◌↔◌, ℕ, IfOk, IfErr};
+ghost use Rattle.std.specs.Prelude.{◌≡◌, ◌≢◌, ◌<◌, ◌≤◌, ◌↔◌, ◌^◌, ℕ, length, IfOk, IfErr};
 ghost use Rattle.tmw_defs.specs.Opaque.{zeros};
 ghost use Rattle.tmw_defs.specs.Verdict.{IsVerdict};
 ghost use Rattle.tmw_defs.specs.declared.verdict.Verdict.TheVariants.{Malformed};
@@ -40,6 +40,7 @@ pub fn drive(
         (λ outcome. IsVerdict (rules_of workload.now.registers zeros bounds) outcome.log.items
         outcome.verdict) }
     ensures formed { IfOk result (λ outcome. (events : ℕ) → outcome.verdict ≢ Malformed events) }
+    ensures few { IfOk result (λ outcome. length outcome.log.items ≤ 2 ^ 40) }
     ensures enough { IfOk result (λ outcome. workload.now.registers.number ≤ has memory.now) }
     ensures too_few { IfErr result
         (λ fault. (fault ≡ TooManyRegisters) ↔ (has memory.now < workload.now.registers.number)) }

@@ -11,7 +11,7 @@ mod player;
 mod playing;
 
 pub use asking::ends;
-pub use command::{Driven, header_of, put_driven, read_source, run_drive};
+pub use command::{Driven, Written, add_summary, header_of, put_driven, read_source, run_drive};
 pub use driving::drive;
 pub use ending::Ending;
 pub use fault::DriveFault;

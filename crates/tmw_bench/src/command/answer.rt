@@ -1,59 +1,96 @@
-ghost use Rattle.std.specs.Prelude.{◌≡◌, ◌≢◌, ◌+◌, ◌≤◌, ◌++◌, ◌⊎◌, IfOk, length, string_bytes};
+ghost use Rattle.std.specs.Prelude.{◌≡◌, ◌≢◌, ◌+◌, ◌≤◌, ◌⊎◌, IfOk, length, string_bytes};
 ghost use Rattle.tmw_defs.specs.declared.verdict.Verdict.TheVariants.{StrictSoFar};
-ghost use Rattle.tmw_report.specs.Lines.{fault_line, report_text};
+ghost use Rattle.tmw_report.specs.Lines.{fault_line};
 ghost use Rattle.tmw_report.specs.Putting.{IsPut};
+ghost use Rattle.tmw_report.specs.Remark.{Remarks};
 ghost use Rattle.tmw_report.specs.declared.fault.Fault.TheVariants.{Memory};
-ghost use Rattle.tmw_bench.specs.BenchRun.{bench_status, bench_text, hunt_status, hunt_text};
-ghost use Rattle.tmw_bench.specs.Ends.{ends_line};
+ghost use Rattle.tmw_bench.specs.BenchRun.{bench_lines, bench_shows_nothing, bench_status, bench_text, hunt_shows_nothing, hunt_status, hunt_text, last_lines};
 
 use crate::command::bench_run::BenchRun;
 use crate::command::ends::ends_text;
 use crate::command::flags::Flags;
 use crate::command::hunt_run::HuntRun;
 use std::alloc::{AllocError, Global};
-use tmw_defs::{Criterion, Verdict};
-use tmw_drive::{Ending, put_driven};
-use tmw_report::{FAULT_STATUS, Fault, answer_fault, report_text, status_of};
+use tmw_counts::{Summary, is_open};
+use tmw_defs::Criterion;
+use tmw_drive::{Ending, add_summary, put_driven};
+use tmw_report::{FAULT_STATUS, Fault, answer_fault, report_text, send_remark, status_of};
 use tmw_show::shown_text;
 use tmw_streams::{Sink, put_all};
 
-/// Writes the log's trace, the report line and the line of the ends, and returns the exit status. The two lines are
-/// made before anything is written: after a failed allocation only that fault's line is written.
-pub fn answer_run<K: Sink>(alloc: Global, sink: &mut K, run: &BenchRun) -> u8
+/// Writes the log's trace, and behind it the lines that these flags request, and returns the exit status. The lines are
+/// made before anything is written: after a failed allocation only that fault's line is written. Of a run that shows
+/// nothing the sink for errors is told.
+pub fn answer_run<K: Sink, E: Sink>(
+    alloc: Global,
+    sink: &mut K,
+    errors: &mut E,
+    flags: Flags,
+    run: &BenchRun,
+) -> u8
     requires { run.now.driven.outcome.verdict ≢ StrictSoFar }
-    ensures { IsPut K.to sink.old sink.new (bench_text run.now) (bench_status run.now) result
-        ⊎ IsPut K.to sink.old sink.new (fault_line Memory) 4 result }
+    ensures { (IsPut K.to sink.old sink.new (bench_text flags run.now) (bench_status run.now) result
+        × Remarks E.to (bench_shows_nothing run.now) errors.old errors.new)
+        ⊎ (IsPut K.to sink.old sink.new (fault_line Memory) 4 result
+        × (errors.new ≡ errors.old)) }
 {
-    let outcome = &run.driven.outcome;
-    let Ok(lines) = lines_of(
-        alloc,
-        outcome.log.len() as u64,
-        &outcome.verdict,
-        &outcome.ends,
-    ) else {
+    let Ok(lines) = run_lines(alloc, flags, run) else {
         return answer_fault(sink, Fault::Memory);
     };
+    let verdict = &run.driven.outcome.verdict;
+    send_remark(
+        errors,
+        is_open(verdict) && run.driven.summary.none_overlapped,
+    );
     match put_driven(sink, &run.driven, true, lines.as_bytes()) {
-        Ok(()) => status_of(&outcome.verdict),
+        Ok(()) => status_of(verdict),
         Err(_) => FAULT_STATUS,
     }
 }
 
+/// The lines behind the log's trace.
+fn run_lines(alloc: Global, flags: Flags, run: &BenchRun) -> Result<String, AllocError>
+    requires { run.now.driven.outcome.verdict ≢ StrictSoFar }
+    ensures { IfOk result (λ lines. string_bytes lines ≡ bench_lines flags run.now) }
+{
+    if flags.written.trace_only {
+        return Ok(String::new(alloc));
+    }
+    let outcome = &run.driven.outcome;
+    let mut lines = report_text(alloc, outcome.log.len() as u64, &outcome.verdict)?;
+    let last = last_lines(alloc, flags, &outcome.ends, &run.driven.summary)?;
+    lines.push_str(last.as_str())?;
+    Ok(lines)
+}
+
 /// Writes what these flags request, and returns the exit status.
 ///
-/// Without `show`: the report line and the line of the ends. With `show`: what the command `show` draws of the log, and
-/// the line of the ends. With `show` and `trace`: the traces of the last window alone. The text is made before any of
-/// it is written: after a failed allocation only that fault's line is written.
-pub fn answer_hunt<K: Sink>(alloc: Global, sink: &mut K, flags: Flags, run: &HuntRun) -> u8
+/// Without `show`: the report line, the line of the ends, and that of the counts if it is asked for. With `show`: what the
+/// command `show` draws of the log in the report's place. With `show` and `trace`: the traces of the last window alone.
+/// The text is made before any of it is written: after a failed allocation only that fault's line is written. Of a run
+/// that shows nothing the sink for errors is told.
+pub fn answer_hunt<K: Sink, E: Sink>(
+    alloc: Global,
+    sink: &mut K,
+    errors: &mut E,
+    flags: Flags,
+    run: &HuntRun,
+) -> u8
     requires own { run.now.shown.showing.verdict ≢ StrictSoFar }
     requires within { run.now.shown.showing.from + length
         run.now.shown.showing.events.items ≤ run.now.shown.showing.fed }
-    ensures { IsPut K.to sink.old sink.new (hunt_text flags run.now) (hunt_status run.now) result
-        ⊎ IsPut K.to sink.old sink.new (fault_line Memory) 4 result }
+    ensures { (IsPut K.to sink.old sink.new (hunt_text flags run.now) (hunt_status run.now) result
+        × Remarks E.to (hunt_shows_nothing run.now) errors.old errors.new)
+        ⊎ (IsPut K.to sink.old sink.new (fault_line Memory) 4 result
+        × (errors.new ≡ errors.old)) }
 {
     let Ok(text) = text_of(alloc, flags, run) else {
         return answer_fault(sink, Fault::Memory);
     };
+    send_remark(
+        errors,
+        is_open(&run.shown.showing.verdict) && run.summary.none_overlapped,
+    );
     match put_all(sink, &text) {
         Ok(()) => status_of(&run.shown.showing.verdict),
         Err(_) => FAULT_STATUS,
@@ -67,32 +104,33 @@ fn text_of(alloc: Global, flags: Flags, run: &HuntRun) -> Result<Vec<u8>, AllocE
         run.now.shown.showing.events.items ≤ run.now.shown.showing.fed }
     ensures { IfOk result (λ text. text.items ≡ hunt_text flags run.now) }
 {
+    let trace = flags.written.trace;
+    if flags.show && trace {
+        return shown_text(alloc, Criterion::Opacity, trace, &run.shown);
+    }
+    let last = last_lines(alloc, flags, &run.ends, &run.summary)?;
     if flags.show {
-        let mut text = shown_text(alloc, Criterion::Opacity, flags.trace, &run.shown)?;
-        if !flags.trace {
-            text.extend_from_slice(ends_text(alloc, &run.ends)?.as_bytes())?;
-        }
+        let mut text = shown_text(alloc, Criterion::Opacity, trace, &run.shown)?;
+        text.extend_from_slice(last.as_bytes())?;
         Ok(text)
     } else {
         let showing = &run.shown.showing;
-        let lines = lines_of(alloc, showing.fed, &showing.verdict, &run.ends)?;
+        let mut lines = report_text(alloc, showing.fed, &showing.verdict)?;
+        lines.push_str(last.as_str())?;
         Ok(lines.into_bytes())
     }
 }
 
-/// The report's line, and behind it the line of the ends.
-fn lines_of(
+/// The line of the ends, and behind it that of the counts if it is asked for.
+fn last_lines(
     alloc: Global,
-    events: u64,
-    verdict: &Verdict,
+    flags: Flags,
     ends: &[Ending],
+    summary: &Summary,
 ) -> Result<String, AllocError>
-    requires { verdict.now ≢ StrictSoFar }
-    ensures { IfOk result
-        (λ lines. string_bytes lines ≡ report_text events verdict.now ++ ends_line ends.now) }
+    ensures { IfOk result (λ lines. string_bytes lines ≡ last_lines flags ends.now summary.now) }
 {
-    let mut lines = report_text(alloc, events, verdict)?;
-    let ends = ends_text(alloc, ends)?;
-    lines.push_str(ends.as_str())?;
+    let mut lines = ends_text(alloc, ends)?;
+    add_summary(alloc, &mut lines, flags.written.summary, summary)?;
     Ok(lines)
 }

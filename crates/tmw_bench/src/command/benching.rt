@@ -68,6 +68,7 @@ fn with_header(registers: Registers, benched: Benched) -> BenchRun
         driven: Driven {
             header: header_of(registers, &benched.outcome.log),
             outcome: benched.outcome,
+            summary: benched.summary,
         },
         rounds: benched.rounds,
     }
@@ -83,6 +84,7 @@ fn with_registers(registers: Registers, hunted: Hunted) -> HuntRun
             registers,
             showing: hunted.showing,
         },
+        summary: hunted.summary,
         ends: hunted.ends,
         rounds: hunted.rounds,
     }

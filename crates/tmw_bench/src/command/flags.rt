@@ -1,11 +1,14 @@
 ghost use Rattle.std.specs.Prelude.{◌≡◌};
 ghost use Rattle.tmw_bench.specs.BenchRun.{asks_for_log};
 
+use tmw_drive::Written;
+
 /// What `bench` is asked to write of a run.
 #[derive(Clone, Copy, PartialEq, Eq, Debug)]
 pub struct Flags {
-    /// The log's trace, and with `show` the last window's traces in place of all else.
-    pub trace: bool,
+    /// The log's trace, and the line of the counts. With `show` and the trace before the report the last window's traces
+    /// are written in place of all else.
+    pub written: Written,
     /// The last window.
     pub show: bool,
 }
@@ -15,6 +18,6 @@ impl Flags {
     pub const fn asks_for_log(self) -> bool
         ensures { result ≡ asks_for_log self }
     {
-        self.trace && !self.show
+        self.written.trace_only || self.written.trace && !self.show
     }
 }

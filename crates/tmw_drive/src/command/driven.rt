@@ -1,14 +1,17 @@
 ghost use Rattle.tmw_drive.specs.Driven.{IsHeaderOf};
 
 use crate::Outcome;
+use tmw_counts::Summary;
 use tmw_events::{Event, Registers};
 use tmw_trace::{Header, version_of};
 
-/// What a memory made of a workload, and the header under which its log is written.
+/// What a memory made of a workload, the header under which its log is written, and what the log has shown.
 #[derive(Debug, Drop)]
 pub struct Driven {
     pub header: Header,
     pub outcome: Outcome,
+    /// Up to the event that the verdict names.
+    pub summary: Summary,
 }
 
 /// Returns the header of a log that begins with 0 in all registers: of version 2 if it has an add call, else of version

@@ -8,6 +8,7 @@ use crate::command::driven::{Driven, header_of};
 use crate::command::reading::read_source;
 use crate::{DriveFault, drive};
 use std::alloc::Global;
+use tmw_counts::count_part;
 use tmw_monitor::Bounds;
 use tmw_report::Fault;
 use tmw_streams::Source;
@@ -28,9 +29,11 @@ pub fn drive_source<S: Source>(
 {
     let workload = read_source(alloc, source)?;
     let outcome = drive(alloc, memory, &workload, bounds)?;
+    let summary = count_part(workload.registers, &outcome.log, &outcome.verdict);
     Ok(Driven {
         header: header_of(workload.registers, &outcome.log),
         outcome,
+        summary,
     })
 }
 

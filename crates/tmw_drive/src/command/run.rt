@@ -3,14 +3,15 @@ ghost use Rattle.tmw_tm.specs.Memory.{memory_is};
 
 use crate::command::answer::answer_driven;
 use crate::command::driving::drive_source;
+use crate::command::written::Written;
 use std::alloc::Global;
 use tmw_monitor::Bounds;
 use tmw_report::answer_fault;
 use tmw_streams::{Sink, Source};
 use tmw_tm::Tm;
 
-/// Drives the workload that the source has on the memory, and judges its log within these bounds. It writes the log's
-/// trace if that is requested, then the report line.
+/// Drives the workload that the source has on the memory, and judges its log within these bounds. It writes the report
+/// line, and what else is asked for: the log's trace before it, or in its place, and behind it the line of the counts.
 ///
 /// The memory should be new. The result is the exit status: 0 if the log is opaque so far, 1 if it is violated, 2 if it
 /// is undecided, 4 after any fault, whose line alone is written.
@@ -19,15 +20,15 @@ pub fn run_drive<S: Source, K: Sink>(
     source: &mut S,
     sink: &mut K,
     memory: &(dyn Tm + Sync),
-    trace: bool,
+    written: Written,
     bounds: Bounds,
 ) -> u8
     ensures { DrivesBytes S.from K.to
-        (memory_is (has memory.now) (gives memory.now)) trace bounds source.old source.new sink.old
+        (memory_is (has memory.now) (gives memory.now)) written bounds source.old source.new sink.old
         sink.new result }
 {
     match drive_source(alloc, source, memory, bounds) {
-        Ok(driven) => answer_driven(alloc, sink, &driven, trace),
+        Ok(driven) => answer_driven(alloc, sink, &driven, written),
         Err(fault) => answer_fault(sink, fault),
     }
 }

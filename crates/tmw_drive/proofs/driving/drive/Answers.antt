@@ -26,3 +26,10 @@ returns-clause-formed g c =
     in
     formed-driven gives rules (scripts_of workload.scripts.items) workload.order.items c.in_ok-log.log.items c.in_ok-log.ends.items
     c.in_ok-verdict.verdict workload.is c.in_ok-log.ensures told
+
+pub returns-clause-few : goal.returns-clause-few
+returns-clause-few g c =
+    let workload = c.args.workload.now in
+    let gives : Call → Answer → Type 0 = λ call answer. (goal.Tm-dyn g c.args.memory.now).gives c.args.memory.now.1 call answer in
+    length-driven gives workload.registers.number (scripts_of workload.scripts.items) workload.order.items c.in_ok-log.log.items
+    c.in_ok-log.ends.items workload.is c.in_ok-log.ensures

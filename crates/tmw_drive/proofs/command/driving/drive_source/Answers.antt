@@ -35,6 +35,7 @@ returns-clause-right g c =
           made = c.in_ok-outcome.ensures.driven;
           judged = c.in_ok-outcome.ensures.verdict;
           formed = c.in_ok-outcome.ensures.formed;
+          summary = ?;
         },
       ),
     )
