@@ -1,8 +1,8 @@
 mod Counting
-mod Covered
+pub mod Covered
 mod Ended
 mod Overlaps
 mod Sums
-mod Taking
-mod Widest
+pub mod Taking
+pub mod Widest
 mod Windows

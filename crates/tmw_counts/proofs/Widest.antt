@@ -1,10 +1,9 @@
 -- How wide the widest window of a history is, and that it can be told whether it has a window of more than so many transactions.
-use Rattle.std.proofs.Common.{◌≡◌, ◌+◌, ◌-◌, ◌++◌, ◌<◌, ◌≤◌, ◌↔◌, ◌⊎◌, append_assoc, append-nil, refl, ap, ℕ, zero, suc, List, [], ◌∷◌, length, max, sym, subst, inl, inr, arith}
+use Rattle.std.proofs.Common.{◌≡◌, ◌+◌, ◌++◌, ◌<◌, ◌≤◌, ◌↔◌, ◌⊎◌, append_assoc, append-nil, refl, ℕ, zero, suc, List, [], ◌∷◌, length, sym, subst, inl, inr, arith}
 use Rattle.std.proofs.Math.Bridge.{le_prop}
 use Rattle.std.proofs.Math.Bool.{Bool-set}
 use Rattle.std.proofs.Math.Nat.{ℕ_set}
 use Rattle.std.proofs.Math.Logic.{∥∥₁_elim, ∥∥₁_map}
-use Rattle.std.specs.Prelude.{drop, take}
 use Rattle.std.proofs.lemmas.Bool.{cases_Bool, cases_lt}
 use Rattle.tmw_events.specs.declared.event.Event.{Event}
 use Rattle.tmw_counts.specs.Summaries.{IsSummary}

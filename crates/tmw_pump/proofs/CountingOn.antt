@@ -1,5 +1,5 @@
 -- What was counted of a judged front before and after one event more is judged.
-use Rattle.std.proofs.Common.{◌≡◌, ◌++◌, ◌<◌, ◌-◌, ◌^◌, ℕ, Bool, true, false, List, [], ◌∷◌, length, IsTrue, IsFalse, refl, sym, ap, subst, ◌∙◌, inl, inr}
+use Rattle.std.proofs.Common.{◌≡◌, ◌++◌, ℕ, true, false, List, [], ◌∷◌, IsTrue, IsFalse, refl, sym, ap, subst, ◌∙◌, inl, inr}
 use Rattle.std.proofs.Math.Logic.{∥∥₁_map}
 use Rattle.std.proofs.lemmas.Bool.{both_ways, cases_Bool}
 use Rattle.tmw_counts.specs.Counting.{CountsSo}
@@ -72,7 +72,7 @@ module _ (h : List Event) (before after : Monitor) (criterion : criterion_of aft
                 registers = was.rules.registers;
                 counts = counted-more CountsSo was.rules h e (verdict_of before) (verdict_of after) old new was.fits.judged now.judged counts
                     (λ _ formed so. (steps is was.rules.registers so).0 formed) (λ _ ill so. (steps is was.rules.registers so).1 ill)
-                    (λ shut. absurd (both_ways _ is shut));
+                    (λ shut. absurd (both_ways _ shut is));
                 same = λ _. refl;
               }
           | inr is ↦ record {
@@ -80,8 +80,8 @@ module _ (h : List Event) (before after : Monitor) (criterion : criterion_of aft
             fits = now;
             registers = was.registers;
             counts = counted-more (λ _ xs counter. CountsSo was.registers xs counter) was.rules h e (verdict_of before) (verdict_of after) old new
-                was.fits.judged now.judged was.counts (λ now_open formed so. absurd (both_ways _ now_open is))
-                (λ now_open ill so. absurd (both_ways _ now_open is)) same;
+                was.fits.judged now.judged was.counts (λ now_open formed so. absurd (both_ways _ is now_open))
+                (λ now_open ill so. absurd (both_ways _ is now_open)) same;
             same = λ now_open.
                 was.same (was_open (stays was.rules h e (verdict_of before) (verdict_of after) is was.fits.judged now.judged) now_open);
           }

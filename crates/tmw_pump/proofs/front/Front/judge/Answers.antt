@@ -1,9 +1,16 @@
-use Rattle.std.proofs.Common.{List, length, sym, ap, ◌∙◌, subst, arith}
+use Rattle.std.proofs.Common.{◌≡◌, ◌++◌, ◌<◌, ◌-◌, ◌^◌, List, [], ◌∷◌, length, refl, sym, ap, ◌∙◌, subst, arith}
+use Rattle.std.proofs.lemmas.Bool.{both_ways}
 use Rattle.std.proofs.lemmas.List.{length_push}
+use Rattle.tmw_counts.proofs.Taking.{kept-ill, taken-formed}
+use Rattle.tmw_counts.specs.Parts.{is_open}
 use Rattle.tmw_events.specs.declared.event.Event.{Event}
 use Rattle.tmw_monitor.specs.Fitting.{Fits}
+use Rattle.tmw_monitor.specs.Monitor.{verdict_of}
+use Rattle.tmw_pump.proofs.CountingOn.{counted_next, counted_still}
 use Rattle.tmw_pump.proofs.Feeding.{few-held, room-fed, fed_on}
+use Rattle.tmw_pump.specs.Held.{WasCounted}
 use Rattle.tmw_pump.proofs.front.Front.judge.Goals as goal
+use Rattle.tmw_pump.proofs.front.Front.judge.Goals.{then-open, else-open}
 
 pub feed-requires : goal.feed-requires
 feed-requires c = let old = c.args.self.now in
@@ -14,8 +21,35 @@ invariant_of-self c = let old = c.args.self.now in
     record {
       opacity = c.feed.ensures.criterion ∙ old.opacity;
       fed = fed_on old.judged.items old.judged.items old.monitor c.feed.new.self old.fed (λ by fits. c.in_err-feed.ensures.err by old.judged.items fits);
+      counted = counted_still old.judged.items old.monitor c.feed.new.self c.feed.ensures.criterion old.counter
+          (λ by fits. c.in_err-feed.ensures.err by old.judged.items fits) old.counted;
       few = old.few;
     }
+
+-- the event was counted where nothing was wrong before it
+next-counted : (c : goal.After-then-self) → ∥ WasCounted (c.args.self.now.judged.items ++ c.args.event ∷ []) c.feed.new.self c.if-open.self.1.1.0 ∥₁
+next-counted c =
+    let old = c.args.self.now in
+    let h = old.judged.items in
+    let room = few-held h old.held c.args.event c.requires old.few in
+    let low : length h < 2 ^ 64 - 1 = omega (arith, room) in
+    let told : c.is_open-open.result ≡ is_open (verdict_of old.monitor) = c.is_open-open.ensures ∙ ap is_open c.verdict.ensures.shown in
+    elim c.if-open.branch [
+      | then-open w ↦
+          let new = w.take-refused.new.self in
+          let takes = w.take-refused.ensures.takes in
+          rw w.self-is (counted_next h old.monitor c.feed.new.self c.feed.ensures.criterion c.args.event old.counter new
+          (λ by fits. c.in_ok-feed.ensures.ok by h fits)
+          (λ is registers so. (
+            λ formed. taken-formed c.args.event old.counter new registers h low so w.take-refused.result takes w.take-refused.ensures.refuses formed,
+            λ ill. kept-ill c.args.event old.counter new registers h low so w.take-refused.result takes w.take-refused.ensures.kept ill,
+          ))
+          (λ shut. absurd (both_ways _ (told ∙ shut) w.if-open.true)) old.counted)
+      | else-open w ↦
+          rw w.self-is (counted_next h old.monitor c.feed.new.self c.feed.ensures.criterion c.args.event old.counter old.counter
+          (λ by fits. c.in_ok-feed.ensures.ok by h fits)
+          (λ is registers so. absurd (both_ways _ w.if-open.false (told ∙ is))) (λ shut. refl) old.counted)
+    ]
 
 pub invariant_of-self-2 : goal.invariant_of-self-2
 invariant_of-self-2 c = let old = c.args.self.now in
@@ -26,5 +60,6 @@ invariant_of-self-2 c = let old = c.args.self.now in
       opacity = c.feed.ensures.criterion ∙ old.opacity;
       fed = fed_on old.judged.items c.then-self.result.items old.monitor c.feed.new.self old.fed (λ by fits.
           subst (λ (l : List Event). Fits by l c.feed.new.self) (sym items) (c.in_ok-feed.ensures.ok by old.judged.items fits));
+      counted = subst (λ (l : List Event). ∥ WasCounted l c.feed.new.self c.if-open.self.1.1.0 ∥₁) (sym items) (next-counted c);
       few = omega (arith, size, room);
     }

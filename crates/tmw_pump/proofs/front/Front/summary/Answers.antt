@@ -1,0 +1,7 @@
+-- What was counted is the part that the verdict covers.
+use Rattle.std.proofs.Math.Logic.{∥∥₁_map}
+use Rattle.tmw_counts.proofs.Widest.{summary_known}
+use Rattle.tmw_pump.proofs.front.Front.summary.Goals as goal
+
+pub returns : goal.returns
+returns c = summary_known _ _ (∥∥₁_map c.args.self.now.counted (λ was. c.summary.ensures was.registers _ was.counts))
