@@ -136,17 +136,11 @@ fn malformed_and_undecided_runs_are_shown_up_to_their_event(rt: HostRuntime) -> 
 }
 
 #[test]
-fn the_reason_of_a_malformed_run_is_that_of_its_event(
-    rt: HostRuntime,
-) -> Result<(), Fail> {
+fn the_reason_of_a_malformed_run_is_that_of_its_event(rt: HostRuntime) -> Result<(), Fail> {
     let busy = last_window(
         rt.alloc(),
         WIDEST,
-        &[
-            one(Kind::R(FIRST)),
-            one(Kind::W(FIRST, 1)),
-            other(Kind::C),
-        ],
+        &[one(Kind::R(FIRST)), one(Kind::W(FIRST, 1)), other(Kind::C)],
     )?;
     assert_eq!(rt; busy.verdict(), Verdict::Malformed(2));
     assert_eq!(rt; busy.finish().fault, Some(Malformed::Busy));

@@ -41,10 +41,11 @@ impl LastWindow {
     {
         let monitor = Monitor::for_criterion(alloc, criterion, registers, start, bounds)?;
         let kept = KeptWindow::new(alloc, &monitor)?;
+        let reason = Reason::new(registers);
         Ok(LastWindow {
             monitor,
             kept,
-            reason: Reason::new(registers),
+            reason,
         })
     }
 

@@ -28,7 +28,13 @@ pub fn told_of(told: Told, number: u64) -> &'static str
             }
         }
         Verdict::Undecided(at, why) => { if number == at { undecided_of(why) } else { "" } }
-        Verdict::Malformed(at) => { if number == at { malformed_of(told.fault) } else { "" } }
+        Verdict::Malformed(at) => {
+            if number == at {
+                malformed_of(told.fault)
+            } else {
+                ""
+            }
+        }
     }
 }
 

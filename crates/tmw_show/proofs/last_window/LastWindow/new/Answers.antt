@@ -12,5 +12,5 @@ returns c =
     let some = subst (λ (n : ℕ). 0 < n) fits.states monitor.bounds.some_states in record {
       fits = fits;
       shown = c.in_ok-kept.ensures judged_by fits;
-      reasons = c.new.ensures judged_by monitor.verdict refl (fine-empty judged_by some monitor.verdict fits.judged);
+      reasons = c.new-reason.ensures judged_by monitor.verdict refl (fine-empty judged_by some monitor.verdict fits.judged);
     }

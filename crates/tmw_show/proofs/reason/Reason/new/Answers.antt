@@ -1,5 +1,5 @@
 -- There is none before the first event.
-use Rattle.std.proofs.Common.{List, [], ℕ, sym, subst}
+use Rattle.std.proofs.Common.{[], ℕ, sym, subst}
 use Rattle.tmw_wellformed.specs.Tracks.{Tracks}
 use Rattle.tmw_show.proofs.Reasons.{reason-new}
 use Rattle.tmw_show.proofs.reason.Reason.new.Goals as goal
