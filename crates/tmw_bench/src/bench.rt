@@ -90,7 +90,8 @@ pub fn hunt<R: Threads + Wait + Sync, P: Progress>(
     let carried = over?;
     let Hunting { window, .. } = carried.kept;
     Ok(Hunted {
-        showing: window.finish(carried.rest.monitor()),
+        // The log is never malformed.
+        showing: window.finish(carried.rest.monitor(), None),
         ends: carried.ends,
         rounds: carried.rounds,
     })
