@@ -6,6 +6,7 @@ use tmw_defs::{Criterion, Verdict, Why};
 use tmw_events::{Event, Kind, Registers};
 use tmw_monitor::Bounds;
 use tmw_show::LastWindow;
+use tmw_wellformed::Malformed;
 
 const ONE: Registers = Registers { number: 1 };
 
@@ -131,5 +132,19 @@ fn malformed_and_undecided_runs_are_shown_up_to_their_event(rt: HostRuntime) -> 
         Verdict::Undecided(2, Why::Transactions)
     );
     assert_eq!(rt; undecided.events(), &writers()[..2]);
+    Ok(())
+}
+
+#[test]
+fn the_reason_of_a_malformed_run_is_that_of_its_event(rt: HostRuntime) -> Result<(), Fail> {
+    let busy = last_window(
+        rt.alloc(),
+        WIDEST,
+        &[one(Kind::R(FIRST)), one(Kind::W(FIRST, 1)), other(Kind::C)],
+    )?;
+    assert_eq!(rt; busy.verdict(), Verdict::Malformed(2));
+    assert_eq!(rt; busy.finish().fault, Some(Malformed::Busy));
+    let fine = last_window(rt.alloc(), WIDEST, &[one(Kind::R(FIRST))])?;
+    assert_eq!(rt; fine.finish().fault, None);
     Ok(())
 }

@@ -91,7 +91,8 @@ pub fn hunt<R: Threads + Wait + Sync, P: Progress>(
     let carried = over?;
     let Hunting { window, .. } = carried.kept;
     Ok(Hunted {
-        showing: window.finish(carried.rest.monitor()),
+        // The log is never malformed.
+        showing: window.finish(carried.rest.monitor(), None),
         summary: carried.rest.summary(),
         ends: carried.ends,
         rounds: carried.rounds,

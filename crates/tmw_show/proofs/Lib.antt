@@ -3,6 +3,7 @@ mod Behind
 mod GivenFaults
 mod Outcomes
 mod Part
+pub mod Reasons
 mod Rows
 mod ShownStates
 pub mod Shows
@@ -10,5 +11,6 @@ mod Single
 mod StateHeaders
 mod Taking
 mod TracesProof
+mod Watching
 mod Windows
 mod Writes

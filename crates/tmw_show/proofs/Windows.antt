@@ -22,13 +22,9 @@ use Rattle.tmw_defs.proofs.Criteria.{formed-final}
 use Rattle.tmw_defs.proofs.VerdictProof.{verdict-one, so_far-fine, sums_up-new}
 use Rattle.tmw_defs.proofs.WindowsProof.{length-push, take-push, between-open}
 use Rattle.tmw_monitor.specs.Holding.{AreLastOutcomes}
-use Rattle.tmw_monitor.specs.Fitting.{Fits}
-use Rattle.tmw_monitor.specs.declared.monitor.Monitor.{Monitor}
 use Rattle.tmw_show.specs.Shown.{shown_length, before_shown, IsShown}
 use Rattle.tmw_show.specs.Keeping.{KeepsSame, KeepsShown}
-use Rattle.tmw_show.specs.Watching.{Watches}
 use Rattle.tmw_show.specs.declared.kept_window.KeptWindow.{KeptWindow}
-use Rattle.tmw_show.specs.declared.last_window.LastWindow.{LastWindow}
 
 -- what is wrong first with a history, and was not before its last event, is so at its whole length
 first-last : (Wrong : Rules → List Event → Type 0) → ((rules : Rules) (history : List Event) → Wrong rules history → IsFine rules history → ⊥)
@@ -50,7 +46,7 @@ shown_length-push rules h e (Undecided m Transactions) fine is = first-last IsTo
 shown_length-push rules h e (Undecided m States) fine is = first-last IsTooMany (λ r s wrong f. f.few wrong.many) rules h e m fine is
 shown_length-push rules h e (Violated m) fine is = first-last IsViolated (λ r s wrong f. wrong.not_final f.final) rules h e m fine is
 
-before-push : (h : List Event) (e : Event) (n : ℕ) → n ≡ length h + 1 → take (n - 1) (h ++ e ∷ []) ≡ h
+pub before-push : (h : List Event) (e : Event) (n : ℕ) → n ≡ length h + 1 → take (n - 1) (h ++ e ∷ []) ≡ h
 before-push h e n is =
     let one : n - 1 ≡ length h = omega (arith, is) in
     ap (λ k. take k (h ++ e ∷ [])) one ∙ (take-push (length h) h e (omega arith) ∙ take-length h)
@@ -158,7 +154,7 @@ first-stays Wrong rules h e m first =
     }
 
 -- and so does a final verdict
-verdict-stays : (rules : Rules) (h : List Event) (e : Event) (v : Verdict) → IsVerdict rules h v → (v ≡ so_far rules.criterion → ⊥)
+pub verdict-stays : (rules : Rules) (h : List Event) (e : Event) (v : Verdict) → IsVerdict rules h v → (v ≡ so_far rules.criterion → ⊥)
     → IsVerdict rules (h ++ e ∷ []) v
 verdict-stays rules h e OpaqueSoFar is final = absurd (final (sym (ap so_far is.0)))
 verdict-stays rules h e StrictSoFar is final = absurd (final (sym (ap so_far is.0)))
@@ -232,12 +228,3 @@ kept-same rules h v old new same shown =
     subst (λ n. IsShown rules h v n (members new.states) new.events.items) (sym same.from)
     (subst (λ (s : List State). IsShown rules h v old.from s new.events.items) (sym same.states)
     (subst (λ (l : List Event). IsShown rules h v old.from (members old.states) l) (sym same.events) shown))
-
-pub watches-kept : (rules : Rules) (h : List Event) (old : LastWindow) (new : Monitor) (kept : KeptWindow) → Watches rules h old
-    → Fits rules h new → KeepsSame old.kept kept → Watches rules h (record { monitor = new; kept = kept })
-watches-kept rules h old new kept watches fits same = record {
-  fits = fits;
-  shown = kept-same rules h new.verdict old.kept kept same
-      (shown-same rules h old.monitor.verdict new.verdict old.kept.from (members old.kept.states) old.kept.events.items old.kept.events.items
-      watches.fits.judged fits.judged watches.shown refl);
-}

@@ -1,6 +1,6 @@
 -- How a window is drawn: the states from which it begins, and its events in a column for each thread. Numbers are decimal, without
 -- sign and without leading zeros.
-use Rattle.std.specs.Prelude.{ℕ, ◌+◌, ◌-◌, ◌*◌, ◌==◌, List, [], ◌∷◌, ◌++◌, length, take, replicate, max, codes, if◌then◌else◌}
+use Rattle.std.specs.Prelude.{ℕ, ◌+◌, ◌-◌, ◌*◌, ◌==◌, List, [], ◌∷◌, ◌++◌, length, take, replicate, max, codes, Option, Some, None, if◌then◌else◌}
 use Rattle.std.specs.List.{flat_map}
 use Rattle.std.specs.Fmt.{decimal}
 use Rattle.tmw_events.specs.Text.{kind_text}
@@ -15,6 +15,9 @@ use Rattle.tmw_defs.specs.declared.verdict.Verdict.{Verdict}
 use Rattle.tmw_defs.specs.declared.verdict.Verdict.TheVariants.{Violated, Undecided, Malformed}
 use Rattle.tmw_defs.specs.declared.verdict.Why.{Why}
 use Rattle.tmw_defs.specs.declared.verdict.Why.TheVariants.{Transactions, States}
+use Rattle.tmw_wellformed.specs.declared.malformed.Malformed.{Malformed as Fault}
+use Rattle.tmw_wellformed.specs.declared.malformed.Malformed.TheVariants.{Register, Busy, Idle, Mismatch}
+use Rattle.tmw_show.specs.declared.command.told.Told.{Told}
 
 -- so many blanks
 abbrev pub blanks : ℕ → List ℕ
@@ -58,12 +61,24 @@ abbrev pub undecided_text : Why → List ℕ
 undecided_text Transactions = codes "undecided, by transactions"
 undecided_text States = codes "undecided, by states"
 
--- what is told of the event of this number: what is wrong there, where it is the verdict's, and else nothing
-abbrev pub told_text : Criterion → Verdict → ℕ → List ℕ
-told_text criterion (Violated at) number = if number == at then violated_text criterion else []
-told_text criterion (Undecided at why) number = if number == at then undecided_text why else []
-told_text criterion (Malformed at) number = if number == at then codes "malformed" else []
-told_text criterion _ number = []
+-- and for the rule that its last event broke
+abbrev pub malformed_text : Option Fault → List ℕ
+malformed_text (Some Register) = codes "malformed: the register is not one of the run's"
+malformed_text (Some Busy) = codes "malformed: the thread has a pending call already"
+malformed_text (Some Idle) = codes "malformed: no call of the thread is pending"
+malformed_text (Some Mismatch) = codes "malformed: the answer does not fit the call"
+malformed_text None = codes "malformed"
+
+-- the mark of the event of this number: what is wrong there, where it is the verdict's, and else nothing
+abbrev pub mark_text : Criterion → Option Fault → Verdict → ℕ → List ℕ
+mark_text criterion fault (Violated at) number = if number == at then violated_text criterion else []
+mark_text criterion fault (Undecided at why) number = if number == at then undecided_text why else []
+mark_text criterion fault (Malformed at) number = if number == at then malformed_text fault else []
+mark_text criterion fault _ number = []
+
+-- what is told of that event
+abbrev pub told_text : Told → ℕ → List ℕ
+told_text told number = mark_text told.criterion told.fault told.verdict number
 
 -- what is told stands two places behind the heads, or behind a row that is longer than they
 abbrev pub beside : ℕ → List ℕ → List ℕ
@@ -74,14 +89,12 @@ abbrev pub told_row : ℕ → List ℕ → List ℕ → List ℕ
 told_row width row told = row ++ beside (width - length row) told
 
 -- a line for each event, of which the first has this number
-abbrev pub rows_text : Criterion → Verdict → ℕ → ℕ → List Event → List ℕ
-rows_text criterion verdict width number [] = []
-rows_text criterion verdict width number (event ∷ events) =
-    line (told_row width (event_row number event) (told_text criterion verdict number))
-    ++ rows_text criterion verdict width (number + 1) events
+abbrev pub rows_text : Told → ℕ → ℕ → List Event → List ℕ
+rows_text told width number [] = []
+rows_text told width number (event ∷ events) =
+    line (told_row width (event_row number event) (told_text told number)) ++ rows_text told width (number + 1) events
 
 -- the line of the heads, and a line for each event: the first has the number that follows `from`
-abbrev pub window_text : Criterion → Verdict → ℕ → List Event → List ℕ
-window_text criterion verdict from events =
-    line (heads_text (last_thread events))
-    ++ rows_text criterion verdict (length (heads_text (last_thread events))) (from + 1) events
+abbrev pub window_text : Told → ℕ → List Event → List ℕ
+window_text told from events =
+    line (heads_text (last_thread events)) ++ rows_text told (length (heads_text (last_thread events))) (from + 1) events

@@ -17,6 +17,7 @@ use Rattle.tmw_report.specs.CommandRun.{AnswersTextFault, IsCommandRun}
 use Rattle.tmw_streams.specs.Streams.{FromSource, ToSink}
 use Rattle.tmw_show.specs.Showing.{IsShowing}
 use Rattle.tmw_show.specs.declared.command.shown.Shown.{Shown}
+use Rattle.tmw_show.specs.declared.command.told.Told.{Told}
 use Rattle.tmw_show.specs.Drawing.{states_text, window_text}
 use Rattle.tmw_show.specs.TracesText.{traces_text}
 
@@ -41,13 +42,17 @@ abbrev pub line_by : Criterion → ℕ → Verdict → List ℕ
 line_by Opacity = report_text
 line_by Strict = strict_text
 
+-- What is told of the event at which something is wrong.
+abbrev pub told_of : Criterion → Shown → Told
+told_of criterion shown = record { criterion = criterion; verdict = shown.showing.verdict; fault = shown.showing.fault }
+
 -- What is written: the report's line, the states from which the last window begins, and its events; or the window's traces alone,
 -- where these are asked for.
 abbrev pub drawn_text : Criterion → Shown → List ℕ
 drawn_text criterion shown =
     line_by criterion shown.showing.fed shown.showing.verdict
     ++ (states_text shown.registers (members shown.showing.states)
-    ++ window_text criterion shown.showing.verdict shown.showing.from shown.showing.events.items)
+    ++ window_text (told_of criterion shown) shown.showing.from shown.showing.events.items)
 
 abbrev pub shown_text : Criterion → Bool → Shown → List ℕ
 shown_text criterion trace shown =

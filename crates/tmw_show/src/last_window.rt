@@ -6,6 +6,7 @@ ghost use Rattle.tmw_monitor.specs.Fitting.{rules_for};
 ghost use Rattle.tmw_monitor.specs.Monitor.{IsOpen, fed_of};
 
 use crate::kept_window::KeptWindow;
+use crate::reason::Reason;
 use crate::showing::Showing;
 use std::alloc::{AllocError, Global};
 use tmw_cuts::{State, States};
@@ -18,6 +19,7 @@ use tmw_monitor::{Bounds, Criterion, Monitor, Verdict};
 pub struct LastWindow {
     monitor: Monitor,
     kept: KeptWindow,
+    reason: Reason,
 }
 
 impl LastWindow {
@@ -39,7 +41,12 @@ impl LastWindow {
     {
         let monitor = Monitor::for_criterion(alloc, criterion, registers, start, bounds)?;
         let kept = KeptWindow::new(alloc, &monitor)?;
-        Ok(LastWindow { monitor, kept })
+        let reason = Reason::new(registers);
+        Ok(LastWindow {
+            monitor,
+            kept,
+            reason,
+        })
     }
 
     /// Takes the next event. After a failed allocation the event is not taken: feed it again.
@@ -55,9 +62,13 @@ impl LastWindow {
         // After a verdict that something is wrong each call succeeds.
         ensures stays { (IsOpen (monitor_of self.old) → ⊥) → IsOk result }
     {
+        let open = self.monitor.is_open();
         let next = self.kept.make_room(&self.monitor)?;
         self.monitor.feed(event)?;
         self.kept.take(next, event);
+        if open {
+            self.reason.take(event);
+        }
         Ok(())
     }
 
@@ -104,6 +115,6 @@ impl LastWindow {
         ensures { (rules : Rules) (history : List Event) → Watches rules history self
             → IsShowing rules history result }
     {
-        self.kept.finish(&self.monitor)
+        self.kept.finish(&self.monitor, self.reason.fault())
     }
 }

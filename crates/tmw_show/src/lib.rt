@@ -7,6 +7,7 @@ mod kept_window;
 mod last_window;
 mod law;
 mod next_shown;
+mod reason;
 mod showing;
 
 pub use command::{Shown, law_traces, run_show, shown_text};

@@ -3,6 +3,7 @@ ghost use Rattle.tmw_show.specs.Running.{IsVerdictBy, drawn_text, line_by, shown
 
 use crate::command::shown::Shown;
 use crate::command::states::push_states;
+use crate::command::told::Told;
 use crate::command::traces::push_traces;
 use crate::command::window::push_window;
 use std::alloc::{AllocError, Global};
@@ -53,13 +54,12 @@ fn push_drawn(
     let line = line_by(alloc, criterion, showing.fed, &showing.verdict)?;
     text.extend_from_slice(line.as_bytes())?;
     push_states(text, shown.registers, showing.states.states())?;
-    push_window(
-        text,
+    let told = Told {
         criterion,
-        showing.verdict,
-        showing.from,
-        &showing.events,
-    )?;
+        verdict: showing.verdict,
+        fault: showing.fault,
+    };
+    push_window(text, told, showing.from, &showing.events)?;
     Ok(())
 }
 

@@ -4,10 +4,9 @@ ghost use Rattle.tmw_show.specs.Drawing.{beside, event_row, heads_text, last_thr
 
 use crate::command::kind_text::push_kind;
 use crate::command::numbers::push_blanks;
-use crate::command::told::told_of;
+use crate::command::told::{Told, told_of};
 use itoa::Buffer;
 use std::alloc::AllocError;
-use tmw_defs::{Criterion, Verdict};
 use tmw_events::Event;
 
 /// The heads of eight columns.
@@ -17,19 +16,18 @@ const ALL_HEADS: &[u8] =
 /// Adds the line of the heads, and a line for each event, in a column for each thread: the first has the number that follows `from`.
 pub fn push_window(
     text: &mut Vec<u8>,
-    criterion: Criterion,
-    verdict: Verdict,
+    told: Told,
     from: u64,
     events: &[Event],
 ) -> Result<(), AllocError>
     requires { from + length events.now < 2 ^ 64 }
     ensures { OnOk result
-        (text.new.items ≡ text.old.items ++ window_text criterion verdict from events.now) }
+        (text.new.items ≡ text.old.items ++ window_text told from events.now) }
 {
     let heads = heads_of(last_thread(events));
     text.extend_from_slice(heads)?;
     text.push(b'\n')?;
-    push_rows(text, criterion, verdict, heads.len(), from, events)?;
+    push_rows(text, told, heads.len(), from, events)?;
     Ok(())
 }
 
@@ -56,8 +54,7 @@ fn last_thread(events: &[Event]) -> u8
 /// Adds a line for each event: the first has the number that follows `from`.
 fn push_rows(
     text: &mut Vec<u8>,
-    criterion: Criterion,
-    verdict: Verdict,
+    told: Told,
     width: usize,
     from: u64,
     events: &[Event],
@@ -65,18 +62,12 @@ fn push_rows(
     requires { from + length events.now < 2 ^ 64 }
     ensures { OnOk result
         (text.new.items ≡ text.old.items
-        ++ rows_text criterion verdict width (from + 1) events.now) }
+        ++ rows_text told width (from + 1) events.now) }
 {
     let mut number = from;
     for event in events {
         number += 1;
-        push_line(
-            text,
-            width,
-            number,
-            *event,
-            told_of(criterion, verdict, number),
-        )?;
+        push_line(text, width, number, *event, told_of(told, number))?;
     }
     Ok(())
 }

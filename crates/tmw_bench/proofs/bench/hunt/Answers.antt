@@ -1,5 +1,5 @@
 -- The last window of the log is kept.
-use Rattle.std.proofs.Common.{◌≡◌, subst, sym}
+use Rattle.std.proofs.Common.{◌≡◌, None, subst, sym}
 use Rattle.tmw_bench.specs.Benched.{HasBenched}
 use Rattle.tmw_defs.proofs.VerdictProof.{verdict-one}
 use Rattle.tmw_defs.specs.Opaque.{zeros}
@@ -8,6 +8,8 @@ use Rattle.tmw_monitor.specs.Fitting.{Fits, rules_of}
 use Rattle.tmw_monitor.specs.declared.monitor.Monitor.{Monitor}
 use Rattle.tmw_runs.specs.Scripts.{scripts_of}
 use Rattle.tmw_show.specs.Keeping.{KeepsShown}
+use Rattle.tmw_show.specs.Reasons.{IsReason}
+use Rattle.tmw_show.proofs.Reasons.{none-told}
 use Rattle.tmw_bench.proofs.bench.hunt.Goals as goal
 
 pub returns-clause-ok : goal.returns-clause-ok
@@ -20,8 +22,10 @@ returns-clause-ok g c =
     let done = c.in_ok-carried.ensures.ok in
     let log = carried.rest.front.judged.items in
     let same = sym c.monitor.ensures in
+    let reason = none-told rules log carried.rest.front.monitor.verdict done.benched.formed in
     let shown = c.finish.ensures rules log (subst (λ (m : Monitor). Fits rules log m) same done.kept.fits)
-    (subst (λ (m : Monitor). KeepsShown rules log m.verdict carried.kept.window) same done.kept.keeps_it.0) in
+    (subst (λ (m : Monitor). KeepsShown rules log m.verdict carried.kept.window) same done.kept.keeps_it.0)
+    (subst (λ (m : Monitor). IsReason rules log m.verdict None) same reason) in
     let verdict : carried.rest.front.monitor.verdict ≡ c.finish.result.verdict =
     verdict-one rules log carried.rest.front.monitor.verdict c.finish.result.verdict done.kept.fits.judged shown.judged in record {
       log = log;
