@@ -1,6 +1,9 @@
 mod CountedParts
 mod Each
 mod FedEvents
+mod FirstFed
+mod FirstReports
+mod FirstTaken
 mod SummaryLines
 mod Taken
 mod Taking

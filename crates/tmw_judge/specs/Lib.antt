@@ -1,6 +1,8 @@
 pub mod ByCriterion
 pub mod Counted
 pub mod Feeding
+pub mod FeedingFirst
+pub mod First
 pub mod Judging
 pub mod SummaryLine
 pub mod Summing
