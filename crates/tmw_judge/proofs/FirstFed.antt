@@ -1,6 +1,5 @@
 -- Reading on to the event at which all verdicts are final.
-use Rattle.std.proofs.Common.{◌≡◌, ◌+◌, ◌<◌, ◌≤◌, ◌^◌, ℕ, Result, Ok, Err, true, false, List, [], ◌∷◌, ◌++◌, length, inl, inr, sym, ◌∙◌, append_assoc, append-nil, length-append, arith}
-use Rattle.std.specs.Prelude.{take}
+use Rattle.std.proofs.Common.{◌≡◌, ◌<◌, ◌^◌, ℕ, Ok, Err, true, false, List, [], ◌∷◌, ◌++◌, length, inl, inr, sym, ◌∙◌, append_assoc, append-nil, length-append, arith}
 use Rattle.std.proofs.lemmas.Bool.{cases_lt}
 use Rattle.std.proofs.lemmas.List.{take_all}
 use Rattle.tmw_lines.specs.Lines.{IsReading, HasRead, GivesItem, GivesEnd, FailsAtLine}
@@ -184,6 +183,7 @@ module _ {S C : Type 0} (From : FromSource S) (Counts : CountsFor C) (a : S) (li
               read = record { ended = end.0; are_lines = read.are_lines; text = sym (append_assoc earlier h.bytes bytes) ∙ end.1 };
               judged = h.taken header bounds asked given was;
               open_one = is;
+              before = h.before header bounds asked given was open_before;
             };
       }
 

@@ -1,6 +1,6 @@
 -- Judging up to the first final verdict: the first line is read, then events are fed, and what was told is what was read.
 use Rattle.std.proofs.Common.{◌≡◌, ℕ, List, [], ◌∷◌, ◌++◌, Ok, Err, inl, inr}
-use Rattle.tmw_lines.specs.ItemsRead.{FailsBehind, StopsBehind}
+use Rattle.tmw_lines.specs.ItemsRead.{FailsBehind}
 use Rattle.tmw_lines.specs.Lines.{HasRead, unread_bytes}
 use Rattle.tmw_lines.specs.declared.lines.Lines.{Lines}
 use Rattle.tmw_lines.specs.declared.text_fault.TextFault.{TextFault}
@@ -19,7 +19,7 @@ use Rattle.tmw_monitor.specs.declared.bounds.Bounds.{Bounds}
 use Rattle.tmw_report.specs.declared.fault.Fault.{Fault}
 use Rattle.tmw_report.specs.Putting.{fault_of}
 use Rattle.tmw_judge.specs.Feeding.{IsBeginning, ReadsBeginning}
-use Rattle.tmw_judge.specs.FeedingFirst.{AnswersFirstFed, AreFedFirst, AreFedWhole, AreReadFirst, FeedsFirst}
+use Rattle.tmw_judge.specs.FeedingFirst.{AnswersFirstFed, AreReadFirst, FeedsFirst}
 use Rattle.tmw_judge.specs.First.{AreOpen, AreOpenBefore, EndsSoonBehindOpen, HasFaultInTime}
 use Rattle.tmw_judge.specs.Counted.{CountsFor}
 use Rattle.tmw_judge.specs.declared.judges.Judges.{Judges}
@@ -128,17 +128,18 @@ module _ {S C : Type 0} (From : FromSource S) (Counts : CountsFor C) (First Ende
         final = first.final;
         before = first.before;
       }
-      | inr whole ↦ inr (
-        whole.read.ended,
-        record {
+      | inr all ↦ inr record {
+        ended = all.read.ended;
+        whole = record {
           header = begins.is.0;
           history = feeds.events;
-          are_events = whole.read.are_lines;
-          text = whole.read.text;
-          judged = whole.judged;
-        },
-        whole.open_one,
-      )
+          are_events = all.read.are_lines;
+          text = all.read.text;
+          judged = all.judged;
+        };
+        open_one = all.open_one;
+        before = all.before;
+      }
     ],
   )
 

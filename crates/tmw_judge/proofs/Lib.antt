@@ -1,6 +1,7 @@
 mod CountedParts
 mod Each
 mod FedEvents
+mod FirstAnswers
 mod FirstFed
 mod FirstReports
 mod FirstTaken

@@ -29,12 +29,13 @@ pub record AreFedFirst {C : Type 0} (Counts : CountsFor C) (lines : Lines Versio
   pub final : any_open (verdicts_of judges.monitors) ≡ false
   pub before : AreOpenBefore header bounds asked history
 
--- They have been fed all events up to the end, and not all their verdicts are final.
+-- They have been fed all events up to the end. Not all their verdicts are final, nor were on any beginning.
 pub record AreFedWhole {C : Type 0} (Counts : CountsFor C) (Ended : Type 0) (header : Header) (bounds : Bounds) (asked : Asked)
     (history : List Event) (bytes : List ℕ) (judges : Judges C) : Type 0 where
   pub read : EndsBehind trace_grammar Ended header history bytes
   pub judged : AreJudged Counts header bounds asked history judges
   pub open_one : any_open (verdicts_of judges.monitors) ≡ true
+  pub before : AreOpenBefore header bounds asked history
 
 -- These are the bytes read where the judges have been fed this history: its text, and behind it what the reader holds, where all
 -- verdicts are final; else nothing up to the end, the line that has the fault, or for want of memory one line and what is held.
@@ -71,9 +72,17 @@ pub record AreFirstJudges {C : Type 0} (Counts : CountsFor C) (bounds : Bounds) 
   pub final : any_open (verdicts_of judges.monitors) ≡ false
   pub before : AreOpenBefore header bounds asked history
 
+-- The source has ended, and the judges have been fed the history of the trace of which its bytes are the text. Not all their verdicts
+-- are final, nor were on any beginning.
+pub record AreOpenJudges {C : Type 0} (Counts : CountsFor C) (bounds : Bounds) (asked : Asked) (Ended : Type 0) (bytes : List ℕ)
+    (judges : Judges C) : Type 0 where
+  pub ended : Ended
+  pub whole : AreJudgesOf Counts bounds asked bytes judges
+  pub open_one : any_open (verdicts_of judges.monitors) ≡ true
+  pub before : AreOpenBefore whole.header bounds asked whole.history
+
 -- This answers the bytes that a source told, by the judges that are to report on them, or by their fault.
 abbrev pub AnswersFirstFed : {C : Type 0} → CountsFor C → Bounds → Asked → Type 0 → List ℕ → Result (Judges C) Fault → Type 0
 AnswersFirstFed Counts bounds asked Ended bytes (Ok judges) =
-    AreFirstJudges Counts bounds asked bytes judges
-    ⊎ (Ended × AreJudgesOf Counts bounds asked bytes judges × (any_open (verdicts_of judges.monitors) ≡ true))
+    AreFirstJudges Counts bounds asked bytes judges ⊎ AreOpenJudges Counts bounds asked Ended bytes judges
 AnswersFirstFed Counts bounds asked Ended bytes (Err fault) = AnswersTextFault (HasFaultInTime bounds asked Ended bytes) fault

@@ -74,10 +74,13 @@ ComesInTime bounds asked Ended bytes fault =
 abbrev pub HasFaultInTime : Bounds → Asked → Type 0 → List ℕ → TextFault → Type 0
 HasFaultInTime bounds asked Ended bytes fault = HasTextFault trace_grammar Ended bytes fault × ComesInTime bounds asked Ended bytes fault
 
--- The source has ended, and these are the reports on the trace of which its bytes are the text. Not all verdicts are final.
-abbrev pub AreOpenReports : Bounds → Asked → Type 0 → List ℕ → ByCriterion Report → Type 0
-AreOpenReports bounds asked Ended bytes reports =
-    Ended × AreReportsOf bounds asked bytes reports × (any_open (told_verdicts reports) ≡ true)
+-- The source has ended, and these are the reports on the trace of which its bytes are the text. On no beginning of its history are all
+-- verdicts final, nor on the whole.
+pub record AreOpenReports (bounds : Bounds) (asked : Asked) (Ended : Type 0) (bytes : List ℕ) (reports : ByCriterion Report) : Type 0 where
+  pub ended : Ended
+  pub whole : AreReportsOf bounds asked bytes reports
+  pub open_one : any_open (told_verdicts reports) ≡ true
+  pub before : AreOpenBefore whole.header bounds asked whole.history
 
 -- This answers the bytes that a source told where `--first` is asked for: the reports up to the event at which the last verdict
 -- became final; where none comes, those on the whole trace, or the first fault of the bytes, as without `--first`.
@@ -91,11 +94,13 @@ pub record IsFirstSummed (bounds : Bounds) (asked : Asked) (bytes : List ℕ) (s
   pub first : AreFirstReports bounds asked bytes summed.reports
   pub counts : HasCounts (counted_part (told_verdicts summed.reports) first.history) summed.counts
 
--- The source has ended, and these are the reports and the counts of the trace of which its bytes are the text. Not all verdicts are
--- final.
-abbrev pub IsOpenSummed : Bounds → Asked → Type 0 → List ℕ → Summed → Type 0
-IsOpenSummed bounds asked Ended bytes summed =
-    Ended × IsSummedOf bounds asked bytes summed × (any_open (told_verdicts summed.reports) ≡ true)
+-- The source has ended, and these are the reports and the counts of the trace of which its bytes are the text. On no beginning of its
+-- history are all verdicts final, nor on the whole.
+pub record IsOpenSummed (bounds : Bounds) (asked : Asked) (Ended : Type 0) (bytes : List ℕ) (summed : Summed) : Type 0 where
+  pub ended : Ended
+  pub whole : IsSummedOf bounds asked bytes summed
+  pub open_one : any_open (told_verdicts summed.reports) ≡ true
+  pub before : AreOpenBefore whole.header bounds asked whole.history
 
 -- This answers the bytes as `AnswersFirst` does, and tells the counts too.
 abbrev pub AnswersFirstSummed : Bounds → Asked → Type 0 → List ℕ → Result Summed Fault → Type 0
