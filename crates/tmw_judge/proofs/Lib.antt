@@ -2,6 +2,7 @@ mod CountedParts
 mod Each
 mod FedEvents
 mod FirstAnswers
+mod FirstAt
 mod FirstFed
 mod FirstReports
 mod FirstTaken
