@@ -15,6 +15,8 @@ mod ends;
 #[cfg(test)]
 mod failing;
 #[cfg(test)]
+mod first;
+#[cfg(test)]
 mod kinds;
 #[cfg(test)]
 mod monitor;

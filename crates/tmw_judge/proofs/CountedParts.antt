@@ -26,7 +26,7 @@ use Rattle.tmw_judge.specs.declared.report.Report.{Report}
 use Rattle.tmw_judge.specs.declared.by_criterion.ByCriterion.{ByCriterion}
 use Rattle.tmw_judge.specs.declared.by_criterion.ByCriterion.TheVariants.{Opacity, Strict, Both}
 
-take_whole : (h : List Event) → take (length h) h ≡ h
+pub take_whole : (h : List Event) → take (length h) h ≡ h
 take_whole h = take_all (length h) h (omega arith)
 
 IsFirst-push : (Wrong : Rules → List Event → Type 0) (rules : Rules) (h : List Event) (e : Event) (m : ℕ) → IsFirst Wrong rules h m
@@ -49,7 +49,7 @@ stays rules h e (Undecided m States) w is one two =
     verdict-one rules (h ++ e ∷ []) w (Undecided m States) two (IsFirst-push IsTooMany rules h e m one)
 stays rules h e (Violated m) w is one two = verdict-one rules (h ++ e ∷ []) w (Violated m) two (IsFirst-push IsViolated rules h e m one)
 
-fine_of : (rules : Rules) (h : List Event) (v : Verdict) → is_open v ≡ true → IsVerdict rules h v → AreFine rules h
+pub fine_of : (rules : Rules) (h : List Event) (v : Verdict) → is_open v ≡ true → IsVerdict rules h v → AreFine rules h
 fine_of rules h OpaqueSoFar is judged = judged.1
 fine_of rules h StrictSoFar is judged = judged.1
 fine_of rules h (Malformed m) is judged = absurd (cc)
@@ -67,16 +67,16 @@ first_at Wrong apart rules h e m fine first =
     ] in
     (end, rw (end, take_all-push h e) at first.here)
 
-malformed_apart : (rules : Rules) (h : List Event) → IsMalformed rules h → IsFine rules h → ⊥
+pub malformed_apart : (rules : Rules) (h : List Event) → IsMalformed rules h → IsFine rules h → ⊥
 malformed_apart rules h a b = both_ways _ a.ill_formed (formed-final rules.criterion rules.registers rules.start h b.final)
 
-wide_apart : (rules : Rules) (h : List Event) → IsTooWide rules h → IsFine rules h → ⊥
+pub wide_apart : (rules : Rules) (h : List Event) → IsTooWide rules h → IsFine rules h → ⊥
 wide_apart rules h a b = b.narrow a.wide
 
-many_apart : (rules : Rules) (h : List Event) → IsTooMany rules h → IsFine rules h → ⊥
+pub many_apart : (rules : Rules) (h : List Event) → IsTooMany rules h → IsFine rules h → ⊥
 many_apart rules h a b = b.few a.many
 
-violated_apart : (rules : Rules) (h : List Event) → IsViolated rules h → IsFine rules h → ⊥
+pub violated_apart : (rules : Rules) (h : List Event) → IsViolated rules h → IsFine rules h → ⊥
 violated_apart rules h a b = a.not_final b.final
 
 -- the longer history is counted as far as it is well-formed

@@ -1,5 +1,10 @@
 mod CountedParts
 mod Each
 mod FedEvents
+mod FirstAnswers
+mod FirstAt
+mod FirstFed
+mod FirstReports
+mod FirstTaken
 mod Taken
 mod Taking

@@ -87,7 +87,7 @@ fn judge_counting<S: Source, C: Counting>(
 
 /// Reads a trace's first line, and makes the judges for its history. `Memory` follows a failed allocation for them:
 /// nothing was read after that line.
-fn begin<S: Source, C: Counting>(
+pub fn begin<S: Source, C: Counting>(
     alloc: Global,
     lines: &mut TraceLines,
     source: &mut S,

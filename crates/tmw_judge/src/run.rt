@@ -58,7 +58,7 @@ pub fn run_summary<S: Source, K: Sink>(
 
 /// Writes the reports' lines and returns their exit status. The lines are made before any goes out: after a failed
 /// allocation for one, that fault's line is written instead.
-fn answer_reports<K: Sink>(alloc: Global, sink: &mut K, reports: ByCriterion<Report>) -> u8
+pub fn answer_reports<K: Sink>(alloc: Global, sink: &mut K, reports: ByCriterion<Report>) -> u8
     requires { Each IsOwnVerdict reports }
     ensures { IsPut K.to sink.old sink.new (report_lines reports) (report_status reports) result
         ⊎ IsPut K.to sink.old sink.new (fault_line Memory) 4 result }
@@ -74,7 +74,7 @@ fn answer_reports<K: Sink>(alloc: Global, sink: &mut K, reports: ByCriterion<Rep
 
 /// Writes the reports' lines and that of the counts, and returns the reports' exit status. If memory for a line is
 /// lacking, that fault stands in the place of all.
-fn answer_summed<K: Sink>(alloc: Global, sink: &mut K, summed: Summed) -> u8
+pub fn answer_summed<K: Sink>(alloc: Global, sink: &mut K, summed: Summed) -> u8
     requires { Each IsOwnVerdict summed.reports }
     ensures { IsPut K.to sink.old sink.new (summed_lines summed) (summed_status summed) result
         ⊎ IsPut K.to sink.old sink.new (fault_line Memory) 4 result }

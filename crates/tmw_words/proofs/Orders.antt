@@ -5,10 +5,11 @@ use Rattle.clap.specs.Words.{Row, Text}
 use Rattle.tmw_defs.specs.declared.criterion.Asked.{Asked}
 use Rattle.tmw_defs.specs.declared.criterion.Criterion.{Criterion}
 use Rattle.tmw_monitor.specs.declared.bounds.Bounds.{Bounds}
-use Rattle.tmw_words.specs.Words.{HasBounds, HasFlag, HasOptions, HasTrace, IsOrder, NamesCriteria, NamesCriterion, NamesMemory}
+use Rattle.tmw_words.specs.Words.{HasBounds, HasFlag, HasOptions, HasRunOptions, HasTrace, IsOrder, NamesCriteria, NamesCriterion, NamesMemory}
 use Rattle.tmw_words.specs.declared.bench_options.BenchOptions.{BenchOptions}
 use Rattle.tmw_words.specs.declared.order.Order.{Order}
 use Rattle.tmw_words.specs.declared.order.Order.TheVariants.{Judge, Show, Drive, Bench, Steps}
+use Rattle.tmw_words.specs.declared.run_options.RunOptions.{RunOptions}
 use Rattle.tmw_words.specs.declared.which.Which.{Which}
 
 -- what was found is of one command, and has its rows
@@ -24,19 +25,20 @@ one_name = same_letter 0
 own_rows : (found : Option (Text × List Row)) (name : Text) (rows given : List Row) → found ≡ Some (name, rows) → found ≡ Some (name, given) → given ≡ rows
 own_rows found name rows given is same = ap (λ (o : Option (Text × List Row)). (unwrap_or o (name, rows)).1) (sym same ∙ is)
 
--- without criteria, a flag or bounds `judge` is no order
+-- without criteria, one of the flags or bounds `judge` is no order
 pub judge-lacking : (found : Option (Text × List Row)) (rows : List Row) → found ≡ Some (codes "judge", rows)
-    → ((asked : Asked) (summary : Bool) (bounds : Bounds) → NamesCriteria rows asked → HasFlag (codes "summary") rows summary
-    → HasBounds rows bounds → ⊥)
+    → ((asked : Asked) (summary : Bool) (first : Bool) (bounds : Bounds) → NamesCriteria rows asked → HasFlag (codes "summary") rows summary
+    → HasFlag (codes "first") rows first → HasBounds rows bounds → ⊥)
     → (order : Order) → IsOrder found order → ⊥
-judge-lacking found rows is none (Judge bounds asked summary) (given, same, named, flagged, has) =
+judge-lacking found rows is none (Judge bounds asked summary first) (given, same, named, flagged, ends, has) =
     let own = own_rows found (codes "judge") rows given is same in
-    none asked summary bounds (subst (λ (r : List Row). NamesCriteria r asked) own named)
-    (subst (λ (r : List Row). HasFlag (codes "summary") r summary) own flagged) (subst (λ (r : List Row). HasBounds r bounds) own has)
-judge-lacking found rows is none (Drive memory trace bounds) (given, same, named, traced, has) =
+    none asked summary first bounds (subst (λ (r : List Row). NamesCriteria r asked) own named)
+    (subst (λ (r : List Row). HasFlag (codes "summary") r summary) own flagged) (subst (λ (r : List Row). HasFlag (codes "first") r first) own ends)
+    (subst (λ (r : List Row). HasBounds r bounds) own has)
+judge-lacking found rows is none (Drive memory written bounds) (given, same, named, wrote, has) =
     let first = one_name found (codes "judge") (codes "drive") rows given is same in
     absurd (omega (arith, first))
-judge-lacking found rows is none (Bench memory trace options) (given, same, named, traced, has) =
+judge-lacking found rows is none (Bench memory written options) (given, same, named, wrote, has) =
     let first = one_name found (codes "judge") (codes "bench") rows given is same in
     absurd (omega (arith, first))
 judge-lacking found rows is none (Show criterion trace bounds) (given, same, named, traced, has) =
@@ -54,31 +56,31 @@ show-lacking found rows is none (Show criterion trace bounds) (given, same, name
     let own = own_rows found (codes "show") rows given is same in
     none criterion trace bounds (subst (λ (r : List Row). NamesCriterion r criterion) own named) (subst (λ (r : List Row). HasTrace r trace) own traced)
     (subst (λ (r : List Row). HasBounds r bounds) own has)
-show-lacking found rows is none (Judge bounds asked summary) (given, same, named, flagged, has) =
+show-lacking found rows is none (Judge bounds asked summary first) (given, same, named, flagged, ends, has) =
     let letter = same_letter 0 found (codes "show") (codes "judge") rows given is same in
     absurd (omega (arith, letter))
-show-lacking found rows is none (Drive memory trace bounds) (given, same, named, traced, has) =
+show-lacking found rows is none (Drive memory written bounds) (given, same, named, wrote, has) =
     let letter = same_letter 0 found (codes "show") (codes "drive") rows given is same in
     absurd (omega (arith, letter))
-show-lacking found rows is none (Bench memory trace options) (given, same, named, traced, has) =
+show-lacking found rows is none (Bench memory written options) (given, same, named, wrote, has) =
     let letter = same_letter 0 found (codes "show") (codes "bench") rows given is same in
     absurd (omega (arith, letter))
 show-lacking found rows is none Steps (given, same) =
     let letter = same_letter 1 found (codes "show") (codes "steps") rows given is same in
     absurd (omega (arith, letter))
 
--- without a memory, a flag or bounds `drive` is no order
+-- without a memory, one of the flags or bounds `drive` is no order
 pub drive-lacking : (found : Option (Text × List Row)) (rows : List Row) → found ≡ Some (codes "drive", rows)
-    → ((memory : Which) (trace : Bool) (bounds : Bounds) → NamesMemory rows memory → HasTrace rows trace → HasBounds rows bounds → ⊥)
+    → ((memory : Which) (written : RunOptions) (bounds : Bounds) → NamesMemory rows memory → HasRunOptions rows written → HasBounds rows bounds → ⊥)
     → (order : Order) → IsOrder found order → ⊥
-drive-lacking found rows is none (Drive memory trace bounds) (given, same, named, traced, has) =
+drive-lacking found rows is none (Drive memory written bounds) (given, same, named, wrote, has) =
     let own = own_rows found (codes "drive") rows given is same in
-    none memory trace bounds (subst (λ (r : List Row). NamesMemory r memory) own named) (subst (λ (r : List Row). HasTrace r trace) own traced)
+    none memory written bounds (subst (λ (r : List Row). NamesMemory r memory) own named) (subst (λ (r : List Row). HasRunOptions r written) own wrote)
     (subst (λ (r : List Row). HasBounds r bounds) own has)
-drive-lacking found rows is none (Judge bounds asked summary) (given, same, named, flagged, has) =
+drive-lacking found rows is none (Judge bounds asked summary first) (given, same, named, flagged, ends, has) =
     let first = one_name found (codes "drive") (codes "judge") rows given is same in
     absurd (omega (arith, first))
-drive-lacking found rows is none (Bench memory trace options) (given, same, named, traced, has) =
+drive-lacking found rows is none (Bench memory written options) (given, same, named, wrote, has) =
     let first = one_name found (codes "drive") (codes "bench") rows given is same in
     absurd (omega (arith, first))
 drive-lacking found rows is none (Show criterion trace bounds) (given, same, named, traced, has) =
@@ -88,18 +90,18 @@ drive-lacking found rows is none Steps (given, same) =
     let first = one_name found (codes "drive") (codes "steps") rows given is same in
     absurd (omega (arith, first))
 
--- without a memory, a flag or options `bench` is no order
+-- without a memory, one of the flags or options `bench` is no order
 pub bench-lacking : (found : Option (Text × List Row)) (rows : List Row) → found ≡ Some (codes "bench", rows)
-    → ((memory : Which) (trace : Bool) (options : BenchOptions) → NamesMemory rows memory → HasTrace rows trace → HasOptions rows options → ⊥)
+    → ((memory : Which) (written : RunOptions) (options : BenchOptions) → NamesMemory rows memory → HasRunOptions rows written → HasOptions rows options → ⊥)
     → (order : Order) → IsOrder found order → ⊥
-bench-lacking found rows is none (Bench memory trace options) (given, same, named, traced, has) =
+bench-lacking found rows is none (Bench memory written options) (given, same, named, wrote, has) =
     let own = own_rows found (codes "bench") rows given is same in
-    none memory trace options (subst (λ (r : List Row). NamesMemory r memory) own named) (subst (λ (r : List Row). HasTrace r trace) own traced)
+    none memory written options (subst (λ (r : List Row). NamesMemory r memory) own named) (subst (λ (r : List Row). HasRunOptions r written) own wrote)
     (subst (λ (r : List Row). HasOptions r options) own has)
-bench-lacking found rows is none (Judge bounds asked summary) (given, same, named, flagged, has) =
+bench-lacking found rows is none (Judge bounds asked summary first) (given, same, named, flagged, ends, has) =
     let first = one_name found (codes "bench") (codes "judge") rows given is same in
     absurd (omega (arith, first))
-bench-lacking found rows is none (Drive memory trace bounds) (given, same, named, traced, has) =
+bench-lacking found rows is none (Drive memory written bounds) (given, same, named, wrote, has) =
     let first = one_name found (codes "bench") (codes "drive") rows given is same in
     absurd (omega (arith, first))
 bench-lacking found rows is none (Show criterion trace bounds) (given, same, named, traced, has) =

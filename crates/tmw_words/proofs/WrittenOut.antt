@@ -72,6 +72,38 @@ summary_of_show : kinds_of (said (codes "show" ∷ codes "--summary" ∷ [])) �
 unfolding clap_on_literals
 summary_of_show = refl
 
+-- whether `judge` ends at the first final verdict
+abbrev first_given : List Text → Option (Option Text)
+first_given words = option_map (λ p. one_of (codes "first") p.1) (subcommand_of program (help_as_flag (said (codes "judge" ∷ words))))
+
+all_by_default : first_given (codes "--summary" ∷ []) ≡ Some (Some (codes "false"))
+unfolding clap_on_literals
+all_by_default = refl
+
+first_asked_for : first_given (codes "--first" ∷ codes "--criterion=both" ∷ []) ≡ Some (Some (codes "true"))
+unfolding clap_on_literals
+first_asked_for = refl
+
+first_without_summary : summary_of (codes "--first" ∷ []) ≡ Some (Some (codes "false"))
+unfolding clap_on_literals
+first_without_summary = refl
+
+first_with_summary : kinds_of (said (codes "judge" ∷ codes "--first" ∷ codes "--summary" ∷ [])) ≡ []
+unfolding clap_on_literals
+first_with_summary = refl
+
+first_twice : kinds_of (said (codes "judge" ∷ codes "--first" ∷ codes "--first" ∷ [])) ≡ ArgumentConflict ∷ []
+unfolding clap_on_literals
+first_twice = refl
+
+first_with_value : kinds_of (said (codes "judge" ∷ codes "--first=1" ∷ [])) ≡ TooManyValues ∷ []
+unfolding clap_on_literals
+first_with_value = refl
+
+first_of_show : kinds_of (said (codes "show" ∷ codes "--first" ∷ [])) ≡ UnknownArgument ∷ []
+unfolding clap_on_literals
+first_of_show = refl
+
 -- by which criteria `judge` judges
 abbrev the_criteria : List Text → Option (Option Text)
 the_criteria words = option_map (λ p. first_of (codes "criterion") p.1) (subcommand_of program (help_as_flag (said (codes "judge" ∷ words))))
@@ -108,7 +140,7 @@ criterion_of_drive : kinds_of (said (codes "drive" ∷ codes "--criterion" ∷ c
 unfolding clap_on_literals
 criterion_of_drive = refl
 
--- `drive` has four rows: its memory's, its flag's, and those of its bounds
+-- `drive` has six rows: its memory's, its flags', and those of its bounds
 abbrev option_of : Text → List Text → Option (Option Text)
 option_of name words = option_map (λ p. one_of name p.1) (subcommand_of program (help_as_flag (said (codes "drive" ∷ words))))
 
@@ -175,6 +207,34 @@ trace_with_value : kinds_of (said (codes "drive" ∷ codes "--trace=true" ∷ []
 unfolding clap_on_literals
 trace_with_value = refl
 
+all_by_trace : option_of (codes "trace-only") (codes "--trace" ∷ []) ≡ Some (Some (codes "false"))
+unfolding clap_on_literals
+all_by_trace = refl
+
+trace_only_given : option_of (codes "trace-only") (codes "--trace-only" ∷ []) ≡ Some (Some (codes "true"))
+unfolding clap_on_literals
+trace_only_given = refl
+
+trace_only_is_no_trace : option_of (codes "trace") (codes "--trace-only" ∷ []) ≡ Some (Some (codes "false"))
+unfolding clap_on_literals
+trace_only_is_no_trace = refl
+
+summary_of_drive : option_of (codes "summary") (codes "--trace" ∷ codes "--summary" ∷ []) ≡ Some (Some (codes "true"))
+unfolding clap_on_literals
+summary_of_drive = refl
+
+no_summary_of_drive : option_of (codes "summary") (codes "--trace" ∷ []) ≡ Some (Some (codes "false"))
+unfolding clap_on_literals
+no_summary_of_drive = refl
+
+all_flags_of_drive : kinds_of (said (codes "drive" ∷ codes "--trace" ∷ codes "--trace-only" ∷ codes "--summary" ∷ [])) ≡ []
+unfolding clap_on_literals
+all_flags_of_drive = refl
+
+first_of_drive : kinds_of (said (codes "drive" ∷ codes "--first" ∷ [])) ≡ UnknownArgument ∷ []
+unfolding clap_on_literals
+first_of_drive = refl
+
 both_bounds : kinds_of (said (codes "drive" ∷ codes "--states=2" ∷ codes "--window" ∷ codes "3" ∷ [])) ≡ []
 unfolding clap_on_literals
 both_bounds = refl
@@ -187,7 +247,7 @@ states_of_drive : option_of (codes "states") (codes "--states=2" ∷ codes "--wi
 unfolding clap_on_literals
 states_of_drive = refl
 
--- `bench` has nine rows: those of `drive`, its own flags', and those of its counts
+-- `bench` has eleven rows: those of `drive`, its own flags', and those of its counts
 abbrev option_of_bench : Text → List Text → Option (Option Text)
 option_of_bench name words = option_map (λ p. one_of name p.1) (subcommand_of program (help_as_flag (said (codes "bench" ∷ words))))
 
@@ -230,6 +290,18 @@ quiet_by_none = refl
 quiet_given : option_of_bench (codes "quiet") (codes "--quiet" ∷ codes "--rounds=3" ∷ []) ≡ Some (Some (codes "true"))
 unfolding clap_on_literals
 quiet_given = refl
+
+trace_only_of_bench : option_of_bench (codes "trace-only") (codes "--trace-only" ∷ codes "--show" ∷ []) ≡ Some (Some (codes "true"))
+unfolding clap_on_literals
+trace_only_of_bench = refl
+
+summary_of_bench : option_of_bench (codes "summary") (codes "--summary" ∷ codes "--quiet" ∷ []) ≡ Some (Some (codes "true"))
+unfolding clap_on_literals
+summary_of_bench = refl
+
+all_flags_of_bench : kinds_of (said (codes "bench" ∷ codes "--summary" ∷ codes "--trace-only" ∷ codes "--show" ∷ codes "--trace" ∷ [])) ≡ []
+unfolding clap_on_literals
+all_flags_of_bench = refl
 
 show_of_drive : kinds_of (said (codes "drive" ∷ codes "--show" ∷ [])) ≡ UnknownArgument ∷ []
 unfolding clap_on_literals

@@ -81,9 +81,13 @@ flag_rule name = record (new_rule name) { long = Some name; action = Some SetTru
 abbrev pub with_flag : Text → App → App
 with_flag name app = with_rule app (flag_rule name)
 
--- with a memory, one of these, and with `--trace`
+-- with the three flags that say what is written of a run
+abbrev pub with_run_flags : App → App
+with_run_flags app = with_flag (codes "summary") (with_flag (codes "trace-only") (with_flag (codes "trace") app))
+
+-- with a memory, one of these, and with what is written of a run on it
 abbrev pub with_memory : ValueParser → App → App
-with_memory memories app = with_flag (codes "trace") (with_rule app (value_rule (codes "memory") memories (memory_name NoRec)))
+with_memory memories app = with_run_flags (with_rule app (value_rule (codes "memory") memories (memory_name NoRec)))
 
 -- with the three counts of a bench
 abbrev pub with_counts : App → App
@@ -93,7 +97,8 @@ with_counts app = with_rule (with_rule (with_rule app (value_rule (codes "ring")
 
 -- `judge`, by one of these criteria
 abbrev pub judge_among : ValueParser → App
-judge_among criteria = with_bounds (with_flag (codes "summary") (with_criterion criteria (new_app (codes "judge"))))
+judge_among criteria =
+    with_bounds (with_flag (codes "first") (with_flag (codes "summary") (with_criterion criteria (new_app (codes "judge")))))
 
 -- `show`, by one of these criteria
 abbrev pub show_among : ValueParser → App

@@ -14,6 +14,7 @@ use Rattle.tmw_words.specs.Program.{asked_name, criterion_name, memory_name, pro
 use Rattle.tmw_words.specs.declared.bench_options.BenchOptions.{BenchOptions}
 use Rattle.tmw_words.specs.declared.order.Order.{Order}
 use Rattle.tmw_words.specs.declared.order.Order.TheVariants.{Judge, Show, Drive, Bench, Steps}
+use Rattle.tmw_words.specs.declared.run_options.RunOptions.{RunOptions}
 use Rattle.tmw_words.specs.declared.which.Which.{Which}
 
 -- `help` stands in place of a command, behind the program's name.
@@ -70,17 +71,23 @@ pub record HasOptions (rows : List Row) (options : BenchOptions) : Type 0 where
   pub show : HasFlag (codes "show") rows options.show
   pub quiet : HasFlag (codes "quiet") rows options.quiet
 
+-- The words have each of the three flags that say what is written of a run, or have it not.
+pub record HasRunOptions (rows : List Row) (written : RunOptions) : Type 0 where
+  pub trace : HasTrace rows written.trace
+  pub trace_only : HasFlag (codes "trace-only") rows written.trace_only
+  pub summary : HasFlag (codes "summary") rows written.summary
+
 -- This is the order of a command and of what was found for its options.
 abbrev pub IsOrder : Option (Text × List Row) → Order → Type 0
-IsOrder found (Judge bounds asked summary) =
+IsOrder found (Judge bounds asked summary first) =
     (rows : List Row) × (found ≡ Some (codes "judge", rows)) × NamesCriteria rows asked × HasFlag (codes "summary") rows summary
-    × HasBounds rows bounds
+    × HasFlag (codes "first") rows first × HasBounds rows bounds
 IsOrder found (Show criterion trace bounds) =
     (rows : List Row) × (found ≡ Some (codes "show", rows)) × NamesCriterion rows criterion × HasTrace rows trace × HasBounds rows bounds
-IsOrder found (Drive memory trace bounds) =
-    (rows : List Row) × (found ≡ Some (codes "drive", rows)) × NamesMemory rows memory × HasTrace rows trace × HasBounds rows bounds
-IsOrder found (Bench memory trace options) =
-    (rows : List Row) × (found ≡ Some (codes "bench", rows)) × NamesMemory rows memory × HasTrace rows trace × HasOptions rows options
+IsOrder found (Drive memory written bounds) =
+    (rows : List Row) × (found ≡ Some (codes "drive", rows)) × NamesMemory rows memory × HasRunOptions rows written × HasBounds rows bounds
+IsOrder found (Bench memory written options) =
+    (rows : List Row) × (found ≡ Some (codes "bench", rows)) × NamesMemory rows memory × HasRunOptions rows written × HasOptions rows options
 IsOrder found Steps = (rows : List Row) × (found ≡ Some (codes "steps", rows))
 
 -- The words are right, and ask for this order.

@@ -1,4 +1,5 @@
 use crate::bench_options::BenchOptions;
+use crate::run_options::RunOptions;
 use crate::which::Which;
 use tmw_defs::{Asked, Criterion};
 use tmw_monitor::Bounds;
@@ -7,11 +8,12 @@ use tmw_monitor::Bounds;
 #[derive(Clone, Copy, PartialEq, Eq, Debug)]
 pub enum Order {
     /// To judge the trace on standard input within these bounds, by these criteria. By `summary` its transactions,
-    /// overlaps and cuts are counted too.
+    /// overlaps and cuts are counted too. By `first` it is read up to the event at which its verdicts are final.
     Judge {
         bounds: Bounds,
         asked: Asked,
         summary: bool,
+        first: bool,
     },
     /// To judge the trace on standard input by this criterion within these bounds, and to show where it went wrong: its
     /// last window, drawn, or by `trace` as traces of its own.
@@ -20,19 +22,19 @@ pub enum Order {
         trace: bool,
         bounds: Bounds,
     },
-    /// To run the workload on standard input on this memory, and to judge the run within these bounds. By `trace` its
-    /// trace is written before the report.
+    /// To run the workload on standard input on this memory, and to judge the run within these bounds. The options say
+    /// what is written of it.
     Drive {
         memory: Which,
-        trace: bool,
+        written: RunOptions,
         bounds: Bounds,
     },
     /// To run the workload on standard input in threads on this memory, as these options say, and to judge what they
-    /// record. By `trace` its trace is written before the report. By `show` its last window is shown, drawn, or with
-    /// `trace` as traces.
+    /// record. `written` says what is written of it. By `show` its last window is shown, drawn, or with `trace` as
+    /// traces.
     Bench {
         memory: Which,
-        trace: bool,
+        written: RunOptions,
         options: BenchOptions,
     },
     /// To take the ring's steps that standard input lists.

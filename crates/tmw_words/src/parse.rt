@@ -3,9 +3,10 @@ ghost use Rattle.clap.specs.Walk.{texts};
 ghost use Rattle.clap.specs.Words.{Text, app_of, found_of, kind_of, rows_of, subcommand_rows_of};
 ghost use Rattle.tmw_words.specs.Program.{IsProgram};
 ghost use Rattle.tmw_words.specs.Reading.{FailsAs};
-ghost use Rattle.tmw_words.specs.Words.{Asks, Gives, HasBounds, HasFlag, HasOptions, HasTrace, IsOrder, NamesCriteria, NamesCriterion, NamesMemory, help_as_flag, names_help};
+ghost use Rattle.tmw_words.specs.Words.{Asks, Gives, HasBounds, HasFlag, HasOptions, HasRunOptions, HasTrace, IsOrder, NamesCriteria, NamesCriterion, NamesMemory, help_as_flag, names_help};
 ghost use Rattle.tmw_words.specs.declared.bench_options.BenchOptions.{BenchOptions};
 ghost use Rattle.tmw_words.specs.declared.order.Order.{Order};
+ghost use Rattle.tmw_words.specs.declared.run_options.RunOptions.{RunOptions};
 ghost use Rattle.tmw_words.specs.declared.which.Which.{Which};
 ghost use Rattle.tmw_defs.specs.declared.criterion.Asked.{Asked};
 ghost use Rattle.tmw_defs.specs.declared.criterion.Criterion.{Criterion};
@@ -15,6 +16,7 @@ use crate::asked::{asked_named, criterion_named};
 use crate::bench_options::BenchOptions;
 use crate::order::Order;
 use crate::program::new_program;
+use crate::run_options::RunOptions;
 use crate::which::Which;
 use clap::error::ErrorKind;
 use clap::{ArgMatches, Command, Error};
@@ -113,6 +115,9 @@ fn judge_of(judge: &ArgMatches<'_>) -> Option<Order>
     let Some(summary) = flag_of(judge, "summary") else {
         return None;
     };
+    let Some(first) = flag_of(judge, "first") else {
+        return None;
+    };
     let Some(bounds) = bounds_of(judge) else {
         return None;
     };
@@ -120,6 +125,7 @@ fn judge_of(judge: &ArgMatches<'_>) -> Option<Order>
         bounds,
         asked,
         summary,
+        first,
     })
 }
 
@@ -185,7 +191,10 @@ fn drive_of(drive: &ArgMatches<'_>) -> Option<Order>
     ensures none { IfNone result
         ((order : Order) → IsOrder (Some (codes "drive", rows_of (found_of drive.now))) order → ⊥) }
 {
-    let Some((memory, trace)) = memory_and_trace_of(drive) else {
+    let Some(memory) = memory_of(drive) else {
+        return None;
+    };
+    let Some(written) = run_options_of(drive) else {
         return None;
     };
     let Some(bounds) = bounds_of(drive) else {
@@ -193,7 +202,7 @@ fn drive_of(drive: &ArgMatches<'_>) -> Option<Order>
     };
     Some(Order::Drive {
         memory,
-        trace,
+        written,
         bounds,
     })
 }
@@ -204,7 +213,10 @@ fn bench_of(bench: &ArgMatches<'_>) -> Option<Order>
     ensures none { IfNone result
         ((order : Order) → IsOrder (Some (codes "bench", rows_of (found_of bench.now))) order → ⊥) }
 {
-    let Some((memory, trace)) = memory_and_trace_of(bench) else {
+    let Some(memory) = memory_of(bench) else {
+        return None;
+    };
+    let Some(written) = run_options_of(bench) else {
         return None;
     };
     let Some(options) = options_of(bench) else {
@@ -212,19 +224,16 @@ fn bench_of(bench: &ArgMatches<'_>) -> Option<Order>
     };
     Some(Order::Bench {
         memory,
-        trace,
+        written,
         options,
     })
 }
 
-/// The memory that the matches of a command name, and whether they have the flag `--trace`.
-fn memory_and_trace_of(matches: &ArgMatches<'_>) -> Option<(Which, bool)>
-    ensures some { IfSome result
-        (λ found. NamesMemory (rows_of (found_of matches.now)) found.0
-        × HasTrace (rows_of (found_of matches.now)) found.1) }
+/// The memory that the matches of a command name.
+fn memory_of(matches: &ArgMatches<'_>) -> Option<Which>
+    ensures some { IfSome result (NamesMemory (rows_of (found_of matches.now))) }
     ensures none { IfNone result
-        ((memory : Which) (trace : Bool) → NamesMemory (rows_of (found_of matches.now)) memory
-        → HasTrace (rows_of (found_of matches.now)) trace → ⊥) }
+        ((memory : Which) → NamesMemory (rows_of (found_of matches.now)) memory → ⊥) }
 {
     let Some(name) = matches.get_str("memory") else {
         return None;
@@ -232,10 +241,29 @@ fn memory_and_trace_of(matches: &ArgMatches<'_>) -> Option<(Which, bool)>
     let Some(memory) = Which::named(name) else {
         return None;
     };
+    Some(memory)
+}
+
+/// What the flags that the matches of a command have say is written of a run.
+fn run_options_of(matches: &ArgMatches<'_>) -> Option<RunOptions>
+    ensures some { IfSome result (HasRunOptions (rows_of (found_of matches.now))) }
+    ensures none { IfNone result
+        ((written : RunOptions) → HasRunOptions (rows_of (found_of matches.now)) written → ⊥) }
+{
     let Some(trace) = flag_of(matches, "trace") else {
         return None;
     };
-    Some((memory, trace))
+    let Some(trace_only) = flag_of(matches, "trace-only") else {
+        return None;
+    };
+    let Some(summary) = flag_of(matches, "summary") else {
+        return None;
+    };
+    Some(RunOptions {
+        trace,
+        trace_only,
+        summary,
+    })
 }
 
 /// Whether the matches of a command have this flag.

@@ -1,7 +1,7 @@
 ghost use Rattle.std.specs.Prelude.{◌≡◌, IfOk, IsOkAnd, codes, false};
 ghost use Rattle.clap.specs.Words.{AddsSubcommand, app_of, new_app, rule_of};
 ghost use Rattle.clap.specs.declared.builder.value_parser.ValueParser.TheVariants.{Names};
-ghost use Rattle.tmw_words.specs.Program.{IsProgram, bench_among, count_to, drive_among, flag_rule, judge_among, one_to, show_among, steps, value_rule, wanting, with_bounds, with_counts, with_criterion, with_flag, with_memory};
+ghost use Rattle.tmw_words.specs.Program.{IsProgram, bench_among, count_to, drive_among, flag_rule, judge_among, one_to, show_among, steps, value_rule, wanting, with_bounds, with_counts, with_criterion, with_flag, with_memory, with_run_flags};
 
 use clap::builder::ValueParser;
 use clap::{Arg, ArgAction, Command, value_parser};
@@ -22,11 +22,15 @@ const JUDGE_CRITERION_HELP: &str = "By opacity, strict or both";
 
 const SUMMARY_HELP: &str = "Also count transactions, overlaps and cuts";
 
+const FIRST_HELP: &str = "End at the first final verdict";
+
 const SHOW_CRITERION_HELP: &str = "By opacity or strict, not both";
 
 const MEMORY_HELP: &str = "Memory: norec, lock or torn (faulty)";
 
 const TRACE_HELP: &str = "Write the run's trace before the report";
+
+const TRACE_ONLY_HELP: &str = "Write only the run's trace";
 
 const SHOW_TRACE_HELP: &str = "Write only the window, as traces";
 
@@ -66,6 +70,9 @@ Writes one line of JSON when the input has ended, with `both` one per criterion:
 the verdict, how many events there are, and at which of them it went wrong.
 --summary adds a line of counts up to that event, a malformed one left out, or
 to the last: transactions, how they ended, overlaps, cuts, the widest window.
+--first ends at the event that makes the verdict violated, undecided or
+malformed, with `both` both of them, and reads no further. So a long run stops
+at its violation: `producer | tmwatch judge --first`.
 
 A cut is where no transaction is open, and a window begins at a cut. One that
 passes its bound makes the verdict `undecided`.
@@ -98,7 +105,9 @@ of transactions per thread, and the order in which threads make their calls:
   {\"registers\":1,\"scripts\":[[[\"W 0 5\",\"T\"]]],\"order\":[0,0]}
 
 Writes the verdict by opacity, as one line of JSON; with --trace the run's trace
-before it.
+before it, and with --summary the counts of `judge --summary` behind it. With
+--trace-only it writes the run's trace and nothing else, whatever other flags
+there are, so that `judge` or `show` can read it.
 
 Exit status: 0 opaque so far, 1 violated, 2 undecided,
 4 for a fault, which one line on standard output names.
@@ -110,10 +119,13 @@ const BENCH_HELP: &str =
 used: each script has its own thread.
 
 Writes the verdict by opacity, as one line of JSON, then how each thread ended;
-with --trace the run's trace before both. With --show it writes what `show`
-writes of the run, then the ends; with --show and --trace it writes only what
-`show --trace` writes. A thread that has found the ring full as often as
---patience says stops; its end is `full`.
+with --trace the run's trace before both, and with --summary the counts of
+`judge --summary` behind both. With --show it writes what `show` writes of the
+run, then the ends, and the counts if asked for; with --show and --trace it
+writes only what `show --trace` writes. With --trace-only it writes the run's
+trace and nothing else, whatever other flags there are, so that `judge` or
+`show` can read it. A thread that has found the ring full as often as --patience
+says stops; its end is `full`.
 
 Exit status: 0 opaque so far, 1 violated, 2 undecided,
 4 for a fault, which one line on standard output names.
@@ -172,7 +184,8 @@ fn new_judge<'a>(alloc: Global, criteria: &'a [&'a str]) -> Result<Command<'a>, 
     let about = "Judge a trace by opacity or strict serializability";
     let judge = described(alloc, "judge", about, JUDGE_HELP);
     let judged = with_criterion(alloc, judge, criteria, JUDGE_CRITERION_HELP)?;
-    with_bounds(alloc, with_flag(alloc, judged, "summary", SUMMARY_HELP)?)
+    let counted = with_flag(alloc, judged, "summary", SUMMARY_HELP)?;
+    with_bounds(alloc, with_flag(alloc, counted, "first", FIRST_HELP)?)
 }
 
 /// The command `show`, by criteria of these names.
@@ -257,7 +270,7 @@ fn with_flag<'a>(
     command.arg(flag_option(alloc, name, help))
 }
 
-/// The command with a memory, one of these names, and with the flag `--trace` as options.
+/// The command with a memory, one of these names, and with what is written of a run on it as options.
 fn with_memory<'a>(
     alloc: Global,
     command: Command<'a>,
@@ -274,7 +287,16 @@ fn with_memory<'a>(
         "norec",
         MEMORY_HELP,
     );
-    with_flag(alloc, command.arg(memory)?, "trace", TRACE_HELP)
+    with_run_flags(alloc, command.arg(memory)?)
+}
+
+/// The command with the three flags that say what is written of a run as options.
+fn with_run_flags<'a>(alloc: Global, command: Command<'a>) -> Result<Command<'a>, AllocError>
+    ensures { IfOk result (λ given. app_of given ≡ with_run_flags (app_of command.entry)) }
+{
+    let traced = with_flag(alloc, command, "trace", TRACE_HELP)?;
+    let alone = with_flag(alloc, traced, "trace-only", TRACE_ONLY_HELP)?;
+    with_flag(alloc, alone, "summary", SUMMARY_HELP)
 }
 
 /// The command with the three counts of a bench as options.

@@ -1,6 +1,8 @@
 -- The last window of the log is kept.
 use Rattle.std.proofs.Common.{◌≡◌, None, subst, sym}
 use Rattle.tmw_bench.specs.Benched.{HasBenched}
+use Rattle.tmw_counts.specs.Parts.{part_by}
+use Rattle.tmw_counts.specs.Summaries.{IsSummary}
 use Rattle.tmw_defs.proofs.VerdictProof.{verdict-one}
 use Rattle.tmw_defs.specs.Opaque.{zeros}
 use Rattle.tmw_defs.specs.declared.verdict.Verdict.{Verdict}
@@ -24,7 +26,7 @@ returns-clause-ok g c =
     let same = sym c.monitor.ensures in
     let reason = none-told rules log carried.rest.front.monitor.verdict done.benched.formed in
     let shown = c.finish.ensures rules log (subst (λ (m : Monitor). Fits rules log m) same done.kept.fits)
-    (subst (λ (m : Monitor). KeepsShown rules log m.verdict carried.kept.window) same done.kept.keeps_it.0)
+    (subst (λ (m : Monitor). KeepsShown rules log m.verdict carried.kept.window) same done.kept.keeps_it)
     (subst (λ (m : Monitor). IsReason rules log m.verdict None) same reason) in
     let verdict : carried.rest.front.monitor.verdict ≡ c.finish.result.verdict =
     verdict-one rules log carried.rest.front.monitor.verdict c.finish.result.verdict done.kept.fits.judged shown.judged in record {
@@ -32,4 +34,5 @@ returns-clause-ok g c =
       benched = subst (λ (v : Verdict). HasBenched gives workload.registers scripts c.args.settings log v carried.ends.items carried.rounds) verdict
           done.benched;
       shown = shown;
+      summary = subst (λ (v : Verdict). IsSummary (part_by v log) c.summary.result) verdict c.summary.ensures;
     }

@@ -7,9 +7,14 @@ use Rattle.tmw_words.proofs.parse.drive_of.Goals as goal
 pub returns-in_default-clause-none : goal.returns-in_default-clause-none
 returns-in_default-clause-none c =
     drive-lacking (Some (codes "drive", rows_of (found_of c.args.drive.now))) (rows_of (found_of c.args.drive.now)) refl
-    (λ memory trace bounds named traced has. c.in_default.ensures.none memory trace named traced)
+    (λ memory written bounds named wrote has. c.in_default.ensures.none memory named)
+
+pub returns-in_default-run_options_of-clause-none : goal.returns-in_default-run_options_of-clause-none
+returns-in_default-run_options_of-clause-none c =
+    drive-lacking (Some (codes "drive", rows_of (found_of c.args.drive.now))) (rows_of (found_of c.args.drive.now)) refl
+    (λ memory written bounds named wrote has. c.in_default-run_options_of.ensures.none written wrote)
 
 pub returns-in_default-bounds_of-clause-none : goal.returns-in_default-bounds_of-clause-none
 returns-in_default-bounds_of-clause-none c =
     drive-lacking (Some (codes "drive", rows_of (found_of c.args.drive.now))) (rows_of (found_of c.args.drive.now)) refl
-    (λ memory trace bounds named traced has. c.in_default-bounds_of.ensures.none bounds has)
+    (λ memory written bounds named wrote has. c.in_default-bounds_of.ensures.none bounds has)

@@ -5,6 +5,5 @@ use Rattle.tmw_bench.proofs.command.answer.answer_run.Goals as goal
 pub returns-in-Ok-put_driven : goal.returns-in-Ok-put_driven
 returns-in-Ok-put_driven g c =
     let lines = c.as_bytes.ensures.value ∙ c.in-Ok.ensures in
-    let count = c.args.run.now.driven.outcome.log.ok.0 in
-    let put = rw (lines, c.len.ensures, count, c.deref.ensures.value) at c.in-Ok-put_driven.ensures in
-    inl (inl (record { line = put.0; well = put.1; exit = c.status_of.ensures }))
+    let put = rw lines at c.in-Ok-put_driven.ensures in
+    inl (inl (record { line = put.0; well = put.1; exit = c.status_of.ensures }), ?)

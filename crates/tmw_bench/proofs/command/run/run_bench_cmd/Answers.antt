@@ -13,7 +13,7 @@ use Rattle.tmw_bench.proofs.command.run.run_bench_cmd.Goals as goal
 pub answer_run-requires : goal.answer_run-requires
 answer_run-requires g c = λ strict.
     let made = c.in-Ok.ensures.right.2.1 in
-    let told = subst (IsVerdict (rules_of made.registers zeros c.args.plan.settings.bounds) c.in-Ok.found.driven.outcome.log.items) strict made.benched.judged in
+    let told = subst (IsVerdict (rules_of made.registers zeros c.args.plan.settings.bounds) c.in-Ok.found.driven.outcome.log.items) strict made.benched.benched.judged in
     let bad : Opacity ≡ Strict = told.0 in
     absurd (cc)
 
@@ -33,8 +33,14 @@ returns-in-Ok g c =
     let told = c.in-Ok.ensures.right in
     let is : asks_for_log c.args.plan.flags ≡ true = search rules in
     rw is (elim c.answer_run.ensures [
-      | inl put ↦ record { bytes = told.0; answer = Ok c.in-Ok.found; told = told.1; right = told.2; failures = c.in-Ok.ensures.failures; put = put }
-      | inr put ↦ record { bytes = told.0; answer = Err Memory; told = told.1; right = tt; failures = c.in-Ok.ensures.failures; put = put }
+      | inl done ↦ record {
+        run = record { bytes = told.0; answer = Ok c.in-Ok.found; told = told.1; right = told.2; failures = c.in-Ok.ensures.failures; put = done.0 };
+        remarked = done.1;
+      }
+      | inr done ↦ record {
+        run = record { bytes = told.0; answer = Err Memory; told = told.1; right = tt; failures = c.in-Ok.ensures.failures; put = done.0 };
+        remarked = done.1;
+      }
     ])
 
 pub returns-in-Ok-hunt_source : goal.returns-in-Ok-hunt_source
@@ -42,7 +48,19 @@ returns-in-Ok-hunt_source g c =
     let told = c.in-Ok-hunt_source.ensures.right in
     let is : asks_for_log c.args.plan.flags ≡ false = search rules in
     rw is (elim c.answer_hunt.ensures [
-      | inl put ↦
-          record { bytes = told.0; answer = Ok c.in-Ok-hunt_source.found; told = told.1; right = told.2; failures = c.in-Ok-hunt_source.ensures.failures; put = put }
-      | inr put ↦ record { bytes = told.0; answer = Err Memory; told = told.1; right = tt; failures = c.in-Ok-hunt_source.ensures.failures; put = put }
+      | inl done ↦ record {
+        run = record {
+          bytes = told.0;
+          answer = Ok c.in-Ok-hunt_source.found;
+          told = told.1;
+          right = told.2;
+          failures = c.in-Ok-hunt_source.ensures.failures;
+          put = done.0;
+        };
+        remarked = done.1;
+      }
+      | inr done ↦ record {
+        run = record { bytes = told.0; answer = Err Memory; told = told.1; right = tt; failures = c.in-Ok-hunt_source.ensures.failures; put = done.0 };
+        remarked = done.1;
+      }
     ])

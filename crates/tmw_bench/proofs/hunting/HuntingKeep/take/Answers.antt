@@ -1,8 +1,0 @@
--- What is kept shows the event, and has counted it.
-use Rattle.tmw_bench.proofs.hunting.HuntingKeep.take.Goals as goal
-
-pub returns : goal.returns
-returns g c = λ rules history before verdict room fits now kept. (
-  c.take.ensures rules history before verdict room.0 fits now kept.0,
-  c.take-2.ensures history kept.1,
-)

@@ -1,0 +1,159 @@
+-- Judging up to the first final verdict: the first line is read, then events are fed, and what was told is what was read.
+use Rattle.std.proofs.Common.{◌≡◌, ℕ, List, [], ◌∷◌, ◌++◌, Ok, Err, inl, inr}
+use Rattle.tmw_lines.specs.ItemsRead.{FailsBehind}
+use Rattle.tmw_lines.specs.Lines.{HasRead, unread_bytes}
+use Rattle.tmw_lines.specs.declared.lines.Lines.{Lines}
+use Rattle.tmw_lines.specs.declared.text_fault.TextFault.{TextFault}
+use Rattle.tmw_lines.specs.declared.text_fault.TextFault.TheVariants.{BadHeader, BadLine, Cut, Memory, Io, TooLong}
+use Rattle.tmw_lines.proofs.LinesRead.{text_fault-behind}
+use Rattle.tmw_lines.proofs.TextsRead.{soon-behind, text_fault-first}
+use Rattle.tmw_streams.specs.Streams.{FromSource}
+use Rattle.tmw_streams.specs.Told.{Tells}
+use Rattle.tmw_streams.proofs.ToldBytes.{Tells-more}
+use Rattle.tmw_events.specs.declared.event.Event.{Event}
+use Rattle.tmw_trace.specs.Text.{trace_grammar}
+use Rattle.tmw_trace.specs.declared.header.Header.{Header}
+use Rattle.tmw_trace.specs.declared.version.Version.{Version}
+use Rattle.tmw_defs.specs.declared.criterion.Asked.{Asked}
+use Rattle.tmw_monitor.specs.declared.bounds.Bounds.{Bounds}
+use Rattle.tmw_report.specs.declared.fault.Fault.{Fault}
+use Rattle.tmw_report.specs.Putting.{fault_of}
+use Rattle.tmw_judge.specs.Feeding.{IsBeginning, ReadsBeginning}
+use Rattle.tmw_judge.specs.FeedingFirst.{AnswersFirstFed, AreReadFirst, FeedsFirst}
+use Rattle.tmw_judge.specs.First.{AreOpen, AreOpenBefore, EndsSoonBehindOpen, HasFaultInTime}
+use Rattle.tmw_judge.specs.Counted.{CountsFor}
+use Rattle.tmw_judge.specs.declared.judges.Judges.{Judges}
+use Rattle.tmw_judge.proofs.FirstFed.{AreOpenBefore-none}
+
+-- what was read when memory was wanted ends soon behind whole lines, and no verdict came before the last of them
+soon-open : (lines : Lines Version) (header : Header) (bounds : Bounds) (asked : Asked) (history : List Event) (bytes : List ℕ)
+    → HasRead trace_grammar lines header history bytes → AreOpenBefore header bounds asked history → EndsSoonBehindOpen bounds asked bytes
+soon-open lines header bounds asked history bytes read open_before = record {
+  soon = record {
+    begun = record {
+      header = header;
+      items = history;
+      are_lines = read.are_lines;
+      rest = unread_bytes lines;
+      split = read.text;
+    };
+    soon = read.few;
+  };
+  before = open_before;
+}
+
+module _ {C : Type 0} (Counts : CountsFor C) where
+  -- the fault of the first line, or want of memory behind it, comes before any verdict
+  first-in-time : (Ended : Type 0) (lines : Lines Version) (bounds : Bounds) (asked : Asked) (bytes : List ℕ) (fault : TextFault)
+      → IsBeginning Counts Ended lines bounds asked bytes (Err fault) → HasFaultInTime bounds asked Ended bytes fault
+  first-in-time Ended lines bounds asked bytes BadHeader is = (text_fault-first trace_grammar Ended bytes BadHeader is, inl is)
+  first-in-time Ended lines bounds asked bytes (BadLine number) is = (text_fault-first trace_grammar Ended bytes (BadLine number) is, inl is)
+  first-in-time Ended lines bounds asked bytes (Cut number) is = (text_fault-first trace_grammar Ended bytes (Cut number) is, inl is)
+  first-in-time Ended lines bounds asked bytes Memory is = (
+    soon-behind trace_grammar lines is.0 [] bytes is.1,
+    soon-open lines is.0 bounds asked [] bytes is.1 (AreOpenBefore-none is.0 bounds asked),
+  )
+  first-in-time Ended lines bounds asked bytes Io is = (text_fault-first trace_grammar Ended bytes Io is, inl is)
+  first-in-time Ended lines bounds asked bytes TooLong is = (text_fault-first trace_grammar Ended bytes TooLong is, inl is)
+
+  behind-in-time : (Ended : Type 0) (header : Header) (bounds : Bounds) (asked : Asked) (history : List Event) (bytes : List ℕ)
+      (fault : TextFault) → FailsBehind trace_grammar Ended header history bytes fault → AreOpen header bounds asked history
+      → HasFaultInTime bounds asked Ended bytes fault
+  behind-in-time Ended header bounds asked history bytes BadHeader fails are_open = absurd fails.line
+  behind-in-time Ended header bounds asked history bytes (BadLine number) fails are_open = (
+    text_fault-behind trace_grammar Ended header history bytes (BadLine number) fails,
+    inr record { header = header; history = history; fails = fails; are_open = are_open },
+  )
+  behind-in-time Ended header bounds asked history bytes (Cut number) fails are_open = (
+    text_fault-behind trace_grammar Ended header history bytes (Cut number) fails,
+    inr record { header = header; history = history; fails = fails; are_open = are_open },
+  )
+  behind-in-time Ended header bounds asked history bytes Memory fails are_open = absurd fails.line
+  behind-in-time Ended header bounds asked history bytes Io fails are_open = (
+    text_fault-behind trace_grammar Ended header history bytes Io fails,
+    inr record { header = header; history = history; fails = fails; are_open = are_open },
+  )
+  behind-in-time Ended header bounds asked history bytes TooLong fails are_open = (
+    text_fault-behind trace_grammar Ended header history bytes TooLong fails,
+    inr record { header = header; history = history; fails = fails; are_open = are_open },
+  )
+
+  -- so does the fault of a later line
+  fault-in-time : (Done : Type 0) (Ended : Type 0) (lines : Lines Version) (header : Header) (bounds : Bounds) (asked : Asked)
+      (history : List Event) (bytes : List ℕ) (judges : Judges C) (fault : TextFault)
+      → AreReadFirst {Done = Done} Counts Ended lines header bounds asked history bytes judges (Err fault)
+      → HasFaultInTime bounds asked Ended bytes fault
+  fault-in-time Done Ended lines header bounds asked history bytes judges BadHeader is =
+      behind-in-time Ended header bounds asked history bytes BadHeader is.0 is.1
+  fault-in-time Done Ended lines header bounds asked history bytes judges (BadLine number) is =
+      behind-in-time Ended header bounds asked history bytes (BadLine number) is.0 is.1
+  fault-in-time Done Ended lines header bounds asked history bytes judges (Cut number) is =
+      behind-in-time Ended header bounds asked history bytes (Cut number) is.0 is.1
+  fault-in-time Done Ended lines header bounds asked history bytes judges Memory is = (
+    soon-behind trace_grammar lines header (history ++ is.0.last ∷ []) bytes is.0.read,
+    soon-open lines header bounds asked (history ++ is.0.last ∷ []) bytes is.0.read is.1,
+  )
+  fault-in-time Done Ended lines header bounds asked history bytes judges Io is =
+      behind-in-time Ended header bounds asked history bytes Io is.0 is.1
+  fault-in-time Done Ended lines header bounds asked history bytes judges TooLong is =
+      behind-in-time Ended header bounds asked history bytes TooLong is.0 is.1
+
+  -- no trace was begun
+  pub first-unbegun : {S : Type 0} (From : FromSource S) (Ended : Type 0) (a b : S)
+      (lines : Lines Version) (bounds : Bounds) (asked : Asked) (told : TextFault) (fault : Fault)
+      → ReadsBeginning From Counts Ended a b lines bounds asked (Err told) → fault ≡ fault_of told
+      → (bytes : List ℕ) × Tells From a bytes b × AnswersFirstFed Counts bounds asked Ended bytes (Err fault)
+  first-unbegun From Ended a b lines bounds asked told fault reads is =
+      (reads.bytes, reads.told, (told, is, first-in-time Ended lines bounds asked reads.bytes told reads.is))
+
+module _ {S C : Type 0} (From : FromSource S) (Counts : CountsFor C) (First Ended : Type 0) (a b c : S)
+    (lines after : Lines Version) (bounds : Bounds) (asked : Asked) (judges fed : Judges C)
+    (begins : ReadsBeginning From Counts First a b lines bounds asked (Ok judges)) where
+  -- all verdicts became final, or all events up to the end were fed
+  pub first-done : {Done : Type 0} (done : Done)
+      → FeedsFirst From Counts Ended b c lines after judges fed (Ok done)
+      → (all : List ℕ) × Tells From a all c × AnswersFirstFed Counts bounds asked Ended all (Ok fed)
+  first-done done feeds = (
+    begins.bytes ++ feeds.bytes,
+    Tells-more From a b c begins.bytes feeds.bytes begins.told feeds.told,
+    elim (feeds.fed begins.is.0 bounds asked [] begins.bytes begins.is.1 begins.is.2 (AreOpenBefore-none begins.is.0 bounds asked)) [
+      | inl first ↦ inl record {
+        header = begins.is.0;
+        history = feeds.events;
+        are_events = first.read.are_lines;
+        rest = unread_bytes after;
+        text = first.read.text;
+        few = first.read.few;
+        judged = first.judged;
+        final = first.final;
+        before = first.before;
+      }
+      | inr all ↦ inr record {
+        ended = all.read.ended;
+        whole = record {
+          header = begins.is.0;
+          history = feeds.events;
+          are_events = all.read.are_lines;
+          text = all.read.text;
+          judged = all.judged;
+        };
+        open_one = all.open_one;
+        before = all.before;
+      }
+    ],
+  )
+
+  -- and then came a fault
+  pub first-fault : (Done : Type 0) (told : TextFault) (fault : Fault)
+      → FeedsFirst {Done = Done} From Counts Ended b c lines after judges fed (Err told) → fault ≡ fault_of told
+      → (all : List ℕ) × Tells From a all c × AnswersFirstFed Counts bounds asked Ended all (Err fault)
+  first-fault Done told fault feeds is = (
+    begins.bytes ++ feeds.bytes,
+    Tells-more From a b c begins.bytes feeds.bytes begins.told feeds.told,
+    (
+      told,
+      is,
+      fault-in-time Counts Done Ended after begins.is.0 bounds asked feeds.events (begins.bytes ++ feeds.bytes) fed told
+          (feeds.fed begins.is.0 bounds asked [] begins.bytes begins.is.1 begins.is.2 (AreOpenBefore-none begins.is.0 bounds asked)),
+    ),
+  )

@@ -1,0 +1,40 @@
+ghost use Rattle.std.specs.Prelude.{◌≡◌, IfErr, OnOk};
+ghost use Rattle.tmw_lines.specs.TextFault.{failures_after};
+ghost use Rattle.tmw_judge.specs.Feeding.{AreFedAllRead};
+ghost use Rattle.tmw_judge.specs.FeedingFirst.{FeedsFirst};
+
+use crate::counting::Counting;
+use crate::judges::Judges;
+use crate::monitors::any_open;
+use tmw_lines::{Taker, TextFault};
+use tmw_streams::Source;
+use tmw_trace::TraceLines;
+
+/// Reads events, and feeds each to the judges, until all verdicts are final, up to the source's end or the first fault.
+/// A read comes only where no whole line is held. `Memory` follows a failed allocation for the event read last: nothing
+/// was read after its line.
+pub fn feed_first<S: Source, C: Counting>(
+    lines: &mut TraceLines,
+    source: &mut S,
+    judges: &mut Judges<C>,
+) -> Result<(), TextFault>
+    requires { AreFedAllRead C.counts lines.old judges.old }
+    ensures feeds { FeedsFirst S.from C.counts (S.from.ended source.new) source.old source.new
+        lines.old lines.new judges.old judges.new result }
+    ensures well { OnOk result (S.from.failures source.new ≡ S.from.failures source.old) }
+    ensures failed { IfErr result
+        (λ fault. S.from.failures source.new ≡ failures_after fault (S.from.failures source.old)) }
+{
+    while any_open(&judges.monitors) {
+        match lines.next(source) {
+            Ok(Some(event)) => {
+                let Ok(()) = judges.take(event) else {
+                    return Err(TextFault::Memory);
+                };
+            }
+            Ok(None) => return Ok(()),
+            Err(fault) => return Err(fault),
+        }
+    }
+    Ok(())
+}
