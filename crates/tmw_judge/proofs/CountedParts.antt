@@ -8,17 +8,15 @@ use Rattle.tmw_trace.specs.declared.header.Header.{Header}
 use Rattle.tmw_defs.specs.declared.criterion.Asked.{Asked}
 use Rattle.tmw_defs.specs.declared.criterion.Criterion.TheVariants as by
 use Rattle.tmw_defs.specs.declared.verdict.Verdict.{Verdict}
-use Rattle.tmw_defs.specs.declared.verdict.Verdict.TheVariants.{OpaqueSoFar, StrictSoFar, Violated, Undecided, Malformed}
-use Rattle.tmw_defs.specs.declared.verdict.Why.TheVariants.{Transactions, States}
 use Rattle.tmw_defs.specs.History.{is_well_formed}
-use Rattle.tmw_defs.specs.Verdict.{AreFine, IsFine, IsFirst, IsMalformed, IsTooMany, IsTooWide, IsVerdict, IsViolated, Rules}
-use Rattle.tmw_defs.proofs.Criteria.{formed-final}
+use Rattle.tmw_counts.proofs.Covered.{as_formed, as_formed-le, step, take_whole}
+use Rattle.tmw_counts.specs.Parts.{is_open}
 use Rattle.tmw_defs.proofs.VerdictProof.{verdict-one}
 use Rattle.tmw_defs.proofs.WindowsProof.{length-push, take-push, take_all-push}
 use Rattle.tmw_monitor.specs.Monitor.{verdict_of}
 use Rattle.tmw_monitor.specs.declared.bounds.Bounds.{Bounds}
 use Rattle.tmw_monitor.specs.declared.monitor.Monitor.{Monitor}
-use Rattle.tmw_judge.specs.Counted.{any_open, AreJudged, counted_by, counted_of, counted_part, CountsFor, is_open, verdicts_of}
+use Rattle.tmw_judge.specs.Counted.{any_open, AreJudged, counted_of, counted_part, CountsFor, verdicts_of}
 use Rattle.tmw_judge.specs.declared.judges.Judges.{Judges}
 use Rattle.tmw_judge.specs.Judging.{AreFed, AreReports, trace_rules}
 use Rattle.tmw_judge.specs.Summing.{told_verdicts}
@@ -26,129 +24,7 @@ use Rattle.tmw_judge.specs.declared.report.Report.{Report}
 use Rattle.tmw_judge.specs.declared.by_criterion.ByCriterion.{ByCriterion}
 use Rattle.tmw_judge.specs.declared.by_criterion.ByCriterion.TheVariants.{Opacity, Strict, Both}
 
-pub take_whole : (h : List Event) → take (length h) h ≡ h
-take_whole h = take_all (length h) h (omega arith)
-
-IsFirst-push : (Wrong : Rules → List Event → Type 0) (rules : Rules) (h : List Event) (e : Event) (m : ℕ) → IsFirst Wrong rules h m
-    → IsFirst Wrong rules (h ++ e ∷ []) m
-IsFirst-push Wrong rules h e m first = record {
-  within = (let low = first.within in let same = length-push h e in omega (arith, low, same));
-  here = rw (take-push m h e first.within) first.here;
-  before = λ k less. (let low = first.within in rw (take-push k h e (omega (arith, low, less))) (first.before k less));
-}
-
--- a verdict that something is wrong stays
-stays : (rules : Rules) (h : List Event) (e : Event) (v w : Verdict) → is_open v ≡ false → IsVerdict rules h v → IsVerdict rules (h ++ e ∷ []) w
-    → w ≡ v
-stays rules h e OpaqueSoFar w is one two = absurd (cc)
-stays rules h e StrictSoFar w is one two = absurd (cc)
-stays rules h e (Malformed m) w is one two = verdict-one rules (h ++ e ∷ []) w (Malformed m) two (IsFirst-push IsMalformed rules h e m one)
-stays rules h e (Undecided m Transactions) w is one two =
-    verdict-one rules (h ++ e ∷ []) w (Undecided m Transactions) two (IsFirst-push IsTooWide rules h e m one)
-stays rules h e (Undecided m States) w is one two =
-    verdict-one rules (h ++ e ∷ []) w (Undecided m States) two (IsFirst-push IsTooMany rules h e m one)
-stays rules h e (Violated m) w is one two = verdict-one rules (h ++ e ∷ []) w (Violated m) two (IsFirst-push IsViolated rules h e m one)
-
-pub fine_of : (rules : Rules) (h : List Event) (v : Verdict) → is_open v ≡ true → IsVerdict rules h v → AreFine rules h
-fine_of rules h OpaqueSoFar is judged = judged.1
-fine_of rules h StrictSoFar is judged = judged.1
-fine_of rules h (Malformed m) is judged = absurd (cc)
-fine_of rules h (Undecided m why) is judged = absurd (cc)
-fine_of rules h (Violated m) is judged = absurd (cc)
-
--- where nothing was wrong before, what is wrong first is wrong with the whole
-first_at : (Wrong : Rules → List Event → Type 0) → ((rules : Rules) (h : List Event) → Wrong rules h → IsFine rules h → ⊥)
-    → (rules : Rules) (h : List Event) (e : Event) (m : ℕ) → AreFine rules h → IsFirst Wrong rules (h ++ e ∷ []) m
-    → (m ≡ length h + 1) × Wrong rules (h ++ e ∷ [])
-first_at Wrong apart rules h e m fine first =
-    let end : m ≡ length h + 1 = elim (cases_lt (length h) m) [
-      | inl past ↦ (let low = first.within in let same = length-push h e in omega (arith, low, same, past))
-      | inr within ↦ absurd (apart rules (take m h) (rw (take-push m h e within) at first.here) (fine m within))
-    ] in
-    (end, rw (end, take_all-push h e) at first.here)
-
-pub malformed_apart : (rules : Rules) (h : List Event) → IsMalformed rules h → IsFine rules h → ⊥
-malformed_apart rules h a b = both_ways _ a.ill_formed (formed-final rules.criterion rules.registers rules.start h b.final)
-
-pub wide_apart : (rules : Rules) (h : List Event) → IsTooWide rules h → IsFine rules h → ⊥
-wide_apart rules h a b = b.narrow a.wide
-
-pub many_apart : (rules : Rules) (h : List Event) → IsTooMany rules h → IsFine rules h → ⊥
-many_apart rules h a b = b.few a.many
-
-pub violated_apart : (rules : Rules) (h : List Event) → IsViolated rules h → IsFine rules h → ⊥
-violated_apart rules h a b = a.not_final b.final
-
--- the longer history is counted as far as it is well-formed
-abbrev pub as_formed : Bool → ℕ → ℕ
-as_formed formed n = if formed then n + 1 else n
-
-formed_whole : (rules : Rules) (h : List Event) (e : Event) → AreFine rules (h ++ e ∷ []) → IsTrue (is_well_formed rules.registers (h ++ e ∷ []))
-formed_whole rules h e fine =
-    let whole : IsFine rules (h ++ e ∷ []) = rw (take_whole (h ++ e ∷ [])) at (fine (length (h ++ e ∷ [])) (omega arith)) in
-    formed-final rules.criterion rules.registers rules.start (h ++ e ∷ []) whole.final
-
-counted-open : (rules : Rules) (h : List Event) (e : Event) (w : Verdict) → AreFine rules h → IsVerdict rules (h ++ e ∷ []) w
-    → counted_by (length h + 1) w ≡ as_formed (is_well_formed rules.registers (h ++ e ∷ [])) (length h)
-counted-open rules h e OpaqueSoFar fine judged = rw (formed_whole rules h e judged.1) refl
-counted-open rules h e StrictSoFar fine judged = rw (formed_whole rules h e judged.1) refl
-counted-open rules h e (Malformed m) fine judged =
-    let (end, wrong) = first_at IsMalformed malformed_apart rules h e m fine judged in
-    rw wrong.ill_formed (omega (arith, end))
-counted-open rules h e (Undecided m Transactions) fine judged =
-    let (end, wrong) = first_at IsTooWide wide_apart rules h e m fine judged in
-    rw wrong.formed end
-counted-open rules h e (Undecided m States) fine judged =
-    let (end, wrong) = first_at IsTooMany many_apart rules h e m fine judged in
-    rw wrong.formed end
-counted-open rules h e (Violated m) fine judged =
-    let (end, wrong) = first_at IsViolated violated_apart rules h e m fine judged in
-    rw wrong.formed end
-
--- no more is counted than there is
-counted_within : (rules : Rules) (h : List Event) (v : Verdict) → IsVerdict rules h v → counted_by (length h) v ≤ length h
-counted_within rules h OpaqueSoFar judged = omega arith
-counted_within rules h StrictSoFar judged = omega arith
-counted_within rules h (Malformed m) judged = (let low = judged.within in omega (arith, low))
-counted_within rules h (Undecided m Transactions) judged = judged.within
-counted_within rules h (Undecided m States) judged = judged.within
-counted_within rules h (Violated m) judged = judged.within
-
--- what is counted once something is wrong doesn't hang on how many events there are
-counted_fixed : (m n : ℕ) (v : Verdict) → is_open v ≡ false → counted_by m v ≡ counted_by n v
-counted_fixed m n OpaqueSoFar is = absurd (cc)
-counted_fixed m n StrictSoFar is = absurd (cc)
-counted_fixed m n (Malformed at) is = refl
-counted_fixed m n (Undecided at why) is = refl
-counted_fixed m n (Violated at) is = refl
-
-counted_all : (n : ℕ) (v : Verdict) → is_open v ≡ true → counted_by n v ≡ n
-counted_all n OpaqueSoFar is = refl
-counted_all n StrictSoFar is = refl
-counted_all n (Malformed at) is = absurd (cc)
-counted_all n (Undecided at why) is = absurd (cc)
-counted_all n (Violated at) is = absurd (cc)
-
--- How much is counted by one verdict, before the event and with it.
-record Step (rules : Rules) (h : List Event) (e : Event) (v w : Verdict) : Type 0 where
-  pub within : counted_by (length h) v ≤ length h
-  pub all : is_open v ≡ true → counted_by (length h) v ≡ length h
-  pub next : is_open v ≡ true → counted_by (length h + 1) w ≡ as_formed (is_well_formed rules.registers (h ++ e ∷ [])) (length h)
-  pub same : is_open v ≡ false → counted_by (length h + 1) w ≡ counted_by (length h) v
-
-step : (rules : Rules) (h : List Event) (e : Event) (v w : Verdict) → IsVerdict rules h v → IsVerdict rules (h ++ e ∷ []) w → Step rules h e v w
-step rules h e v w one two = record {
-  within = counted_within rules h v one;
-  all = counted_all (length h) v;
-  next = λ is. counted-open rules h e w (fine_of rules h v is one) two;
-  same = λ is. ap (counted_by (length h + 1)) (stays rules h e v w is one two) ∙ counted_fixed (length h + 1) (length h) v is;
-}
-
-as_formed-le : (formed : Bool) (n : ℕ) → n ≤ as_formed formed n
-as_formed-le true n = omega arith
-as_formed-le false n = omega arith
-
-or_none : (a b : Bool) → (a || b) ≡ false → (a ≡ false) × (b ≡ false)
+pub or_none : (a b : Bool) → (a || b) ≡ false → (a ≡ false) × (b ≡ false)
 or_none true b is = absurd (cc)
 or_none false b is = (refl, is)
 

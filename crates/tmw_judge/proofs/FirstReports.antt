@@ -2,8 +2,8 @@
 use Rattle.std.proofs.Common.{◌≡◌, ℕ, List, ap, sym, subst, ◌∙◌}
 use Rattle.tmw_events.specs.declared.event.Event.{Event}
 use Rattle.tmw_trace.specs.declared.header.Header.{Header}
-use Rattle.tmw_defs.specs.Counts.{HasCounts}
-use Rattle.tmw_defs.specs.declared.counts.Counts.{Counts}
+use Rattle.tmw_counts.specs.Summaries.{IsSummary}
+use Rattle.tmw_counts.specs.declared.summary.Summary.{Summary}
 use Rattle.tmw_defs.specs.declared.criterion.Asked.{Asked}
 use Rattle.tmw_defs.specs.declared.verdict.Verdict.{Verdict}
 use Rattle.tmw_monitor.specs.declared.bounds.Bounds.{Bounds}
@@ -54,23 +54,23 @@ module _ {C : Type 0} (Shows : CountsFor C) (bounds : Bounds) (asked : Asked) (b
     before = all.before;
   }
 
-  module _ (counts : Counts) (shown : (registers : ℕ) (history : List Event) → Shows registers history judges.counting → HasCounts history counts) where
-    -- the counts are of the part that the reports' verdicts cover
-    counts-shown : (header : Header) (history : List Event) → AreFed header bounds asked history judges.monitors
+  module _ (summary : Summary) (shown : (registers : ℕ) (history : List Event) → Shows registers history judges.counting → IsSummary history summary) where
+    -- the summary is of the part that the reports' verdicts cover
+    summary-shown : (header : Header) (history : List Event) → AreFed header bounds asked history judges.monitors
         → Shows header.registers.number (counted_part (verdicts_of judges.monitors) history) judges.counting
-        → HasCounts (counted_part (told_verdicts reports) history) counts
-    counts-shown header history fed counted =
-        subst (λ (vs : ByCriterion Verdict). HasCounts (counted_part vs history) counts) (same-verdicts header history fed)
+        → IsSummary (counted_part (told_verdicts reports) history) summary
+    summary-shown header history fed counted =
+        subst (λ (vs : ByCriterion Verdict). IsSummary (counted_part vs history) summary) (same-verdicts header history fed)
         (shown header.registers.number (counted_part (verdicts_of judges.monitors) history) counted)
 
-    pub first-summed : AreFirstJudges Shows bounds asked bytes judges → IsFirstSummed bounds asked bytes (record { reports = reports; counts = counts })
+    pub first-summed : AreFirstJudges Shows bounds asked bytes judges → IsFirstSummed bounds asked bytes (record { reports = reports; summary = summary })
     first-summed f = record {
       first = first-reports f;
-      counts = counts-shown f.header f.history f.judged.fed f.judged.counted;
+      summary = summary-shown f.header f.history f.judged.fed f.judged.counted;
     }
 
     pub open-summed : (Ended : Type 0) → AreOpenJudges Shows bounds asked Ended bytes judges
-        → IsOpenSummed bounds asked Ended bytes (record { reports = reports; counts = counts })
+        → IsOpenSummed bounds asked Ended bytes (record { reports = reports; summary = summary })
     open-summed Ended all = record {
       ended = all.ended;
       whole = record {
@@ -79,7 +79,7 @@ module _ {C : Type 0} (Shows : CountsFor C) (bounds : Bounds) (asked : Asked) (b
         are_events = all.whole.are_events;
         text = all.whole.text;
         tell = tells all.whole.header bounds asked all.whole.history all.whole.judged.fed;
-        counts = counts-shown all.whole.header all.whole.history all.whole.judged.fed all.whole.judged.counted;
+        summary = summary-shown all.whole.header all.whole.history all.whole.judged.fed all.whole.judged.counted;
       };
       open_one = ap any_open (sym (same-verdicts all.whole.header all.whole.history all.whole.judged.fed)) ∙ all.open_one;
       before = all.before;

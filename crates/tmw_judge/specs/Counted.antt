@@ -1,10 +1,10 @@
 -- What is counted of the events of a trace beside their verdict: those up to the event that the verdict names.
-use Rattle.std.specs.Prelude.{ℕ, Bool, true, false, ◌-◌, ◌||◌, List, length, max, take}
+use Rattle.std.specs.Prelude.{ℕ, Bool, ◌&&◌, ◌||◌, List, length, max, take}
 use Rattle.tmw_events.specs.declared.event.Event.{Event}
 use Rattle.tmw_trace.specs.declared.header.Header.{Header}
 use Rattle.tmw_defs.specs.declared.criterion.Asked.{Asked}
 use Rattle.tmw_defs.specs.declared.verdict.Verdict.{Verdict}
-use Rattle.tmw_defs.specs.declared.verdict.Verdict.TheVariants.{OpaqueSoFar, StrictSoFar, Violated, Undecided, Malformed}
+use Rattle.tmw_counts.specs.Parts.{counted_by, is_open}
 use Rattle.tmw_monitor.specs.declared.bounds.Bounds.{Bounds}
 use Rattle.tmw_monitor.specs.declared.monitor.Monitor.{Monitor}
 use Rattle.tmw_monitor.specs.Monitor.{verdict_of}
@@ -12,14 +12,6 @@ use Rattle.tmw_judge.specs.declared.by_criterion.ByCriterion.{ByCriterion}
 use Rattle.tmw_judge.specs.declared.by_criterion.ByCriterion.TheVariants.{Opacity, Strict, Both}
 use Rattle.tmw_judge.specs.declared.judges.Judges.{Judges}
 use Rattle.tmw_judge.specs.Judging.{AreFed}
-
--- How many of so many events are counted: those up to the verdict's event, or before it where the history is malformed, or all.
-abbrev pub counted_by : ℕ → Verdict → ℕ
-counted_by events OpaqueSoFar = events
-counted_by events StrictSoFar = events
-counted_by events (Violated at) = at
-counted_by events (Undecided at why) = at
-counted_by events (Malformed at) = at - 1
 
 -- With two verdicts it is the larger of the two numbers.
 abbrev pub counted_of : ℕ → ByCriterion Verdict → ℕ
@@ -46,14 +38,14 @@ pub record AreJudged {C : Type 0} (Counts : CountsFor C) (header : Header) (boun
   pub fed : AreFed header bounds asked history judges.monitors
   pub counted : Counts header.registers.number (counted_part (verdicts_of judges.monitors) history) judges.counting
 
--- The verdict says that nothing is wrong so far.
-abbrev pub is_open : Verdict → Bool
-is_open OpaqueSoFar = true
-is_open StrictSoFar = true
-is_open _ = false
-
--- So does one of these.
+-- One of these verdicts says that nothing is wrong so far.
 abbrev pub any_open : ByCriterion Verdict → Bool
 any_open (Opacity verdict) = is_open verdict
 any_open (Strict verdict) = is_open verdict
 any_open (Both opacity strict) = is_open opacity || is_open strict
+
+-- Each of these does.
+abbrev pub all_open : ByCriterion Verdict → Bool
+all_open (Opacity verdict) = is_open verdict
+all_open (Strict verdict) = is_open verdict
+all_open (Both opacity strict) = is_open opacity && is_open strict

@@ -11,18 +11,19 @@ use Rattle.tmw_trace.specs.Text.{trace_grammar, trace_text, AreEvents}
 use Rattle.tmw_trace.specs.declared.header.Header.{Header}
 use Rattle.tmw_defs.specs.declared.criterion.Asked.{Asked}
 use Rattle.tmw_defs.specs.declared.verdict.Verdict.{Verdict}
-use Rattle.tmw_defs.specs.Counts.{HasCounts}
+use Rattle.tmw_counts.specs.Summaries.{IsSummary}
 use Rattle.tmw_defs.specs.Verdict.{IsVerdict}
 use Rattle.tmw_monitor.specs.declared.bounds.Bounds.{Bounds}
 use Rattle.tmw_report.specs.declared.fault.Fault.{Fault}
 use Rattle.tmw_report.specs.CommandRun.{AnswersTextFault, IsCommandRun}
+use Rattle.tmw_report.specs.Remark.{IsRemarkedRun}
 use Rattle.tmw_judge.specs.declared.by_criterion.ByCriterion.{ByCriterion}
 use Rattle.tmw_judge.specs.declared.report.Report.{Report}
 use Rattle.tmw_judge.specs.declared.summed.Summed.{Summed}
 use Rattle.tmw_judge.specs.ByCriterion.{AreFor}
 use Rattle.tmw_judge.specs.Counted.{any_open, counted_part}
 use Rattle.tmw_judge.specs.Judging.{AreReports, AreReportsOf, report_lines, report_status, trace_rules}
-use Rattle.tmw_judge.specs.Summing.{IsSummedOf, summed_lines, summed_status, told_verdicts}
+use Rattle.tmw_judge.specs.Summing.{IsSummedOf, summed_lines, summed_shows_nothing, summed_status, told_verdicts}
 
 -- These are the verdicts on this history by the criteria that are asked for.
 abbrev pub AreVerdicts : Header → Bounds → Asked → List Event → ByCriterion Verdict → Type 0
@@ -92,7 +93,7 @@ AnswersFirst bounds asked Ended bytes (Err fault) = AnswersTextFault (HasFaultIn
 -- The reports are as above, and these are the counts of the part of their history that its verdicts cover.
 pub record IsFirstSummed (bounds : Bounds) (asked : Asked) (bytes : List ℕ) (summed : Summed) : Type 0 where
   pub first : AreFirstReports bounds asked bytes summed.reports
-  pub counts : HasCounts (counted_part (told_verdicts summed.reports) first.history) summed.counts
+  pub summary : IsSummary (counted_part (told_verdicts summed.reports) first.history) summed.summary
 
 -- The source has ended, and these are the reports and the counts of the trace of which its bytes are the text. On no beginning of its
 -- history are all verdicts final, nor on the whole.
@@ -112,6 +113,7 @@ AnswersFirstSummed bounds asked Ended bytes (Err fault) = AnswersTextFault (HasF
 abbrev pub JudgesFirst : {S K : Type 0} → FromSource S → ToSink K → Bounds → Asked → S → S → K → K → ℕ → Type 0
 JudgesFirst From To bounds asked = IsCommandRun From To (AnswersFirst bounds asked) report_lines report_status
 
--- What a run of `judge --first --summary` does.
-abbrev pub SumsFirst : {S K : Type 0} → FromSource S → ToSink K → Bounds → Asked → S → S → K → K → ℕ → Type 0
-SumsFirst From To bounds asked = IsCommandRun From To (AnswersFirstSummed bounds asked) summed_lines summed_status
+-- What a run of `judge --first --summary` does. The sink for errors is told where the run shows nothing.
+abbrev pub SumsFirst : {S K E : Type 0} → FromSource S → ToSink K → ToSink E → Bounds → Asked → S → S → K → K → E → E → ℕ → Type 0
+SumsFirst From To Errors bounds asked =
+    IsRemarkedRun From To Errors (AnswersFirstSummed bounds asked) summed_lines summed_status summed_shows_nothing

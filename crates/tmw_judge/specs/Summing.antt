@@ -1,15 +1,16 @@
 -- What is answered of a trace whose events are counted beside their verdict.
-use Rattle.std.specs.Prelude.{◌≡◌, ◌++◌, ℕ, List, Result, Ok, Err}
+use Rattle.std.specs.Prelude.{◌≡◌, ◌++◌, ◌&&◌, ℕ, Bool, List, Result, Ok, Err}
 use Rattle.tmw_lines.specs.TextFault.{HasTextFault}
 use Rattle.tmw_trace.specs.Text.{trace_grammar, trace_text, AreEvents}
 use Rattle.tmw_events.specs.declared.event.Event.{Event}
 use Rattle.tmw_trace.specs.declared.header.Header.{Header}
 use Rattle.tmw_defs.specs.declared.criterion.Asked.{Asked}
 use Rattle.tmw_defs.specs.declared.verdict.Verdict.{Verdict}
-use Rattle.tmw_defs.specs.Counts.{HasCounts}
+use Rattle.tmw_counts.specs.Summaries.{IsSummary}
 use Rattle.tmw_monitor.specs.declared.bounds.Bounds.{Bounds}
 use Rattle.tmw_report.specs.declared.fault.Fault.{Fault}
-use Rattle.tmw_report.specs.CommandRun.{AnswersTextFault, IsCommandRun}
+use Rattle.tmw_report.specs.CommandRun.{AnswersTextFault}
+use Rattle.tmw_report.specs.Remark.{IsRemarkedRun}
 use Rattle.tmw_report.specs.SummaryLine.{summary_text}
 use Rattle.tmw_streams.specs.Streams.{FromSource, ToSink}
 use Rattle.tmw_judge.specs.declared.by_criterion.ByCriterion.{ByCriterion}
@@ -17,7 +18,7 @@ use Rattle.tmw_judge.specs.declared.by_criterion.ByCriterion.TheVariants.{Opacit
 use Rattle.tmw_judge.specs.declared.judges.Judges.{Judges}
 use Rattle.tmw_judge.specs.declared.report.Report.{Report}
 use Rattle.tmw_judge.specs.declared.summed.Summed.{Summed}
-use Rattle.tmw_judge.specs.Counted.{AreJudged, CountsFor, counted_part}
+use Rattle.tmw_judge.specs.Counted.{all_open, AreJudged, CountsFor, counted_part}
 use Rattle.tmw_judge.specs.Judging.{AreReports, report_lines, report_status}
 
 abbrev pub told_verdicts : ByCriterion Report → ByCriterion Verdict
@@ -33,7 +34,7 @@ pub record IsSummedOf (bounds : Bounds) (asked : Asked) (bytes : List ℕ) (summ
   pub are_events : AreEvents header history
   pub text : bytes ≡ trace_text header history
   pub tell : AreReports header bounds asked history summed.reports
-  pub counts : HasCounts (counted_part (told_verdicts summed.reports) history) summed.counts
+  pub summary : IsSummary (counted_part (told_verdicts summed.reports) history) summed.summary
 
 -- This answers the bytes that a source told as `AnswersTrace` does, and tells the counts too.
 abbrev pub AnswersSummed : Bounds → Asked → Type 0 → List ℕ → Result Summed Fault → Type 0
@@ -42,14 +43,19 @@ AnswersSummed bounds asked Ended bytes (Err fault) = AnswersTextFault (HasTextFa
 
 -- The lines of the reports, and behind them that of the counts. The status is the reports'.
 abbrev pub summed_lines : Summed → List ℕ
-summed_lines summed = report_lines summed.reports ++ summary_text summed.counts
+summed_lines summed = report_lines summed.reports ++ summary_text summed.summary.counts
 
 abbrev pub summed_status : Summed → ℕ
 summed_status summed = report_status summed.reports
 
--- What a run of `judge --summary` does.
-abbrev pub SumsBytes : {S K : Type 0} → FromSource S → ToSink K → Bounds → Asked → S → S → K → K → ℕ → Type 0
-SumsBytes From To bounds asked = IsCommandRun From To (AnswersSummed bounds asked) summed_lines summed_status
+-- Nothing is wrong by any criterion, and no two transactions overlapped although there are two threads or more.
+abbrev pub summed_shows_nothing : Summed → Bool
+summed_shows_nothing summed = all_open (told_verdicts summed.reports) && summed.summary.none_overlapped
+
+-- What a run of `judge --summary` does. The sink for errors is told where the run shows nothing.
+abbrev pub SumsBytes : {S K E : Type 0} → FromSource S → ToSink K → ToSink E → Bounds → Asked → S → S → K → K → E → E → ℕ → Type 0
+SumsBytes From To Errors bounds asked =
+    IsRemarkedRun From To Errors (AnswersSummed bounds asked) summed_lines summed_status summed_shows_nothing
 
 -- On the way there: the judges of a trace have been fed its history.
 pub record AreJudgesOf {C : Type 0} (Counts : CountsFor C) (bounds : Bounds) (asked : Asked) (bytes : List ℕ) (judges : Judges C) : Type 0 where

@@ -29,18 +29,19 @@ pub fn run_first<S: Source, K: Sink>(
 
 /// Judges a trace as `run_first` does, and writes the line of counts that `run_summary` writes behind the report's, or
 /// behind both.
-pub fn run_first_summary<S: Source, K: Sink>(
+pub fn run_first_summary<S: Source, K: Sink, E: Sink>(
     alloc: Global,
     source: &mut S,
     sink: &mut K,
+    errors: &mut E,
     bounds: Bounds,
     asked: Asked,
 ) -> u8
-    ensures { SumsFirst S.from K.to bounds asked
-        source.old source.new sink.old sink.new result }
+    ensures { SumsFirst S.from K.to E.to bounds asked
+        source.old source.new sink.old sink.new errors.old errors.new result }
 {
     match judge_first_summed(alloc, source, bounds, asked) {
-        Ok(summed) => answer_summed(alloc, sink, summed),
+        Ok(summed) => answer_summed(alloc, sink, errors, summed),
         Err(fault) => answer_fault(sink, fault),
     }
 }

@@ -57,7 +57,7 @@ pub fn judge_summed<S: Source>(
     let judges = judge_counting::<S, Counter>(alloc, source, bounds, asked)?;
     Ok(Summed {
         reports: reports_of(&judges.monitors),
-        counts: judges.counting.counts(),
+        summary: judges.counting.summary(),
     })
 }
 

@@ -53,7 +53,7 @@ pub fn judge_first_summed<S: Source>(
     let judges = judge_first_counting::<S, Counter>(alloc, source, bounds, asked)?;
     Ok(Summed {
         reports: reports_of(&judges.monitors),
-        counts: judges.counting.counts(),
+        summary: judges.counting.summary(),
     })
 }
 

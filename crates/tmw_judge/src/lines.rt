@@ -1,12 +1,14 @@
 ghost use Rattle.std.specs.Prelude.{◌≡◌, IfOk, string_bytes};
 ghost use Rattle.tmw_judge.specs.ByCriterion.{Each};
 ghost use Rattle.tmw_judge.specs.Judging.{IsOwnVerdict, report_lines, report_status};
-ghost use Rattle.tmw_judge.specs.Summing.{summed_lines};
+ghost use Rattle.tmw_judge.specs.Counted.{all_open};
+ghost use Rattle.tmw_judge.specs.Summing.{summed_lines, told_verdicts};
 
 use crate::by_criterion::ByCriterion;
 use crate::report::Report;
 use crate::summed::Summed;
 use std::alloc::{AllocError, Global};
+use tmw_counts::is_open;
 use tmw_report::{both_status, report_strict, report_text, status_of, summary_text};
 
 /// Makes the lines that report what was found, a line for each report, and that by opacity first.
@@ -32,7 +34,7 @@ pub fn summed_lines(alloc: Global, summed: &Summed) -> Result<String, AllocError
     ensures { IfOk result (λ lines. string_bytes lines ≡ summed_lines summed.now) }
 {
     let mut lines = report_lines(alloc, &summed.reports)?;
-    let last = summary_text(alloc, &summed.counts)?;
+    let last = summary_text(alloc, &summed.summary.counts)?;
     lines.push_str(last.as_str())?;
     Ok(lines)
 }
@@ -44,5 +46,15 @@ pub const fn status_of_reports(reports: &ByCriterion<Report>) -> u8
     match reports {
         ByCriterion::Opacity(report) | ByCriterion::Strict(report) => status_of(&report.verdict),
         ByCriterion::Both(opacity, strict) => both_status(&opacity.verdict, &strict.verdict),
+    }
+}
+
+/// Returns whether nothing is wrong by any criterion.
+pub const fn all_open(reports: &ByCriterion<Report>) -> bool
+    ensures { result ≡ all_open (told_verdicts reports.now) }
+{
+    match reports {
+        ByCriterion::Opacity(report) | ByCriterion::Strict(report) => is_open(&report.verdict),
+        ByCriterion::Both(opacity, strict) => is_open(&opacity.verdict) && is_open(&strict.verdict),
     }
 }

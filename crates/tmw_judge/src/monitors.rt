@@ -8,7 +8,8 @@ ghost use Rattle.tmw_monitor.specs.Monitor.{fed_of, verdict_of};
 ghost use Rattle.tmw_monitor.specs.declared.bounds.Bounds.{Bounds};
 ghost use Rattle.tmw_trace.specs.declared.header.Header.{Header};
 ghost use Rattle.tmw_judge.specs.ByCriterion.{Each};
-ghost use Rattle.tmw_judge.specs.Counted.{any_open, is_open, verdicts_of};
+ghost use Rattle.tmw_counts.specs.Parts.{is_open};
+ghost use Rattle.tmw_judge.specs.Counted.{any_open, verdicts_of};
 ghost use Rattle.tmw_judge.specs.Feeding.{LackEvent};
 ghost use Rattle.tmw_judge.specs.Judging.{AreFed, AreReports, IsReportOn, trace_rules};
 

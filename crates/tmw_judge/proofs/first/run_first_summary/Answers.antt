@@ -14,13 +14,19 @@ pub returns-in-Ok : goal.returns-in-Ok
 returns-in-Ok g c =
     let told = c.in-Ok.ensures.right in
     elim c.answer_summed.ensures [
-      | inl put ↦ record { bytes = told.0; answer = Ok c.in-Ok.summed; told = told.1; right = told.2; failures = c.in-Ok.ensures.failures; put = put }
-      | inr put ↦ record {
-        bytes = told.0;
-        answer = Err Memory;
-        told = told.1;
-        right = (WantsMemory, refl, memory-first-summed c.args.bounds c.args.asked _ told.0 c.in-Ok.summed told.2);
-        failures = c.in-Ok.ensures.failures;
-        put = put;
+      | inl done ↦ record {
+        run = record { bytes = told.0; answer = Ok c.in-Ok.summed; told = told.1; right = told.2; failures = c.in-Ok.ensures.failures; put = done.0 };
+        remarked = done.1;
+      }
+      | inr done ↦ record {
+        run = record {
+          bytes = told.0;
+          answer = Err Memory;
+          told = told.1;
+          right = (WantsMemory, refl, memory-first-summed c.args.bounds c.args.asked _ told.0 c.in-Ok.summed told.2);
+          failures = c.in-Ok.ensures.failures;
+          put = done.0;
+        };
+        remarked = done.1;
       }
     ]

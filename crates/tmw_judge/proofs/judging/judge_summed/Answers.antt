@@ -1,6 +1,6 @@
 -- At the end each monitor reports on its history, and the counter on the part that is counted.
 use Rattle.std.proofs.Common.{subst}
-use Rattle.tmw_defs.specs.Counts.{HasCounts}
+use Rattle.tmw_counts.specs.Summaries.{IsSummary}
 use Rattle.tmw_defs.specs.declared.verdict.Verdict.{Verdict}
 use Rattle.tmw_judge.specs.Counted.{counted_part, verdicts_of}
 use Rattle.tmw_judge.specs.declared.by_criterion.ByCriterion.{ByCriterion}
@@ -22,9 +22,9 @@ returns-clause-right g c =
           are_events = all.are_events;
           text = all.text;
           tell = tell;
-          counts = subst (λ (vs : ByCriterion Verdict). HasCounts (counted_part vs all.history) c.counts.result)
+          summary = subst (λ (vs : ByCriterion Verdict). IsSummary (counted_part vs all.history) c.summary.result)
               (told-same all.header c.args.bounds c.args.asked all.history c.in_ok-judges.judges.monitors c.reports_of.result all.judged.fed tell)
-              (c.counts.ensures all.header.registers.number
+              (c.summary.ensures all.header.registers.number
               (counted_part (verdicts_of c.in_ok-judges.judges.monitors) all.history) all.judged.counted);
         },
       ),

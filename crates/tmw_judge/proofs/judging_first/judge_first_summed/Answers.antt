@@ -10,8 +10,8 @@ returns-clause-right g c =
       told.1,
       elim told.2 [
         | inl first ↦ inl (first-summed _ c.args.bounds c.args.asked told.0 c.in_ok-judges.judges c.reports_of.result c.reports_of.ensures
-            c.counts.result c.counts.ensures first)
+            c.summary.result c.summary.ensures first)
         | inr whole ↦ inr (open-summed _ c.args.bounds c.args.asked told.0 c.in_ok-judges.judges c.reports_of.result c.reports_of.ensures
-            c.counts.result c.counts.ensures _ whole)
+            c.summary.result c.summary.ensures _ whole)
       ],
     )
