@@ -1,20 +1,23 @@
 -- What a run of the command line does: from its words and the bytes that its source tells to what its two sinks take and the
 -- exit status. The second sink is for errors.
-use Rattle.std.specs.Prelude.{◌≡◌, ℕ, true, false, List, Result, Ok, Err, string_bytes}
+use Rattle.std.specs.Prelude.{◌≡◌, ℕ, Bool, true, false, List, Result, Ok, Err, string_bytes}
 use Rattle.clap.specs.Words.{Text}
 use Rattle.tmw_report.specs.Lines.{fault_line}
 use Rattle.tmw_report.specs.Putting.{IsPut, IsSent}
 use Rattle.tmw_streams.specs.Streams.{FromSource, ToSink}
 use Rattle.tmw_report.specs.declared.fault.Fault.{Fault}
 use Rattle.tmw_report.specs.declared.fault.Fault.TheVariants.{Memory as WantsMemory, Usage as IsUsage}
+use Rattle.tmw_judge.specs.First.{JudgesFirst, SumsFirst}
 use Rattle.tmw_judge.specs.Judging.{JudgesBytes}
 use Rattle.tmw_judge.specs.Summing.{SumsBytes}
 use Rattle.tmw_bench.specs.Running.{BenchesBytes}
 use Rattle.tmw_drive.specs.Running.{DrivesBytes}
 use Rattle.tmw_show.specs.Running.{ShowsBytes}
 use Rattle.tmw_steps.specs.Running.{RunsSteps}
+use Rattle.tmw_defs.specs.declared.criterion.Asked.{Asked}
+use Rattle.tmw_monitor.specs.declared.bounds.Bounds.{Bounds}
 use Rattle.tmw_tm.specs.Memory.{MemoryIs}
-use Rattle.tmw_command.specs.Options.{flags_of, settings_of}
+use Rattle.tmw_command.specs.Options.{flags_of, settings_of, written_of}
 use Rattle.tmw_words.specs.Reading.{IsReading}
 use Rattle.tmw_command.specs.Version.{version_line}
 use Rattle.tmw_words.specs.declared.order.Order.{Order}
@@ -33,14 +36,30 @@ MemoriesAre = Which → MemoryIs
 abbrev pub by_name : {M : Type 0} → (M → MemoryIs) → Memories M → MemoriesAre
 by_name is memories name = is (memory_named memories name)
 
--- What the order's command does.
-abbrev pub RunsOrder : {S K : Type 0} → FromSource S → ToSink K → MemoriesAre → Order → S → S → K → K → ℕ → Type 0
-RunsOrder From To memories (Judge bounds asked false) = JudgesBytes From To bounds asked
-RunsOrder From To memories (Judge bounds asked true) = SumsBytes From To bounds asked
-RunsOrder From To memories (Show criterion trace bounds) = ShowsBytes From To criterion trace bounds
-RunsOrder From To memories (Drive memory trace bounds) = DrivesBytes From To (memories memory) trace bounds
-RunsOrder From To memories (Bench memory trace options) = BenchesBytes From To (memories memory) (flags_of trace options) (settings_of options)
-RunsOrder From To memories Steps = RunsSteps From To
+-- What a run of `judge` does that counts nothing, with `--first` or without.
+abbrev pub Judges : {S K : Type 0} → FromSource S → ToSink K → Bounds → Asked → Bool → S → S → K → K → ℕ → Type 0
+Judges From To bounds asked false = JudgesBytes From To bounds asked
+Judges From To bounds asked true = JudgesFirst From To bounds asked
+
+-- And one that counts, by `--summary`.
+abbrev pub Sums : {S K E : Type 0} → FromSource S → ToSink K → ToSink E → Bounds → Asked → Bool → S → S → K → K → E → E → ℕ → Type 0
+Sums From To Errors bounds asked false = SumsBytes From To Errors bounds asked
+Sums From To Errors bounds asked true = SumsFirst From To Errors bounds asked
+
+-- What the order's command does. Only `judge --summary` and `bench` may send something to the sink for errors: what a bench tells of
+-- how far it has come goes elsewhere, and is in no clause.
+abbrev pub RunsOrder : {S K E : Type 0} → FromSource S → ToSink K → ToSink E → MemoriesAre → Order → S → S → K → K → E → E → ℕ → Type 0
+RunsOrder From To Errors memories (Judge bounds asked true first) = Sums From To Errors bounds asked first
+RunsOrder From To Errors memories (Judge bounds asked false first) source source_after sink sink_after errors errors_after status =
+    Judges From To bounds asked first source source_after sink sink_after status × (errors_after ≡ errors)
+RunsOrder From To Errors memories (Show criterion trace bounds) source source_after sink sink_after errors errors_after status =
+    ShowsBytes From To criterion trace bounds source source_after sink sink_after status × (errors_after ≡ errors)
+RunsOrder From To Errors memories (Drive memory written bounds) source source_after sink sink_after errors errors_after status =
+    DrivesBytes From To (memories memory) (written_of written) bounds source source_after sink sink_after status × (errors_after ≡ errors)
+RunsOrder From To Errors memories (Bench memory written options) =
+    BenchesBytes From To Errors (memories memory) (flags_of written options) (settings_of options)
+RunsOrder From To Errors memories Steps source source_after sink sink_after errors errors_after status =
+    RunsSteps From To source source_after sink sink_after status × (errors_after ≡ errors)
 
 -- What is answered to words that give no order. Help, and the line of the version, is put to the sink. The line of a wrong command line is put to it whatever
 -- becomes of the text that tells what is wrong, which is sent to the sink for errors.
@@ -54,12 +73,11 @@ AnswersRefusal To Errors (Usage text) sink sink_after errors errors_after status
 AnswersRefusal To Errors Memory sink sink_after errors errors_after status =
     IsPut To sink sink_after (fault_line WantsMemory) 4 status × (errors_after ≡ errors)
 
--- What words do that were read so. Without an order nothing is read from the source. An order sends nothing to the sink for errors:
--- what a bench tells of how far it has come goes elsewhere, and is in no clause.
+-- What words do that were read so. Without an order nothing is read from the source.
 abbrev pub RunsReading : {S K E : Type 0} → FromSource S → ToSink K → ToSink E → MemoriesAre → Result Order Refusal → S → S → K → K → E → E
     → ℕ → Type 0
 RunsReading From To Errors memories (Ok order) source source_after sink sink_after errors errors_after status =
-    RunsOrder From To memories order source source_after sink sink_after status × (errors_after ≡ errors)
+    RunsOrder From To Errors memories order source source_after sink sink_after errors errors_after status
 RunsReading From To Errors memories (Err refusal) source source_after sink sink_after errors errors_after status =
     AnswersRefusal To Errors refusal sink sink_after errors errors_after status × (source_after ≡ source)
 

@@ -1,17 +1,20 @@
 ghost use Rattle.std.specs.Prelude.{◌≡◌, MatchBool, None, Some, map, string_bytes};
 ghost use Rattle.std.specs.Result.{result_map_both};
 ghost use Rattle.tmw_report.specs.Putting.{IsPut, IsSent};
-ghost use Rattle.tmw_command.specs.Running.{AnswersRefusal, RunsCommand, RunsOrder, RunsWords, by_name};
+ghost use Rattle.tmw_command.specs.Running.{AnswersRefusal, Judges, RunsCommand, RunsOrder, RunsWords, Sums, by_name};
 ghost use Rattle.tmw_tm.specs.Memory.{memory_is};
 
 use crate::memories::Memories;
-use crate::settings::{bench_flags, bench_settings};
+use crate::settings::{bench_flags, bench_settings, written_of};
+use std::alloc::Global;
 use std::convert::AsStr;
 use std::sync::Wait;
 use std::thread::Threads;
 use tmw_bench::{Plan, Progress, run_bench_cmd};
+use tmw_defs::Asked;
 use tmw_drive::run_drive;
-use tmw_judge::{run_judge, run_summary};
+use tmw_judge::{run_first, run_first_summary, run_judge, run_summary};
+use tmw_monitor::Bounds;
 use tmw_report::{FAULT_STATUS, Fault, answer_fault};
 use tmw_show::run_show;
 use tmw_steps::run_steps;
@@ -84,23 +87,24 @@ fn run_words<
         source.old source.new sink.old sink.new errors.old errors.new result }
 {
     match read_words(rt.alloc(), words) {
-        Ok(order) => run_order(rt, order, source, sink, memories, progress),
+        Ok(order) => run_order(rt, order, source, sink, errors, memories, progress),
         Err(refusal) => answer_refusal(refusal, sink, errors),
     }
 }
 
 /// Runs an order's command, over the memory that it names.
-fn run_order<S: Source, K: Sink, R: AllocGlobal + Threads + Wait + Sync, P: Progress>(
+fn run_order<S: Source, K: Sink, E: Sink, R: AllocGlobal + Threads + Wait + Sync, P: Progress>(
     rt: &R,
     order: Order,
     source: &mut S,
     sink: &mut K,
+    errors: &mut E,
     memories: Memories<&(dyn Tm + Sync)>,
     progress: &P,
 ) -> u8
-    ensures { RunsOrder S.from K.to
+    ensures { RunsOrder S.from K.to E.to
         (by_name (λ memory. memory_is (has memory.now) (gives memory.now)) memories.entry) order
-        source.old source.new sink.old sink.new result }
+        source.old source.new sink.old sink.new errors.old errors.new result }
 {
     let alloc = rt.alloc();
     match order {
@@ -108,11 +112,12 @@ fn run_order<S: Source, K: Sink, R: AllocGlobal + Threads + Wait + Sync, P: Prog
             bounds,
             asked,
             summary,
+            first,
         } => {
             if summary {
-                run_summary(alloc, source, sink, bounds, asked)
+                sum(alloc, source, sink, errors, bounds, asked, first)
             } else {
-                run_judge(alloc, source, sink, bounds, asked)
+                judge(alloc, source, sink, bounds, asked, first)
             }
         }
         Order::Show {
@@ -122,15 +127,15 @@ fn run_order<S: Source, K: Sink, R: AllocGlobal + Threads + Wait + Sync, P: Prog
         } => run_show(alloc, source, sink, criterion, trace, bounds),
         Order::Drive {
             memory,
-            trace,
+            written,
             bounds,
         } => {
             let picked = memories.named(memory);
-            run_drive(alloc, source, sink, picked, trace, bounds)
+            run_drive(alloc, source, sink, picked, written_of(written), bounds)
         }
         Order::Bench {
             memory,
-            trace,
+            written,
             options,
         } => {
             let picked = memories.named(memory);
@@ -140,15 +145,54 @@ fn run_order<S: Source, K: Sink, R: AllocGlobal + Threads + Wait + Sync, P: Prog
                 alloc,
                 source,
                 sink,
+                errors,
                 picked,
                 Plan {
                     settings: bench_settings(options),
-                    flags: bench_flags(trace, options),
+                    flags: bench_flags(written, options),
                     progress: &told,
                 },
             )
         }
         Order::Steps => run_steps(alloc, source, sink),
+    }
+}
+
+/// Judges a trace and counts nothing: by `first` up to the event at which its verdicts are final.
+fn judge<S: Source, K: Sink>(
+    alloc: Global,
+    source: &mut S,
+    sink: &mut K,
+    bounds: Bounds,
+    asked: Asked,
+    first: bool,
+) -> u8
+    ensures { Judges S.from K.to bounds asked first source.old source.new sink.old sink.new result }
+{
+    if first {
+        run_first(alloc, source, sink, bounds, asked)
+    } else {
+        run_judge(alloc, source, sink, bounds, asked)
+    }
+}
+
+/// Judges a trace and counts: by `first` up to the event at which its verdicts are final.
+fn sum<S: Source, K: Sink, E: Sink>(
+    alloc: Global,
+    source: &mut S,
+    sink: &mut K,
+    errors: &mut E,
+    bounds: Bounds,
+    asked: Asked,
+    first: bool,
+) -> u8
+    ensures { Sums S.from K.to E.to bounds asked first
+        source.old source.new sink.old sink.new errors.old errors.new result }
+{
+    if first {
+        run_first_summary(alloc, source, sink, errors, bounds, asked)
+    } else {
+        run_summary(alloc, source, sink, errors, bounds, asked)
     }
 }
 

@@ -1,21 +1,22 @@
 -- Each order's command does what its own contract says, over the memory that was picked by its name.
+use Rattle.std.proofs.Common.{refl}
 use Rattle.tmw_command.proofs.run.run_order.Goals as goal
 
 pub returns-then-summary : goal.returns-then-summary
-returns-then-summary g c = rw (c.in-Judge.is, c.if-summary.true) c.run_summary.ensures
+returns-then-summary g c = rw (c.in-Judge.is, c.if-summary.true) c.sum.ensures
 
 pub returns-else-summary : goal.returns-else-summary
-returns-else-summary g c = rw (c.in-Judge.is, c.if-summary.false) c.run_judge.ensures
+returns-else-summary g c = rw (c.in-Judge.is, c.if-summary.false) (c.judge.ensures, refl)
 
 pub returns-in-Show : goal.returns-in-Show
-returns-in-Show g c = rw c.in-Show.is c.run_show.ensures
+returns-in-Show g c = rw c.in-Show.is (c.run_show.ensures, refl)
 
 pub returns-in-Drive : goal.returns-in-Drive
-returns-in-Drive g c = rw c.in-Drive.is (rw c.named-picked.ensures at c.run_drive.ensures)
+returns-in-Drive g c = rw c.in-Drive.is (rw (c.named-picked.ensures, c.written_of.ensures) at c.run_drive.ensures, refl)
 
 pub returns-in-Bench : goal.returns-in-Bench
 returns-in-Bench g c =
     rw c.in-Bench.is (rw (c.named-picked-in-Bench.ensures, c.bench_flags.ensures, c.bench_settings.ensures) at c.run_bench_cmd.ensures)
 
 pub returns-in-Steps : goal.returns-in-Steps
-returns-in-Steps g c = rw c.in-Steps.is c.run_steps.ensures
+returns-in-Steps g c = rw c.in-Steps.is (c.run_steps.ensures, refl)
