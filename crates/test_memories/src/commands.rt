@@ -7,7 +7,7 @@ use std::sync::Wait;
 use std::test::Fail;
 use std::thread::Threads;
 use tmw_bench::{Flags, Plan, Settings, Silent, ends_text, run_bench_cmd};
-use tmw_drive::{Ending, run_drive};
+use tmw_drive::{Ending, Written, run_drive};
 use tmw_events::Registers;
 use tmw_monitor::Bounds;
 use tmw_ring::Refused;
@@ -50,23 +50,35 @@ const SPENT_TRACE: &[u8] =
 const READS_WINDOW: &[u8] =
     b"{\"at\":2,\"events\":6,\"verdict\":\"violated\"}\n    state  0\n    event  thread 0\n        1  R 0\n        2  V 7       violated, by opacity\n{\"ends\":[\"done\"]}\n";
 
-const REPORT: Flags = Flags {
+const NOTHING_MORE: Written = Written {
     trace: false,
+    trace_only: false,
+    summary: false,
+};
+
+const WITH_TRACE: Written = Written {
+    trace: true,
+    trace_only: false,
+    summary: false,
+};
+
+const REPORT: Flags = Flags {
+    written: NOTHING_MORE,
     show: false,
 };
 
 const LOG: Flags = Flags {
-    trace: true,
+    written: WITH_TRACE,
     show: false,
 };
 
 const WINDOW: Flags = Flags {
-    trace: false,
+    written: NOTHING_MORE,
     show: true,
 };
 
 const TRACES: Flags = Flags {
-    trace: true,
+    written: WITH_TRACE,
     show: true,
 };
 
@@ -99,7 +111,14 @@ fn what_a_memory_answers_is_driven_and_judged(rt: HostRuntime) {
         let mut source = MemorySource::limited(text, 1, None);
         let mut sink = MemorySink::limited(rt.alloc(), 1, None);
         let memory = seven();
-        let answered = run_drive(rt.alloc(), &mut source, &mut sink, &memory, true, WIDEST);
+        let answered = run_drive(
+            rt.alloc(),
+            &mut source,
+            &mut sink,
+            &memory,
+            WITH_TRACE,
+            WIDEST,
+        );
         assert_eq!(rt; sink.bytes(), written, "of {text:?}");
         assert_eq!(rt; answered, status, "of {text:?}");
     }
@@ -117,11 +136,13 @@ fn expect<R: Abort + AllocGlobal + Threads + Wait + Sync>(
 ) {
     let mut source = MemorySource::limited(text, 1, None);
     let mut sink = MemorySink::limited(rt.alloc(), 1, None);
+    let mut errors = MemorySink::limited(rt.alloc(), 1, None);
     let answered = run_bench_cmd(
         rt,
         rt.alloc(),
         &mut source,
         &mut sink,
+        &mut errors,
         memory,
         Plan {
             settings,

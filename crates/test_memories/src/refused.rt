@@ -1,5 +1,5 @@
 //! The command `drive` where a growth of memory is refused.
-use tmw_drive::run_drive;
+use tmw_drive::{Written, run_drive};
 use tmw_events::Registers;
 use tmw_memories::NoRec;
 use tmw_monitor::Bounds;
@@ -26,7 +26,12 @@ fn drive_into(rt: &impl AllocGlobal, room: &mut [u8]) -> u8 {
     };
     let mut source = MemorySource::new(OVERLAPPING);
     let mut sink = StdSink::new(room);
-    run_drive(rt.alloc(), &mut source, &mut sink, &memory, false, bounds)
+    let written = Written {
+        trace: false,
+        trace_only: false,
+        summary: false,
+    };
+    run_drive(rt.alloc(), &mut source, &mut sink, &memory, written, bounds)
 }
 
 /// It passes also if the growth of memory that `rt try --test --fail-alloc` chooses is refused.
