@@ -8,9 +8,9 @@ use tmw_monitor::Bounds;
 use tmw_report::answer_fault;
 use tmw_streams::{Sink, Source};
 
-/// Judges a trace as `run_judge` does, but ends at the event at which the verdict, of two both, is final: violated,
-/// undecided or malformed. Nothing is read behind it but at most 4,096 bytes, and none of these is parsed. The report
-/// tells how many events there are up to that one.
+/// Judges a trace as `run_judge` does, but ends at the event at which each requested verdict is final: violated, undecided
+/// or malformed. The reports tell how many events there are up to that one. At most 4,096 bytes are read behind it, and
+/// none of these is parsed.
 pub fn run_first<S: Source, K: Sink>(
     alloc: Global,
     source: &mut S,
