@@ -98,7 +98,7 @@ pub record HasBenched (gives : Call → Answer → Type 0) (registers : Register
 
 -- The log is kept whole, and the summary is that of the part of it that its verdict covers.
 pub record IsBenched (gives : Call → Answer → Type 0) (registers : Registers) (scripts : List (List (List Kind))) (settings : Settings) (benched : Benched) : Type 0 where
-  pub benched : HasBenched gives registers scripts settings benched.outcome.log.items benched.outcome.verdict benched.outcome.ends.items
+  pub carried : HasBenched gives registers scripts settings benched.outcome.log.items benched.outcome.verdict benched.outcome.ends.items
       benched.rounds
   pub summary : IsSummary (part_by benched.outcome.verdict benched.outcome.log.items) benched.summary
 

@@ -16,7 +16,7 @@ returns-clause-ok g c =
     let carried = c.in_ok-carried.carried in
     let done = c.in_ok-carried.ensures.ok in
     record {
-      benched = subst (λ (l : List Event). HasBenched gives workload.registers scripts c.args.settings l c.verdict.result carried.ends.items carried.rounds)
+      carried = subst (λ (l : List Event). HasBenched gives workload.registers scripts c.args.settings l c.verdict.result carried.ends.items carried.rounds)
           (sym done.kept.keeps_it)
           (subst (λ (v : Verdict). HasBenched gives workload.registers scripts c.args.settings carried.rest.front.judged.items v carried.ends.items carried.rounds)
           (sym c.verdict.ensures.shown) done.benched);

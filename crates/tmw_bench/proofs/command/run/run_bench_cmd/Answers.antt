@@ -13,7 +13,7 @@ use Rattle.tmw_bench.proofs.command.run.run_bench_cmd.Goals as goal
 pub answer_run-requires : goal.answer_run-requires
 answer_run-requires g c = λ strict.
     let made = c.in-Ok.ensures.right.2.1 in
-    let told = subst (IsVerdict (rules_of made.registers zeros c.args.plan.settings.bounds) c.in-Ok.found.driven.outcome.log.items) strict made.benched.benched.judged in
+    let told = subst (IsVerdict (rules_of made.registers zeros c.args.plan.settings.bounds) c.in-Ok.found.driven.outcome.log.items) strict made.benched.carried.judged in
     let bad : Opacity ≡ Strict = told.0 in
     absurd (cc)
 
