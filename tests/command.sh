@@ -12,6 +12,7 @@
 #   > {"fault":"usage"}          lines of standard output; where there are none it has to be empty
 #   ~ Usage: tmwatch             what standard output has in it somewhere; then the rest of it may be anything
 #   ! error: unexpected          what standard error begins with; where there is none it has to be empty
+#   ? no two transactions        a line that standard error may be, or else empty
 #   = 4                          the exit status, by which the row ends
 #
 # In what is read and written, \\, \r, \t and \xHH stand for bytes, as for printf. Empty lines and lines of '#' are comments.
@@ -66,7 +67,7 @@ expect_none_open() {
 # A new row, which reads and writes nothing.
 begin_row() {
     expect_none_open
-    row=$1 input=$folder/input has='' error=''
+    row=$1 input=$folder/input has='' error='' maybe=''
     : >"$folder/input"
     : >"$folder/wanted"
     if [[ $row == *' < '* ]]; then
@@ -91,6 +92,7 @@ end_row() {
     fi
     errors=$(head -c "${#error}" "$folder/errors" | tr -d '\0')
     [ -n "$error" ] || errors=$(cat "$folder/errors")
+    [ "$errors" != "$maybe" ] || errors=''
     count "$file: $row ($(head -c 100 "$input" | tr '\n\0' '| '))" "$1 'as wanted' '$error'" "$status '$output' '$errors'"
     row=''
 }
@@ -108,6 +110,7 @@ run_rows() {
         '> '*) lines_of "${line#> }" >>"$folder/wanted" ;;
         '~ '*) has=${line#\~ } ;;
         '! '*) error=${line#! } ;;
+        '? '*) maybe=${line#\? } ;;
         '= '*) end_row "${line#= }" ;;
         *) count "$file" 'a line of a row' "$line" ;;
         esac
