@@ -2,7 +2,6 @@ mod CountedParts
 mod Each
 mod FedEvents
 mod FirstAnswers
-mod FirstAt
 mod FirstFed
 mod FirstReports
 mod FirstTaken

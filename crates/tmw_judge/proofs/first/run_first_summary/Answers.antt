@@ -30,3 +30,17 @@ returns-in-Ok g c =
         remarked = done.1;
       }
     ]
+
+pub returns-in-Err : goal.returns-in-Err
+returns-in-Err g c =
+    let told = c.in-Err.ensures.right in record {
+      run = record {
+        bytes = told.0;
+        answer = Err c.in-Err.fault;
+        told = told.1;
+        right = told.2;
+        failures = c.in-Err.ensures.failures;
+        put = c.answer_fault.ensures;
+      };
+      remarked = refl;
+    }
