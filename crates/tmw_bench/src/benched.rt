@@ -6,7 +6,7 @@ use tmw_drive::Outcome;
 pub struct Benched {
     /// The log of all rounds, the verdict on it, and how each thread has ended.
     pub outcome: Outcome,
-    /// What the log has shown, up to the event that the verdict names.
+    /// What the log has shown: up to the verdict's event, or all of it if nothing is wrong.
     pub summary: Summary,
     /// How many rounds were begun.
     pub rounds: u64,

@@ -22,8 +22,8 @@ use Rattle.tmw_drive.specs.declared.fault.DriveFault.TheVariants.{Memory as Lack
 use Rattle.tmw_tm.specs.Memory.{MemoryIs}
 
 -- The bytes are the text of a workload over no more registers than the memory has, and this is what the memory made of it: its
--- scripts were driven in its order, and the verdict is the one on the log, from registers that all hold 0. The summary is that of the log
--- up to the event that the verdict names.
+-- scripts were driven in its order, and the verdict is the one on the log, from registers that all hold 0. The summary is that of the part
+-- of the log that the verdict covers.
 pub record IsDrivenFrom (memory : MemoryIs) (bounds : Bounds) (bytes : List ℕ) (driven : Driven) : Type 0 where
   pub registers : Registers
   pub enough : registers.number ≤ memory.registers

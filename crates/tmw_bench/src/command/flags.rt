@@ -6,8 +6,8 @@ use tmw_drive::Written;
 /// What `bench` is asked to write of a run.
 #[derive(Clone, Copy, PartialEq, Eq, Debug)]
 pub struct Flags {
-    /// The log's trace, and the line of the counts. With `show` and the trace before the report the last window's traces
-    /// are written in place of all else.
+    /// The log's trace, and the line of the counts. With `show` and `trace`, the last window's traces in place of all else,
+    /// unless the log's trace alone is asked for.
     pub written: Written,
     /// The last window.
     pub show: bool,

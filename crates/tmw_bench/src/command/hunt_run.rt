@@ -7,7 +7,7 @@ use tmw_show::Shown;
 pub struct HuntRun {
     /// The workload's registers, how many events the log has, the verdict on it, and its last window.
     pub shown: Shown,
-    /// What the log has shown, up to the event that the verdict names.
+    /// What the log has shown: up to the verdict's event, or all of it if nothing is wrong.
     pub summary: Summary,
     /// For each script, by its thread's number, how far it has come in the last round.
     pub ends: Vec<Ending>,

@@ -17,8 +17,8 @@ use tmw_tm::Tm;
 ///
 /// Without flags it writes the report line, then the line that tells how each thread has ended. With `summary` that of the
 /// counts follows. With `trace` the log's trace comes before all, and with `trace_only` alone. With `show` what the
-/// command `show` draws comes in the report's place. With `show` and `trace` it writes only the traces of the last window,
-/// as `show --trace` does. It keeps the whole log only for the log's trace; else it tells `progress` how far the run has
+/// command `show` draws comes in the report's place. With `show` and `trace` alone it writes only the traces of the last
+/// window, as `show --trace` does. It keeps the whole log only for the log's trace; else it tells `progress` how far the run has
 /// come. Of a run that shows nothing the sink for errors is told.
 ///
 /// The memory should be new. The result is the exit status: 0 if the log is opaque so far, 1 if it is violated, 2 if it

@@ -16,12 +16,7 @@ use tmw_trace::write_trace;
 
 /// Writes what is asked for, and returns the exit status. The lines are made before anything is written: after a failed
 /// allocation only that fault's line is written.
-pub fn answer_driven<K: Sink>(
-    alloc: Global,
-    sink: &mut K,
-    driven: &Driven,
-    written: Written,
-) -> u8
+pub fn answer_driven<K: Sink>(alloc: Global, sink: &mut K, driven: &Driven, written: Written) -> u8
     requires { driven.now.outcome.verdict ≢ StrictSoFar }
     ensures { IsPut K.to sink.old sink.new (driven_text written driven.now)
         (driven_status driven.now) result

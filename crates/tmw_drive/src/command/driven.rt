@@ -10,7 +10,7 @@ use tmw_trace::{Header, version_of};
 pub struct Driven {
     pub header: Header,
     pub outcome: Outcome,
-    /// Up to the event that the verdict names.
+    /// Of the part of the log that the verdict covers: up to its event, or all if nothing is wrong.
     pub summary: Summary,
 }
 
