@@ -126,8 +126,8 @@ typedef struct tmwatch_told {
     uint32_t why;     /* a tmwatch_why, or 0 */
 } tmwatch_told;
 
-/* What the judged events have shown beside the verdict, as `judge --summary` counts them (docs/FORMATS.md): up to the one at length `at`
-   where the verdict names it, before it where they are malformed, or all. */
+/* What the judged events have shown beside the verdict, as `judge --summary` counts it (docs/FORMATS.md): those up to the one at length
+   `at`, or before it where they are malformed, or all where nothing is wrong. */
 typedef struct tmwatch_counts {
     uint64_t aborted;        /* transactions that have aborted */
     uint64_t committed;      /* those that have committed */
@@ -228,8 +228,8 @@ TMWATCH_NO_HANDLE, TMWATCH_CLOSING: *told stays. It takes no memory.
 uint32_t tmwatch_report(tmwatch *watch, tmwatch_told *told);
 
 /*
-Counts what was judged so far. tmwatch_close tells no counts: when the threads have ended, pump until nothing is judged, call this, and
-then close.
+Counts what was judged so far. tmwatch_close tells no counts: when all threads have ended, pump until no event is judged any more, call
+this, and then close.
 
 TMWATCH_NO_HANDLE, TMWATCH_CLOSING: *counts stays. It takes no memory.
 */
