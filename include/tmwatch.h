@@ -126,6 +126,20 @@ typedef struct tmwatch_told {
     uint32_t why;     /* a tmwatch_why, or 0 */
 } tmwatch_told;
 
+/* What the judged events have shown beside the verdict, as `judge --summary` counts it (docs/FORMATS.md): those up to the one at length
+   `at`, or before it where they are malformed, or all where nothing is wrong. */
+typedef struct tmwatch_counts {
+    uint64_t aborted;        /* transactions that have aborted */
+    uint64_t committed;      /* those that have committed */
+    uint64_t cuts;           /* lengths, from 1 on, at which none is live */
+    uint64_t live;           /* transactions that have not ended */
+    uint64_t overlapping;    /* those that overlap another thread's: neither ended before the other began */
+    uint64_t transactions;   /* all */
+    uint64_t unasked;        /* aborted ones that didn't ask for it */
+    uint64_t widest;         /* the most from one moment at which all have ended to the next */
+    uint8_t none_overlapped; /* 1: no two transactions overlapped, although two threads or more ran, so that this run shows nothing; or 0 */
+} tmwatch_counts;
+
 /* A handle that holds nothing. */
 #define TMWATCH_EMPTY {0, false}
 #define TMWATCH_EMPTY_RECORDER {0, false, 0}
@@ -212,6 +226,14 @@ Tells what was judged so far.
 TMWATCH_NO_HANDLE, TMWATCH_CLOSING: *told stays. It takes no memory.
 */
 uint32_t tmwatch_report(tmwatch *watch, tmwatch_told *told);
+
+/*
+Counts what was judged so far. tmwatch_close tells no counts: when all threads have ended, pump until no event is judged any more, call
+this, and then close.
+
+TMWATCH_NO_HANDLE, TMWATCH_CLOSING: *counts stays. It takes no memory.
+*/
+uint32_t tmwatch_summary(tmwatch *watch, tmwatch_counts *counts);
 
 /*
 Closes a watch with all its recorders, with recorder i in recorders[i], as tmwatch_open has filled them: judges what was recorded and not yet

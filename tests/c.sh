@@ -61,6 +61,16 @@ program threads "$top/tests/c/threads.c" 0 '' "${static[@]}"
 program kept "$top/tests/c/kept.c" 0 '' "${static[@]}"
 [ ! -x "$folder/kept" ] || "$folder/kept" >"$folder/traces"
 ends 'what was kept' 0 diff "$folder/traces" "$top/tests/c/kept.traces"
+program counted "$top/tests/c/counted.c" 0 '' "${static[@]}"
+if [ ! -x "$program" ]; then
+    echo 'what judge counts: skipped, since the program is not built'
+elif [ -x "$folder/counted" ]; then
+    for number in 0 1 2 3 4 5 6; do
+        "$folder/counted" "$number" >"$folder/run"
+        head -n -1 "$folder/run" | "$program" judge --summary >"$folder/lines" || true
+        ends "what judge counts of run $number" 0 diff <(tail -n 1 "$folder/lines") <(tail -n 1 "$folder/run")
+    done
+fi
 program memory "$top/tests/c/memory.c" 0 '' "${static[@]}" "${wrapped[@]}"
 program bank "$top/examples/c/bank.c" 0 "${ROUNDS:-2000}" "${static[@]}"
 program bank_broken "$top/examples/c/bank.c" 1 "${ROUNDS:-2000} broken" "${static[@]}"

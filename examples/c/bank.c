@@ -144,15 +144,18 @@ static void *work(void *recorder)
     return NULL;
 }
 
-/* Has judged what the threads record, until they have ended. Where memory is refused, the next call goes on. */
+/* Has judged what the threads record, until they have ended and nothing is left. Where memory is refused, the next call goes on. */
 static void judge(void)
 {
-    while (ended < THREADS) {
-        uint64_t judged = 0;
+    uint64_t judged;
+    bool all_ended;
+    do {
+        all_ended = ended == THREADS;
+        judged = 0;
         tmwatch_pump(&watch, 1024, &judged);
         if (judged == 0)
             sched_yield();
-    }
+    } while (!all_ended || judged > 0);
 }
 
 int main(int count, char **words)
@@ -160,6 +163,7 @@ int main(int count, char **words)
     static const char *const verdicts[] = {"opaque so far", "violated", "undecided", "malformed"};
     tmwatch_settings settings = TMWATCH_SETTINGS(ACCOUNTS);
     tmwatch_told told;
+    tmwatch_counts counts;
     pthread_t threads[THREADS];
     rounds = count > 1 ? strtoul(words[1], NULL, 10) : 1000;
     is_broken = count > 2 && strcmp(words[2], "broken") == 0;
@@ -173,9 +177,10 @@ int main(int count, char **words)
     judge();
     for (int i = 0; i < THREADS; i++)
         pthread_join(threads[i], NULL);
-    if (tmwatch_close(&watch, recorders, THREADS, &told) != TMWATCH_DONE)
+    if (tmwatch_summary(&watch, &counts) != TMWATCH_DONE || tmwatch_close(&watch, recorders, THREADS, &told) != TMWATCH_DONE)
         return 4;
-    printf("%s at %llu of %llu events; %lu audits found money that isn't there\n", verdicts[told.verdict], (unsigned long long)told.at,
-           (unsigned long long)told.events, (unsigned long)wrong_sums);
+    printf("%s at %llu of %llu events; %llu of %llu transactions overlapped; %lu wrong audits\n", verdicts[told.verdict],
+           (unsigned long long)told.at, (unsigned long long)told.events, (unsigned long long)counts.overlapping,
+           (unsigned long long)counts.transactions, (unsigned long)wrong_sums);
     return (int)told.verdict;
 }

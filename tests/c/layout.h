@@ -10,4 +10,9 @@ ASSERT(offsetof(tmwatch_settings, states) == 80 && offsetof(tmwatch_settings, ce
 ASSERT(offsetof(tmwatch_settings, limit) == 96, "the settings");
 ASSERT(sizeof(tmwatch_told) == 24 && offsetof(tmwatch_told, events) == 0 && offsetof(tmwatch_told, at) == 8, "what is told");
 ASSERT(offsetof(tmwatch_told, verdict) == 16 && offsetof(tmwatch_told, why) == 20, "what is told");
+ASSERT(sizeof(tmwatch_counts) == 72 && offsetof(tmwatch_counts, aborted) == 0 && offsetof(tmwatch_counts, committed) == 8, "the counts");
+ASSERT(offsetof(tmwatch_counts, cuts) == 16 && offsetof(tmwatch_counts, live) == 24, "the counts");
+ASSERT(offsetof(tmwatch_counts, overlapping) == 32 && offsetof(tmwatch_counts, transactions) == 40, "the counts");
+ASSERT(offsetof(tmwatch_counts, unasked) == 48 && offsetof(tmwatch_counts, widest) == 56, "the counts");
+ASSERT(offsetof(tmwatch_counts, none_overlapped) == 64, "the counts");
 ASSERT(sizeof(bool) == 1 && sizeof(size_t) == 8 && sizeof(void *) == 8, "the machine");

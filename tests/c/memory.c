@@ -85,14 +85,17 @@ static tmwatch_told close_soon(void)
     memcpy(before, recorders, sizeof before);
     for (int tries = 0;; tries++) {
         uint64_t judged = 9;
+        tmwatch_counts counts = {9, 9, 9, 9, 9, 9, 9, 9, 9};
         uint32_t status = tmwatch_close(&watch, recorders, THREADS, &told);
         if (status == TMWATCH_DONE)
             return told;
         CHECK(status == TMWATCH_MEMORY && tries < SOON && tells(told, 9, 9, 9, 9) && !is_empty(&watch));
         bool is_open = memcmp(before, recorders, sizeof before) == 0;
         CHECK(is_open || are_empty(recorders, THREADS));
-        if (!is_open)
+        if (!is_open) {
             CHECK(tmwatch_pump(&watch, 1, &judged) == TMWATCH_CLOSING && judged == 9 && tmwatch_report(&watch, &told) == TMWATCH_CLOSING);
+            CHECK(tmwatch_summary(&watch, &counts) == TMWATCH_CLOSING && counts.transactions == 9);
+        }
         refuses_all = false;
     }
 }

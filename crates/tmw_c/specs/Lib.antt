@@ -5,3 +5,4 @@ pub mod Opening
 pub mod Recording
 pub mod Rooms
 pub mod Statuses
+pub mod Summing

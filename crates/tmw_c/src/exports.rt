@@ -6,8 +6,10 @@ ghost use Rattle.tmw_c.specs.Opening.{IsOpening};
 ghost use Rattle.tmw_c.specs.Recording.{IsRecording};
 ghost use Rattle.tmw_c.specs.Rooms.{IsAsking};
 ghost use Rattle.tmw_c.specs.Statuses.{Tells};
+ghost use Rattle.tmw_c.specs.Summing.{IsSumming};
 ghost use Rattle.tmw_handles.specs.Held.{recorder_in, watch_in};
 
+use crate::counted::Counted;
 use crate::told::Told;
 use crate::wanted::Wanted;
 use crate::{closing, judge, opening, record, room};
@@ -88,6 +90,14 @@ pub extern "C" fn tmwatch_report(alloc: Global, watch: &mut WatchHandle, out: &m
     ensures { Tells result (IsReporting (watch_in watch.old) (watch_in watch.new) out.old out.new) }
 {
     judge::report(alloc, watch, out).number()
+}
+
+/// Tells the counts of what was judged so far.
+#[unsafe(no_mangle)]
+pub extern "C" fn tmwatch_summary(alloc: Global, watch: &mut WatchHandle, out: &mut Counted) -> u32
+    ensures { Tells result (IsSumming (watch_in watch.old) (watch_in watch.new) out.old out.new) }
+{
+    judge::summary(alloc, watch, out).number()
 }
 
 /// Gives back all that the handle holds, and leaves it empty.

@@ -1,8 +1,10 @@
 //! Judging what was recorded, by a watch's handle.
 ghost use Rattle.std.specs.Prelude.{IfOk, IfErr, IfSome, IfNone};
 ghost use Rattle.tmw_c.specs.Judging.{IsNotOpen, IsPumping, IsReporting, WasNotPumped, WasPumped, WasReported};
+ghost use Rattle.tmw_c.specs.Summing.{IsSumming, WasSummed};
 ghost use Rattle.tmw_handles.specs.Held.{watch_in};
 
+use crate::counted::Counted;
 use crate::status::Status;
 use crate::told::Told;
 use std::alloc::Global;
@@ -65,6 +67,35 @@ pub fn report(alloc: Global, watch: &mut WatchHandle, out: &mut Told) -> Status
     match told {
         Some(told) => {
             *out = told;
+            Status::Done
+        }
+        None => Status::Closing,
+    }
+}
+
+/// Returns what an open watch's judged events have shown.
+fn summary_held(held: &HeldWatch) -> Option<Counted>
+    ensures some { IfSome result (WasSummed held.now) }
+    ensures none { IfNone result (IsNotOpen held.now) }
+{
+    let HeldWatch::Open(watch) = held else {
+        return None;
+    };
+    Some(Counted::of(watch.summary()))
+}
+
+/// Counts what was judged by what the handle holds, which it holds again afterwards.
+pub fn summary(alloc: Global, watch: &mut WatchHandle, out: &mut Counted) -> Status
+    ensures { IsSumming (watch_in watch.old) (watch_in watch.new) out.old out.new result }
+{
+    let Some(held) = watch.take(alloc) else {
+        return Status::NoHandle;
+    };
+    let counted = summary_held(&held);
+    *watch = WatchHandle::of(held);
+    match counted {
+        Some(counted) => {
+            *out = counted;
             Status::Done
         }
         None => Status::Closing,

@@ -2,6 +2,7 @@
 #![tactic(auto)]
 
 mod closing;
+mod counted;
 mod exports;
 mod judge;
 mod kind_exports;

@@ -17,4 +17,6 @@ pub use closing::Closing;
 pub use recorder::Recorder;
 pub use report::Report;
 pub use settings::Settings;
+pub use tmw_counts::Summary;
+pub use tmw_defs::Counts;
 pub use watch::Watch;

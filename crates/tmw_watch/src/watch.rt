@@ -1,6 +1,7 @@
 //! The end by which what the threads record is judged.
 ghost use Rattle.std.specs.Prelude.{◌≡◌, length, IfOk, OnErr, IsSome, IsTrue, ◌↔◌};
-ghost use Rattle.tmw_pump.specs.Fronts.{TellsVerdict, WasRefusedMemory, held_of, judged_of, verdict_on};
+ghost use Rattle.tmw_counts.specs.Summaries.{IsSummary};
+ghost use Rattle.tmw_pump.specs.Fronts.{TellsVerdict, WasRefusedMemory, front_part, held_of, judged_of, verdict_on};
 ghost use Rattle.tmw_pump.specs.Headline.{GivesHeadline};
 ghost use Rattle.tmw_pump.specs.Pumping.{HasPumped, IsPumped, reader_of};
 ghost use Rattle.tmw_ring.specs.Ends.{ReaderOf};
@@ -8,6 +9,7 @@ ghost use Rattle.tmw_ring.specs.Ends.{ReaderOf};
 use crate::report::Report;
 use std::alloc::{AllocError, Global};
 use std::sync::Arc;
+use tmw_counts::Summary;
 use tmw_pump::{ForgettingPump, Pumped};
 use tmw_ring::Ring;
 
@@ -56,6 +58,14 @@ impl Watch {
             events: self.pump.fed(),
             verdict: self.pump.verdict(),
         }
+    }
+
+    /// Returns what the events that were judged have shown: up to the one that the verdict names, or before it if they
+    /// are malformed, or all. A close returns no such counts: pump until nothing is left, call this, then close.
+    pub fn summary(&self) -> Summary
+        ensures { IsSummary (front_part (watch_front self.now)) result }
+    {
+        self.pump.summary()
     }
 
     /// Tells whether an event was taken that is not judged yet, after a failed allocation.

@@ -126,6 +126,66 @@ fn a_dirty_read_is_judged_as_it_comes(rt: HostRuntime) -> Result<(), Fail> {
     Ok(())
 }
 
+const NOTHING: Counts = Counts {
+    aborted: 0,
+    committed: 0,
+    cuts: 0,
+    live: 0,
+    overlapping: 0,
+    transactions: 0,
+    unasked: 0,
+    widest: 0,
+};
+
+/// The counts of so many transactions, of which each has committed before the next began.
+const fn alone(transactions: u64) -> Counts {
+    Counts {
+        committed: transactions,
+        cuts: transactions,
+        transactions,
+        widest: 1,
+        ..NOTHING
+    }
+}
+
+#[test]
+fn what_the_verdict_covers_is_counted(rt: HostRuntime) -> Result<(), Fail> {
+    let (mut watch, mut first, mut second) = open_two(rt.alloc(), 8, 100)?;
+    let at_first = watch.summary();
+    let _ = (first.record(Kind::T), first.record(Kind::C));
+    let _ = (second.record(Kind::T), second.record(Kind::C));
+    let _ = watch.pump(2);
+    let of_one = watch.summary();
+    let _ = watch.pump(2);
+    let of_two = watch.summary();
+    let _ = record_dirty_read(&mut first, &mut second);
+    // After the violation no event counts.
+    let _ = (second.record(Kind::X), second.record(Kind::A));
+    let _ = watch.pump(8);
+    let (at_last, events) = (watch.summary(), watch.report().events);
+    let summary = |counts, none_overlapped| Summary {
+        counts,
+        none_overlapped,
+    };
+    assert_eq!(rt;
+        [at_first, of_one],
+        [summary(NOTHING, false), summary(alone(1), false)]
+    );
+    let violated = Counts {
+        live: 2,
+        overlapping: 2,
+        transactions: 4,
+        widest: 2,
+        ..alone(2)
+    };
+    assert_eq!(rt;
+        [of_two, at_last],
+        [summary(alone(2), true), summary(violated, false)]
+    );
+    assert_eq!(rt; events, 10);
+    Ok(())
+}
+
 #[test]
 fn what_was_not_pumped_is_judged_at_the_end(rt: HostRuntime) -> Result<(), Fail> {
     let (watch, mut first, mut second) = open_two(rt.alloc(), 8, 100)?;
