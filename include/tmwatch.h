@@ -131,8 +131,8 @@ typedef struct tmwatch_told {
 typedef struct tmwatch_counts {
     uint64_t aborted;        /* transactions that have aborted */
     uint64_t committed;      /* those that have committed */
-    uint64_t cuts;           /* lengths, from 1 on, at which none is live */
-    uint64_t live;           /* transactions that have not ended */
+    uint64_t cuts;           /* lengths, from 1 on, at which all have ended */
+    uint64_t live;           /* transactions that have not ended, commit-pending ones too */
     uint64_t overlapping;    /* those that overlap another thread's: neither ended before the other began */
     uint64_t transactions;   /* all */
     uint64_t unasked;        /* aborted ones that didn't ask for it */
