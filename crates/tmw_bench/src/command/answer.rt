@@ -1,4 +1,5 @@
-ghost use Rattle.std.specs.Prelude.{◌≡◌, ◌≢◌, ◌+◌, ◌≤◌, ◌⊎◌, IfOk, length, string_bytes};
+ghost use Rattle.std.specs.Prelude.{◌≡◌, ◌≢◌, ◌&&◌, ◌+◌, ◌≤◌, ◌⊎◌, IfOk, length, string_bytes};
+ghost use Rattle.tmw_counts.specs.Parts.{is_open};
 ghost use Rattle.tmw_defs.specs.declared.verdict.Verdict.TheVariants.{StrictSoFar};
 ghost use Rattle.tmw_report.specs.Lines.{fault_line};
 ghost use Rattle.tmw_report.specs.Putting.{IsPut};
@@ -12,7 +13,7 @@ use crate::command::flags::Flags;
 use crate::command::hunt_run::HuntRun;
 use std::alloc::{AllocError, Global};
 use tmw_counts::{Summary, is_open};
-use tmw_defs::Criterion;
+use tmw_defs::{Criterion, Verdict};
 use tmw_drive::{Ending, add_summary, put_driven};
 use tmw_report::{FAULT_STATUS, Fault, answer_fault, report_text, send_remark, status_of};
 use tmw_show::shown_text;
@@ -38,10 +39,7 @@ pub fn answer_run<K: Sink, E: Sink>(
         return answer_fault(sink, Fault::Memory);
     };
     let verdict = &run.driven.outcome.verdict;
-    send_remark(
-        errors,
-        is_open(verdict) && run.driven.summary.none_overlapped,
-    );
+    send_remark(errors, shows_nothing(verdict, &run.driven.summary));
     match put_driven(sink, &run.driven, true, lines.as_bytes()) {
         Ok(()) => status_of(verdict),
         Err(_) => FAULT_STATUS,
@@ -89,7 +87,7 @@ pub fn answer_hunt<K: Sink, E: Sink>(
     };
     send_remark(
         errors,
-        is_open(&run.shown.showing.verdict) && run.summary.none_overlapped,
+        shows_nothing(&run.shown.showing.verdict, &run.summary),
     );
     match put_all(sink, &text) {
         Ok(()) => status_of(&run.shown.showing.verdict),
@@ -133,4 +131,11 @@ fn last_lines(
     let mut lines = ends_text(alloc, ends)?;
     add_summary(alloc, &mut lines, flags.written.summary, summary)?;
     Ok(lines)
+}
+
+/// Whether nothing is wrong, and no two transactions overlapped although there are two threads or more.
+fn shows_nothing(verdict: &Verdict, summary: &Summary) -> bool
+    ensures { result ≡ is_open verdict.now && summary.now.none_overlapped }
+{
+    is_open(verdict) && summary.none_overlapped
 }

@@ -1,5 +1,5 @@
 -- Where the lines found no memory, that fault answers, which is right of all bytes.
-use Rattle.std.proofs.Common.{◌≡◌, Ok, Err, inl, inr, false, rules, subst, true}
+use Rattle.std.proofs.Common.{◌≡◌, Ok, Err, inl, inr, false, refl, rules, subst, true}
 use Rattle.tmw_defs.specs.Opaque.{zeros}
 use Rattle.tmw_defs.specs.Verdict.{IsVerdict}
 use Rattle.tmw_defs.specs.declared.criterion.Criterion.TheVariants.{Opacity, Strict}
@@ -64,3 +64,35 @@ returns-in-Ok-hunt_source g c =
         remarked = done.1;
       }
     ])
+
+pub returns-in-Err : goal.returns-in-Err
+returns-in-Err g c =
+    let told = c.in-Err.ensures.right in
+    let is : asks_for_log c.args.plan.flags ≡ true = search rules in
+    rw is (record {
+      run = record {
+        bytes = told.0;
+        answer = Err c.in-Err.fault;
+        told = told.1;
+        right = told.2;
+        failures = c.in-Err.ensures.failures;
+        put = c.answer_fault.ensures;
+      };
+      remarked = refl;
+    })
+
+pub returns-in-Err-hunt_source : goal.returns-in-Err-hunt_source
+returns-in-Err-hunt_source g c =
+    let told = c.in-Err-hunt_source.ensures.right in
+    let is : asks_for_log c.args.plan.flags ≡ false = search rules in
+    rw is (record {
+      run = record {
+        bytes = told.0;
+        answer = Err c.in-Err-hunt_source.fault;
+        told = told.1;
+        right = told.2;
+        failures = c.in-Err-hunt_source.ensures.failures;
+        put = c.answer_fault-in-Err-hunt_source.ensures;
+      };
+      remarked = refl;
+    })
