@@ -13,15 +13,13 @@ use Rattle.tmw_judge.specs.declared.by_criterion.ByCriterion.{ByCriterion}
 use Rattle.tmw_judge.specs.declared.report.Report.{Report}
 use Rattle.tmw_judge.specs.declared.summed.Summed.{Summed}
 use Rattle.tmw_judge.proofs.Each.{each-weaker, own_verdict}
+use Rattle.tmw_judge.proofs.FirstOpen.{AreOpenBefore-open, open-told}
 
 module _ (bounds : Bounds) (asked : Asked) where
   own-verdicts : (header : Header) (history : List Event) (reports : ByCriterion Report) → AreReports header bounds asked history reports
       → Each IsOwnVerdict reports
   own-verdicts header history reports tell =
       each-weaker (λ criterion. IsReportOn (trace_rules header bounds criterion) history) IsOwnVerdict reports (own_verdict header bounds history) tell.each
-
-  in-time : (Ended : Type 0) (bytes : List ℕ) → EndsSoonBehindOpen bounds asked bytes → HasFaultInTime bounds asked Ended bytes Memory
-  in-time Ended bytes soon = (soon.soon, soon)
 
   soon-first : (bytes : List ℕ) (reports : ByCriterion Report) → AreFirstReports bounds asked bytes reports → EndsSoonBehindOpen bounds asked bytes
   soon-first bytes reports f = record {
@@ -40,8 +38,8 @@ module _ (bounds : Bounds) (asked : Asked) where
 
     pub memory-first : (reports : ByCriterion Report) → AreFirstReports bounds asked bytes reports ⊎ AreOpenReports bounds asked Ended bytes reports
         → HasFaultInTime bounds asked Ended bytes Memory
-    memory-first reports (inl f) = in-time Ended bytes (soon-first bytes reports f)
-    memory-first reports (inr o) = in-time Ended bytes record {
+    memory-first reports (inl f) = soon-first bytes reports f
+    memory-first reports (inr o) = record {
       soon = record {
         begun = record {
           header = o.whole.header;
@@ -52,7 +50,8 @@ module _ (bounds : Bounds) (asked : Asked) where
         };
         soon = omega arith;
       };
-      before = o.before;
+      before = AreOpenBefore-open o.whole.header bounds asked o.whole.history
+          (open-told o.whole.header bounds o.whole.history asked reports o.whole.tell o.open_one);
     }
 
     pub own-first-summed : (summed : Summed) → IsFirstSummed bounds asked bytes summed ⊎ IsOpenSummed bounds asked Ended bytes summed
@@ -62,8 +61,8 @@ module _ (bounds : Bounds) (asked : Asked) where
 
     pub memory-first-summed : (summed : Summed) → IsFirstSummed bounds asked bytes summed ⊎ IsOpenSummed bounds asked Ended bytes summed
         → HasFaultInTime bounds asked Ended bytes Memory
-    memory-first-summed summed (inl f) = in-time Ended bytes (soon-first bytes summed.reports f.first)
-    memory-first-summed summed (inr o) = in-time Ended bytes record {
+    memory-first-summed summed (inl f) = soon-first bytes summed.reports f.first
+    memory-first-summed summed (inr o) = record {
       soon = record {
         begun = record {
           header = o.whole.header;
@@ -74,5 +73,6 @@ module _ (bounds : Bounds) (asked : Asked) where
         };
         soon = omega arith;
       };
-      before = o.before;
+      before = AreOpenBefore-open o.whole.header bounds asked o.whole.history
+          (open-told o.whole.header bounds o.whole.history asked summed.reports o.whole.tell o.open_one);
     }

@@ -1,7 +1,5 @@
 -- Reading on to the event at which all verdicts are final.
-use Rattle.std.proofs.Common.{◌≡◌, ◌<◌, ◌^◌, ℕ, Ok, Err, true, false, List, [], ◌∷◌, ◌++◌, length, inl, inr, sym, ◌∙◌, append_assoc, append-nil, length-append, arith}
-use Rattle.std.proofs.lemmas.Bool.{cases_lt}
-use Rattle.std.proofs.lemmas.List.{take_all}
+use Rattle.std.proofs.Common.{◌≡◌, ◌<◌, ◌^◌, ℕ, Ok, Err, true, false, List, [], ◌∷◌, ◌++◌, inl, inr, sym, ◌∙◌, append_assoc, append-nil, length-append, arith}
 use Rattle.tmw_lines.specs.Lines.{IsReading, HasRead, GivesItem, GivesEnd, FailsAtLine}
 use Rattle.tmw_lines.specs.ItemsRead.{FailsBehind}
 use Rattle.tmw_lines.specs.declared.lines.Lines.{Lines}
@@ -16,45 +14,14 @@ use Rattle.tmw_trace.specs.Text.{trace_grammar}
 use Rattle.tmw_trace.specs.declared.header.Header.{Header}
 use Rattle.tmw_trace.specs.declared.version.Version.{Version}
 use Rattle.tmw_defs.specs.declared.criterion.Asked.{Asked}
-use Rattle.tmw_defs.proofs.WindowsProof.{length-push, take-push}
 use Rattle.tmw_monitor.specs.declared.bounds.Bounds.{Bounds}
-use Rattle.tmw_monitor.specs.declared.monitor.Monitor.{Monitor}
 use Rattle.tmw_judge.specs.Counted.{any_open, AreJudged, CountsFor, verdicts_of}
 use Rattle.tmw_judge.specs.Feeding.{AreFedAllRead, AreFedSoMany, TakeEvents}
 use Rattle.tmw_judge.specs.FeedingFirst.{AreReadFirst, FeedsFirst}
-use Rattle.tmw_judge.specs.First.{AreOpen, AreOpenBefore, AreVerdicts}
-use Rattle.tmw_judge.specs.Judging.{AreFed}
-use Rattle.tmw_judge.specs.declared.by_criterion.ByCriterion.{ByCriterion}
-use Rattle.tmw_judge.specs.declared.by_criterion.ByCriterion.TheVariants.{Opacity, Strict, Both}
+use Rattle.tmw_judge.specs.First.{AreOpen, AreOpenBefore}
 use Rattle.tmw_judge.specs.declared.judges.Judges.{Judges}
 use Rattle.tmw_judge.proofs.FedEvents.{fed-so_many}
-
-module _ (header : Header) (bounds : Bounds) (asked : Asked) where
-  -- the verdicts of monitors are those on the history that they were fed
-  verdicts-are : (h : List Event) (monitors : ByCriterion Monitor) → AreFed header bounds asked h monitors
-      → AreVerdicts header bounds asked h (verdicts_of monitors)
-  verdicts-are h (Opacity m) fed = record { all = fed.all; each = fed.each.judged }
-  verdicts-are h (Strict m) fed = record { all = fed.all; each = fed.each.judged }
-  verdicts-are h (Both m n) fed = record { all = fed.all; each = (fed.each.0.judged, fed.each.1.judged) }
-
-  -- where one of the monitors is open, not all verdicts are final
-  pub open_here : (h : List Event) (monitors : ByCriterion Monitor) → AreFed header bounds asked h monitors
-      → any_open (verdicts_of monitors) ≡ true → AreOpen header bounds asked h
-  open_here h monitors fed is = record { verdicts = verdicts_of monitors; are = verdicts-are h monitors fed; open_one = is }
-
-  -- nothing is shorter than no event
-  pub AreOpenBefore-none : AreOpenBefore header bounds asked []
-  AreOpenBefore-none = λ k less. absurd (omega (arith, less))
-
-  -- one event more
-  pub AreOpenBefore-push : (h : List Event) (e : Event) → AreOpenBefore header bounds asked h → AreOpen header bounds asked h
-      → AreOpenBefore header bounds asked (h ++ e ∷ [])
-  AreOpenBefore-push h e before here = λ k less. elim (cases_lt k (length h)) [
-    | inl past ↦ rw (take-push k h e (omega (arith, past))) (before k past)
-    | inr within ↦
-        let same : k ≡ length h = (let long = length-push h e in omega (arith, less, within, long)) in
-        rw (take-push k h e (omega (arith, same)), take_all k h (omega (arith, same))) here
-  ]
+use Rattle.tmw_judge.proofs.FirstOpen.{AreOpenBefore-push, open-fed}
 
 -- All lines that were read since are of events that the judges have been fed, and not all verdicts were final before the last of them.
 pub record HasFed {S C : Type 0} (From : FromSource S) (Counts : CountsFor C) (old new : S) (lines lines_after : Lines Version)
@@ -130,14 +97,12 @@ module _ {S C : Type 0} (From : FromSource S) (Counts : CountsFor C) (a : S) (li
       open_now : (header : Header) (bounds : Bounds) (asked : Asked) (given : List Event) → AreJudged Counts header bounds asked given judges
           → AreOpen header bounds asked (given ++ h.events)
       open_now header bounds asked given was =
-          open_here header bounds asked (given ++ h.events) fed.monitors (h.taken header bounds asked given was).fed is
+          open-fed header bounds (given ++ h.events) asked fed.monitors (h.taken header bounds asked given was).fed is
 
       open_on : (header : Header) (bounds : Bounds) (asked : Asked) (given : List Event) (event : Event)
-          → AreJudged Counts header bounds asked given judges → AreOpenBefore header bounds asked given
-          → AreOpenBefore header bounds asked ((given ++ h.events) ++ event ∷ [])
-      open_on header bounds asked given event was open_before =
-          AreOpenBefore-push header bounds asked (given ++ h.events) event (h.before header bounds asked given was open_before)
-          (open_now header bounds asked given was)
+          → AreJudged Counts header bounds asked given judges → AreOpenBefore header bounds asked ((given ++ h.events) ++ event ∷ [])
+      open_on header bounds asked given event was =
+          AreOpenBefore-push header bounds asked (given ++ h.events) event (open_now header bounds asked given was)
 
       -- one event more was fed
       pub HasFed-push : (c : S) (next : Lines Version) (after : Judges C) (bytes : List ℕ) (event : Event) → Tells From b bytes c
@@ -151,7 +116,7 @@ module _ {S C : Type 0} (From : FromSource S) (Counts : CountsFor C) (a : S) (li
         taken = λ header bounds asked history was. rw (← append_assoc history h.events (event ∷ []))
             (taken header bounds asked (history ++ h.events) (h.taken header bounds asked history was));
         before = λ header bounds asked given was open_before. rw (← append_assoc given h.events (event ∷ []))
-            (open_on header bounds asked given event was open_before);
+            (open_on header bounds asked given event was);
       }
 
       -- memory was refused for it
@@ -164,7 +129,7 @@ module _ {S C : Type 0} (From : FromSource S) (Counts : CountsFor C) (a : S) (li
         told = Tells-more From a b c h.bytes bytes h.told told;
         fed = λ header bounds asked given earlier r was open_before. (
           record { last = event; read = read-one next bytes event gives header given earlier r },
-          open_on header bounds asked given event was open_before,
+          open_on header bounds asked given event was,
         );
       }
 
@@ -183,7 +148,6 @@ module _ {S C : Type 0} (From : FromSource S) (Counts : CountsFor C) (a : S) (li
               read = record { ended = end.0; are_lines = read.are_lines; text = sym (append_assoc earlier h.bytes bytes) ∙ end.1 };
               judged = h.taken header bounds asked given was;
               open_one = is;
-              before = h.before header bounds asked given was open_before;
             };
       }
 

@@ -51,7 +51,6 @@ module _ {C : Type 0} (Shows : CountsFor C) (bounds : Bounds) (asked : Asked) (b
       tell = tells all.whole.header bounds asked all.whole.history all.whole.judged.fed;
     };
     open_one = ap any_open (sym (same-verdicts all.whole.header all.whole.history all.whole.judged.fed)) ∙ all.open_one;
-    before = all.before;
   }
 
   module _ (summary : Summary) (shown : (registers : ℕ) (history : List Event) → Shows registers history judges.counting → IsSummary history summary) where
@@ -82,5 +81,4 @@ module _ {C : Type 0} (Shows : CountsFor C) (bounds : Bounds) (asked : Asked) (b
         summary = summary-shown all.whole.header all.whole.history all.whole.judged.fed all.whole.judged.counted;
       };
       open_one = ap any_open (sym (same-verdicts all.whole.header all.whole.history all.whole.judged.fed)) ∙ all.open_one;
-      before = all.before;
     }

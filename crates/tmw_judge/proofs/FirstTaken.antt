@@ -5,8 +5,6 @@ use Rattle.tmw_lines.specs.Lines.{HasRead, unread_bytes}
 use Rattle.tmw_lines.specs.declared.lines.Lines.{Lines}
 use Rattle.tmw_lines.specs.declared.text_fault.TextFault.{TextFault}
 use Rattle.tmw_lines.specs.declared.text_fault.TextFault.TheVariants.{BadHeader, BadLine, Cut, Memory, Io, TooLong}
-use Rattle.tmw_lines.proofs.LinesRead.{text_fault-behind}
-use Rattle.tmw_lines.proofs.TextsRead.{soon-behind, text_fault-first}
 use Rattle.tmw_streams.specs.Streams.{FromSource}
 use Rattle.tmw_streams.specs.Told.{Tells}
 use Rattle.tmw_streams.proofs.ToldBytes.{Tells-more}
@@ -23,7 +21,7 @@ use Rattle.tmw_judge.specs.FeedingFirst.{AnswersFirstFed, AreReadFirst, FeedsFir
 use Rattle.tmw_judge.specs.First.{AreOpen, AreOpenBefore, EndsSoonBehindOpen, HasFaultInTime}
 use Rattle.tmw_judge.specs.Counted.{CountsFor}
 use Rattle.tmw_judge.specs.declared.judges.Judges.{Judges}
-use Rattle.tmw_judge.proofs.FirstFed.{AreOpenBefore-none}
+use Rattle.tmw_judge.proofs.FirstOpen.{AreOpenBefore-none}
 
 -- what was read when memory was wanted ends soon behind whole lines, and no verdict came before the last of them
 soon-open : (lines : Lines Version) (header : Header) (bounds : Bounds) (asked : Asked) (history : List Event) (bytes : List ℕ)
@@ -46,37 +44,27 @@ module _ {C : Type 0} (Counts : CountsFor C) where
   -- the fault of the first line, or want of memory behind it, comes before any verdict
   first-in-time : (Ended : Type 0) (lines : Lines Version) (bounds : Bounds) (asked : Asked) (bytes : List ℕ) (fault : TextFault)
       → IsBeginning Counts Ended lines bounds asked bytes (Err fault) → HasFaultInTime bounds asked Ended bytes fault
-  first-in-time Ended lines bounds asked bytes BadHeader is = (text_fault-first trace_grammar Ended bytes BadHeader is, inl is)
-  first-in-time Ended lines bounds asked bytes (BadLine number) is = (text_fault-first trace_grammar Ended bytes (BadLine number) is, inl is)
-  first-in-time Ended lines bounds asked bytes (Cut number) is = (text_fault-first trace_grammar Ended bytes (Cut number) is, inl is)
-  first-in-time Ended lines bounds asked bytes Memory is = (
-    soon-behind trace_grammar lines is.0 [] bytes is.1,
-    soon-open lines is.0 bounds asked [] bytes is.1 (AreOpenBefore-none is.0 bounds asked),
-  )
-  first-in-time Ended lines bounds asked bytes Io is = (text_fault-first trace_grammar Ended bytes Io is, inl is)
-  first-in-time Ended lines bounds asked bytes TooLong is = (text_fault-first trace_grammar Ended bytes TooLong is, inl is)
+  first-in-time Ended lines bounds asked bytes BadHeader is = inl is
+  first-in-time Ended lines bounds asked bytes (BadLine number) is = inl is
+  first-in-time Ended lines bounds asked bytes (Cut number) is = inl is
+  first-in-time Ended lines bounds asked bytes Memory is =
+      soon-open lines is.0 bounds asked [] bytes is.1 (AreOpenBefore-none is.0 bounds asked)
+  first-in-time Ended lines bounds asked bytes Io is = inl is
+  first-in-time Ended lines bounds asked bytes TooLong is = inl is
 
   behind-in-time : (Ended : Type 0) (header : Header) (bounds : Bounds) (asked : Asked) (history : List Event) (bytes : List ℕ)
       (fault : TextFault) → FailsBehind trace_grammar Ended header history bytes fault → AreOpen header bounds asked history
       → HasFaultInTime bounds asked Ended bytes fault
   behind-in-time Ended header bounds asked history bytes BadHeader fails are_open = absurd fails.line
-  behind-in-time Ended header bounds asked history bytes (BadLine number) fails are_open = (
-    text_fault-behind trace_grammar Ended header history bytes (BadLine number) fails,
-    inr record { header = header; history = history; fails = fails; are_open = are_open },
-  )
-  behind-in-time Ended header bounds asked history bytes (Cut number) fails are_open = (
-    text_fault-behind trace_grammar Ended header history bytes (Cut number) fails,
-    inr record { header = header; history = history; fails = fails; are_open = are_open },
-  )
+  behind-in-time Ended header bounds asked history bytes (BadLine number) fails are_open =
+      inr record { header = header; history = history; fails = fails; are_open = are_open }
+  behind-in-time Ended header bounds asked history bytes (Cut number) fails are_open =
+      inr record { header = header; history = history; fails = fails; are_open = are_open }
   behind-in-time Ended header bounds asked history bytes Memory fails are_open = absurd fails.line
-  behind-in-time Ended header bounds asked history bytes Io fails are_open = (
-    text_fault-behind trace_grammar Ended header history bytes Io fails,
-    inr record { header = header; history = history; fails = fails; are_open = are_open },
-  )
-  behind-in-time Ended header bounds asked history bytes TooLong fails are_open = (
-    text_fault-behind trace_grammar Ended header history bytes TooLong fails,
-    inr record { header = header; history = history; fails = fails; are_open = are_open },
-  )
+  behind-in-time Ended header bounds asked history bytes Io fails are_open =
+      inr record { header = header; history = history; fails = fails; are_open = are_open }
+  behind-in-time Ended header bounds asked history bytes TooLong fails are_open =
+      inr record { header = header; history = history; fails = fails; are_open = are_open }
 
   -- so does the fault of a later line
   fault-in-time : (Done : Type 0) (Ended : Type 0) (lines : Lines Version) (header : Header) (bounds : Bounds) (asked : Asked)
@@ -89,10 +77,8 @@ module _ {C : Type 0} (Counts : CountsFor C) where
       behind-in-time Ended header bounds asked history bytes (BadLine number) is.0 is.1
   fault-in-time Done Ended lines header bounds asked history bytes judges (Cut number) is =
       behind-in-time Ended header bounds asked history bytes (Cut number) is.0 is.1
-  fault-in-time Done Ended lines header bounds asked history bytes judges Memory is = (
-    soon-behind trace_grammar lines header (history ++ is.0.last ∷ []) bytes is.0.read,
-    soon-open lines header bounds asked (history ++ is.0.last ∷ []) bytes is.0.read is.1,
-  )
+  fault-in-time Done Ended lines header bounds asked history bytes judges Memory is =
+      soon-open lines header bounds asked (history ++ is.0.last ∷ []) bytes is.0.read is.1
   fault-in-time Done Ended lines header bounds asked history bytes judges Io is =
       behind-in-time Ended header bounds asked history bytes Io is.0 is.1
   fault-in-time Done Ended lines header bounds asked history bytes judges TooLong is =
@@ -138,7 +124,6 @@ module _ {S C : Type 0} (From : FromSource S) (Counts : CountsFor C) (First Ende
           judged = all.judged;
         };
         open_one = all.open_one;
-        before = all.before;
       }
     ],
   )

@@ -3,6 +3,7 @@ mod Each
 mod FedEvents
 mod FirstAnswers
 mod FirstFed
+mod FirstOpen
 mod FirstReports
 mod FirstTaken
 mod Taken

@@ -1,4 +1,5 @@
--- What is counted of the events of a trace beside their verdict: those up to the event that the verdict names.
+-- Which events of a trace are counted beside their verdict: those up to the verdict's event, before it where the history is malformed,
+-- or all. With two verdicts the larger number of them is counted.
 use Rattle.std.specs.Prelude.{ℕ, Bool, ◌&&◌, ◌||◌, List, length, max, take}
 use Rattle.tmw_events.specs.declared.event.Event.{Event}
 use Rattle.tmw_trace.specs.declared.header.Header.{Header}
@@ -13,7 +14,7 @@ use Rattle.tmw_judge.specs.declared.by_criterion.ByCriterion.TheVariants.{Opacit
 use Rattle.tmw_judge.specs.declared.judges.Judges.{Judges}
 use Rattle.tmw_judge.specs.Judging.{AreFed}
 
--- With two verdicts it is the larger of the two numbers.
+-- How many of so many events are counted.
 abbrev pub counted_of : ℕ → ByCriterion Verdict → ℕ
 counted_of events (Opacity verdict) = counted_by events verdict
 counted_of events (Strict verdict) = counted_by events verdict
@@ -24,7 +25,7 @@ verdicts_of (Opacity monitor) = Opacity (verdict_of monitor)
 verdicts_of (Strict monitor) = Strict (verdict_of monitor)
 verdicts_of (Both opacity strict) = Both (verdict_of opacity) (verdict_of strict)
 
--- The part of a history that is counted.
+-- The prefix of a history that is counted.
 abbrev pub counted_part : ByCriterion Verdict → List Event → List Event
 counted_part verdicts history = take (counted_of (length history) verdicts) history
 
@@ -32,7 +33,7 @@ counted_part verdicts history = take (counted_of (length history) verdicts) hist
 abbrev pub CountsFor : Type 0 → Type 1
 CountsFor C = ℕ → List Event → C → Type 0
 
--- The monitors have been fed this history, and the part of it that is counted has been counted.
+-- The monitors have been fed this history, and the prefix of it that is counted has been counted.
 pub record AreJudged {C : Type 0} (Counts : CountsFor C) (header : Header) (bounds : Bounds) (asked : Asked) (history : List Event)
     (judges : Judges C) : Type 0 where
   pub fed : AreFed header bounds asked history judges.monitors

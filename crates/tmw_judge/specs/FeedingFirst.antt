@@ -20,8 +20,8 @@ use Rattle.tmw_judge.specs.First.{AreOpen, AreOpenBefore, HasFaultInTime}
 use Rattle.tmw_judge.specs.Summing.{AreJudgesOf}
 use Rattle.tmw_judge.specs.declared.judges.Judges.{Judges}
 
--- The judges have been fed this history, which is all that was read but for what the reader holds. All their verdicts are final, and
--- on no shorter beginning they are.
+-- The judges have been fed this history, which is all that was read but for what the reader holds. All their verdicts are final. On no
+-- shorter prefix are all verdicts final.
 pub record AreFedFirst {C : Type 0} (Counts : CountsFor C) (lines : Lines Version) (header : Header) (bounds : Bounds) (asked : Asked)
     (history : List Event) (bytes : List ℕ) (judges : Judges C) : Type 0 where
   pub read : HasRead trace_grammar lines header history bytes
@@ -29,13 +29,12 @@ pub record AreFedFirst {C : Type 0} (Counts : CountsFor C) (lines : Lines Versio
   pub final : any_open (verdicts_of judges.monitors) ≡ false
   pub before : AreOpenBefore header bounds asked history
 
--- They have been fed all events up to the end. Not all their verdicts are final, nor were on any beginning.
+-- They have been fed all events up to the end. Not all their verdicts are final.
 pub record AreFedWhole {C : Type 0} (Counts : CountsFor C) (Ended : Type 0) (header : Header) (bounds : Bounds) (asked : Asked)
     (history : List Event) (bytes : List ℕ) (judges : Judges C) : Type 0 where
   pub read : EndsBehind trace_grammar Ended header history bytes
   pub judged : AreJudged Counts header bounds asked history judges
   pub open_one : any_open (verdicts_of judges.monitors) ≡ true
-  pub before : AreOpenBefore header bounds asked history
 
 -- These are the bytes read where the judges have been fed this history: its text, and behind it what the reader holds, where all
 -- verdicts are final; else nothing up to the end, the line that has the fault, or for want of memory one line and what is held.
@@ -59,8 +58,8 @@ pub record FeedsFirst {S C Done : Type 0} (From : FromSource S) (Counts : Counts
       → AreOpenBefore header bounds asked given
       → AreReadFirst Counts Ended lines_after header bounds asked (given ++ events) (before ++ bytes) judges_after result
 
--- The bytes are the text of a trace, and at most 4,096 more. The judges have been fed its history, and all their verdicts are final;
--- on no shorter beginning they are.
+-- The bytes are the text of a trace, and at most 4,096 more. The judges have been fed its history, and all their verdicts are final. On
+-- no shorter prefix are all verdicts final.
 pub record AreFirstJudges {C : Type 0} (Counts : CountsFor C) (bounds : Bounds) (asked : Asked) (bytes : List ℕ) (judges : Judges C) : Type 0 where
   pub header : Header
   pub history : List Event
@@ -73,13 +72,12 @@ pub record AreFirstJudges {C : Type 0} (Counts : CountsFor C) (bounds : Bounds) 
   pub before : AreOpenBefore header bounds asked history
 
 -- The source has ended, and the judges have been fed the history of the trace of which its bytes are the text. Not all their verdicts
--- are final, nor were on any beginning.
+-- are final.
 pub record AreOpenJudges {C : Type 0} (Counts : CountsFor C) (bounds : Bounds) (asked : Asked) (Ended : Type 0) (bytes : List ℕ)
     (judges : Judges C) : Type 0 where
   pub ended : Ended
   pub whole : AreJudgesOf Counts bounds asked bytes judges
   pub open_one : any_open (verdicts_of judges.monitors) ≡ true
-  pub before : AreOpenBefore whole.header bounds asked whole.history
 
 -- This answers the bytes that a source told, by the judges that are to report on them, or by their fault.
 abbrev pub AnswersFirstFed : {C : Type 0} → CountsFor C → Bounds → Asked → Type 0 → List ℕ → Result (Judges C) Fault → Type 0

@@ -26,7 +26,7 @@ told_verdicts (Opacity report) = Opacity report.verdict
 told_verdicts (Strict report) = Strict report.verdict
 told_verdicts (Both opacity strict) = Both opacity.verdict strict.verdict
 
--- The bytes are the text of a trace, these are the reports on its history, and these the counts of the part of it that its verdicts
+-- The bytes are the text of a trace, these are the reports on its history, and these the counts of the prefix of it that its verdicts
 -- cover.
 pub record IsSummedOf (bounds : Bounds) (asked : Asked) (bytes : List ℕ) (summed : Summed) : Type 0 where
   pub header : Header
@@ -48,7 +48,7 @@ summed_lines summed = report_lines summed.reports ++ summary_text summed.summary
 abbrev pub summed_status : Summed → ℕ
 summed_status summed = report_status summed.reports
 
--- Nothing is wrong by any criterion, and no two transactions overlapped although there are two threads or more.
+-- By each criterion that is asked for nothing is wrong; and no two transactions overlapped although there are two threads or more.
 abbrev pub summed_shows_nothing : Summed → Bool
 summed_shows_nothing summed = all_open (told_verdicts summed.reports) && summed.summary.none_overlapped
 

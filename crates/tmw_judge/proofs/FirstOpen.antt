@@ -1,0 +1,98 @@
+-- Histories with which nothing is wrong by one of the criteria that are asked for: their prefixes are such too.
+use Rattle.std.proofs.Common.{◌≡◌, ℕ, true, List, [], ◌∷◌, ◌++◌, refl, sym, subst, inl, inr, arith}
+use Rattle.std.specs.Prelude.{take}
+use Rattle.std.proofs.lemmas.Bool.{or_cases}
+use Rattle.std.proofs.lemmas.List.{length-take, take-take}
+use Rattle.tmw_events.specs.declared.event.Event.{Event}
+use Rattle.tmw_trace.specs.declared.header.Header.{Header}
+use Rattle.tmw_defs.specs.declared.criterion.Asked.{Asked}
+use Rattle.tmw_defs.specs.declared.criterion.Asked.TheVariants as asks
+use Rattle.tmw_defs.specs.declared.criterion.Criterion.TheVariants as by
+use Rattle.tmw_defs.specs.declared.verdict.Verdict.{Verdict}
+use Rattle.tmw_defs.specs.declared.verdict.Verdict.TheVariants.{OpaqueSoFar, StrictSoFar, Violated, Undecided, Malformed}
+use Rattle.tmw_defs.specs.Verdict.{AreFine, IsFine, IsVerdict, Rules}
+use Rattle.tmw_defs.proofs.WindowsProof.{length-push, take-push}
+use Rattle.tmw_counts.specs.Parts.{is_open}
+use Rattle.tmw_monitor.specs.declared.bounds.Bounds.{Bounds}
+use Rattle.tmw_monitor.specs.declared.monitor.Monitor.{Monitor}
+use Rattle.tmw_monitor.specs.Monitor.{verdict_of}
+use Rattle.tmw_judge.specs.Counted.{any_open, verdicts_of}
+use Rattle.tmw_judge.specs.First.{AreOpen, AreOpenBefore}
+use Rattle.tmw_judge.specs.Judging.{AreFed, AreReports, trace_rules}
+use Rattle.tmw_judge.specs.Summing.{told_verdicts}
+use Rattle.tmw_judge.specs.declared.by_criterion.ByCriterion.{ByCriterion}
+use Rattle.tmw_judge.specs.declared.by_criterion.ByCriterion.TheVariants.{Opacity, Strict, Both}
+use Rattle.tmw_judge.specs.declared.report.Report.{Report}
+
+-- where nothing is wrong with any prefix, nothing is with a prefix's prefixes
+fine-prefix : (rules : Rules) (h : List Event) (j : ℕ) → AreFine rules h → AreFine rules (take j h)
+fine-prefix rules h j fine = λ k within.
+    let long = length-take j h in
+    subst (λ (es : List Event). IsFine rules es) (sym (take-take k j h (omega (arith, within, long)))) (fine k (omega (arith, within, long)))
+
+-- an open verdict says that nothing is wrong
+open-fine : (rules : Rules) (h : List Event) (v : Verdict) → is_open v ≡ true → IsVerdict rules h v → AreFine rules h
+open-fine rules h OpaqueSoFar is judged = judged.1
+open-fine rules h StrictSoFar is judged = judged.1
+open-fine rules h (Violated m) is judged = absurd (cc)
+open-fine rules h (Undecided m why) is judged = absurd (cc)
+open-fine rules h (Malformed m) is judged = absurd (cc)
+
+module _ (header : Header) (bounds : Bounds) where
+  -- each prefix of an open history is open
+  pub open-prefix : (asked : Asked) (h : List Event) (k : ℕ) → AreOpen header bounds asked h → AreOpen header bounds asked (take k h)
+  open-prefix asks.Opacity h k is = (is.0, fine-prefix (trace_rules header bounds by.Opacity) h k is.1)
+  open-prefix asks.Strict h k is = (is.0, fine-prefix (trace_rules header bounds by.Strict) h k is.1)
+  open-prefix asks.Both h k (inl is) = inl (is.0, fine-prefix (trace_rules header bounds by.Opacity) h k is.1)
+  open-prefix asks.Both h k (inr is) = inr (is.0, fine-prefix (trace_rules header bounds by.Strict) h k is.1)
+
+  module _ (asked : Asked) where
+    -- nothing is shorter than no event
+    pub AreOpenBefore-none : AreOpenBefore header bounds asked []
+    AreOpenBefore-none = λ k less. absurd (omega (arith, less))
+
+    -- before an open history
+    pub AreOpenBefore-open : (h : List Event) → AreOpen header bounds asked h → AreOpenBefore header bounds asked h
+    AreOpenBefore-open h is = λ k less. open-prefix asked h k is
+
+    -- and with one event more
+    pub AreOpenBefore-push : (h : List Event) (e : Event) → AreOpen header bounds asked h → AreOpenBefore header bounds asked (h ++ e ∷ [])
+    AreOpenBefore-push h e is = λ k less.
+        let long = length-push h e in
+        rw (take-push k h e (omega (arith, less, long))) (open-prefix asked h k is)
+
+  module _ (h : List Event) where
+    opaque-fine : (v : Verdict) → is_open v ≡ true → IsVerdict (trace_rules header bounds by.Opacity) h v
+        → IsVerdict (trace_rules header bounds by.Opacity) h OpaqueSoFar
+    opaque-fine v is judged = (refl, open-fine (trace_rules header bounds by.Opacity) h v is judged)
+
+    strict-fine : (v : Verdict) → is_open v ≡ true → IsVerdict (trace_rules header bounds by.Strict) h v
+        → IsVerdict (trace_rules header bounds by.Strict) h StrictSoFar
+    strict-fine v is judged = (refl, open-fine (trace_rules header bounds by.Strict) h v is judged)
+
+    module _ (asked : Asked) where
+      -- where one of the monitors is open, the history is
+      pub open-fed : (monitors : ByCriterion Monitor) → AreFed header bounds asked h monitors → any_open (verdicts_of monitors) ≡ true
+          → AreOpen header bounds asked h
+      open-fed (Opacity m) fed is =
+          subst (λ (a : Asked). AreOpen header bounds a h) fed.all (opaque-fine (verdict_of m) is fed.each.judged)
+      open-fed (Strict m) fed is =
+          subst (λ (a : Asked). AreOpen header bounds a h) fed.all (strict-fine (verdict_of m) is fed.each.judged)
+      open-fed (Both m n) fed is =
+          subst (λ (a : Asked). AreOpen header bounds a h) fed.all (elim (or_cases (is_open (verdict_of m)) (is_open (verdict_of n)) is) [
+            | inl one ↦ inl (opaque-fine (verdict_of m) one fed.each.0.judged)
+            | inr one ↦ inr (strict-fine (verdict_of n) one fed.each.1.judged)
+          ])
+
+      -- and where one of the reports is
+      pub open-told : (reports : ByCriterion Report) → AreReports header bounds asked h reports → any_open (told_verdicts reports) ≡ true
+          → AreOpen header bounds asked h
+      open-told (Opacity r) tell is =
+          subst (λ (a : Asked). AreOpen header bounds a h) tell.all (opaque-fine r.verdict is tell.each.judged)
+      open-told (Strict r) tell is =
+          subst (λ (a : Asked). AreOpen header bounds a h) tell.all (strict-fine r.verdict is tell.each.judged)
+      open-told (Both r s) tell is =
+          subst (λ (a : Asked). AreOpen header bounds a h) tell.all (elim (or_cases (is_open r.verdict) (is_open s.verdict) is) [
+            | inl one ↦ inl (opaque-fine r.verdict one tell.each.0.judged)
+            | inr one ↦ inr (strict-fine s.verdict one tell.each.1.judged)
+          ])
