@@ -66,8 +66,8 @@ registers that start at 0, or `opacity-trace 2 R V ..`, with each start value.
 Every further line is one event, such as `0 W 1 5`: thread 0 writes 5 to
 register 1. docs/FORMATS.md lists the events.
 
-Writes one line of JSON when the input has ended, with `both` one per criterion:
-the verdict, how many events there are, and at which of them it went wrong.
+Writes one line of JSON, with `both` one per criterion: the verdict, how many
+events there are, and at which of them it went wrong.
 --summary adds a line of counts up to that event, a malformed one left out, or
 to the last: transactions, how they ended, overlaps, cuts, the widest window.
 --first ends at the event that makes the verdict violated, undecided or
@@ -89,7 +89,8 @@ here: two windows seldom begin and end at the same events. Run `show` for each.
 Writes the line that `judge` writes; the states of the registers from which the
 last window may begin, one per line; and the window's events, numbered, in one
 column per thread. The window begins where no transaction was open, and ends at
-the event where the run went wrong, or at the last event.
+the event where the run went wrong, or at the last event. Beside that event
+stands what is wrong; if malformed, which rule it broke.
 
 With --trace it writes, for each state, a trace that starts with this state and
 has the window's events, and nothing else.
