@@ -145,9 +145,18 @@ fn the_counts_are_those_up_to_the_verdict(rt: HostRuntime) {
     let text = b"opacity-trace 1 1\n0 W 0 1\n0 K\n1 R 0\n1 V 1\n?\n";
     let mut source = MemorySource::new(text);
     let mut sink = MemorySink::new(rt.alloc());
-    let answered = run_first_summary(rt.alloc(), &mut source, &mut sink, BOUNDS, Asked::Opacity);
+    let mut errors = MemorySink::new(rt.alloc());
+    let answered = run_first_summary(
+        rt.alloc(),
+        &mut source,
+        &mut sink,
+        &mut errors,
+        BOUNDS,
+        Asked::Opacity,
+    );
     let lines =
         "{\"at\":4,\"events\":4,\"verdict\":\"violated\"}\n{\"aborted\":0,\"committed\":0,\"cuts\":0,\"live\":2,\"overlapping\":2,\"transactions\":2,\"unasked\":0,\"widest\":2}\n";
     assert_eq!(rt; sink.bytes(), lines.as_bytes());
+    assert_eq!(rt; errors.bytes(), b"".as_slice());
     assert_eq!(rt; answered, 1);
 }
