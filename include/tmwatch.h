@@ -136,8 +136,8 @@ typedef struct tmwatch_counts {
     uint64_t overlapping;    /* those that overlap another thread's: neither ended before the other began */
     uint64_t transactions;   /* all */
     uint64_t unasked;        /* aborted ones that didn't ask for it */
-    uint64_t widest;         /* the most from one moment at which all have ended to the next */
-    uint8_t none_overlapped; /* 1: no two transactions overlapped, although two threads or more ran, so that this run shows nothing; or 0 */
+    uint64_t widest;         /* the most from one moment at which all have ended to the next, or to the end */
+    uint8_t none_overlapped; /* 1: no two transactions overlapped, although two threads or more ran: if nothing is wrong, this run shows nothing; or 0 */
 } tmwatch_counts;
 
 /* A handle that holds nothing. */

@@ -11,8 +11,8 @@ use tmw_streams::Source;
 use tmw_trace::TraceLines;
 
 /// Reads events and feeds each to the judges, until all verdicts are final, or up to the source's end or the first fault.
-/// A read comes only where no whole line is held. `Memory` follows a failed allocation for the event read last: nothing
-/// was read after its line.
+/// A read comes only where no whole line is held. `Memory` follows a failed allocation for the event read last: no read
+/// follows.
 pub fn feed_first<S: Source, C: Counting>(
     lines: &mut TraceLines,
     source: &mut S,

@@ -22,7 +22,7 @@ const JUDGE_CRITERION_HELP: &str = "By opacity, strict or both";
 
 const SUMMARY_HELP: &str = "Also count transactions, overlaps and cuts";
 
-const FIRST_HELP: &str = "End at the first final verdict";
+const FIRST_HELP: &str = "End once every verdict is final";
 
 const SHOW_CRITERION_HELP: &str = "By opacity or strict, not both";
 
@@ -71,7 +71,7 @@ events there are, and at which of them it went wrong.
 --summary adds a line of counts up to that event, a malformed one left out, or
 to the last: transactions, how they ended, overlaps, cuts, the widest window.
 --first ends at the event that makes the verdict violated, undecided or
-malformed, with `both` both of them, and reads no further. So a long run stops
+malformed, with `both` both of them, and parses no more. So a long run stops
 at its violation: `producer | tmwatch judge --first`.
 
 A cut is where no transaction is open, and a window begins at a cut. One that
