@@ -46,20 +46,21 @@ abbrev pub Sums : {S K E : Type 0} → FromSource S → ToSink K → ToSink E �
 Sums From To Errors bounds asked false = SumsBytes From To Errors bounds asked
 Sums From To Errors bounds asked true = SumsFirst From To Errors bounds asked
 
+-- This is done, and nothing is sent to the sink for errors.
+abbrev pub Silently : {S K E : Type 0} → (S → S → K → K → ℕ → Type 0) → S → S → K → K → E → E → ℕ → Type 0
+Silently Does source source_after sink sink_after errors errors_after status =
+    Does source source_after sink sink_after status × (errors_after ≡ errors)
+
 -- What the order's command does. Only `judge --summary` and `bench` may send something to the sink for errors: what a bench tells of
 -- how far it has come goes elsewhere, and is in no clause.
 abbrev pub RunsOrder : {S K E : Type 0} → FromSource S → ToSink K → ToSink E → MemoriesAre → Order → S → S → K → K → E → E → ℕ → Type 0
 RunsOrder From To Errors memories (Judge bounds asked true first) = Sums From To Errors bounds asked first
-RunsOrder From To Errors memories (Judge bounds asked false first) source source_after sink sink_after errors errors_after status =
-    Judges From To bounds asked first source source_after sink sink_after status × (errors_after ≡ errors)
-RunsOrder From To Errors memories (Show criterion trace bounds) source source_after sink sink_after errors errors_after status =
-    ShowsBytes From To criterion trace bounds source source_after sink sink_after status × (errors_after ≡ errors)
-RunsOrder From To Errors memories (Drive memory written bounds) source source_after sink sink_after errors errors_after status =
-    DrivesBytes From To (memories memory) (written_of written) bounds source source_after sink sink_after status × (errors_after ≡ errors)
+RunsOrder From To Errors memories (Judge bounds asked false first) = Silently (Judges From To bounds asked first)
+RunsOrder From To Errors memories (Show criterion trace bounds) = Silently (ShowsBytes From To criterion trace bounds)
+RunsOrder From To Errors memories (Drive memory written bounds) = Silently (DrivesBytes From To (memories memory) (written_of written) bounds)
 RunsOrder From To Errors memories (Bench memory written options) =
     BenchesBytes From To Errors (memories memory) (flags_of written options) (settings_of options)
-RunsOrder From To Errors memories Steps source source_after sink sink_after errors errors_after status =
-    RunsSteps From To source source_after sink sink_after status × (errors_after ≡ errors)
+RunsOrder From To Errors memories Steps = Silently (RunsSteps From To)
 
 -- What is answered to words that give no order. Help, and the line of the version, is put to the sink. The line of a wrong command line is put to it whatever
 -- becomes of the text that tells what is wrong, which is sent to the sink for errors.
