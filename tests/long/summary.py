@@ -183,6 +183,25 @@ def judged(program, words, trace):
     return run.returncode, run.stdout, run.stderr
 
 
+NOTHING = "no two transactions overlapped: this run shows nothing\n"
+
+
+def remark_on(trace, reports, counts):
+    """What standard error is told of a run whose lines are these."""
+    verdicts = [json.loads(report)["verdict"] for report in reports]
+    threads = {line.split()[0] for line in trace.splitlines()[1:]}
+    shows_nothing = json.loads(counts)["overlapping"] == 0 and len(threads) > 1
+    return NOTHING if shows_nothing and all(verdict.endswith("so far") for verdict in verdicts) else ""
+
+
+def first_part(trace, reports):
+    """The trace up to the event at which the last verdict is final, or all of it."""
+    ends = [json.loads(report).get("at") for report in reports]
+    if None in ends:
+        return trace
+    return "".join(line + "\n" for line in trace.splitlines()[: 1 + max(ends)])
+
+
 def main():
     """Compares the rows, then the histories."""
     top, program, runs, seed = Path(sys.argv[1]), sys.argv[2], int(sys.argv[3]), sys.argv[4]
@@ -202,18 +221,22 @@ def main():
         status, plain, errors = judged(program, words, trace)
         reports = plain.splitlines()
         try:
-            wanted = (status, f"{plain}{summary_of(trace, reports)}\n", "")
+            counts = summary_of(trace, reports)
+            wanted = (status, f"{plain}{counts}\n", remark_on(trace, reports, counts))
+            first = judged(program, [*words, "--summary"], first_part(trace, reports))
             for report in map(json.loads, reports):
                 found[" ".join(filter(None, [report["verdict"], report.get("why")]))] += 1
         except (KeyError, ValueError) as wrong:
             wanted = f"a report: {wrong}, {plain}{errors}"
+            first = wanted
         came = judged(program, [*words, "--summary"], trace)
-        if came == wanted:
+        came_first = judged(program, [*words, "--first", "--summary"], trace)
+        if came == wanted and came_first == first:
             passed += 1
         else:
             failed += 1
             row = " | ".join(trace.splitlines())
-            print(f"tmwatch judge --summary {' '.join(words)}\n< {row}\n  wanted {wanted}\n  came   {came}")
+            print(f"tmwatch judge --summary {' '.join(words)}\n< {row}\n  wanted {wanted}\n  came   {came}\n  wanted {first}\n  by --first {came_first}")
     if runs > 0:
         print(", ".join(f"{number} {verdict}" for verdict, number in found.items()))
         failed += sum(number == 0 for number in found.values())
