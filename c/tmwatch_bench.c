@@ -312,21 +312,21 @@ static uint64_t judge_some(struct bench *b)
     return judged;
 }
 
-static uint64_t seconds_now(void)
+static uint64_t milliseconds_now(void)
 {
     struct timespec now;
     clock_gettime(CLOCK_MONOTONIC, &now);
-    return (uint64_t)now.tv_sec;
+    return (uint64_t)now.tv_sec * 1000 + (uint64_t)now.tv_nsec / 1000000;
 }
 
 /* Judges until all threads have ended, and then what is left. */
 static void judge(struct bench *b, unsigned threads)
 {
-    uint64_t began = seconds_now();
+    uint64_t began = milliseconds_now();
     while (b->ended < threads) {
         if (judge_some(b) == 0)
             sched_yield();
-        if (b->plan->seconds > 0 && seconds_now() - began >= b->plan->seconds)
+        if (b->plan->seconds > 0 && (milliseconds_now() - began) / 1000 >= b->plan->seconds)
             b->is_late = true;
     }
     while (judge_some(b) > 0)
@@ -597,5 +597,8 @@ int tmwatch_bench_main(const tmwatch_memory *memory, int count, char **words)
         return 4;
     }
     tmwatch_bench_print(stdout, &benched);
-    return fflush(stdout) == 0 && !ferror(stdout) ? (int)benched.told.verdict : 4;
+    if (fflush(stdout) == 0 && !ferror(stdout))
+        return (int)benched.told.verdict;
+    fputs("standard output failed\n", stderr);
+    return 4;
 }
