@@ -59,7 +59,7 @@ struct bench {
     atomic_uint_least64_t round;
     atomic_uint_least32_t fault; /* the first status of the watch that wasn't to be */
     atomic_bool stops, is_late;  /* no round is to follow, since something is wrong, or since the time is up */
-    bool is_over;                /* no round follows */
+    atomic_bool is_over;         /* no round follows */
 };
 
 /* A number below `below` (Steele, Lea and Flood, OOPSLA 2014). */
