@@ -592,6 +592,8 @@ int tmwatch_bench_main(const tmwatch_memory *memory, int count, char **words)
     }
     uint32_t status = tmwatch_bench(memory, &plan, &benched);
     bool is_written = !plan.trace || close_file(plan.trace);
+    if (status != TMWATCH_DONE && status != TMWATCH_MEMORY)
+        fprintf(stderr, "the watch has answered %u\n", (unsigned)status);
     if (status != TMWATCH_DONE || !is_written) {
         puts(is_written ? "{\"fault\":\"memory\"}" : "{\"fault\":\"io\"}");
         return 4;

@@ -17,8 +17,8 @@ Link libtmwatch_bench.a before libtmwatch.a. No proof covers the bench; the verd
 
 In a round each thread makes one transaction, and then all wait for one another. A transaction that is rolled back is attempted again, and a
 round has at most eight attempts, so that its run is decided. A call is recorded before the memory is asked, and its answer after it has
-answered; a transaction's first call, before the memory begins it. No value is written twice, and a register is read before it is written.
-Each 64th round and at the end, one thread reads all registers while the others wait.
+answered; a transaction's first call, before the memory begins it. No two writes have the same value, a register is read before it is
+written, and what is added is any number of 64 bits. Each 64th round and at the end, one thread reads all registers while the others wait.
 
 What the program owes beside the duties of tmwatch.h. Nothing of it is tested:
 
@@ -135,10 +135,10 @@ where the words are wrong, something was refused, or a file can't be written. Th
 int tmwatch_bench_main(const tmwatch_memory *memory, int count, char **words);
 
 /* A whole main for a tmwatch_memory; no semicolon follows. */
-#define TMWATCH_BENCH_MAIN(memory)                      \
-    int main(int count, char **words)                   \
-    {                                                   \
-        return tmwatch_bench_main(&memory, count, words); \
+#define TMWATCH_BENCH_MAIN(memory)                          \
+    int main(int count, char **words)                       \
+    {                                                       \
+        return tmwatch_bench_main(&(memory), count, words); \
     }
 
 #ifdef __cplusplus
