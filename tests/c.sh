@@ -1,12 +1,12 @@
 #!/usr/bin/env bash
-# Builds the library for programs in C, compiles the tests in tests/c and the example in examples/c without a warning, and runs them.
+# Builds the library for programs in C, compiles the tests in tests/c and the examples in examples/c without a warning, and runs them.
 #
 #   tests/c.sh
 #
 # The last line is 'N passed, M failed', and the exit status is 1 where M is above 0. Where there is no C compiler, that is said, and the
 # status is 0.
 # Environment: CC (cc), CXX (c++), BUILT (a folder that ./tmwatch-c has filled; it is made where there is none), FLAGS (further flags of the
-# compiler), RUN (a command that runs each program), ROUNDS (2000, of the example).
+# compiler), RUN (a command that runs each program), ROUNDS (2000, of the examples).
 set -eu
 # shellcheck source=tests/common.sh
 . "$(dirname "${BASH_SOURCE[0]}")/common.sh"
@@ -20,7 +20,7 @@ built=${BUILT:-$folder/built}
 read -r -a flags <<<"${FLAGS:-}"
 read -r -a run <<<"${RUN:-}"
 strict=(-Wall -Wextra -pedantic -Werror -g -O2 -pthread "-I$built/include" "${flags[@]}")
-wrapped=(-Wl,--wrap=malloc -Wl,--wrap=realloc -Wl,--wrap=free)
+wrapped=('-Wl,--wrap=malloc' '-Wl,--wrap=calloc' '-Wl,--wrap=realloc' '-Wl,--wrap=free')
 static=("$built/lib/libtmwatch.a")
 shared=("-L$built/lib" -ltmwatch "-Wl,-rpath,$(cd "$built/lib" && pwd)")
 
@@ -74,7 +74,91 @@ fi
 program memory "$top/tests/c/memory.c" 0 '' "${static[@]}" "${wrapped[@]}"
 program bank "$top/examples/c/bank.c" 0 "${ROUNDS:-2000}" "${static[@]}"
 program bank_broken "$top/examples/c/bank.c" 1 "${ROUNDS:-2000} broken" "${static[@]}"
+
+rounds=${ROUNDS:-2000}
+# The bench is compiled here, so that the flags reach it too.
+bench=(-DTMWATCH_PAUSES "$folder/bench.o" "${static[@]}")
+
+# Whether a judge's report on the bench's trace, in a file, is that of the bench, which is in another: the same verdict, with as many events
+# less as precede the trace.
+is_same_report() {
+    local from first
+    from=$(sed -n 's/^{"from":\([0-9]*\),.*/\1/p' "$1")
+    first=$(sed -n '1s/^{"[a-z]*":\([0-9]*\),.*/\1/p' "$1")
+    diff <(head -n 1 "$1" | sed "s/:[0-9][0-9]*/:$((first - ${from:-0}))/g") <(head -n 1 "$2")
+}
+
+# A memory that was compiled for the bench: its name, its exit status, how many rounds, and the seeds. Its transactions overlap, and its
+# trace has the same verdict by the library, and by the program where that is built.
+on_bench() {
+    local name=$1 wanted=$2 rounds=$3 seed
+    shift 3
+    [ -x "$folder/$name" ] || return 0
+    for seed; do
+        ends "$name, seed $seed" "$wanted" "${run[@]}" "$folder/$name" --rounds "$rounds" --seed "$seed" --trace "$folder/trace"
+        cp "$folder/output" "$folder/benched"
+        ends "$name, seed $seed, has met" 0 grep -q '"overlapping":[1-9]' "$folder/benched"
+        "$folder/bench_replay" <"$folder/trace" >"$folder/replayed" || true
+        ends "$name, seed $seed, by the library" 0 is_same_report "$folder/benched" "$folder/replayed"
+        if [ -x "$program" ]; then
+            "$program" judge --summary <"$folder/trace" >"$folder/judged" || true
+            ends "$name, seed $seed, by the program" 0 diff <(sed 2d "$folder/replayed") "$folder/judged"
+        fi
+    done
+}
+
+ends 'the bench compiles' 0 "$cc" -std=c11 "${strict[@]}" -c -o "$folder/bench.o" "$top/c/tmwatch_bench.c"
+ends 'a replay compiles' 0 "$cc" -std=c11 "${strict[@]}" -o "$folder/bench_replay" "$top/tests/c/bench_replay.c" "${bench[@]}"
+program bench_plans "$top/tests/c/bench_plans.c" 0 '' "${bench[@]}"
+[ ! -x "$folder/bench_plans" ] || "$folder/bench_plans" print >"$folder/lines" 2>&1
+ends 'what a bench prints' 0 diff "$folder/lines" "$top/tests/c/bench_plans.lines"
+program bench_memory "$top/tests/c/bench_memory.c" 0 '' "${bench[@]}" "${wrapped[@]}" -Wl,--wrap=pthread_create
+for fault in NONE READS COMMIT PLACE; do
+    ends "norec_$fault compiles" 0 "$cc" -std=c11 "${strict[@]}" "-DFAULT=$fault" -o "$folder/norec_$fault" \
+        "$top/examples/c/norec.c" "${bench[@]}"
+    on_bench "norec_$fault" "$([ "$fault" = NONE ] && echo 0 || echo 1)" "$rounds" 1 2 3
+done
+for fault in NONE READS; do
+    ends "jumping_$fault compiles" 0 "$cc" -std=c11 "${strict[@]}" "-DFAULT=$fault" -o "$folder/jumping_$fault" \
+        "$top/tests/c/bench_jumping.c" "${bench[@]}"
+    on_bench "jumping_$fault" "$([ "$fault" = NONE ] && echo 0 || echo 1)" "$rounds" 1 2 3
+done
+if command -v "$cxx" >/dev/null; then
+    ends 'a lock compiles, in C++17' 0 "$cxx" -std=c++17 "${strict[@]}" -o "$folder/lock" "$top/tests/c/bench_lock.cpp" "${bench[@]}"
+    on_bench lock 0 "$rounds" 1 2 3
+    # Of this run not all events are kept for the trace.
+    on_bench lock 0 $((3 * rounds)) 4
+fi
+# A bench that is wrong, over a memory that is right: what is wrong, the change of its source, and the exit status.
+wrong_bench() {
+    sed "$2" "$top/c/tmwatch_bench.c" >"$folder/wrong.c"
+    ends "a bench that $1 compiles" 0 "$cc" -std=c11 "${strict[@]}" -o "$folder/wrong" \
+        "$top/examples/c/norec.c" "$folder/wrong.c" "${static[@]}"
+    ends "a bench that $1" "$3" "${run[@]}" "$folder/wrong" --rounds "$rounds"
+}
+
+wrong_bench 'records that a transaction has committed before it commits' \
+    's/return m->commit(m->memory, a->tx);/return end_attempt(a, true), m->commit(m->memory, a->tx);/' 1
+wrong_bench 'records no call to commit' "s/note(a, a->has_asked ? 'X' : 'T', 0, 0);/if (a->has_asked) note(a, 'X', 0, 0);/" 3
+wrong_bench 'records no abort' "s/note(a, has_committed ? 'C' : 'A', 0, 0);/if (has_committed) note(a, 'C', 0, 0);/" 3
+for words in --rounds '--rounds x' '--threads 9' '--registers 0' '--calls 17' '--writes 101' '--seed 18446744073709551616' '--none 1' 3; do
+    read -r -a given <<<"$words"
+    ends "wrong words, $words" 4 "${run[@]}" "$folder/norec_NONE" "${given[@]}"
+    cp "$folder/output" "$folder/told"
+    ends "wrong words, $words: what is told" 0 grep -qx '{"fault":"usage"}' "$folder/told"
+done
+ends 'all words' 0 "${run[@]}" "$folder/norec_NONE" --rounds 9 --seed 3 --threads 2 --registers 2 --calls 2 \
+    --writes 90 --adds 0 --aborts 0 --pause 9 --seconds 9
+ends 'a trace that can not be opened' 4 "${run[@]}" "$folder/norec_NONE" --rounds 9 --trace "$folder/none/trace"
+ends 'a trace that can not be written' 4 "${run[@]}" "$folder/norec_NONE" --rounds 9 --trace /dev/full
+ends 'output that can not be written' 4 sh -c '"$@" >/dev/full' sh "${run[@]}" "$folder/norec_NONE" --rounds 9
+ends 'no pause compiles' 0 "$cc" -std=c11 "${strict[@]}" -c -o "$folder/plain.o" "$top/examples/c/norec.c"
+ends 'a pause is nothing unless it is under test' 1 grep -q tmwatch_pause "$folder/plain.o"
+
 if command -v pkg-config >/dev/null; then
+    ends 'the package of the bench' 0 env PKG_CONFIG_PATH="$built/lib/pkgconfig" sh -c "$cc -std=c11 ${FLAGS:-} -o '$folder/package' \
+        '$top/examples/c/norec.c' \$(pkg-config --cflags --libs tmwatch_bench) -Wl,-rpath,'$(cd "$built/lib" && pwd)'"
+    ends 'a memory by the package' 0 "${run[@]}" "$folder/package" --rounds 100
     ends 'the package' 0 env PKG_CONFIG_PATH="$built/lib/pkgconfig" sh -c "$cc -std=c11 ${FLAGS:-} -o '$folder/package' '$top/tests/c/misuse.c' \$(pkg-config --cflags --libs tmwatch)"
 fi
 end_rows

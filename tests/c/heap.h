@@ -1,4 +1,4 @@
-/* A heap that counts what is taken of it and refuses what it is told to. Linked with --wrap=malloc, --wrap=realloc and --wrap=free. */
+/* A heap that counts what is taken of it and refuses what it is told to. Linked with --wrap=malloc, and so for calloc, realloc and free. */
 #ifndef HEAP_H
 #define HEAP_H
 
@@ -7,6 +7,7 @@
 #include <stddef.h>
 
 void *__real_malloc(size_t size);
+void *__real_calloc(size_t count, size_t size);
 void *__real_realloc(void *block, size_t size);
 void __real_free(void *block);
 
@@ -37,6 +38,11 @@ static void *count_block(void *block, int added)
 void *__wrap_malloc(size_t size)
 {
     return is_refused_now() ? NULL : count_block(__real_malloc(size), 1);
+}
+
+void *__wrap_calloc(size_t count, size_t size)
+{
+    return is_refused_now() ? NULL : count_block(__real_calloc(count, size), 1);
 }
 
 void *__wrap_realloc(void *block, size_t size)

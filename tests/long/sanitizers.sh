@@ -3,8 +3,8 @@
 #
 #   tests/long/sanitizers.sh
 #
-# The sanitizers see the programs and what the library gets of the heap, and not into the library, which they did not compile; valgrind sees
-# all. The exit status is 1 where a run failed. What is not there is said to be skipped.
+# The sanitizers see the programs, the bench, and what the library gets of the heap, and not into the library, which they did not compile;
+# valgrind sees all. The exit status is 1 where a run failed. What is not there is said to be skipped.
 # Environment: CC (cc), BUILT (a folder that ./tmwatch-c has filled; it is made where there is none).
 set -eu
 # shellcheck source=tests/common.sh

@@ -1,0 +1,606 @@
+/* The bench of tmwatch_bench.h. No proof covers this file. */
+#define _POSIX_C_SOURCE 200809L
+#include "tmwatch_bench.h"
+#include <errno.h>
+#include <pthread.h>
+#include <sched.h>
+#include <stdatomic.h>
+#include <stdlib.h>
+#include <string.h>
+#include <time.h>
+
+/* A look comes after each LOOK rounds. As many events are kept as two looks may lie apart, and what is recorded and not judged yet. */
+enum { MOST_THREADS = 8, MOST_ATTEMPTS = 8, MOST_CALLS = 16, MOST_REGISTERS = 8, KEPT = 1 << 17, LOOK = 64 };
+static const uint64_t most_pause = 1 << 20;
+
+/* An event. `looks` is set if it ends a transaction that has read all registers alone. */
+struct kept {
+    uint64_t value;
+    uint8_t thread, reg;
+    char letter;
+    bool looks;
+};
+
+/* A call of a transaction: it adds to the register, or reads it, and then may write it. */
+struct step {
+    unsigned reg;
+    bool writes, adds;
+};
+
+struct bench;
+
+/* A thread, its transaction of this round, and how far that is. */
+struct tmwatch_attempt {
+    struct bench *bench;
+    tmwatch_recorder *recorder;
+    void *tx;
+    unsigned thread, count;
+    struct step steps[MOST_CALLS];
+    bool asks_abort, looks;  /* what is to be done */
+    bool is_live, has_asked; /* an attempt is recorded and not ended; it has asked to abort */
+    uint64_t made;           /* how many attempts were begun, or all, since none is to follow */
+    uint64_t addend, written;
+    uint64_t draws, rest; /* what is drawn for transactions, and for all else: so the transactions depend on the seed alone */
+};
+
+/* What the threads may do. */
+enum gate { WAIT, RUN, END };
+
+struct bench {
+    const tmwatch_memory *memory;
+    const tmwatch_plan *plan;
+    uint64_t attempts, room;
+    tmwatch watch;
+    tmwatch_recorder recorders[MOST_THREADS];
+    tmwatch_attempt workers[MOST_THREADS];
+    struct kept kept[KEPT];
+    atomic_int gate;
+    atomic_uint here, ended; /* how many threads wait for the others, and how many have ended */
+    atomic_uint_least64_t round;
+    atomic_uint_least32_t fault; /* the first status of the watch that wasn't to be */
+    atomic_bool stops, is_late;  /* no round is to follow, since something is wrong, or since the time is up */
+    atomic_bool is_over;         /* no round follows */
+};
+
+/* A number below `below` (Steele, Lea and Flood, OOPSLA 2014). */
+static uint64_t draw(uint64_t *draws, uint64_t below)
+{
+    uint64_t word = *draws += 0x9E3779B97F4A7C15;
+    word = (word ^ word >> 30) * 0xBF58476D1CE4E5B9;
+    word = (word ^ word >> 27) * 0x94D049BB133111EB;
+    return (word ^ word >> 31) % below;
+}
+
+/* One time in two a few turns, and one time in 64 another thread's turn. Nobody is met in a look. */
+static void pause_sometimes(tmwatch_attempt *a)
+{
+    uint64_t most = a->looks ? 0 : a->bench->plan->pause;
+    if (most == 0)
+        return;
+    for (volatile uint64_t turns = draw(&a->rest, 2) * draw(&a->rest, most); turns > 0; turns--)
+        ;
+    if (draw(&a->rest, 64) == 0)
+        sched_yield();
+}
+
+/* The thread of a bench that is this one. */
+static _Thread_local tmwatch_attempt *this_thread;
+
+void tmwatch_pause(void)
+{
+    if (this_thread)
+        pause_sometimes(this_thread);
+}
+
+/* Stops the bench, since the watch has answered what wasn't to be. */
+static void stop(struct bench *b, uint32_t status)
+{
+    uint_least32_t none = TMWATCH_DONE;
+    atomic_compare_exchange_strong(&b->fault, &none, status);
+    b->stops = true;
+}
+
+/* Records an event and keeps it. There is room for it: the thread has asked for all of the round before that began. */
+static void note(tmwatch_attempt *a, char letter, unsigned reg, uint64_t value)
+{
+    struct bench *b = a->bench;
+    uint64_t place;
+    uint32_t status = tmwatch_record(a->recorder, (uint32_t)letter, reg, value, &place);
+    if (status == TMWATCH_DONE)
+        b->kept[place % KEPT] = (struct kept){value, (uint8_t)a->thread, (uint8_t)reg, letter, a->looks && letter == 'C'};
+    else
+        stop(b, status);
+}
+
+static bool is_start(const tmwatch_plan *plan, uint64_t value)
+{
+    for (unsigned reg = 0; reg < plan->registers; reg++)
+        if (plan->start[reg] == value)
+            return true;
+    return false;
+}
+
+/* A value that no register began with and nobody else writes. */
+static uint64_t fresh_value(tmwatch_attempt *a)
+{
+    uint64_t value;
+    do
+        value = ++a->written * MOST_THREADS + a->thread;
+    while (is_start(a->bench->plan, value));
+    return value;
+}
+
+/* Records a step's first call. An addend is any number, so that no sum is likely to be had twice. */
+static void note_step(tmwatch_attempt *a, const struct step *step)
+{
+    a->addend = step->adds ? draw(&a->rest, UINT64_MAX) : 0;
+    note(a, step->adds ? 'N' : 'R', step->reg, a->addend);
+    pause_sometimes(a);
+}
+
+/* Records that the attempt has ended. None follows one that has committed, or was asked to abort. */
+static void end_attempt(tmwatch_attempt *a, bool has_committed)
+{
+    note(a, has_committed ? 'C' : 'A', 0, 0);
+    if (has_committed || a->has_asked)
+        a->made = a->bench->attempts;
+    a->is_live = false;
+}
+
+bool tmwatch_begins(tmwatch_attempt *a)
+{
+    if (a->is_live)
+        end_attempt(a, false);
+    if (a->made == a->bench->attempts)
+        return false;
+    a->made++;
+    a->is_live = true;
+    note_step(a, &a->steps[0]);
+    return true;
+}
+
+/* Has the memory make a step whose first call is recorded: false if the memory has aborted. */
+static bool make_step(tmwatch_attempt *a, const struct step *step)
+{
+    const tmwatch_memory *m = a->bench->memory;
+    uint64_t value = 0;
+    if (!(step->adds ? m->add(m->memory, a->tx, step->reg, a->addend, &value) : m->read(m->memory, a->tx, step->reg, &value)))
+        return false;
+    pause_sometimes(a);
+    note(a, 'V', 0, value);
+    if (!step->writes)
+        return true;
+    value = fresh_value(a);
+    note(a, 'W', step->reg, value);
+    pause_sometimes(a);
+    if (!m->write(m->memory, a->tx, step->reg, value))
+        return false;
+    pause_sometimes(a);
+    note(a, 'K', 0, 0);
+    return true;
+}
+
+bool tmwatch_calls(tmwatch_attempt *a)
+{
+    if (!a->is_live)
+        return false;
+    for (unsigned i = 0; i < a->count; i++) {
+        if (i > 0)
+            note_step(a, &a->steps[i]);
+        if (!make_step(a, &a->steps[i]))
+            return false;
+    }
+    a->has_asked = a->asks_abort;
+    note(a, a->has_asked ? 'X' : 'T', 0, 0);
+    pause_sometimes(a);
+    return !a->has_asked;
+}
+
+/* Makes one attempt in a memory that makes none again by itself: whether it has committed. */
+static bool run_once(const tmwatch_memory *m, tmwatch_attempt *a)
+{
+    if (!tmwatch_begins(a) || !m->begin(m->memory, a->tx))
+        return false;
+    if (tmwatch_calls(a))
+        return m->commit(m->memory, a->tx);
+    if (a->has_asked)
+        m->abort(m->memory, a->tx);
+    return false;
+}
+
+/* Makes the thread's transaction, until it has ended or no attempt is left. A `run` that begins none makes none. */
+static void make_transaction(tmwatch_attempt *a)
+{
+    const tmwatch_memory *m = a->bench->memory;
+    bool has_begun = true;
+    a->made = 0;
+    a->has_asked = false;
+    while (has_begun && a->made < a->bench->attempts) {
+        uint64_t before = a->made;
+        bool has_committed = m->run ? m->run(m->memory, a->tx, a) : run_once(m, a);
+        pause_sometimes(a);
+        if (a->is_live)
+            end_attempt(a, has_committed);
+        has_begun = a->made > before;
+    }
+}
+
+static void draw_transaction(tmwatch_attempt *a)
+{
+    const tmwatch_plan *plan = a->bench->plan;
+    a->looks = false;
+    a->count = (unsigned)plan->calls;
+    a->asks_abort = draw(&a->draws, 100) < plan->aborts;
+    for (struct step *step = a->steps; step < a->steps + a->count; step++) {
+        step->reg = (unsigned)draw(&a->draws, plan->registers);
+        step->adds = draw(&a->draws, 100) < plan->adds && a->bench->memory->add;
+        step->writes = draw(&a->draws, 100) < plan->writes && !step->adds;
+    }
+}
+
+/* Reads all registers while all other threads wait. What they hold is then known, whatever serial order the rounds before have. */
+static void look(tmwatch_attempt *a)
+{
+    a->looks = true;
+    a->asks_abort = false;
+    a->count = (unsigned)a->bench->plan->registers;
+    for (unsigned i = 0; i < a->count; i++)
+        a->steps[i] = (struct step){i, false, false};
+    make_transaction(a);
+}
+
+/* Waits for room for all that the round will record, so that no record waits inside a transaction. */
+static void wait_for_room(tmwatch_attempt *a)
+{
+    struct bench *b = a->bench;
+    uint32_t status = TMWATCH_FULL;
+    while (!b->stops && (status = tmwatch_room(a->recorder, b->room)) == TMWATCH_FULL)
+        sched_yield();
+    /* The watch's 2^40 places come to their end: so do the rounds. */
+    if (status == TMWATCH_SPENT)
+        b->stops = true;
+    else if (status != TMWATCH_DONE && status != TMWATCH_FULL)
+        stop(b, status);
+}
+
+/* Waits for all threads: whether another round follows, as the last of them to come has decided. */
+static bool meet(tmwatch_attempt *a)
+{
+    struct bench *b = a->bench;
+    uint64_t round = b->round;
+    wait_for_room(a);
+    if (atomic_fetch_add(&b->here, 1) + 1 == b->plan->threads) {
+        b->is_over = b->stops || b->is_late || round == b->plan->rounds;
+        if (!b->stops && (b->is_over || round % LOOK == 0))
+            look(a);
+        b->here = 0;
+        b->round = round + 1;
+    } else {
+        for (unsigned turns = 1; b->round == round; turns++)
+            if (turns % 256 == 0)
+                sched_yield();
+    }
+    return !b->is_over;
+}
+
+static void *work(void *argument)
+{
+    tmwatch_attempt *a = argument;
+    this_thread = a;
+    while (a->bench->gate == WAIT)
+        sched_yield();
+    while (a->bench->gate == RUN && meet(a)) {
+        draw_transaction(a);
+        make_transaction(a);
+    }
+    a->bench->ended++;
+    return NULL;
+}
+
+/* Judges some of what is recorded: how many events. Another verdict than opaque so far ends the rounds. */
+static uint64_t judge_some(struct bench *b)
+{
+    tmwatch_told told = {0, 0, 0, 0};
+    uint64_t judged = 0;
+    uint32_t status = tmwatch_pump(&b->watch, 1024, &judged);
+    if (status == TMWATCH_DONE)
+        status = tmwatch_report(&b->watch, &told);
+    if (status != TMWATCH_DONE)
+        stop(b, status);
+    if (told.verdict != TMWATCH_OPAQUE_SO_FAR)
+        b->stops = true;
+    return judged;
+}
+
+static uint64_t milliseconds_now(void)
+{
+    struct timespec now;
+    clock_gettime(CLOCK_MONOTONIC, &now);
+    return (uint64_t)now.tv_sec * 1000 + (uint64_t)now.tv_nsec / 1000000;
+}
+
+/* Judges until all threads have ended, and then what is left. */
+static void judge(struct bench *b, unsigned threads)
+{
+    uint64_t began = milliseconds_now();
+    while (b->ended < threads) {
+        if (judge_some(b) == 0)
+            sched_yield();
+        if (b->plan->seconds > 0 && (milliseconds_now() - began) / 1000 >= b->plan->seconds)
+            b->is_late = true;
+    }
+    while (judge_some(b) > 0)
+        ;
+}
+
+/* Starts the threads, has judged what they record, and waits for their end. */
+static void run_threads(struct bench *b)
+{
+    pthread_t threads[MOST_THREADS];
+    unsigned started = 0;
+    for (unsigned i = 0; i < b->plan->threads; i++) {
+        tmwatch_attempt *a = &b->workers[i];
+        a->bench = b;
+        a->recorder = &b->recorders[i];
+        a->thread = i;
+        a->draws = b->plan->seed * MOST_THREADS + i;
+        a->rest = ~a->draws;
+        /* Two threads' bytes lie apart, so that neither slows the other. */
+        a->tx = calloc(1, b->memory->tx_size + 128);
+        if (!a->tx || pthread_create(&threads[i], NULL, work, a) != 0)
+            break;
+        started++;
+    }
+    if (started < b->plan->threads)
+        stop(b, TMWATCH_MEMORY);
+    b->gate = started < b->plan->threads ? END : RUN;
+    judge(b, started);
+    for (unsigned i = 0; i < started; i++)
+        pthread_join(threads[i], NULL);
+    for (unsigned i = 0; i < b->plan->threads; i++)
+        free(b->workers[i].tx);
+}
+
+/* Where the trace of the first `at` events begins: at 0 or after a look, as late as it may if something is wrong, else as early. If nothing
+   that is kept will do, it is empty. */
+static uint64_t first_of_trace(const struct bench *b, uint64_t at, uint64_t events, bool is_wrong)
+{
+    uint64_t look_events = 2 * b->plan->registers + 2;
+    uint64_t earliest = events > KEPT ? events - KEPT + look_events : 0, found = earliest == 0 ? 0 : at;
+    for (uint64_t from = earliest + 1; from < at && (is_wrong || found == at); from++)
+        if (b->kept[(from - 1) % KEPT].looks)
+            found = from;
+    return found;
+}
+
+/* Writes what register `reg` holds at the beginning of the trace: what a look that ends there has read, or the run's start. */
+static void write_start(const struct bench *b, uint64_t from, uint64_t at, unsigned reg)
+{
+    uint64_t registers = b->plan->registers, answer = from - 1 - 2 * (registers - reg);
+    uint64_t value = from == 0 || from == at ? b->plan->start[reg] : b->kept[answer % KEPT].value;
+    fprintf(b->plan->trace, " %llu", (unsigned long long)value);
+}
+
+static void write_event(FILE *file, const struct kept *event)
+{
+    fprintf(file, "%u %c", (unsigned)event->thread, event->letter);
+    if (strchr("RWN", event->letter))
+        fprintf(file, " %u", (unsigned)event->reg);
+    if (strchr("VWN", event->letter))
+        fprintf(file, " %llu", (unsigned long long)event->value);
+    fputc('\n', file);
+}
+
+/* Writes the trace: how many events precede it. */
+static uint64_t write_trace(const struct bench *b, tmwatch_told told)
+{
+    bool is_wrong = told.verdict != TMWATCH_OPAQUE_SO_FAR;
+    uint64_t at = is_wrong ? told.at : told.events, from = first_of_trace(b, at, told.events, is_wrong);
+    fprintf(b->plan->trace, "opacity-trace 2 %u", (unsigned)b->plan->registers);
+    for (unsigned reg = 0; reg < b->plan->registers; reg++)
+        write_start(b, from, at, reg);
+    fputc('\n', b->plan->trace);
+    for (uint64_t place = from; place < at; place++)
+        write_event(b->plan->trace, &b->kept[place % KEPT]);
+    return from;
+}
+
+/* Runs the rounds under a watch that is open, and closes it. */
+static uint32_t run_watched(struct bench *b, tmwatch_benched *benched)
+{
+    tmwatch_benched out;
+    memset(&out, 0, sizeof out);
+    run_threads(b);
+    uint32_t status = b->fault;
+    if (status == TMWATCH_DONE)
+        status = tmwatch_summary(&b->watch, &out.counts);
+    if (status == TMWATCH_DONE)
+        status = tmwatch_close(&b->watch, b->recorders, b->plan->threads, &out.told);
+    for (unsigned i = 0; i < b->plan->threads; i++)
+        tmwatch_discard_recorder(&b->recorders[i]);
+    tmwatch_discard(&b->watch);
+    if (status != TMWATCH_DONE)
+        return status;
+    /* The threads meet once more than there are rounds. */
+    out.rounds = b->round - 1;
+    if (b->plan->trace)
+        out.from = write_trace(b, out.told);
+    *benched = out;
+    return TMWATCH_DONE;
+}
+
+static bool has_functions(const tmwatch_memory *m)
+{
+    return m->read && m->write && (m->run || (m->begin && m->commit && m->abort));
+}
+
+/* Looks at what no watch looks at. */
+static uint32_t check(const tmwatch_memory *memory, const tmwatch_plan *plan)
+{
+    if (!has_functions(memory))
+        return TMWATCH_MISSING;
+    if (plan->threads < 1 || plan->threads > MOST_THREADS)
+        return TMWATCH_BAD_SIZE;
+    if (plan->registers < 1 || plan->registers > MOST_REGISTERS)
+        return TMWATCH_BAD_REGISTERS;
+    for (uint64_t reg = plan->registers; reg < MOST_REGISTERS; reg++)
+        if (plan->start[reg] != 0)
+            return TMWATCH_BAD_START;
+    if (plan->calls < 1 || plan->calls > MOST_CALLS || plan->attempts > MOST_ATTEMPTS / plan->threads)
+        return TMWATCH_BAD_BOUNDS;
+    if (plan->writes > 100 || plan->adds > 100 || plan->aborts > 100 || plan->pause > most_pause)
+        return TMWATCH_BAD_BOUNDS;
+    return TMWATCH_DONE;
+}
+
+uint32_t tmwatch_bench(const tmwatch_memory *memory, const tmwatch_plan *plan, tmwatch_benched *benched)
+{
+    uint32_t status = check(memory, plan);
+    if (status != TMWATCH_DONE)
+        return status;
+    struct bench *b = calloc(1, sizeof *b);
+    if (!b)
+        return TMWATCH_MEMORY;
+    b->memory = memory;
+    b->plan = plan;
+    b->attempts = plan->attempts > 0 ? plan->attempts : MOST_ATTEMPTS / plan->threads;
+    /* A round's events, those of the round before, which other threads may still be recording, and a look's. */
+    b->room = 2 * plan->threads * b->attempts * (4 * plan->calls + 2) + b->attempts * (2 * plan->registers + 2);
+    tmwatch_settings settings = TMWATCH_SETTINGS(plan->registers);
+    memcpy(settings.start, plan->start, sizeof settings.start);
+    status = tmwatch_open(&b->watch, b->recorders, plan->threads, &settings);
+    if (status == TMWATCH_DONE)
+        status = run_watched(b, benched);
+    free(b);
+    return status;
+}
+
+static void print_number(FILE *file, const char *before, const char *name, uint64_t number)
+{
+    fprintf(file, "%s\"%s\":%llu", before, name, (unsigned long long)number);
+}
+
+static void print_report(FILE *file, const tmwatch_told *told)
+{
+    static const char *const verdicts[] = {"opaque so far", "violated", "undecided", "malformed"};
+    static const char *const whys[] = {"", ",\"why\":\"transactions\"", ",\"why\":\"states\""};
+    if (told->at > 0)
+        print_number(file, "{", "at", told->at);
+    print_number(file, told->at > 0 ? "," : "{", "events", told->events);
+    fprintf(file, ",\"verdict\":\"%s\"%s}\n", verdicts[told->verdict], whys[told->why]);
+}
+
+static void print_counts(FILE *file, const tmwatch_counts *counts)
+{
+    print_number(file, "{", "aborted", counts->aborted);
+    print_number(file, ",", "committed", counts->committed);
+    print_number(file, ",", "cuts", counts->cuts);
+    print_number(file, ",", "live", counts->live);
+    print_number(file, ",", "overlapping", counts->overlapping);
+    print_number(file, ",", "transactions", counts->transactions);
+    print_number(file, ",", "unasked", counts->unasked);
+    print_number(file, ",", "widest", counts->widest);
+    fputs("}\n", file);
+}
+
+void tmwatch_bench_print(FILE *file, const tmwatch_benched *benched)
+{
+    bool is_wrong = benched->told.verdict != TMWATCH_OPAQUE_SO_FAR;
+    print_report(file, &benched->told);
+    if (benched->from > 0)
+        print_number(file, "{", "from", benched->from);
+    print_number(file, benched->from > 0 ? "," : "{", "rounds", benched->rounds);
+    fputs("}\n", file);
+    print_counts(file, &benched->counts);
+    if (!is_wrong && benched->counts.none_overlapped)
+        fputs("no two transactions overlapped: this run shows nothing\n", stderr);
+    if (!is_wrong && benched->counts.committed == 0)
+        fputs("no transaction has committed: this run shows little\n", stderr);
+}
+
+/* An option: its name, and where its number goes. */
+struct option {
+    const char *name;
+    uint64_t *to;
+};
+
+/* The word's number, if it is one of at most 20 digits that fits. */
+static bool read_number(const char *word, uint64_t *number)
+{
+    size_t digits = strspn(word, "0123456789");
+    if (digits == 0 || word[digits] != '\0')
+        return false;
+    errno = 0;
+    unsigned long long it = strtoull(word, NULL, 10);
+    *number = it;
+    return errno == 0;
+}
+
+/* Reads the words into the plan and the trace's name: false if they are wrong. With a time and without a number of rounds, the time alone
+   counts. */
+static bool read_words(tmwatch_plan *plan, const char **trace, char **words)
+{
+    struct option options[] = {{"--rounds", &plan->rounds},       {"--seed", &plan->seed},     {"--threads", &plan->threads},
+                               {"--registers", &plan->registers}, {"--calls", &plan->calls},   {"--writes", &plan->writes},
+                               {"--adds", &plan->adds},           {"--aborts", &plan->aborts}, {"--pause", &plan->pause},
+                               {"--seconds", &plan->seconds},     {NULL, NULL}};
+    bool has_rounds = false;
+    for (; words[0]; words += 2) {
+        const struct option *option = options;
+        while (option->name && strcmp(option->name, words[0]) != 0)
+            option++;
+        if (!words[1] || (option->name ? !read_number(words[1], option->to) : strcmp(words[0], "--trace") != 0))
+            return false;
+        if (!option->name)
+            *trace = words[1];
+        has_rounds = has_rounds || option == options;
+    }
+    if (plan->seconds > 0 && !has_rounds)
+        plan->rounds = UINT64_MAX;
+    return true;
+}
+
+/* Tells what is wrong with the words, or with the memory. */
+static int tell_usage(bool has_all)
+{
+    puts("{\"fault\":\"usage\"}");
+    if (!has_all)
+        fputs("a function that the memory has to have is null\n", stderr);
+    fputs("usage: [--rounds N] [--seed N] [--threads 1-8] [--registers 1-8] [--calls 1-16] [--writes PERCENT] [--adds PERCENT]"
+          " [--aborts PERCENT] [--pause TURNS] [--seconds N] [--trace FILE]\n",
+          stderr);
+    return 4;
+}
+
+/* Closes a file: whether all was written. */
+static bool close_file(FILE *file)
+{
+    bool is_well = !ferror(file);
+    return fclose(file) == 0 && is_well;
+}
+
+int tmwatch_bench_main(const tmwatch_memory *memory, int count, char **words)
+{
+    tmwatch_plan plan = TMWATCH_PLAN;
+    tmwatch_benched benched;
+    const char *name = NULL;
+    if (!read_words(&plan, &name, count > 0 ? words + 1 : words) || check(memory, &plan) != TMWATCH_DONE)
+        return tell_usage(has_functions(memory));
+    if (name && !(plan.trace = fopen(name, "w"))) {
+        puts("{\"fault\":\"io\"}");
+        return 4;
+    }
+    uint32_t status = tmwatch_bench(memory, &plan, &benched);
+    bool is_written = !plan.trace || close_file(plan.trace);
+    if (status != TMWATCH_DONE && status != TMWATCH_MEMORY)
+        fprintf(stderr, "the watch has answered %u\n", (unsigned)status);
+    if (status != TMWATCH_DONE || !is_written) {
+        puts(is_written ? "{\"fault\":\"memory\"}" : "{\"fault\":\"io\"}");
+        return 4;
+    }
+    tmwatch_bench_print(stdout, &benched);
+    if (fflush(stdout) == 0 && !ferror(stdout))
+        return (int)benched.told.verdict;
+    fputs("standard output failed\n", stderr);
+    return 4;
+}

@@ -1,0 +1,148 @@
+/*
+tmwatch_bench: a bench for a transactional memory in C or C++. It runs rounds of random transactions in threads and records them, and a
+watch (tmwatch.h) judges them meanwhile.
+
+    static const tmwatch_memory memory = {&words, sizeof(struct my_tx), my_begin, my_read, my_write, NULL, my_commit, my_abort, NULL};
+
+    TMWATCH_BENCH_MAIN(memory)
+
+That is a whole program, or by one call from a program of your own:
+
+    tmwatch_plan plan = TMWATCH_PLAN;
+    tmwatch_benched benched;
+    if (tmwatch_bench(&memory, &plan, &benched) == TMWATCH_DONE)
+        tmwatch_bench_print(stdout, &benched);
+
+Link libtmwatch_bench.a before libtmwatch.a. No proof covers the bench; the verdict is the watch's.
+
+In a round each thread makes one transaction, and then all wait for one another. A transaction that is rolled back is attempted again, and a
+round has at most eight attempts, so that its run is decided. A call is recorded before the memory is asked, and its answer after it has
+answered; a transaction's first call, before the memory begins it. No two writes have the same value, a register is read before it is
+written, and what is added is any number of 64 bits. Each 64th round and at the end, one thread reads all registers while the others wait.
+
+What the program owes beside the duties of tmwatch.h. Nothing of it is tested:
+
+1. The memory has words of 64 bits, which hold what plan.start says, and nobody else uses it while the bench runs.
+2. All threads may call its functions at once, each with a `tx` of its own.
+3. Each function returns, and throws nothing. It calls nothing of the bench but tmwatch_begins, tmwatch_calls and TMWATCH_PAUSE.
+*/
+#ifndef TMWATCH_BENCH_H
+#define TMWATCH_BENCH_H
+
+#include "tmwatch.h"
+#include <stdio.h>
+
+#ifdef __cplusplus
+extern "C" {
+#endif
+
+/* A transaction that `run` makes, in one attempt or several. */
+typedef struct tmwatch_attempt tmwatch_attempt;
+
+/*
+A memory. `tx` points to tx_size bytes of the calling thread's own, aligned as malloc does. They are all 0 before the thread's first
+transaction, and later as it left them. A register is a number below plan.registers.
+
+A function answers true when it is done. It answers false when the transaction has aborted and is rolled back: no other call of that
+transaction follows. `abort` rolls back.
+
+A memory that itself attempts a transaction again, by longjmp or in a loop, has `run` in place of begin, commit and abort. `run` calls
+tmwatch_begins(attempt) before the memory begins an attempt; after a roll-back, again, before it begins the next one. If that answers
+false, `run` begins no attempt and answers false. Within the attempt it calls tmwatch_calls(attempt), which calls the reads and writes
+here. If that answers true, it commits; if false, it aborts. `run` answers whether the transaction has committed.
+*/
+typedef struct tmwatch_memory {
+    void *memory; /* what each function gets as `memory` */
+    size_t tx_size;
+    bool (*begin)(void *memory, void *tx);
+    bool (*read)(void *memory, void *tx, unsigned reg, uint64_t *value);
+    bool (*write)(void *memory, void *tx, unsigned reg, uint64_t value);
+    bool (*add)(void *memory, void *tx, unsigned reg, uint64_t addend, uint64_t *before); /* or null */
+    bool (*commit)(void *memory, void *tx);
+    void (*abort)(void *memory, void *tx);
+    bool (*run)(void *memory, void *tx, tmwatch_attempt *attempt); /* or null */
+} tmwatch_memory;
+
+/* What is run. */
+typedef struct tmwatch_plan {
+    uint64_t rounds;    /* how many at most */
+    uint64_t seed;      /* which transactions and pauses are drawn */
+    uint64_t threads;   /* 1 to 8 */
+    uint64_t registers; /* 1 to 8 */
+    uint64_t calls;     /* how many registers a transaction reads, reads and writes, or adds to: 1 to 16 */
+    uint64_t attempts;  /* of each transaction, at most: threads * attempts is at most 8; 0: as many as that allows */
+    uint64_t writes;    /* of 100 registers that are read, how many are written then */
+    uint64_t adds;      /* of 100 calls, how many add instead, if the memory has `add` */
+    uint64_t aborts;    /* of 100 transactions, how many ask to abort at their end */
+    uint64_t pause;     /* beside a call, one time in two, a thread waits fewer turns of a loop than this, at most 2^20; 0: never */
+    uint64_t seconds;   /* after this time no round begins; 0: the rounds alone count */
+    uint64_t start[8];  /* what the registers hold at first */
+    FILE *trace;        /* or null: here the run's end is written as a trace */
+} tmwatch_plan;
+
+#define TMWATCH_PLAN {100000, 1, 4, 3, 3, 0, 50, 20, 12, 100, 0, {0, 0, 0, 0, 0, 0, 0, 0}, NULL}
+
+/* What came out. */
+typedef struct tmwatch_benched {
+    tmwatch_told told;     /* the verdict on all that was recorded */
+    tmwatch_counts counts; /* what it covers: if none_overlapped is 1, no two transactions met, and the run shows nothing */
+    uint64_t rounds;       /* how many rounds were run */
+    uint64_t from;         /* how many events precede the trace, if one was written */
+} tmwatch_benched;
+
+/*
+Runs the plan's rounds on the memory, and tells in *benched what came out. Once the verdict is another than opaque so far, no further round
+begins; some may have been run by then. The statuses come in this order; but for TMWATCH_DONE, *benched stays.
+
+TMWATCH_MISSING: a function that the memory has to have is null. TMWATCH_BAD_SIZE: not 1 to 8 threads. TMWATCH_BAD_REGISTERS: not 1 to 8.
+TMWATCH_BAD_START: as in tmwatch_open. TMWATCH_BAD_BOUNDS: the calls, the attempts, a part of 100, or the pause are out of their range.
+TMWATCH_MEMORY: a growth of memory or a thread was refused, before or while the rounds ran. Another status: as the watch answered.
+
+The trace ends with the event at length `at`, or with the last one if nothing is wrong. If something is, it begins after the last reading of
+all registers, whose values are its start; else with the run, or with the earliest such reading among the last 131,072 events. Its `at` is
+the run's less benched->from.
+
+Memory: some 3 MiB and what the watch takes, which are given back.
+*/
+TMWATCH_LOOK uint32_t tmwatch_bench(const tmwatch_memory *memory, const tmwatch_plan *plan, tmwatch_benched *benched);
+
+/* For `run`, as said above. */
+TMWATCH_PURE bool tmwatch_begins(tmwatch_attempt *attempt);
+TMWATCH_PURE bool tmwatch_calls(tmwatch_attempt *attempt);
+
+/*
+Prints three lines of JSON: the report as `tmwatch judge` prints it; how many rounds were run and, if there are any, how many events precede
+the trace; and the counts as `judge --summary` prints them. If nothing is wrong, but no transactions overlapped, or none has committed,
+standard error says so.
+*/
+void tmwatch_bench_print(FILE *file, const tmwatch_benched *benched);
+
+/* Waits as beside a call, in a thread of a bench, and else not at all. */
+TMWATCH_PURE void tmwatch_pause(void);
+
+/* Stands in the memory between two of its own steps, where threads are to meet under test. It is nothing unless TMWATCH_PAUSES is defined
+   before this header, as by the compiler's -DTMWATCH_PAUSES. */
+#ifdef TMWATCH_PAUSES
+#define TMWATCH_PAUSE() tmwatch_pause()
+#else
+#define TMWATCH_PAUSE() ((void)0)
+#endif
+
+/*
+Runs the bench by a program's words, prints what came out, and answers with the exit status of `tmwatch judge`: the verdict's number, or 4
+where the words are wrong, something was refused, or a file can't be written. The memory's registers hold 0 at first.
+*/
+int tmwatch_bench_main(const tmwatch_memory *memory, int count, char **words);
+
+/* A whole main for a tmwatch_memory; no semicolon follows. */
+#define TMWATCH_BENCH_MAIN(memory)                          \
+    int main(int count, char **words)                       \
+    {                                                       \
+        return tmwatch_bench_main(&(memory), count, words); \
+    }
+
+#ifdef __cplusplus
+}
+#endif
+
+#endif

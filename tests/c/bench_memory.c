@@ -1,0 +1,87 @@
+/* The bench while each call for memory, or for a thread, is refused in turn, and whether any memory stays behind. */
+#include "tmwatch_bench.h"
+#include "../../examples/recorders/memory.h"
+#include "check.h"
+#include "heap.h"
+#include <pthread.h>
+
+enum { THREADS = 4, REGISTERS = 3 };
+
+static _Atomic uint64_t words[REGISTERS];
+/* How many threads were asked for, and the number of the one that is refused, counted from 1, if any. */
+static unsigned threads, refused_thread;
+
+int __real_pthread_create(pthread_t *thread, const pthread_attr_t *how, void *(*work)(void *), void *argument);
+
+int __wrap_pthread_create(pthread_t *thread, const pthread_attr_t *how, void *(*work)(void *), void *argument)
+{
+    return ++threads == refused_thread ? 11 : __real_pthread_create(thread, how, work, argument);
+}
+
+static bool begin(void *memory, void *tx)
+{
+    (void)memory;
+    memory_begin(tx);
+    return true;
+}
+
+static bool read(void *memory, void *tx, unsigned reg, uint64_t *value)
+{
+    (void)memory;
+    return memory_read(tx, &words[reg], value);
+}
+
+static bool write(void *memory, void *tx, unsigned reg, uint64_t value)
+{
+    (void)memory;
+    return memory_write(tx, &words[reg], value);
+}
+
+static bool commit(void *memory, void *tx)
+{
+    (void)memory;
+    return memory_commit(tx);
+}
+
+static void cancel(void *memory, void *tx)
+{
+    (void)memory;
+    memory_undo(tx);
+}
+
+static const tmwatch_memory memory = {NULL, sizeof(struct tx), begin, read, write, NULL, commit, cancel, NULL};
+
+/* Runs some rounds, of which nothing may stay behind. */
+static uint32_t run(void)
+{
+    tmwatch_plan plan = TMWATCH_PLAN;
+    tmwatch_benched benched, before;
+    memset(&benched, 7, sizeof benched);
+    memcpy(&before, &benched, sizeof before);
+    plan.rounds = 20;
+    plan.threads = THREADS;
+    for (unsigned reg = 0; reg < REGISTERS; reg++)
+        plan.start[reg] = words[reg];
+    calls = 0;
+    threads = 0;
+    uint32_t status = tmwatch_bench(&memory, &plan, &benched);
+    CHECK(blocks == 0);
+    CHECK(status == TMWATCH_DONE ? benched.told.verdict == TMWATCH_OPAQUE_SO_FAR && benched.rounds == 20
+                                 : status == TMWATCH_MEMORY && memcmp(&before, &benched, sizeof before) == 0);
+    return status;
+}
+
+int main(void)
+{
+    unsigned long refusals = 0;
+    CHECK(run() == TMWATCH_DONE && calls > THREADS && threads == THREADS);
+    for (refused = 1; refused == 1 || calls >= refused - 1; refused++)
+        refusals += run() == TMWATCH_MEMORY;
+    CHECK(refusals > THREADS);
+    refused = 0;
+    for (refused_thread = 1; refused_thread <= THREADS; refused_thread++)
+        CHECK(run() == TMWATCH_MEMORY);
+    CHECK(run() == TMWATCH_DONE && peak < 4 << 20);
+    printf("%lu refusals\n", refusals);
+    return 0;
+}

@@ -1,0 +1,225 @@
+/*
+Plans that the bench refuses, and what comes out of a memory for one thread, which has no lock.
+
+    bench_plans           checks all
+    bench_plans print     prints what may come out
+*/
+#include "tmwatch_bench.h"
+#include "check.h"
+
+static uint64_t words[8];
+static unsigned long calls;
+
+static bool begin(void *memory, void *tx)
+{
+    (void)memory;
+    memcpy(tx, words, sizeof words);
+    return true;
+}
+
+static bool never(void *memory, void *tx)
+{
+    (void)memory, (void)tx;
+    return false;
+}
+
+static bool read(void *memory, void *tx, unsigned reg, uint64_t *value)
+{
+    (void)tx;
+    calls++;
+    CHECK(memory == words);
+    *value = words[reg];
+    return true;
+}
+
+static bool write(void *memory, void *tx, unsigned reg, uint64_t value)
+{
+    (void)memory, (void)tx;
+    words[reg] = value;
+    return true;
+}
+
+static bool add(void *memory, void *tx, unsigned reg, uint64_t addend, uint64_t *before)
+{
+    return read(memory, tx, reg, before) && write(memory, tx, reg, *before + addend);
+}
+
+static bool commit(void *memory, void *tx)
+{
+    (void)memory, (void)tx;
+    return true;
+}
+
+static void cancel(void *memory, void *tx)
+{
+    (void)memory;
+    memcpy(words, tx, sizeof words);
+}
+
+/* Begins no attempt. */
+static bool begin_none(void *memory, void *tx, tmwatch_attempt *attempt)
+{
+    (void)memory, (void)tx, (void)attempt;
+    return false;
+}
+
+/* Begins until it may no more, which is after what the plan says. */
+static bool begin_all(void *memory, void *tx, tmwatch_attempt *attempt)
+{
+    (void)memory, (void)tx;
+    while (tmwatch_begins(attempt))
+        calls++;
+    return false;
+}
+
+static const tmwatch_memory memory = {words, sizeof words, begin, read, write, add, commit, cancel, NULL};
+static const tmwatch_plan usual = TMWATCH_PLAN;
+
+/* A plan for one thread, whose registers begin as the memory's. */
+static tmwatch_plan one_thread(void)
+{
+    tmwatch_plan plan = usual;
+    plan.rounds = 300;
+    plan.threads = 1;
+    memcpy(plan.start, words, plan.registers * sizeof *words);
+    return plan;
+}
+
+static void refuses(uint32_t status, const tmwatch_memory *it, tmwatch_plan plan)
+{
+    tmwatch_benched benched, before;
+    memset(&benched, 7, sizeof benched);
+    memcpy(&before, &benched, sizeof before);
+    calls = 0;
+    CHECK(tmwatch_bench(it, &plan, &benched) == status);
+    CHECK(memcmp(&before, &benched, sizeof before) == 0 && calls == 0);
+}
+
+#define REFUSES(status, field, value)   \
+    do {                                \
+        tmwatch_plan plan = usual;      \
+        plan.field = (value);           \
+        refuses(status, &memory, plan); \
+    } while (0)
+
+static void refuse_plans(void)
+{
+    REFUSES(TMWATCH_BAD_SIZE, threads, 0);
+    REFUSES(TMWATCH_BAD_SIZE, threads, 9);
+    REFUSES(TMWATCH_BAD_REGISTERS, registers, 0);
+    REFUSES(TMWATCH_BAD_REGISTERS, registers, 9);
+    REFUSES(TMWATCH_BAD_START, start[3], 1);
+    REFUSES(TMWATCH_BAD_BOUNDS, calls, 0);
+    REFUSES(TMWATCH_BAD_BOUNDS, calls, 17);
+    REFUSES(TMWATCH_BAD_BOUNDS, attempts, 3);
+    REFUSES(TMWATCH_BAD_BOUNDS, writes, 101);
+    REFUSES(TMWATCH_BAD_BOUNDS, adds, 101);
+    REFUSES(TMWATCH_BAD_BOUNDS, aborts, 101);
+    REFUSES(TMWATCH_BAD_BOUNDS, pause, (1 << 20) + 1);
+    for (int i = 0; i < 5; i++) {
+        tmwatch_memory it = memory;
+        if (i == 0)
+            it.begin = NULL;
+        else if (i == 1)
+            it.read = NULL;
+        else if (i == 2)
+            it.write = NULL;
+        else if (i == 3)
+            it.commit = NULL;
+        else
+            it.abort = NULL;
+        refuses(TMWATCH_MISSING, &it, usual);
+    }
+}
+
+static tmwatch_benched run(const tmwatch_memory *it, tmwatch_plan plan)
+{
+    tmwatch_benched benched;
+    CHECK(tmwatch_bench(it, &plan, &benched) == TMWATCH_DONE);
+    return benched;
+}
+
+/* A memory for one thread, again and again, also with other registers and with no round. A look comes before rounds 0, 64, .. and 300. */
+static void run_one_thread(void)
+{
+    for (uint64_t seed = 1; seed < 20; seed++) {
+        tmwatch_plan plan = one_thread();
+        plan.seed = seed;
+        plan.adds = seed * 5;
+        tmwatch_benched out = run(&memory, plan);
+        CHECK(out.told.verdict == TMWATCH_OPAQUE_SO_FAR && out.rounds == 300 && out.from == 0);
+        CHECK(out.counts.transactions == 306 && out.counts.widest == 1 && out.counts.overlapping == 0 && !out.counts.none_overlapped);
+        CHECK(out.counts.unasked == 0 && out.counts.aborted > 10 && out.counts.aborted + out.counts.committed == 306);
+    }
+    tmwatch_plan plan = one_thread();
+    plan.rounds = 0;
+    CHECK(run(&memory, plan).counts.transactions == 1);
+}
+
+/* What the memory holds is known from the first look on. */
+static void find_another_start(void)
+{
+    tmwatch_plan plan = one_thread();
+    plan.start[1]++;
+    tmwatch_benched out = run(&memory, plan);
+    CHECK(out.told.verdict == TMWATCH_VIOLATED && out.told.at == 4);
+}
+
+/* A memory that never begins, one that never commits, and runs that make no attempt or too many. */
+static void run_idle(void)
+{
+    tmwatch_memory it = memory;
+    it.begin = never;
+    tmwatch_benched out = run(&it, one_thread());
+    CHECK(out.told.verdict == TMWATCH_OPAQUE_SO_FAR && out.counts.committed == 0 && out.counts.unasked == out.counts.transactions);
+    it = memory;
+    it.run = begin_none;
+    out = run(&it, one_thread());
+    CHECK(out.told.events == 0 && out.rounds == 300);
+    it.run = begin_all;
+    calls = 0;
+    out = run(&it, one_thread());
+    CHECK(calls == 306 * 8 && out.counts.transactions == 306 * 8 && out.told.verdict == TMWATCH_OPAQUE_SO_FAR);
+}
+
+/* A time ends the rounds, and a pause outside of a bench is none. */
+static void run_for_a_second(void)
+{
+    tmwatch_plan plan = one_thread();
+    plan.rounds = UINT64_MAX;
+    plan.seconds = 1;
+    tmwatch_benched out = run(&memory, plan);
+    CHECK(out.told.verdict == TMWATCH_OPAQUE_SO_FAR && out.rounds > 0);
+    tmwatch_pause();
+}
+
+/* Prints results of each verdict, one of a run that shows nothing, and one in which none has committed. */
+static void print_all(void)
+{
+    static const tmwatch_benched all[] = {
+        {{12, 0, TMWATCH_OPAQUE_SO_FAR, 0}, {1, 2, 3, 4, 5, 6, 7, 8, 0}, 9, 0},
+        {{12, 11, TMWATCH_VIOLATED, 0}, {1, 2, 3, 4, 5, 6, 7, 8, 0}, 9, 10},
+        {{12, 11, TMWATCH_UNDECIDED, TMWATCH_TRANSACTIONS}, {1, 2, 3, 4, 5, 6, 7, 8, 0}, 9, 10},
+        {{12, 11, TMWATCH_UNDECIDED, TMWATCH_STATES}, {1, 2, 3, 4, 5, 6, 7, 8, 0}, 9, 10},
+        {{12, 11, TMWATCH_MALFORMED, 0}, {1, 0, 3, 4, 0, 6, 7, 8, 1}, 9, 10},
+        {{12, 0, TMWATCH_OPAQUE_SO_FAR, 0}, {1, 2, 3, 4, 0, 6, 7, 8, 1}, 9, 0},
+        {{0, 0, TMWATCH_OPAQUE_SO_FAR, 0}, {0, 0, 0, 0, 0, 0, 0, 0, 0}, 9, 0},
+    };
+    setvbuf(stdout, NULL, _IONBF, 0);
+    for (size_t i = 0; i < sizeof all / sizeof all[0]; i++)
+        tmwatch_bench_print(stdout, &all[i]);
+}
+
+int main(int count, char **given)
+{
+    if (count > 1 && strcmp(given[1], "print") == 0) {
+        print_all();
+        return 0;
+    }
+    refuse_plans();
+    run_one_thread();
+    find_another_start();
+    run_idle();
+    run_for_a_second();
+    return 0;
+}
