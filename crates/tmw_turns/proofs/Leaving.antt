@@ -1,7 +1,7 @@
 -- What a transaction leaves after one more call and its answer.
 use Rattle.std.proofs.Common.{◌≡◌, ◌+◌, ◌<◌, ◌++◌, ℕ, true, false, List, [], ◌∷◌, length, drop, get_or, refl, sym, subst}
 use Rattle.std.specs.Prelude.{MatchBool}
-use Rattle.std.proofs.lemmas.List.{append_assoc, drop_more}
+use Rattle.std.proofs.lemmas.List.{append_assoc, append-nil, drop_more}
 use Rattle.tmw_defs.specs.History.{answers}
 use Rattle.tmw_events.specs.declared.event.Kind.{Kind}
 use Rattle.tmw_events.specs.declared.event.Kind.TheVariants.{A}
@@ -21,3 +21,21 @@ leaves-answered calls place answer kinds low fits is leaves more whole =
     = subst (λ (l : List Kind). IsWholeText l (call ∷ answer ∷ more)) (sym (drop_more calls place A low)) text
     in
     subst (λ (k : List Kind). IsWholeText calls k) (sym (append_assoc kinds (call ∷ answer ∷ []) more)) (leaves (call ∷ answer ∷ more) left)
+
+-- the answer is an abort event
+pub leaves-aborted : (calls : List Kind) (place : ℕ) (answer : Kind) (kinds : List Kind) → place < length calls
+    → answers (get_or calls place A) answer ≡ true → is_abort answer ≡ true → LeavesCalls calls kinds (drop place calls)
+    → IsWholeText calls (kinds ++ get_or calls place A ∷ answer ∷ [])
+leaves-aborted calls place answer kinds low fits is leaves =
+    let call : Kind = get_or calls place A in
+    let none : List Kind = [] in
+    let text : IsWholeText (call ∷ drop (place + 1) calls) (call ∷ answer ∷ [])
+    = (answer, none, refl, fits, subst (λ b. MatchBool b (none ≡ []) (IsWholeText (drop (place + 1) calls) none)) (sym is) refl)
+    in
+    leaves (call ∷ answer ∷ []) (subst (λ (l : List Kind). IsWholeText l (call ∷ answer ∷ [])) (sym (drop_more calls place A low)) text)
+
+-- where no call is left the events are a whole text
+pub whole-text : (calls kinds left : List Kind) → left ≡ [] → LeavesCalls calls kinds left → IsWholeText calls kinds
+whole-text calls kinds left is leaves =
+    subst (λ (k : List Kind). IsWholeText calls k) (append-nil kinds)
+    (leaves [] (subst (λ (l : List Kind). IsWholeText l []) (sym is) refl))

@@ -4,5 +4,5 @@
 mod fitting;
 mod turning;
 
-pub use fitting::fits;
+pub use fitting::{fits, is_abort};
 pub use turning::{Turn, answered};
