@@ -76,7 +76,10 @@ enum tmwatch_status {
     TMWATCH_BAD_KIND = 11,     /* no kind of event has this letter */
     TMWATCH_BAD_REGISTER = 12, /* the memory has no such register */
     TMWATCH_MISSING = 13,      /* the handles don't hold all recorders of the watch, each at its place */
-    TMWATCH_CLOSING = 14       /* the watch was being closed, and isn't open any more */
+    TMWATCH_CLOSING = 14,      /* the watch was being closed, and isn't open any more */
+    TMWATCH_OUT_OF_TURN = 15,  /* the transaction's turn is another: no call is due, or none waits for its answer */
+    TMWATCH_NOT_CALL = 16,     /* the event that is to be the next call is an answer */
+    TMWATCH_MISFIT = 17        /* the event doesn't answer the call */
 };
 
 /* What a watch says of the events that it has judged. */
@@ -91,6 +94,13 @@ enum tmwatch_verdict {
 enum tmwatch_why {
     TMWATCH_TRANSACTIONS = 1, /* more transactions than `window` since the last moment at which all had ended */
     TMWATCH_STATES = 2        /* more states than `states` that the registers may hold at such a moment */
+};
+
+/* What a transaction that is carried out by turns waits for. */
+enum tmwatch_phase {
+    TMWATCH_DUE = 0,   /* its call at `place` is to be recorded and then made */
+    TMWATCH_WAITS = 1, /* that call is recorded, and its answer is not */
+    TMWATCH_OVER = 2   /* nothing: the transaction is over */
 };
 
 /* A watch's handle. */
@@ -139,6 +149,22 @@ typedef struct tmwatch_counts {
     uint64_t widest;         /* the most from one moment at which all have ended to the next, or to the end */
     uint8_t none_overlapped; /* 1: no two transactions overlapped, although two threads or more ran: if nothing is wrong, this run shows nothing; or 0 */
 } tmwatch_counts;
+
+/* A call of a transaction. What its kind doesn't have of a register and a value isn't looked at. */
+typedef struct tmwatch_call {
+    uint32_t letter;          /* R, W, N, T or X, as a trace has it */
+    uint64_t register_number; /* of R, W and N */
+    uint64_t value;           /* which W writes and N adds */
+} tmwatch_call;
+
+/* How far a transaction is carried out. */
+typedef struct tmwatch_turn {
+    size_t place;   /* of the call, among those of the transaction, from 0 on */
+    uint32_t phase; /* a tmwatch_phase */
+} tmwatch_turn;
+
+/* A transaction of which nothing is recorded. */
+#define TMWATCH_FIRST_TURN {0, 0}
 
 /* A handle that holds nothing. */
 #define TMWATCH_EMPTY {0, false}
@@ -194,6 +220,31 @@ As those above, and TMWATCH_BAD_KIND. Where it isn't TMWATCH_DONE, *place stays.
 */
 TMWATCH_PURE TMWATCH_LOOK uint32_t tmwatch_record(tmwatch_recorder *recorder, uint32_t letter, uint64_t register_number,
                                                   uint64_t value, uint64_t *place);
+
+/*
+These two carry a transaction out by turns: the program says at first which calls it makes, makes each itself once tmwatch_next has recorded
+it, and tells tmwatch_answered what the memory gave. `calls` is to `count` calls, the same ones from the first turn to the last, and nothing
+else is recorded by this recorder meanwhile. Whatever the memory gives, the events so recorded are then a run of these calls: when the turn
+is TMWATCH_OVER they are the whole text of the transaction, each call with an answer that fits it, up to an abort event or the last answer.
+
+    tmwatch_turn turn = TMWATCH_FIRST_TURN;
+    while (turn.phase != TMWATCH_OVER) {
+        tmwatch_next(&recorder, calls, count, &turn);
+        ... makes calls[turn.place] ...
+        tmwatch_answered(&recorder, calls, count, &turn, letter, value, &place);
+    }
+
+tmwatch_next records the call that is due, which then waits for its answer. tmwatch_answered records the answer of this letter to the call
+that waits: V with the value that a read or an add gave, K after a write, C after a commit, or A, which answers any call and ends the
+transaction. Its place in the log is stored in *place; the next call is due then, or the transaction is over.
+
+TMWATCH_OUT_OF_TURN: another phase, or `place` isn't below `count`. TMWATCH_NO_HANDLE. TMWATCH_BAD_KIND and TMWATCH_BAD_REGISTER, of the call
+or of the answer. TMWATCH_NOT_CALL, of tmwatch_next. TMWATCH_MISFIT, of tmwatch_answered: another answer may be told. TMWATCH_FULL and
+TMWATCH_SPENT as above. They come in this order; where it isn't TMWATCH_DONE, nothing is recorded, and *turn and *place stay.
+*/
+TMWATCH_PURE TMWATCH_LOOK uint32_t tmwatch_next(tmwatch_recorder *recorder, const tmwatch_call *calls, size_t count, tmwatch_turn *turn);
+TMWATCH_PURE TMWATCH_LOOK uint32_t tmwatch_answered(tmwatch_recorder *recorder, const tmwatch_call *calls, size_t count, tmwatch_turn *turn,
+                                                    uint32_t letter, uint64_t value, uint64_t *place);
 
 /*
 Tells whether this many events find room, one after another: asked before a transaction begins, so that none of its events is refused. 0 is

@@ -58,6 +58,7 @@ fi
 program misuse "$top/tests/c/misuse.c" 0 '' "${static[@]}"
 program misuse_shared "$top/tests/c/misuse.c" 0 '' "${shared[@]}"
 program threads "$top/tests/c/threads.c" 0 '' "${static[@]}"
+program turns "$top/tests/c/turns.c" 0 '' "${static[@]}"
 program kept "$top/tests/c/kept.c" 0 '' "${static[@]}"
 [ ! -x "$folder/kept" ] || "$folder/kept" >"$folder/traces"
 ends 'what was kept' 0 diff "$folder/traces" "$top/tests/c/kept.traces"

@@ -15,4 +15,7 @@ ASSERT(offsetof(tmwatch_counts, cuts) == 16 && offsetof(tmwatch_counts, live) ==
 ASSERT(offsetof(tmwatch_counts, overlapping) == 32 && offsetof(tmwatch_counts, transactions) == 40, "the counts");
 ASSERT(offsetof(tmwatch_counts, unasked) == 48 && offsetof(tmwatch_counts, widest) == 56, "the counts");
 ASSERT(offsetof(tmwatch_counts, none_overlapped) == 64, "the counts");
+ASSERT(sizeof(tmwatch_call) == 24 && offsetof(tmwatch_call, letter) == 0, "a call");
+ASSERT(offsetof(tmwatch_call, register_number) == 8 && offsetof(tmwatch_call, value) == 16, "a call");
+ASSERT(sizeof(tmwatch_turn) == 16 && offsetof(tmwatch_turn, place) == 0 && offsetof(tmwatch_turn, phase) == 8, "a turn");
 ASSERT(sizeof(bool) == 1 && sizeof(size_t) == 8 && sizeof(void *) == 8, "the machine");

@@ -4,7 +4,7 @@ use Rattle.std.specs.Prelude.{List, Option, Some}
 use Rattle.tmw_c.specs.Closing.{IsClosing, IsUnended}
 use Rattle.tmw_c.specs.Recording.{HasRefused, IsRecording}
 use Rattle.tmw_c.specs.declared.status.Status.{Status}
-use Rattle.tmw_c.specs.declared.status.Status.TheVariants.{Done, NoHandle, FullHandle, BadRegisters, BadStart, BadBounds, BadSize, BadLimit, Memory, Full, Spent, BadKind, BadRegister, Missing, Closing}
+use Rattle.tmw_c.specs.declared.status.Status.TheVariants.{Done, NoHandle, FullHandle, BadRegisters, BadStart, BadBounds, BadSize, BadLimit, Memory, Full, Spent, BadKind, BadRegister, Missing, Closing, OutOfTurn, NotCall, Misfit}
 use Rattle.tmw_c.specs.declared.told.Told.{Told}
 use Rattle.tmw_handles.specs.declared.held_recorder.HeldRecorder.{HeldRecorder}
 use Rattle.tmw_handles.specs.declared.held_watch.HeldWatch.{HeldWatch}
@@ -31,6 +31,9 @@ recording-refused l r v place before after old new held holds BadRegister refuse
     (record { before = before; after = after; held = held; holds = holds; refused = refused }, refl)
 recording-refused l r v place before after old new held holds Missing refused = absurd refused
 recording-refused l r v place before after old new held holds Closing refused = absurd refused
+recording-refused l r v place before after old new held holds OutOfTurn refused = absurd refused
+recording-refused l r v place before after old new held holds NotCall refused = absurd refused
+recording-refused l r v place before after old new held holds Misfit refused = absurd refused
 
 pub closing-unended : (before after : HeldWatch) (old new : Option HeldWatch) (olds news : List RecorderHandle) (told : Told) → old ≡ Some before
     → new ≡ Some after → (status : Status) → IsUnended before after olds news status → IsClosing old new olds news told told status
@@ -52,3 +55,6 @@ closing-unended before after old new olds news told held holds Missing unended =
     (record { before = before; after = after; held = held; holds = holds; unended = unended }, refl)
 closing-unended before after old new olds news told held holds Closing unended =
     (record { before = before; after = after; held = held; holds = holds; unended = unended }, refl)
+closing-unended before after old new olds news told held holds OutOfTurn unended = absurd unended
+closing-unended before after old new olds news told held holds NotCall unended = absurd unended
+closing-unended before after old new olds news told held holds Misfit unended = absurd unended

@@ -6,3 +6,4 @@ pub mod Recording
 pub mod Rooms
 pub mod Statuses
 pub mod Summing
+pub mod Turning

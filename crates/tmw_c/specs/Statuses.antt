@@ -1,7 +1,7 @@
 -- The numbers by which a C program is answered.
 use Rattle.std.specs.Prelude.{◌≡◌, ℕ}
 use Rattle.tmw_c.specs.declared.status.Status.{Status}
-use Rattle.tmw_c.specs.declared.status.Status.TheVariants.{Done, NoHandle, FullHandle, BadRegisters, BadStart, BadBounds, BadSize, BadLimit, Memory, Full, Spent, BadKind, BadRegister, Missing, Closing}
+use Rattle.tmw_c.specs.declared.status.Status.TheVariants.{Done, NoHandle, FullHandle, BadRegisters, BadStart, BadBounds, BadSize, BadLimit, Memory, Full, Spent, BadKind, BadRegister, Missing, Closing, OutOfTurn, NotCall, Misfit}
 
 -- the number of a status
 abbrev pub number_of : Status → ℕ
@@ -20,6 +20,9 @@ number_of BadKind = 11
 number_of BadRegister = 12
 number_of Missing = 13
 number_of Closing = 14
+number_of OutOfTurn = 15
+number_of NotCall = 16
+number_of Misfit = 17
 
 -- The number is a status's, of which this holds.
 abbrev pub Tells : ℕ → (Status → Type 0) → Type 0

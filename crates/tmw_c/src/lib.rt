@@ -12,4 +12,7 @@ mod record;
 mod room;
 mod status;
 mod told;
+mod turn;
+mod turn_exports;
+mod turning;
 mod wanted;

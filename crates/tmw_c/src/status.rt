@@ -34,10 +34,16 @@ pub enum Status {
     Missing,
     /// The watch was being closed, and is not open any more.
     Closing,
+    /// The turn is another: no call is due, or none waits for its answer.
+    OutOfTurn,
+    /// The event is no call.
+    NotCall,
+    /// The answer does not fit the call.
+    Misfit,
 }
 
 impl Status {
-    /// Returns the status as a number, 0 to 14.
+    /// Returns the status as a number, 0 to 17.
     pub const fn number(self) -> u32
         ensures { result ≡ number_of self }
     {
@@ -57,6 +63,9 @@ impl Status {
             Status::BadRegister => 12,
             Status::Missing => 13,
             Status::Closing => 14,
+            Status::OutOfTurn => 15,
+            Status::NotCall => 16,
+            Status::Misfit => 17,
         }
     }
 }

@@ -1,5 +1,4 @@
-use Rattle.std.proofs.Common.{rules, ◌≡◌}
-use Rattle.std.specs.Prelude.{Some}
+use Rattle.std.proofs.Common.{rules}
 use Rattle.tmw_c.proofs.Refusals.{closing-unended}
 use Rattle.tmw_c.specs.Closing.{IsUnended}
 use Rattle.tmw_c.proofs.closing.close.Goals as goal

@@ -1,0 +1,170 @@
+-- How a call is answered that carries a transaction out, an event at a time.
+use Rattle.std.specs.Prelude.{◌≡◌, ◌⊎◌, ◌<◌, ◌≤◌, ◌+◌, ◌++◌, ℕ, zero, suc, true, false, List, [], ◌∷◌, Option, Some, None, length, get_or, drop}
+use Rattle.tmw_c.specs.Kinds.{AsksFor, IsNoLetter, IsNoRegister}
+use Rattle.tmw_c.specs.Recording.{HasRefused, IsSameEnd, WasFull, WasSpent}
+use Rattle.tmw_c.specs.declared.status.Status.{Status}
+use Rattle.tmw_c.specs.declared.status.Status.TheVariants.{Done, NoHandle, Full, Spent, BadKind, BadRegister, OutOfTurn, NotCall, Misfit}
+use Rattle.tmw_c.specs.declared.turn.Call.{Call}
+use Rattle.tmw_c.specs.declared.turn.Turn.{Turn}
+use Rattle.tmw_c.specs.declared.turning.Recorded.{Recorded}
+use Rattle.tmw_defs.specs.History.{answers}
+use Rattle.tmw_events.specs.declared.event.Kind.{Kind}
+use Rattle.tmw_events.specs.declared.event.Kind.TheVariants.{A}
+use Rattle.tmw_handles.specs.declared.held_recorder.HeldRecorder.{HeldRecorder}
+use Rattle.tmw_ring.specs.Recording.{HasRecorded}
+use Rattle.tmw_runs.specs.Runs.{IsWholeText, is_abort}
+use Rattle.tmw_turns.specs.Turning.{LeavesCalls}
+use Rattle.tmw_watch.specs.Shown.{writer_of}
+
+-- What was recorded of a transaction, by the phase that it is in: it leaves the call at this place and the later ones; or so it did
+-- before that call, which is its last event; or it is a whole text.
+abbrev pub Follows : (calls : List Kind) → (place phase : ℕ) → (kinds : List Kind) → Type 0
+Follows calls place zero kinds = LeavesCalls calls kinds (drop place calls)
+Follows calls place (suc zero) kinds =
+    (before : List Kind) × (kinds ≡ before ++ get_or calls place A ∷ []) × LeavesCalls calls before (drop place calls)
+Follows calls place (suc (suc more)) kinds = IsWholeText calls kinds
+
+-- This kind is recorded next, where the transaction has this call at its turn: what was recorded of it with that follows the new turn
+-- as what was recorded before has followed the old one.
+abbrev pub GoesOn : (count : ℕ) → (call recorded : Kind) → (old new : Turn) → Type 0
+GoesOn count call recorded old new =
+    (calls kinds : List Kind) → length calls ≡ count → get_or calls old.place A ≡ call
+    → Follows calls old.place old.phase kinds → Follows calls new.place new.phase (kinds ++ recorded ∷ [])
+
+-- The answer to the call at this place ends a transaction of so many calls: it is an abort event, or that was the last call.
+abbrev pub EndsTransaction : (count place : ℕ) → Kind → Type 0
+EndsTransaction count place answer = (is_abort answer ≡ true) ⊎ (place + 1 ≡ count)
+
+-- The turn after an answer: the transaction is over, or else its next call is due.
+abbrev pub TurnsTo : (count : ℕ) → (answer : Kind) → (old new : Turn) → Type 0
+TurnsTo count answer old new =
+    (EndsTransaction count old.place answer × (new ≡ record { place = old.place; phase = 2 }))
+    ⊎ ((EndsTransaction count old.place answer → ⊥) × (new ≡ record { place = old.place + 1; phase = 0 }))
+
+-- The transaction goes on so after this answer, whichever call it fits.
+pub record GoesOnBy (count : ℕ) (answer : Kind) (old new : Turn) : Type 0 where
+  pub turns : TurnsTo count answer old new
+  pub goes_on : (call : Kind) → answers call answer ≡ true → GoesOn count call answer old new
+
+-- This call asks for this kind.
+abbrev pub Asks : (registers : ℕ) → Call → Kind → Type 0
+Asks registers call kind = AsksFor registers call.letter call.register call.value kind
+
+-- just this kind was recorded, at this place of the one log
+pub record HasRecordedKind (kind : Kind) (place : ℕ) (old new : HeldRecorder) : Type 0 where
+  pub same : IsSameEnd old new
+  pub recorded : HasRecorded kind place (writer_of old.recorder) (writer_of new.recorder)
+
+-- The call was recorded, as an event of this kind.
+pub record HasCalled (call : Call) (kind : Kind) (old new : HeldRecorder) : Type 0 where
+  pub asks : Asks old.registers.number call kind
+  pub is_call : answers kind A ≡ true
+  pub place : ℕ
+  pub recorded : HasRecordedKind kind place old new
+
+-- why a recorder has not recorded the call, and what it is then
+abbrev pub HasNotCalled : Call → HeldRecorder → HeldRecorder → Status → Type 0
+HasNotCalled call old new NotCall =
+    (kind : Kind) × Asks old.registers.number call kind × (answers kind A ≡ false) × (new ≡ old)
+HasNotCalled call old new status = HasRefused call.letter call.register call.value old new status
+
+-- The answer to the call was recorded, at its place of the one log, and it fits the call.
+pub record HasAnswered (call : Call) (letter value : ℕ) (told : Recorded) (old new : HeldRecorder) : Type 0 where
+  pub kind : Kind
+  pub asks : Asks old.registers.number call kind
+  pub answered : AsksFor old.registers.number letter 0 value told.answer
+  pub fits : answers kind told.answer ≡ true
+  pub recorded : HasRecordedKind told.answer told.place old new
+
+-- the answer does not fit the call
+pub record IsMisfit (call : Call) (letter value : ℕ) (old : HeldRecorder) : Type 0 where
+  pub kind : Kind
+  pub answer : Kind
+  pub asks : Asks old.registers.number call kind
+  pub answered : AsksFor old.registers.number letter 0 value answer
+  pub fits : answers kind answer ≡ false
+
+-- why a recorder has not recorded the answer, and what it is then
+abbrev pub HasNotAnswered : Call → (letter value : ℕ) → HeldRecorder → HeldRecorder → Status → Type 0
+HasNotAnswered call letter value old new Misfit = IsMisfit call letter value old × (new ≡ old)
+HasNotAnswered call letter value old new BadKind = (IsNoLetter call.letter ⊎ IsNoLetter letter) × (new ≡ old)
+HasNotAnswered call letter value old new BadRegister =
+    (IsNoRegister old.registers.number call.letter call.register ⊎ IsNoRegister old.registers.number letter 0) × (new ≡ old)
+HasNotAnswered call letter value old new Full = WasFull letter 0 value old new
+HasNotAnswered call letter value old new Spent = WasSpent letter 0 value old new
+HasNotAnswered call letter value old new _ = ⊥
+
+-- The handle held one recorder and holds the other then.
+abbrev pub Holds : (old new : Option HeldRecorder) → (before after : HeldRecorder) → Type 0
+Holds old new before after = (old ≡ Some before) × (new ≡ Some after)
+
+-- the recorder that a handle holds has recorded the transaction's next call
+pub record HasCalledHeld (calls : List Call) (old new : Option HeldRecorder) (turn next : Turn) : Type 0 where
+  pub low : turn.place < length calls
+  pub due : turn.phase ≡ 0
+  pub before : HeldRecorder
+  pub after : HeldRecorder
+  pub holds : Holds old new before after
+  pub call : Call
+  pub is : (fallback : Call) → get_or calls turn.place fallback ≡ call
+  pub kind : Kind
+  pub called : HasCalled call kind before after
+  pub waits : next ≡ record { place = turn.place; phase = 1 }
+  pub goes_on : GoesOn (length calls) kind kind turn next
+
+-- why the recorder that a handle holds has not recorded the transaction's next call, and what it is then
+pub record HasNotCalledHeld (calls : List Call) (old new : Option HeldRecorder) (turn : Turn) (status : Status) : Type 0 where
+  pub low : turn.place < length calls
+  pub due : turn.phase ≡ 0
+  pub before : HeldRecorder
+  pub after : HeldRecorder
+  pub holds : Holds old new before after
+  pub call : Call
+  pub is : (fallback : Call) → get_or calls turn.place fallback ≡ call
+  pub refused : HasNotCalled call before after status
+
+-- Each status of a call to record the next call, with what the handle holds then, and the turn.
+abbrev pub IsCalling : List Call → (old new : Option HeldRecorder) → (turn next : Turn) → Status → Type 0
+IsCalling calls old new turn next Done = HasCalledHeld calls old new turn next
+IsCalling calls old new turn next NoHandle = (old ≡ None) × (new ≡ None) × (next ≡ turn)
+IsCalling calls old new turn next OutOfTurn =
+    ((turn.phase ≡ 0 → ⊥) ⊎ (length calls ≤ turn.place)) × (new ≡ old) × (next ≡ turn)
+IsCalling calls old new turn next status = HasNotCalledHeld calls old new turn status × (next ≡ turn)
+
+-- the recorder that a handle holds has recorded the answer to the transaction's call
+pub record HasAnsweredHeld (calls : List Call) (letter value place : ℕ) (old new : Option HeldRecorder) (turn next : Turn) : Type 0 where
+  pub low : turn.place < length calls
+  pub asked : turn.phase ≡ 1
+  pub before : HeldRecorder
+  pub after : HeldRecorder
+  pub holds : Holds old new before after
+  pub call : Call
+  pub is : (fallback : Call) → get_or calls turn.place fallback ≡ call
+  pub told : Recorded
+  pub place_is : place ≡ told.place
+  pub answered : HasAnswered call letter value told before after
+  pub turns : TurnsTo (length calls) told.answer turn next
+  pub goes_on : GoesOn (length calls) answered.kind told.answer turn next
+
+-- why the recorder that a handle holds has not recorded the answer, and what it is then
+pub record HasNotAnsweredHeld (calls : List Call) (letter value : ℕ) (old new : Option HeldRecorder) (turn : Turn) (status : Status) : Type 0 where
+  pub low : turn.place < length calls
+  pub asked : turn.phase ≡ 1
+  pub before : HeldRecorder
+  pub after : HeldRecorder
+  pub holds : Holds old new before after
+  pub call : Call
+  pub is : (fallback : Call) → get_or calls turn.place fallback ≡ call
+  pub refused : HasNotAnswered call letter value before after status
+
+-- Each status of a call to record an answer, with what the handle holds then, the turn, and what place the caller is told.
+abbrev pub IsAnswering : List Call → (letter value : ℕ) → (old new : Option HeldRecorder) → (turn next : Turn)
+    → (old_place new_place : ℕ) → Status → Type 0
+IsAnswering calls letter value old new turn next old_place new_place Done =
+    HasAnsweredHeld calls letter value new_place old new turn next
+IsAnswering calls letter value old new turn next old_place new_place NoHandle =
+    (old ≡ None) × (new ≡ None) × (next ≡ turn) × (new_place ≡ old_place)
+IsAnswering calls letter value old new turn next old_place new_place OutOfTurn =
+    ((turn.phase ≡ 1 → ⊥) ⊎ (length calls ≤ turn.place)) × (new ≡ old) × (next ≡ turn) × (new_place ≡ old_place)
+IsAnswering calls letter value old new turn next old_place new_place status =
+    HasNotAnsweredHeld calls letter value old new turn status × (next ≡ turn) × (new_place ≡ old_place)

@@ -1,0 +1,40 @@
+//! Functions by which a C program carries a transaction out: it makes each call itself, and tells the answer.
+ghost use Rattle.tmw_c.specs.Statuses.{Tells};
+ghost use Rattle.tmw_c.specs.Turning.{IsAnswering, IsCalling};
+ghost use Rattle.tmw_handles.specs.Held.{recorder_in};
+
+use crate::turn::{Call, Turn};
+use crate::turning;
+use std::alloc::Global;
+use tmw_handles::RecorderHandle;
+
+/// Records the next call of the transaction that makes these calls.
+#[unsafe(no_mangle)]
+pub extern "C" fn tmwatch_next(
+    alloc: Global,
+    recorder: &mut RecorderHandle,
+    calls: &[Call],
+    turn: &mut Turn,
+) -> u32
+    ensures { Tells result (IsCalling calls.now (recorder_in recorder.old)
+        (recorder_in recorder.new) turn.old turn.new) }
+{
+    turning::next(alloc, recorder, calls, turn).number()
+}
+
+/// Records the answer that the memory gave to the call that waits for it, if it fits, and turns to the next call.
+#[unsafe(no_mangle)]
+pub extern "C" fn tmwatch_answered(
+    alloc: Global,
+    recorder: &mut RecorderHandle,
+    calls: &[Call],
+    turn: &mut Turn,
+    letter: u32,
+    value: u64,
+    place: &mut u64,
+) -> u32
+    ensures { Tells result (IsAnswering calls.now letter value (recorder_in recorder.old)
+        (recorder_in recorder.new) turn.old turn.new place.old place.new) }
+{
+    turning::answered(alloc, recorder, calls, turn, letter, value, place).number()
+}

@@ -1,0 +1,147 @@
+//! Carrying a transaction out by a handle, an event at a time.
+ghost use Rattle.std.specs.Prelude.{◌≡◌, ◌<◌, IfOk, IfErr};
+ghost use Rattle.tmw_c.specs.Turning.{GoesOnBy, HasAnswered, HasCalled, HasNotAnswered, HasNotCalled, IsAnswering, IsCalling};
+ghost use Rattle.tmw_handles.specs.Held.{recorder_in};
+
+use crate::kinds::asked;
+use crate::status::Status;
+use crate::turn::{Call, Turn};
+use std::alloc::Global;
+use tmw_events::Kind;
+use tmw_handles::{HeldRecorder, RecorderHandle};
+use tmw_ring::Refused;
+use tmw_turns::{fits, is_abort};
+
+/// What was recorded of an answer.
+#[derive(Clone, Copy)]
+struct Recorded {
+    answer: Kind,
+    // In the one log of all threads.
+    place: u64,
+}
+
+/// Records the call, if it is one, and returns its kind, or why not.
+fn call_held(held: &mut HeldRecorder, call: Call) -> Result<Kind, Status>
+    ensures ok { IfOk result (λ kind. HasCalled call kind held.old held.new) }
+    ensures err { IfErr result (HasNotCalled call held.old held.new) }
+{
+    let kind = match asked(held.registers, call.letter, call.register, call.value) {
+        Ok(kind) => kind,
+        Err(status) => return Err(status),
+    };
+    // An abort event may answer each call, and nothing but a call.
+    let is_call = fits(kind, Kind::A);
+    if !is_call {
+        return Err(Status::NotCall);
+    }
+    match held.recorder.record(kind) {
+        Ok(_) => Ok(kind),
+        Err(Refused::Full { .. }) => Err(Status::Full),
+        Err(Refused::Spent { .. }) => Err(Status::Spent),
+    }
+}
+
+/// Records the call that is due by what the handle holds, which it holds again afterwards. The turn changes only if the
+/// call was recorded.
+pub fn next(alloc: Global, recorder: &mut RecorderHandle, calls: &[Call], turn: &mut Turn) -> Status
+    ensures { IsCalling calls.now (recorder_in recorder.old) (recorder_in recorder.new) turn.old
+        turn.new result }
+{
+    if turn.phase != 0 || turn.place >= calls.len() {
+        return Status::OutOfTurn;
+    }
+    let call = calls[turn.place];
+    let Some(mut held) = recorder.take(alloc) else {
+        return Status::NoHandle;
+    };
+    let answer = call_held(&mut held, call);
+    *recorder = RecorderHandle::of(held);
+    match answer {
+        Ok(_) => {
+            turn.phase = 1;
+            Status::Done
+        }
+        Err(status) => status,
+    }
+}
+
+/// Records the answer to the call, if it fits, and returns what was recorded, or why not.
+fn answer_held(
+    held: &mut HeldRecorder,
+    call: Call,
+    letter: u32,
+    value: u64,
+) -> Result<Recorded, Status>
+    ensures ok { IfOk result (λ told. HasAnswered call letter value told held.old held.new) }
+    ensures err { IfErr result (HasNotAnswered call letter value held.old held.new) }
+{
+    let kind = match asked(held.registers, call.letter, call.register, call.value) {
+        Ok(kind) => kind,
+        Err(status) => return Err(status),
+    };
+    let answer = match asked(held.registers, letter, 0, value) {
+        Ok(answer) => answer,
+        Err(status) => return Err(status),
+    };
+    let is_fit = fits(kind, answer);
+    if !is_fit {
+        return Err(Status::Misfit);
+    }
+    match held.recorder.record(answer) {
+        Ok(place) => Ok(Recorded { answer, place }),
+        Err(Refused::Full { .. }) => Err(Status::Full),
+        Err(Refused::Spent { .. }) => Err(Status::Spent),
+    }
+}
+
+/// Returns the turn after this answer to the call that waits for it, in a transaction of so many calls.
+fn after(count: usize, turn: Turn, answer: Kind) -> Turn
+    requires waits { turn.phase ≡ 1 }
+    requires low { turn.place < count }
+    ensures { GoesOnBy count answer turn result }
+{
+    let place = turn.place;
+    if is_abort(answer) {
+        return Turn { place, phase: 2 };
+    }
+    if place + 1 == count {
+        return Turn { place, phase: 2 };
+    }
+    Turn {
+        place: place + 1,
+        phase: 0,
+    }
+}
+
+/// Records the answer to the call that waits for it by what the handle holds, which it holds again afterwards. `place`
+/// and the turn change only if the answer was recorded.
+pub fn answered(
+    alloc: Global,
+    recorder: &mut RecorderHandle,
+    calls: &[Call],
+    turn: &mut Turn,
+    letter: u32,
+    value: u64,
+    place: &mut u64,
+) -> Status
+    ensures { IsAnswering calls.now letter value (recorder_in recorder.old)
+        (recorder_in recorder.new) turn.old turn.new place.old place.new result }
+{
+    if turn.phase != 1 || turn.place >= calls.len() {
+        return Status::OutOfTurn;
+    }
+    let call = calls[turn.place];
+    let Some(mut held) = recorder.take(alloc) else {
+        return Status::NoHandle;
+    };
+    let answer = answer_held(&mut held, call, letter, value);
+    *recorder = RecorderHandle::of(held);
+    match answer {
+        Ok(told) => {
+            *place = told.place;
+            *turn = after(calls.len(), *turn, told.answer);
+            Status::Done
+        }
+        Err(status) => status,
+    }
+}
