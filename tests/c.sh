@@ -129,6 +129,25 @@ if command -v "$cxx" >/dev/null; then
     # Of this run not all events are kept for the trace.
     on_bench lock 0 $((3 * rounds)) 4
 fi
+# A memory that is a class: the faults that it may have, and its exit status. A member that throws ends the program.
+on_class() {
+    ends "class_$1 compiles, in C++17" 0 "$cxx" -std=c++17 "${strict[@]}" "-DFAULT=$1" -o "$folder/class_$1" \
+        "$top/tests/c/bench_class.cpp" "${bench[@]}"
+    if [ "$2" -lt 128 ]; then
+        on_bench "class_$1" "$2" "$rounds" 1 2 3
+    else
+        ends "class_$1" "$2" "${run[@]}" "$folder/class_$1"
+        cp "$folder/output" "$folder/told"
+        ends "class_$1: what is told" 0 grep -q "the memory's \`read\` has thrown: no" "$folder/told"
+    fi
+}
+if command -v "$cxx" >/dev/null; then
+    on_class NONE 0
+    on_class LOOP 0
+    on_class READS 1
+    on_class THROW 134
+    on_class THROW_INT 134
+fi
 # A bench that is wrong, over a memory that is right: what is wrong, the change of its source, and the exit status.
 wrong_bench() {
     sed "$2" "$top/c/tmwatch_bench.c" >"$folder/wrong.c"
