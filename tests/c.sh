@@ -1,5 +1,6 @@
 #!/usr/bin/env bash
-# Builds the library for programs in C, compiles the tests in tests/c and the examples in examples/c without a warning, and runs them.
+# Builds the library for programs in C, compiles the tests in tests/c and the examples in examples/c without a warning, and runs them; then
+# tests/bindings.sh over the same library.
 #
 #   tests/c.sh
 #
@@ -180,4 +181,5 @@ if command -v pkg-config >/dev/null; then
     ends 'a memory by the package' 0 "${run[@]}" "$folder/package" --rounds 100
     ends 'the package' 0 env PKG_CONFIG_PATH="$built/lib/pkgconfig" sh -c "$cc -std=c11 ${FLAGS:-} -o '$folder/package' '$top/tests/c/misuse.c' \$(pkg-config --cflags --libs tmwatch)"
 fi
+ends 'the bindings' 0 env BUILT="$built" "$top/tests/bindings.sh"
 end_rows
