@@ -62,6 +62,37 @@ fn a_dirty_read_is_violated() {
     assert_eq!(watch.close(), Ok(Told { events: 4, verdict: Verdict::Violated { at: 4 } }));
 }
 
+/// Two transactions with an event of each kind, of registers that hold 3 and 4 at first: another letter, register or value is found.
+#[test]
+fn each_event_is_recorded_as_what_it_is() {
+    let start = [3, 4, 0, 0, 0, 0, 0, 0];
+    let (watch, mut recorders) = Watch::open(&Settings { start, ..Settings::new(2) }, 1).unwrap();
+    let events = [
+        Event::Write { register: 1, value: 5 },
+        Event::Stored,
+        Event::Add { register: 1, value: 2 },
+        Event::Value(5),
+        Event::Read { register: 1 },
+        Event::Value(7),
+        Event::Read { register: 0 },
+        Event::Value(3),
+        Event::Commit,
+        Event::Committed,
+        Event::Read { register: 1 },
+        Event::Value(7),
+        Event::Abort,
+        Event::Aborted,
+    ];
+    for (place, event) in events.into_iter().enumerate() {
+        assert_eq!(recorders[0].record(event), Ok(place as u64));
+    }
+    assert_eq!(watch.pump(99), Ok(14));
+    let counts = watch.summary().unwrap();
+    assert_eq!((counts.committed, counts.aborted, counts.unasked, counts.cuts, counts.live), (1, 1, 0, 2, 0));
+    recorders.clear();
+    assert_eq!(watch.close(), Ok(Told { events: 14, verdict: Verdict::OpaqueSoFar }));
+}
+
 #[test]
 fn what_fits_no_run_is_malformed() {
     let (watch, mut recorders) = Watch::open(&Settings::new(1), 1).unwrap();
