@@ -1,5 +1,6 @@
 #!/usr/bin/env bash
-# Builds the library for programs in C, compiles the tests in tests/c and the examples in examples/c without a warning, and runs them.
+# Builds the library for programs in C, compiles the tests in tests/c and the examples in examples/c without a warning, and runs them; then
+# tests/bindings.sh over the same library.
 #
 #   tests/c.sh
 #
@@ -130,6 +131,25 @@ if command -v "$cxx" >/dev/null; then
     # Of this run not all events are kept for the trace.
     on_bench lock 0 $((3 * rounds)) 4
 fi
+# A memory that is a class: the faults that it may have, and its exit status. A member that throws ends the program.
+on_class() {
+    ends "class_$1 compiles, in C++17" 0 "$cxx" -std=c++17 "${strict[@]}" "-DFAULT=$1" -o "$folder/class_$1" \
+        "$top/tests/c/bench_class.cpp" "${bench[@]}"
+    if [ "$2" -lt 128 ]; then
+        on_bench "class_$1" "$2" "$rounds" 1 2 3
+    else
+        ends "class_$1" "$2" "${run[@]}" "$folder/class_$1"
+        cp "$folder/output" "$folder/told"
+        ends "class_$1: what is told" 0 grep -q "the memory's \`read\` has thrown: no" "$folder/told"
+    fi
+}
+if command -v "$cxx" >/dev/null; then
+    on_class NONE 0
+    on_class LOOP 0
+    on_class READS 1
+    on_class THROW 134
+    on_class THROW_INT 134
+fi
 # A bench that is wrong, over a memory that is right: what is wrong, the change of its source, and the exit status.
 wrong_bench() {
     sed "$2" "$top/c/tmwatch_bench.c" >"$folder/wrong.c"
@@ -162,4 +182,5 @@ if command -v pkg-config >/dev/null; then
     ends 'a memory by the package' 0 "${run[@]}" "$folder/package" --rounds 100
     ends 'the package' 0 env PKG_CONFIG_PATH="$built/lib/pkgconfig" sh -c "$cc -std=c11 ${FLAGS:-} -o '$folder/package' '$top/tests/c/misuse.c' \$(pkg-config --cflags --libs tmwatch)"
 fi
+ends 'the bindings' 0 env BUILT="$built" "$top/tests/bindings.sh"
 end_rows

@@ -1,0 +1,39 @@
+//! Finds what `./tmwatch-c FOLDER` has made: by TMWATCH_LIB, which is FOLDER/lib, or else by pkg-config.
+
+use std::path::{Path, PathBuf};
+use std::process::Command;
+
+/// Asks pkg-config for the folder of the libraries.
+fn by_package() -> Option<PathBuf> {
+    let words = ["--variable=libdir", "tmwatch_bench"];
+    let output = Command::new("pkg-config").args(words).output().ok()?;
+    let folder = String::from_utf8(output.stdout).ok()?;
+    let folder = folder.trim();
+    (output.status.success() && !folder.is_empty()).then(|| folder.into())
+}
+
+fn find() -> Option<PathBuf> {
+    let folder = match std::env::var_os("TMWATCH_LIB") {
+        Some(folder) => PathBuf::from(folder),
+        None => by_package()?,
+    };
+    folder.canonicalize().ok()
+}
+
+fn has_archives(folder: &Path) -> bool {
+    ["libtmwatch_bench.a", "libtmwatch.a"].iter().all(|name| folder.join(name).is_file())
+}
+
+fn main() {
+    println!("cargo:rerun-if-env-changed=TMWATCH_LIB");
+    println!("cargo:rerun-if-env-changed=PKG_CONFIG_PATH");
+    let Some(folder) = find().filter(|folder| has_archives(folder)) else {
+        panic!("libtmwatch_bench.a and libtmwatch.a are not found: set TMWATCH_LIB to FOLDER/lib, after ./tmwatch-c FOLDER");
+    };
+    println!("cargo:rerun-if-changed={}", folder.display());
+    println!("cargo:rustc-link-search=native={}", folder.display());
+    // The bench calls the watch, so that it comes first.
+    println!("cargo:rustc-link-lib=static=tmwatch_bench");
+    println!("cargo:rustc-link-lib=static=tmwatch");
+    println!("cargo:rustc-env=TMWATCH_INCLUDE={}", folder.join("../include").display());
+}
