@@ -1,5 +1,5 @@
 /*
-A memory after TL2 (Dice, Shalev and Shavit 2006) as a class on the bench. It keeps what it writes in a vector until it commits.
+A memory after TL2 (Dice, Shalev and Shavit, DISC 2006) as a class on the bench. It keeps what it writes in a vector until it commits.
 
 -DFAULT=READS: a read takes any version. LOOP: right, and it attempts again by itself, in a loop. THROW, THROW_INT: a read throws. If not
 each Tx is destroyed once, or none has added, or a memory that never begins is told as another, the exit status is 9.
