@@ -1,8 +1,8 @@
 /*
-A memory after TL2 (Dice, Shalev and Shavit 2006) as a class on the bench. It keeps what it writes in a vector until it commits.
+A memory after TL2 (Dice, Shalev and Shavit, DISC 2006) as a class on the bench. It keeps what it writes in a vector until it commits.
 
 -DFAULT=READS: a read takes any version. LOOP: right, and it attempts again by itself, in a loop. THROW, THROW_INT: a read throws. If not
-each Tx is destroyed once, the exit status is 9.
+each Tx is destroyed once, or none has added, or a memory that never begins is told as another, the exit status is 9.
 */
 #include "tmwatch_bench.hpp"
 #include <atomic>
@@ -19,6 +19,7 @@ enum Fault { NONE, READS, LOOP, THROW, THROW_INT };
 constexpr Fault fault = FAULT;
 
 std::atomic<long> live_count{0};
+std::atomic<bool> has_added{false};
 
 struct Tl2 {
     /* `lock` is the version doubled, and odd while a commit holds it. */
@@ -79,6 +80,7 @@ struct Tl2 {
 
     bool add(Tx &tx, unsigned reg, uint64_t addend, uint64_t &before)
     {
+        has_added = true;
         return read(tx, reg, before) && write(tx, reg, before + addend);
     }
 
@@ -148,11 +150,35 @@ struct Looping : Tl2 {
     }
 };
 
+/* No transaction begins here, and none adds. It never changes. */
+struct Never {
+    using Tx = Tl2::Tx;
+    bool begin(Tx &) const { return false; }
+    bool read(Tx &, unsigned, uint64_t &) const { return false; }
+    bool write(Tx &, unsigned, uint64_t) const { return false; }
+    bool commit(Tx &) const { return false; }
+    void abort(Tx &) const {}
+};
+
+/* Whether a bench by a plan, of a memory that is const, tells that all transactions were rolled back unasked. */
+bool has_never_begun()
+{
+    const Never never{};
+    tmwatch_plan plan = TMWATCH_PLAN;
+    tmwatch_benched benched;
+    plan.rounds = 9;
+    if (tmwatch_bench(never, plan, benched) != TMWATCH_DONE || benched.told.verdict != TMWATCH_OPAQUE_SO_FAR)
+        return false;
+    return benched.rounds == 9 && benched.counts.transactions > 0 && benched.counts.unasked == benched.counts.transactions;
+}
+
 } // namespace
 
 int main(int count, char **words)
 {
     static std::conditional_t<fault == LOOP, Looping, Stepped> memory;
+    if (!has_never_begun())
+        return 9;
     int status = tmwatch_bench_main(memory, count, words);
-    return live_count == 0 ? status : 9;
+    return live_count == 0 && (has_added || fault == READS) ? status : 9;
 }

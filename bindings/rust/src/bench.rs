@@ -12,7 +12,7 @@ pub struct Aborted;
 /// A transactional memory. All threads call it at once, each within a transaction of its own.
 ///
 /// A call that returns [`Aborted`] has rolled back; the transaction is then dropped. A register is a number below the plan's `registers`.
-/// No call may block forever. One that panics ends the process.
+/// No call may block forever, or call anything of this package but [`pause`]. One that panics ends the process.
 pub trait Memory: Sync {
     /// What a thread keeps of its transaction, from `begin` to its end. It may hold a guard of the memory's locks.
     type Transaction<'m>

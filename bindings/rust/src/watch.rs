@@ -126,7 +126,7 @@ pub struct Watch {
 }
 
 impl Watch {
-    /// Opens a watch with so many recorders, one for each thread.
+    /// Opens a watch with 1 to 8 recorders, one for each thread. Their number is checked first.
     pub fn open(settings: &Settings, count: usize) -> Result<(Watch, Vec<Recorder>), Status> {
         if count == 0 || count > MOST_RECORDERS {
             return Err(Status::BadSize);

@@ -100,10 +100,12 @@ fn one_lock_is_opaque_so_far() {
     let memory = OneLock { words: Mutex::new(start), ..OneLock::default() };
     for seed in 1..4 {
         let start = *memory.words.lock().unwrap();
-        let plan = Plan { rounds: 2000, seed, start, ..Plan::default() };
+        let plan = Plan { rounds: 2000, seed, start, trace: true, ..Plan::default() };
         let benched = bench(&memory, &plan).unwrap();
         assert_eq!(benched.told.verdict, Verdict::OpaqueSoFar);
-        assert_eq!((benched.rounds, benched.trace), (2000, None));
+        assert_eq!(benched.rounds, 2000);
+        let trace = benched.trace.unwrap();
+        assert!([" R ", " W ", " N ", " X\n", " A\n"].iter().all(|event| trace.contains(event)));
         assert!(benched.counts.committed > 1000 && benched.counts.unasked > 100, "{:?}", benched.counts);
         assert!(benched.counts.overlapping > 100 && !benched.counts.none_overlapped, "{:?}", benched.counts);
         assert_eq!(LIVE.load(SeqCst), 0);
