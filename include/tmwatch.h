@@ -100,7 +100,7 @@ enum tmwatch_why {
 enum tmwatch_phase {
     TMWATCH_DUE = 0,   /* its call at `place` is to be recorded and then made */
     TMWATCH_WAITS = 1, /* that call is recorded, and its answer is not */
-    TMWATCH_OVER = 2   /* nothing: the transaction is over */
+    TMWATCH_OVER = 2   /* nothing: the transaction is over. So it is with any greater number */
 };
 
 /* A watch's handle. */
@@ -223,15 +223,18 @@ TMWATCH_PURE TMWATCH_LOOK uint32_t tmwatch_record(tmwatch_recorder *recorder, ui
 
 /*
 These two carry a transaction out by turns: the program says at first which calls it makes, makes each itself once tmwatch_next has recorded
-it, and tells tmwatch_answered what the memory gave. `calls` is to `count` calls, the same ones from the first turn to the last, and nothing
-else is recorded by this recorder meanwhile. Whatever the memory gives, the events so recorded are then a run of these calls: when the turn
-is TMWATCH_OVER they are the whole text of the transaction, each call with an answer that fits it, up to an abort event or the last answer.
+it, and tells tmwatch_answered what the memory gave. `calls` is to the `count` calls of a transaction: reads, writes and adds, and then, only
+then, T or X. They stay the same from the first turn to the last, and nothing else is recorded by this recorder meanwhile. Whatever the memory
+gives, the events so recorded are then a run of these calls: when the turn is TMWATCH_OVER they are the whole text of the transaction, each
+call with an answer that fits it, up to an abort event or the last answer.
 
     tmwatch_turn turn = TMWATCH_FIRST_TURN;
     while (turn.phase != TMWATCH_OVER) {
-        tmwatch_next(&recorder, calls, count, &turn);
+        while (tmwatch_next(&recorder, calls, count, &turn) == TMWATCH_FULL)
+            ... waits for room ...
         ... makes calls[turn.place] ...
-        tmwatch_answered(&recorder, calls, count, &turn, letter, value, &place);
+        while (tmwatch_answered(&recorder, calls, count, &turn, letter, value, &place) == TMWATCH_FULL)
+            ... waits for room ...
     }
 
 tmwatch_next records the call that is due, which then waits for its answer. tmwatch_answered records the answer of this letter to the call
