@@ -17,11 +17,11 @@ Link libtmwatch_bench.a before libtmwatch.a. No proof covers the bench; the verd
 
 In a round each thread makes one transaction, and then all wait for one another. A transaction that is rolled back is attempted again, and a
 round has at most eight attempts, so that its run is decided. By permits, the threads run freely instead, each attempt takes one of eight
-permits (tmwatch_permits.h), and a transaction has as many attempts as it takes.
+permits (tmwatch_permits.h), and a transaction is attempted as often as it takes: one that never commits, until plan.seconds are over.
 
-A call is recorded before the memory is asked, and its answer after it has answered; a transaction's first call, before the memory begins it.
-No two writes have the same value, a register is read before it is written, and what is added is any number of 64 bits. Each 64th round and at
-the end, one thread reads all registers while the others wait; by permits, some time after each 512 attempts, and at the end.
+A call is recorded before the memory is asked, and its answer after it has answered; a transaction's first call, before the memory begins
+it. No two writes have the same value, a register is read before it is written, and what is added is any number of 64 bits. Each 64th round
+and at the end, one thread reads all registers while the others wait; by permits, some time after each 512 attempts, and at the end.
 
 What the program owes beside the duties of tmwatch.h. Nothing of it is tested:
 

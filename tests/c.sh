@@ -59,6 +59,15 @@ program misuse "$top/tests/c/misuse.c" 0 '' "${static[@]}"
 program misuse_shared "$top/tests/c/misuse.c" 0 '' "${shared[@]}"
 program threads "$top/tests/c/threads.c" 0 '' "${static[@]}"
 program permits "$top/tests/c/permits.c" 0 '' "${static[@]}"
+# Permits that are wrong: what is wrong, and the change of their header.
+wrong_permits() {
+    sed "$2" "$built/include/tmwatch_permits.h" >"$folder/tmwatch_permits.h"
+    ends "permits that $1, compiled" 0 "$cc" -std=c11 "${strict[@]}" -iquote "$folder" -o "$folder/wrong" \
+        "$top/tests/c/permits.c" "${static[@]}"
+    ends "permits that $1" 1 "${run[@]}" "$folder/wrong"
+}
+
+wrong_permits 'are taken all while others are active' 's/% (UINT64_C(1) << 32) != 1/== 0/'
 program kept "$top/tests/c/kept.c" 0 '' "${static[@]}"
 [ ! -x "$folder/kept" ] || "$folder/kept" >"$folder/traces"
 ends 'what was kept' 0 diff "$folder/traces" "$top/tests/c/kept.traces"

@@ -1,6 +1,6 @@
 /*
-Threads that run freely over the little memory, record each attempt under a permit, and attempt a transaction again as often as it takes. Now
-and then one takes all permits. The watch is to decide the run, and the log to keep the rule of tmwatch_permits.h.
+Threads that run freely over the little memory, record each attempt under a permit, and attempt a transaction again as often as it takes.
+Now and then one takes all permits. The watch is to decide the run, and the log to keep the rule of tmwatch_permits.h.
 */
 #define _POSIX_C_SOURCE 200809L
 #include "tmwatch_permits.h"
