@@ -1,6 +1,7 @@
 /* The bench of tmwatch_bench.h. No proof covers this file. */
 #define _POSIX_C_SOURCE 200809L
 #include "tmwatch_bench.h"
+#include "tmwatch_permits.h"
 #include <errno.h>
 #include <pthread.h>
 #include <sched.h>
@@ -9,7 +10,8 @@
 #include <string.h>
 #include <time.h>
 
-/* A look comes after each LOOK rounds. As many events are kept as two looks may lie apart, and what is recorded and not judged yet. */
+/* A look comes after each LOOK rounds, or as many attempts as those may have. As many events are kept as two looks may lie apart, and what
+   is recorded and not judged yet. */
 enum { MOST_THREADS = 8, MOST_ATTEMPTS = 8, MOST_CALLS = 16, MOST_REGISTERS = 8, KEPT = 1 << 17, LOOK = 64 };
 static const uint64_t most_pause = 1 << 20;
 
@@ -38,7 +40,8 @@ struct tmwatch_attempt {
     struct step steps[MOST_CALLS];
     bool asks_abort, looks;  /* what is to be done */
     bool is_live, has_asked; /* an attempt is recorded and not ended; it has asked to abort */
-    uint64_t made;           /* how many attempts were begun, or all, since none is to follow */
+    uint64_t made, most;     /* how many attempts were begun, or all, since none is to follow; and how many there may be */
+    uint64_t begun;          /* how many transactions were begun by permits */
     uint64_t addend, written;
     uint64_t draws, rest; /* what is drawn for transactions, and for all else: so the transactions depend on the seed alone */
 };
@@ -57,6 +60,8 @@ struct bench {
     atomic_int gate;
     atomic_uint here, ended; /* how many threads wait for the others, and how many have ended */
     atomic_uint_least64_t round;
+    tmwatch_permits permits;
+    atomic_uint_least64_t attempted, next_look; /* by permits: how many attempts were begun, and at how many a look is due */
     atomic_uint_least32_t fault; /* the first status of the watch that wasn't to be */
     atomic_bool stops, is_late;  /* no round is to follow, since something is wrong, or since the time is up */
     atomic_bool is_over;         /* no round follows */
@@ -100,7 +105,8 @@ static void stop(struct bench *b, uint32_t status)
     b->stops = true;
 }
 
-/* Records an event and keeps it. There is room for it: the thread has asked for all of the round before that began. */
+/* Records an event and keeps it. There is room for it: the thread has asked for all of the round, or the attempt, before that
+   began. */
 static void note(tmwatch_attempt *a, char letter, unsigned reg, uint64_t value)
 {
     struct bench *b = a->bench;
@@ -138,20 +144,59 @@ static void note_step(tmwatch_attempt *a, const struct step *step)
     pause_sometimes(a);
 }
 
+static bool by_permits(const struct bench *b)
+{
+    return b->plan->schedule == TMWATCH_PERMITS;
+}
+
 /* Records that the attempt has ended. None follows one that has committed, or was asked to abort. */
 static void end_attempt(tmwatch_attempt *a, bool has_committed)
 {
     note(a, has_committed ? 'C' : 'A', 0, 0);
     if (has_committed || a->has_asked)
-        a->made = a->bench->attempts;
+        a->made = a->most;
     a->is_live = false;
+    if (by_permits(a->bench))
+        tmwatch_permits_give(&a->bench->permits);
+}
+
+/* Waits for the room that was planned for, so that no record waits inside a transaction. */
+static void wait_for_room(tmwatch_attempt *a)
+{
+    struct bench *b = a->bench;
+    uint32_t status = TMWATCH_FULL;
+    while (!b->stops && (status = tmwatch_room(a->recorder, b->room)) == TMWATCH_FULL)
+        sched_yield();
+    /* The watch's 2^40 places come to their end: so do the rounds. */
+    if (status == TMWATCH_SPENT)
+        b->stops = true;
+    else if (status != TMWATCH_DONE && status != TMWATCH_FULL)
+        stop(b, status);
+}
+
+/* Takes a permit, and all of them for a look: whether the attempt may begin. The room is asked for with the permit, since only then the
+   other threads record no more than seven attempts until it is given. */
+static bool take_permit(tmwatch_attempt *a)
+{
+    struct bench *b = a->bench;
+    if (a->looks)
+        tmwatch_permits_take_all(&b->permits);
+    else
+        tmwatch_permits_take(&b->permits);
+    wait_for_room(a);
+    if (b->stops || (b->is_late && !a->looks)) {
+        tmwatch_permits_give(&b->permits);
+        return false;
+    }
+    b->attempted++;
+    return true;
 }
 
 bool tmwatch_begins(tmwatch_attempt *a)
 {
     if (a->is_live)
         end_attempt(a, false);
-    if (a->made == a->bench->attempts)
+    if (a->made == a->most || (by_permits(a->bench) && !take_permit(a)))
         return false;
     a->made++;
     a->is_live = true;
@@ -215,7 +260,7 @@ static void make_transaction(tmwatch_attempt *a)
     bool has_begun = true;
     a->made = 0;
     a->has_asked = false;
-    while (has_begun && a->made < a->bench->attempts) {
+    while (has_begun && a->made < a->most) {
         uint64_t before = a->made;
         bool has_committed = m->run ? m->run(m->memory, a->tx, a) : run_once(m, a);
         pause_sometimes(a);
@@ -229,6 +274,7 @@ static void draw_transaction(tmwatch_attempt *a)
 {
     const tmwatch_plan *plan = a->bench->plan;
     a->looks = false;
+    a->most = a->bench->attempts;
     a->count = (unsigned)plan->calls;
     a->asks_abort = draw(&a->draws, 100) < plan->aborts;
     for (struct step *step = a->steps; step < a->steps + a->count; step++) {
@@ -242,25 +288,12 @@ static void draw_transaction(tmwatch_attempt *a)
 static void look(tmwatch_attempt *a)
 {
     a->looks = true;
+    a->most = a->bench->attempts < MOST_ATTEMPTS ? a->bench->attempts : MOST_ATTEMPTS;
     a->asks_abort = false;
     a->count = (unsigned)a->bench->plan->registers;
     for (unsigned i = 0; i < a->count; i++)
         a->steps[i] = (struct step){i, false, false};
     make_transaction(a);
-}
-
-/* Waits for room for all that the round will record, so that no record waits inside a transaction. */
-static void wait_for_room(tmwatch_attempt *a)
-{
-    struct bench *b = a->bench;
-    uint32_t status = TMWATCH_FULL;
-    while (!b->stops && (status = tmwatch_room(a->recorder, b->room)) == TMWATCH_FULL)
-        sched_yield();
-    /* The watch's 2^40 places come to their end: so do the rounds. */
-    if (status == TMWATCH_SPENT)
-        b->stops = true;
-    else if (status != TMWATCH_DONE && status != TMWATCH_FULL)
-        stop(b, status);
 }
 
 /* Waits for all threads: whether another round follows, as the last of them to come has decided. */
@@ -283,13 +316,29 @@ static bool meet(tmwatch_attempt *a)
     return !b->is_over;
 }
 
+/* Looks if that is due, and answers whether the thread makes another transaction by permits. The last one to make none looks at the end. */
+static bool go_on(tmwatch_attempt *a)
+{
+    struct bench *b = a->bench;
+    uint_least64_t due = b->next_look, attempted = b->attempted;
+    if (b->stops || b->is_late || a->begun == b->plan->rounds) {
+        if (atomic_fetch_add(&b->here, 1) + 1 == b->plan->threads)
+            look(a);
+        return false;
+    }
+    if (attempted >= due && atomic_compare_exchange_strong(&b->next_look, &due, attempted + LOOK * MOST_ATTEMPTS))
+        look(a);
+    a->begun++;
+    return true;
+}
+
 static void *work(void *argument)
 {
     tmwatch_attempt *a = argument;
     this_thread = a;
     while (a->bench->gate == WAIT)
         sched_yield();
-    while (a->bench->gate == RUN && meet(a)) {
+    while (a->bench->gate == RUN && (by_permits(a->bench) ? go_on(a) : meet(a))) {
         draw_transaction(a);
         make_transaction(a);
     }
@@ -405,6 +454,15 @@ static uint64_t write_trace(const struct bench *b, tmwatch_told told)
     return from;
 }
 
+/* How many rounds were run, or transactions begun by each thread. In rounds, the threads meet once more than there are rounds. */
+static uint64_t count_rounds(const struct bench *b)
+{
+    uint64_t rounds = by_permits(b) ? UINT64_MAX : b->round - 1;
+    for (unsigned i = 0; i < b->plan->threads && by_permits(b); i++)
+        rounds = b->workers[i].begun < rounds ? b->workers[i].begun : rounds;
+    return rounds;
+}
+
 /* Runs the rounds under a watch that is open, and closes it. */
 static uint32_t run_watched(struct bench *b, tmwatch_benched *benched)
 {
@@ -421,8 +479,7 @@ static uint32_t run_watched(struct bench *b, tmwatch_benched *benched)
     tmwatch_discard(&b->watch);
     if (status != TMWATCH_DONE)
         return status;
-    /* The threads meet once more than there are rounds. */
-    out.rounds = b->round - 1;
+    out.rounds = count_rounds(b);
     if (b->plan->trace)
         out.from = write_trace(b, out.told);
     *benched = out;
@@ -446,11 +503,28 @@ static uint32_t check(const tmwatch_memory *memory, const tmwatch_plan *plan)
     for (uint64_t reg = plan->registers; reg < MOST_REGISTERS; reg++)
         if (plan->start[reg] != 0)
             return TMWATCH_BAD_START;
-    if (plan->calls < 1 || plan->calls > MOST_CALLS || plan->attempts > MOST_ATTEMPTS / plan->threads)
+    if (plan->calls < 1 || plan->calls > MOST_CALLS || plan->schedule > TMWATCH_PERMITS)
+        return TMWATCH_BAD_BOUNDS;
+    if (plan->schedule == TMWATCH_ROUNDS && plan->attempts > MOST_ATTEMPTS / plan->threads)
         return TMWATCH_BAD_BOUNDS;
     if (plan->writes > 100 || plan->adds > 100 || plan->aborts > 100 || plan->pause > most_pause)
         return TMWATCH_BAD_BOUNDS;
     return TMWATCH_DONE;
+}
+
+/* Sets how many attempts a transaction has at most, and for how many events room is asked for. */
+static void set_bounds(struct bench *b)
+{
+    const tmwatch_plan *plan = b->plan;
+    uint64_t events = 4 * plan->calls + 2, look_events = 2 * plan->registers + 2;
+    uint64_t all = by_permits(b) ? UINT64_MAX : MOST_ATTEMPTS / plan->threads;
+    b->attempts = plan->attempts > 0 ? plan->attempts : all;
+    /* By permits, those of eight attempts. Else a round's, those of the round before, which other threads may still be recording, and a
+       look's. */
+    if (by_permits(b))
+        b->room = MOST_ATTEMPTS * (events > look_events ? events : look_events);
+    else
+        b->room = 2 * plan->threads * b->attempts * events + b->attempts * look_events;
 }
 
 uint32_t tmwatch_bench(const tmwatch_memory *memory, const tmwatch_plan *plan, tmwatch_benched *benched)
@@ -463,9 +537,7 @@ uint32_t tmwatch_bench(const tmwatch_memory *memory, const tmwatch_plan *plan, t
         return TMWATCH_MEMORY;
     b->memory = memory;
     b->plan = plan;
-    b->attempts = plan->attempts > 0 ? plan->attempts : MOST_ATTEMPTS / plan->threads;
-    /* A round's events, those of the round before, which other threads may still be recording, and a look's. */
-    b->room = 2 * plan->threads * b->attempts * (4 * plan->calls + 2) + b->attempts * (2 * plan->registers + 2);
+    set_bounds(b);
     tmwatch_settings settings = TMWATCH_SETTINGS(plan->registers);
     memcpy(settings.start, plan->start, sizeof settings.start);
     status = tmwatch_open(&b->watch, b->recorders, plan->threads, &settings);
@@ -536,6 +608,15 @@ static bool read_number(const char *word, uint64_t *number)
     return errno == 0;
 }
 
+/* The word's number, or that of the schedule which it names. */
+static bool read_value(const char *name, const char *word, uint64_t *number)
+{
+    if (strcmp(name, "--schedule") != 0)
+        return read_number(word, number);
+    *number = strcmp(word, "permits") == 0 ? TMWATCH_PERMITS : TMWATCH_ROUNDS;
+    return *number == TMWATCH_PERMITS || strcmp(word, "rounds") == 0;
+}
+
 /* Reads the words into the plan and the trace's name: false if they are wrong. With a time and without a number of rounds, the time alone
    counts. */
 static bool read_words(tmwatch_plan *plan, const char **trace, char **words)
@@ -543,13 +624,13 @@ static bool read_words(tmwatch_plan *plan, const char **trace, char **words)
     struct option options[] = {{"--rounds", &plan->rounds},       {"--seed", &plan->seed},     {"--threads", &plan->threads},
                                {"--registers", &plan->registers}, {"--calls", &plan->calls},   {"--writes", &plan->writes},
                                {"--adds", &plan->adds},           {"--aborts", &plan->aborts}, {"--pause", &plan->pause},
-                               {"--seconds", &plan->seconds},     {NULL, NULL}};
+                               {"--seconds", &plan->seconds},     {"--schedule", &plan->schedule}, {NULL, NULL}};
     bool has_rounds = false;
     for (; words[0]; words += 2) {
         const struct option *option = options;
         while (option->name && strcmp(option->name, words[0]) != 0)
             option++;
-        if (!words[1] || (option->name ? !read_number(words[1], option->to) : strcmp(words[0], "--trace") != 0))
+        if (!words[1] || (option->name ? !read_value(option->name, words[1], option->to) : strcmp(words[0], "--trace") != 0))
             return false;
         if (!option->name)
             *trace = words[1];
@@ -567,7 +648,7 @@ static int tell_usage(bool has_all)
     if (!has_all)
         fputs("a function that the memory has to have is null\n", stderr);
     fputs("usage: [--rounds N] [--seed N] [--threads 1-8] [--registers 1-8] [--calls 1-16] [--writes PERCENT] [--adds PERCENT]"
-          " [--aborts PERCENT] [--pause TURNS] [--seconds N] [--trace FILE]\n",
+          " [--aborts PERCENT] [--pause TURNS] [--seconds N] [--schedule rounds|permits] [--trace FILE]\n",
           stderr);
     return 4;
 }

@@ -16,15 +16,19 @@ That is a whole program, or by one call from a program of your own:
 Link libtmwatch_bench.a before libtmwatch.a. No proof covers the bench; the verdict is the watch's.
 
 In a round each thread makes one transaction, and then all wait for one another. A transaction that is rolled back is attempted again, and a
-round has at most eight attempts, so that its run is decided. A call is recorded before the memory is asked, and its answer after it has
-answered; a transaction's first call, before the memory begins it. No two writes have the same value, a register is read before it is
-written, and what is added is any number of 64 bits. Each 64th round and at the end, one thread reads all registers while the others wait.
+round has at most eight attempts, so that its run is decided. By permits, the threads run freely instead, each attempt takes one of eight
+permits (tmwatch_permits.h), and a transaction is attempted as often as it takes: one that never commits, until plan.seconds are over.
+
+A call is recorded before the memory is asked, and its answer after it has answered; a transaction's first call, before the memory begins
+it. No two writes have the same value, a register is read before it is written, and what is added is any number of 64 bits. Each 64th round
+and at the end, one thread reads all registers while the others wait; by permits, some time after each 512 attempts, and at the end.
 
 What the program owes beside the duties of tmwatch.h. Nothing of it is tested:
 
 1. The memory has words of 64 bits, which hold what plan.start says, and nobody else uses it while the bench runs.
 2. All threads may call its functions at once, each with a `tx` of its own.
 3. Each function returns, and throws nothing. It calls nothing of the bench but tmwatch_begins, tmwatch_calls and TMWATCH_PAUSE.
+4. By permits, tmwatch_begins may wait until other threads' attempts have ended: `run` calls it with no lock held that they may wait for.
 */
 #ifndef TMWATCH_BENCH_H
 #define TMWATCH_BENCH_H
@@ -63,39 +67,48 @@ typedef struct tmwatch_memory {
     bool (*run)(void *memory, void *tx, tmwatch_attempt *attempt); /* or null */
 } tmwatch_memory;
 
+/* How the threads run together. */
+enum tmwatch_schedule {
+    TMWATCH_ROUNDS = 0, /* in rounds, of one transaction a thread */
+    TMWATCH_PERMITS = 1 /* freely, each attempt by one of eight permits */
+};
+
 /* What is run. */
 typedef struct tmwatch_plan {
-    uint64_t rounds;    /* how many at most */
+    uint64_t rounds;    /* how many at most; by permits, transactions of each thread */
     uint64_t seed;      /* which transactions and pauses are drawn */
     uint64_t threads;   /* 1 to 8 */
     uint64_t registers; /* 1 to 8 */
     uint64_t calls;     /* how many registers a transaction reads, reads and writes, or adds to: 1 to 16 */
-    uint64_t attempts;  /* of each transaction, at most: threads * attempts is at most 8; 0: as many as that allows */
+    uint64_t attempts;  /* of each transaction, at most: threads * attempts is at most 8; 0: as many as that allows. By permits: any number;
+                           0: as many as it takes */
     uint64_t writes;    /* of 100 registers that are read, how many are written then */
     uint64_t adds;      /* of 100 calls, how many add instead, if the memory has `add` */
     uint64_t aborts;    /* of 100 transactions, how many ask to abort at their end */
     uint64_t pause;     /* beside a call, one time in two, a thread waits fewer turns of a loop than this, at most 2^20; 0: never */
-    uint64_t seconds;   /* after this time no round begins; 0: the rounds alone count */
+    uint64_t seconds;   /* after this time no round begins, and by permits no attempt; 0: the rounds alone count */
+    uint64_t schedule;  /* a tmwatch_schedule */
     uint64_t start[8];  /* what the registers hold at first */
     FILE *trace;        /* or null: here the run's end is written as a trace */
 } tmwatch_plan;
 
-#define TMWATCH_PLAN {100000, 1, 4, 3, 3, 0, 50, 20, 12, 100, 0, {0, 0, 0, 0, 0, 0, 0, 0}, NULL}
+#define TMWATCH_PLAN {100000, 1, 4, 3, 3, 0, 50, 20, 12, 100, 0, TMWATCH_ROUNDS, {0, 0, 0, 0, 0, 0, 0, 0}, NULL}
 
 /* What came out. */
 typedef struct tmwatch_benched {
     tmwatch_told told;     /* the verdict on all that was recorded */
     tmwatch_counts counts; /* what it covers: if none_overlapped is 1, no two transactions met, and the run shows nothing */
-    uint64_t rounds;       /* how many rounds were run */
+    uint64_t rounds;       /* how many rounds were run; by permits, how many transactions each thread has begun, at least */
     uint64_t from;         /* how many events precede the trace, if one was written */
 } tmwatch_benched;
 
 /*
 Runs the plan's rounds on the memory, and tells in *benched what came out. Once the verdict is another than opaque so far, no further round
-begins; some may have been run by then. The statuses come in this order; but for TMWATCH_DONE, *benched stays.
+begins, and by permits no attempt; some may have been run by then. The statuses come in this order; but for TMWATCH_DONE, *benched stays.
 
 TMWATCH_MISSING: a function that the memory has to have is null. TMWATCH_BAD_SIZE: not 1 to 8 threads. TMWATCH_BAD_REGISTERS: not 1 to 8.
-TMWATCH_BAD_START: as in tmwatch_open. TMWATCH_BAD_BOUNDS: the calls, the attempts, a part of 100, or the pause are out of their range.
+TMWATCH_BAD_START: as in tmwatch_open. TMWATCH_BAD_BOUNDS: the calls, the attempts, a part of 100, the pause or the schedule are out of
+their range.
 TMWATCH_MEMORY: a growth of memory or a thread was refused, before or while the rounds ran. Another status: as the watch answered.
 
 The trace ends with the event at length `at`, or with the last one if nothing is wrong. If something is, it begins after the last reading of

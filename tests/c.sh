@@ -60,6 +60,16 @@ program misuse "$top/tests/c/misuse.c" 0 '' "${static[@]}"
 program misuse_shared "$top/tests/c/misuse.c" 0 '' "${shared[@]}"
 program threads "$top/tests/c/threads.c" 0 '' "${static[@]}"
 program turns "$top/tests/c/turns.c" 0 '' "${static[@]}"
+program permits "$top/tests/c/permits.c" 0 '' "${static[@]}"
+# Permits that are wrong: what is wrong, and the change of their header.
+wrong_permits() {
+    sed "$2" "$built/include/tmwatch_permits.h" >"$folder/tmwatch_permits.h"
+    ends "permits that $1, compiled" 0 "$cc" -std=c11 "${strict[@]}" -iquote "$folder" -o "$folder/wrong" \
+        "$top/tests/c/permits.c" "${static[@]}"
+    ends "permits that $1" 1 "${run[@]}" "$folder/wrong"
+}
+
+wrong_permits 'are taken all while others are active' 's/% (UINT64_C(1) << 32) != 1/== 0/'
 program kept "$top/tests/c/kept.c" 0 '' "${static[@]}"
 [ ! -x "$folder/kept" ] || "$folder/kept" >"$folder/traces"
 ends 'what was kept' 0 diff "$folder/traces" "$top/tests/c/kept.traces"
@@ -91,20 +101,22 @@ is_same_report() {
 }
 
 # A memory that was compiled for the bench: its name, its exit status, how many rounds, and the seeds. Its transactions overlap, and its
-# trace has the same verdict by the library, and by the program where that is built.
+# trace has the same verdict by the library, and by the program where that is built. Its threads run by $schedule, and else in rounds.
 on_bench() {
-    local name=$1 wanted=$2 rounds=$3 seed
+    local name=$1 wanted=$2 rounds=$3 seed row
     shift 3
     [ -x "$folder/$name" ] || return 0
     for seed; do
-        ends "$name, seed $seed" "$wanted" "${run[@]}" "$folder/$name" --rounds "$rounds" --seed "$seed" --trace "$folder/trace"
+        row="$name${schedule:+ by $schedule}, seed $seed"
+        ends "$row" "$wanted" "${run[@]}" "$folder/$name" --rounds "$rounds" --seed "$seed" --trace "$folder/trace" \
+            --schedule "${schedule:-rounds}"
         cp "$folder/output" "$folder/benched"
-        ends "$name, seed $seed, has met" 0 grep -q '"overlapping":[1-9]' "$folder/benched"
+        ends "$row, has met" 0 grep -q '"overlapping":[1-9]' "$folder/benched"
         "$folder/bench_replay" <"$folder/trace" >"$folder/replayed" || true
-        ends "$name, seed $seed, by the library" 0 is_same_report "$folder/benched" "$folder/replayed"
+        ends "$row, by the library" 0 is_same_report "$folder/benched" "$folder/replayed"
         if [ -x "$program" ]; then
             "$program" judge --summary <"$folder/trace" >"$folder/judged" || true
-            ends "$name, seed $seed, by the program" 0 diff <(sed 2d "$folder/replayed") "$folder/judged"
+            ends "$row, by the program" 0 diff <(sed 2d "$folder/replayed") "$folder/judged"
         fi
     done
 }
@@ -119,15 +131,18 @@ for fault in NONE READS COMMIT PLACE; do
     ends "norec_$fault compiles" 0 "$cc" -std=c11 "${strict[@]}" "-DFAULT=$fault" -o "$folder/norec_$fault" \
         "$top/examples/c/norec.c" "${bench[@]}"
     on_bench "norec_$fault" "$([ "$fault" = NONE ] && echo 0 || echo 1)" "$rounds" 1 2 3
+    schedule=permits on_bench "norec_$fault" "$([ "$fault" = NONE ] && echo 0 || echo 1)" "$rounds" 1 2 3
 done
 for fault in NONE READS; do
     ends "jumping_$fault compiles" 0 "$cc" -std=c11 "${strict[@]}" "-DFAULT=$fault" -o "$folder/jumping_$fault" \
         "$top/tests/c/bench_jumping.c" "${bench[@]}"
     on_bench "jumping_$fault" "$([ "$fault" = NONE ] && echo 0 || echo 1)" "$rounds" 1 2 3
+    schedule=permits on_bench "jumping_$fault" "$([ "$fault" = NONE ] && echo 0 || echo 1)" "$rounds" 1 2 3
 done
 if command -v "$cxx" >/dev/null; then
     ends 'a lock compiles, in C++17' 0 "$cxx" -std=c++17 "${strict[@]}" -o "$folder/lock" "$top/tests/c/bench_lock.cpp" "${bench[@]}"
     on_bench lock 0 "$rounds" 1 2 3
+    schedule=permits on_bench lock 0 "$rounds" 1 2 3
     # Of this run not all events are kept for the trace.
     on_bench lock 0 $((3 * rounds)) 4
 fi
@@ -155,21 +170,23 @@ wrong_bench() {
     sed "$2" "$top/c/tmwatch_bench.c" >"$folder/wrong.c"
     ends "a bench that $1 compiles" 0 "$cc" -std=c11 "${strict[@]}" -o "$folder/wrong" \
         "$top/examples/c/norec.c" "$folder/wrong.c" "${static[@]}"
-    ends "a bench that $1" "$3" "${run[@]}" "$folder/wrong" --rounds "$rounds"
+    ends "a bench that $1" "$3" "${run[@]}" "$folder/wrong" --rounds "$rounds" --schedule "${schedule:-rounds}"
 }
 
 wrong_bench 'records that a transaction has committed before it commits' \
     's/return m->commit(m->memory, a->tx);/return end_attempt(a, true), m->commit(m->memory, a->tx);/' 1
 wrong_bench 'records no call to commit' "s/note(a, a->has_asked ? 'X' : 'T', 0, 0);/if (a->has_asked) note(a, 'X', 0, 0);/" 3
 wrong_bench 'records no abort' "s/note(a, has_committed ? 'C' : 'A', 0, 0);/if (has_committed) note(a, 'C', 0, 0);/" 3
-for words in --rounds '--rounds x' '--threads 9' '--registers 0' '--calls 17' '--writes 101' '--seed 18446744073709551616' '--none 1' 3; do
+# Without its permits, threads that run freely are undecided.
+schedule=permits wrong_bench 'takes no permit and gives none' 's/tmwatch_permits_[a-z_]*(&[^;]*);/(void)0;/' 2
+for words in --rounds '--rounds x' '--threads 9' '--registers 0' '--calls 17' '--writes 101' '--seed 18446744073709551616' '--none 1' '--schedule x' 3; do
     read -r -a given <<<"$words"
     ends "wrong words, $words" 4 "${run[@]}" "$folder/norec_NONE" "${given[@]}"
     cp "$folder/output" "$folder/told"
     ends "wrong words, $words: what is told" 0 grep -qx '{"fault":"usage"}' "$folder/told"
 done
 ends 'all words' 0 "${run[@]}" "$folder/norec_NONE" --rounds 9 --seed 3 --threads 2 --registers 2 --calls 2 \
-    --writes 90 --adds 0 --aborts 0 --pause 9 --seconds 9
+    --writes 90 --adds 0 --aborts 0 --pause 9 --seconds 9 --schedule permits
 ends 'a trace that can not be opened' 4 "${run[@]}" "$folder/norec_NONE" --rounds 9 --trace "$folder/none/trace"
 ends 'a trace that can not be written' 4 "${run[@]}" "$folder/norec_NONE" --rounds 9 --trace /dev/full
 ends 'output that can not be written' 4 sh -c '"$@" >/dev/full' sh "${run[@]}" "$folder/norec_NONE" --rounds 9

@@ -112,6 +112,7 @@ static void refuse_plans(void)
     REFUSES(TMWATCH_BAD_BOUNDS, calls, 0);
     REFUSES(TMWATCH_BAD_BOUNDS, calls, 17);
     REFUSES(TMWATCH_BAD_BOUNDS, attempts, 3);
+    REFUSES(TMWATCH_BAD_BOUNDS, schedule, 2);
     REFUSES(TMWATCH_BAD_BOUNDS, writes, 101);
     REFUSES(TMWATCH_BAD_BOUNDS, adds, 101);
     REFUSES(TMWATCH_BAD_BOUNDS, aborts, 101);
@@ -182,6 +183,49 @@ static void run_idle(void)
     CHECK(calls == 306 * 8 && out.counts.transactions == 306 * 8 && out.told.verdict == TMWATCH_OPAQUE_SO_FAR);
 }
 
+/* One thread by permits: a look comes at first, some time after each 512 attempts, and at the end. */
+static void run_by_permits(void)
+{
+    tmwatch_memory it = memory;
+    tmwatch_plan plan = one_thread();
+    plan.schedule = TMWATCH_PERMITS;
+    tmwatch_benched out = run(&memory, plan);
+    CHECK(out.told.verdict == TMWATCH_OPAQUE_SO_FAR && out.rounds == 300 && out.from == 0);
+    CHECK(out.counts.transactions == 302 && out.counts.widest == 1 && out.counts.overlapping == 0);
+    plan.rounds = 0;
+    memcpy(plan.start, words, plan.registers * sizeof *words);
+    out = run(&memory, plan);
+    CHECK(out.counts.transactions == 1 && out.rounds == 0);
+    plan.start[2]++;
+    out = run(&memory, plan);
+    CHECK(out.told.verdict == TMWATCH_VIOLATED && out.told.at == 6);
+    plan = one_thread();
+    plan.schedule = TMWATCH_PERMITS;
+    plan.attempts = 10;
+    it.run = begin_none;
+    out = run(&it, plan);
+    CHECK(out.told.events == 0 && out.rounds == 300);
+    it.run = begin_all;
+    calls = 0;
+    out = run(&it, plan);
+    /* Eight attempts of each look, of which one begins at 0, one at 518, and so on up to 2590, and the last one at the end. */
+    CHECK(calls == 3000 + 7 * 8 && out.counts.transactions == calls && out.told.verdict == TMWATCH_OPAQUE_SO_FAR);
+}
+
+/* By permits, a memory that never begins is attempted until the time is up. */
+static void never_begin(void)
+{
+    tmwatch_memory it = memory;
+    tmwatch_plan plan = one_thread();
+    it.begin = never;
+    plan.threads = 3;
+    plan.seconds = 1;
+    plan.schedule = TMWATCH_PERMITS;
+    tmwatch_benched out = run(&it, plan);
+    CHECK(out.told.verdict == TMWATCH_OPAQUE_SO_FAR && out.rounds == 1);
+    CHECK(out.counts.committed == 0 && out.counts.transactions > 3 && out.counts.unasked == out.counts.transactions);
+}
+
 /* A time ends the rounds, and a pause outside of a bench is none. */
 static void run_for_a_second(void)
 {
@@ -220,6 +264,8 @@ int main(int count, char **given)
     run_one_thread();
     find_another_start();
     run_idle();
+    run_by_permits();
+    never_begin();
     run_for_a_second();
     return 0;
 }

@@ -67,6 +67,8 @@ pub struct Plan {
     pub pause: u64,
     /// After this time no round begins. 0: the rounds alone count.
     pub seconds: u64,
+    /// Whether threads run freely, each attempt under one of eight permits, and not in rounds.
+    pub permits: bool,
     /// What the registers hold at first.
     pub start: [u64; 8],
     /// Whether the run's end is returned as a trace.
@@ -88,6 +90,7 @@ impl Default for Plan {
             aborts: 12,
             pause: 100,
             seconds: 0,
+            permits: false,
             start: [0; 8],
             trace: false,
         }
@@ -265,8 +268,8 @@ pub fn bench<M: Memory>(memory: &M, plan: &Plan) -> Result<Benched, Status> {
     let stream = if plan.trace { Some(Stream::open()?) } else { None };
     // SAFETY: the stream is open.
     let trace = stream.map_or(null_mut(), |it| unsafe { (*it).stream });
-    let Plan { rounds, seed, threads, registers, calls, attempts, writes, adds, aborts, pause, seconds, start, .. } = *plan;
-    let plan = ffi::Plan { rounds, seed, threads, registers, calls, attempts, writes, adds, aborts, pause, seconds, start, trace };
+    let Plan { rounds, seed, threads, registers, calls, attempts, writes, adds, aborts, pause, seconds, permits, start, .. } = *plan;
+    let plan = ffi::Plan { rounds, seed, threads, registers, calls, attempts, writes, adds, aborts, pause, seconds, schedule: u64::from(permits), start, trace };
     let mut benched = ffi::Benched::default();
     // SAFETY: all pointers live through the call, which ends its threads; the memory is Sync; its functions take the bench's pointers.
     let status = unsafe { ffi::tmwatch_bench(&table(memory), &plan, &mut benched) };

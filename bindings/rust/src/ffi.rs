@@ -62,6 +62,7 @@ pub struct Plan {
     pub aborts: u64,
     pub pause: u64,
     pub seconds: u64,
+    pub schedule: u64,
     pub start: [u64; 8],
     pub trace: *mut c_void,
 }
@@ -126,7 +127,7 @@ mod tests {
         layout!(to, Told, "tmwatch_told", events at verdict why);
         layout!(to, Counts, "tmwatch_counts", aborted committed cuts live overlapping transactions unasked widest none_overlapped);
         layout!(to, Memory, "tmwatch_memory", memory tx_size begin read write add commit abort run);
-        layout!(to, Plan, "tmwatch_plan", rounds seed threads registers calls attempts writes adds aborts pause seconds start trace);
+        layout!(to, Plan, "tmwatch_plan", rounds seed threads registers calls attempts writes adds aborts pause seconds schedule start trace);
         layout!(to, Benched, "tmwatch_benched", told counts rounds from);
         to
     }
@@ -147,6 +148,7 @@ mod tests {
             ("aborts", plan.aborts),
             ("pause", plan.pause),
             ("seconds", plan.seconds),
+            ("schedule", u64::from(plan.permits)),
         ] {
             same(&format!("plan.{name}"), number);
         }
