@@ -269,7 +269,22 @@ pub fn bench<M: Memory>(memory: &M, plan: &Plan) -> Result<Benched, Status> {
     // SAFETY: the stream is open.
     let trace = stream.map_or(null_mut(), |it| unsafe { (*it).stream });
     let Plan { rounds, seed, threads, registers, calls, attempts, writes, adds, aborts, pause, seconds, permits, start, .. } = *plan;
-    let plan = ffi::Plan { rounds, seed, threads, registers, calls, attempts, writes, adds, aborts, pause, seconds, schedule: u64::from(permits), start, trace };
+    let plan = ffi::Plan {
+        rounds,
+        seed,
+        threads,
+        registers,
+        calls,
+        attempts,
+        writes,
+        adds,
+        aborts,
+        pause,
+        seconds,
+        schedule: u64::from(permits),
+        start,
+        trace,
+    };
     let mut benched = ffi::Benched::default();
     // SAFETY: all pointers live through the call, which ends its threads; the memory is Sync; its functions take the bench's pointers.
     let status = unsafe { ffi::tmwatch_bench(&table(memory), &plan, &mut benched) };
