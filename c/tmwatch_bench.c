@@ -12,7 +12,7 @@
 
 /* A look comes after each LOOK rounds, or as many attempts as those may have. As many events are kept as two looks may lie apart, and what
    is recorded and not judged yet. */
-enum { MOST_THREADS = 8, MOST_ATTEMPTS = 8, MOST_CALLS = 16, MOST_REGISTERS = 8, KEPT = 1 << 17, LOOK = 64 };
+enum { MOST_THREADS = 8, MOST_ATTEMPTS = 8, MOST_USES = 16, MOST_CALLS = 2 * MOST_USES + 1, MOST_REGISTERS = 8, KEPT = 1 << 17, LOOK = 64 };
 static const uint64_t most_pause = 1 << 20;
 
 /* An event. `looks` is set if it ends a transaction that has read all registers alone. */
@@ -23,26 +23,23 @@ struct kept {
     bool looks;
 };
 
-/* A call of a transaction: it adds to the register, or reads it, and then may write it. */
-struct step {
-    unsigned reg;
-    bool writes, adds;
-};
-
 struct bench;
 
-/* A thread, its transaction of this round, and how far that is. */
+/* A thread, its transaction of this round, and how far that is: the library says by the turn which call is recorded next, and takes an
+   answer only to that one. */
 struct tmwatch_attempt {
     struct bench *bench;
     tmwatch_recorder *recorder;
     void *tx;
-    unsigned thread, count;
-    struct step steps[MOST_CALLS];
-    bool asks_abort, looks;  /* what is to be done */
-    bool is_live, has_asked; /* an attempt is recorded and not ended; it has asked to abort */
+    unsigned thread;
+    bool looks;
+    size_t count;
+    tmwatch_call calls[MOST_CALLS]; /* of the attempt, in their order: the last asks to commit or to abort */
+    tmwatch_turn turn;
+    bool is_live, has_called, has_asked; /* an attempt is recorded and not ended; its calls are made; it has asked to abort */
     uint64_t made, most;     /* how many attempts were begun, or all, since none is to follow; and how many there may be */
     uint64_t begun;          /* how many transactions were begun by permits */
-    uint64_t addend, written;
+    uint64_t written;
     uint64_t draws, rest; /* what is drawn for transactions, and for all else: so the transactions depend on the seed alone */
 };
 
@@ -105,17 +102,34 @@ static void stop(struct bench *b, uint32_t status)
     b->stops = true;
 }
 
-/* Records an event and keeps it. There is room for it: the thread has asked for all of the round, or the attempt, before that
-   began. */
-static void note(tmwatch_attempt *a, char letter, unsigned reg, uint64_t value)
+/* Keeps an event that was recorded at this place. */
+static void keep(tmwatch_attempt *a, uint64_t place, uint32_t letter, uint64_t reg, uint64_t value)
 {
-    struct bench *b = a->bench;
+    a->bench->kept[place % KEPT] = (struct kept){value, (uint8_t)a->thread, (uint8_t)reg, (char)letter, a->looks && letter == 'C'};
+}
+
+/* Records the attempt's next call. There is room for it: the thread has asked for all of the round, or the attempt, before that began. */
+static void note_call(tmwatch_attempt *a)
+{
     uint64_t place;
-    uint32_t status = tmwatch_record(a->recorder, (uint32_t)letter, reg, value, &place);
+    uint32_t status = tmwatch_next(a->recorder, a->calls, a->count, &a->turn, &place);
+    if (status == TMWATCH_DONE) {
+        const tmwatch_call *call = &a->calls[a->turn.place];
+        keep(a, place, call->letter, call->register_number, call->value);
+    } else
+        stop(a->bench, status);
+    pause_sometimes(a);
+}
+
+/* Records the answer to the call that waits for it. There is room as for the call. */
+static void note_answer(tmwatch_attempt *a, char letter, uint64_t value)
+{
+    uint64_t place;
+    uint32_t status = tmwatch_answered(a->recorder, a->calls, a->count, &a->turn, (uint32_t)letter, value, &place);
     if (status == TMWATCH_DONE)
-        b->kept[place % KEPT] = (struct kept){value, (uint8_t)a->thread, (uint8_t)reg, letter, a->looks && letter == 'C'};
+        keep(a, place, (uint32_t)letter, 0, value);
     else
-        stop(b, status);
+        stop(a->bench, status);
 }
 
 static bool is_start(const tmwatch_plan *plan, uint64_t value)
@@ -136,12 +150,16 @@ static uint64_t fresh_value(tmwatch_attempt *a)
     return value;
 }
 
-/* Records a step's first call. An addend is any number, so that no sum is likely to be had twice. */
-static void note_step(tmwatch_attempt *a, const struct step *step)
+/* Begins the turns of an attempt, which writes and adds other values than the one before. An addend is any number, so that no sum is likely
+   to be had twice. */
+static void begin_turns(tmwatch_attempt *a)
 {
-    a->addend = step->adds ? draw(&a->rest, UINT64_MAX) : 0;
-    note(a, step->adds ? 'N' : 'R', step->reg, a->addend);
-    pause_sometimes(a);
+    a->turn = (tmwatch_turn)TMWATCH_FIRST_TURN;
+    for (tmwatch_call *call = a->calls; call < a->calls + a->count; call++)
+        if (call->letter == 'W')
+            call->value = fresh_value(a);
+        else if (call->letter == 'N')
+            call->value = draw(&a->rest, UINT64_MAX);
 }
 
 static bool by_permits(const struct bench *b)
@@ -152,7 +170,7 @@ static bool by_permits(const struct bench *b)
 /* Records that the attempt has ended. None follows one that has committed, or was asked to abort. */
 static void end_attempt(tmwatch_attempt *a, bool has_committed)
 {
-    note(a, has_committed ? 'C' : 'A', 0, 0);
+    note_answer(a, has_committed ? 'C' : 'A', 0);
     if (has_committed || a->has_asked)
         a->made = a->most;
     a->is_live = false;
@@ -200,44 +218,46 @@ bool tmwatch_begins(tmwatch_attempt *a)
         return false;
     a->made++;
     a->is_live = true;
-    note_step(a, &a->steps[0]);
+    a->has_called = false;
+    begin_turns(a);
+    note_call(a);
     return true;
 }
 
-/* Has the memory make a step whose first call is recorded: false if the memory has aborted. */
-static bool make_step(tmwatch_attempt *a, const struct step *step)
+/* Has the memory make a call that is recorded: false if the memory has aborted. */
+static bool make_call(tmwatch_attempt *a, const tmwatch_call *call)
 {
     const tmwatch_memory *m = a->bench->memory;
+    unsigned reg = (unsigned)call->register_number;
     uint64_t value = 0;
-    if (!(step->adds ? m->add(m->memory, a->tx, step->reg, a->addend, &value) : m->read(m->memory, a->tx, step->reg, &value)))
-        return false;
+    bool is_done;
+    if (call->letter == 'W')
+        is_done = m->write(m->memory, a->tx, reg, call->value);
+    else if (call->letter == 'N')
+        is_done = m->add(m->memory, a->tx, reg, call->value, &value);
+    else
+        is_done = m->read(m->memory, a->tx, reg, &value);
     pause_sometimes(a);
-    note(a, 'V', 0, value);
-    if (!step->writes)
-        return true;
-    value = fresh_value(a);
-    note(a, 'W', step->reg, value);
-    pause_sometimes(a);
-    if (!m->write(m->memory, a->tx, step->reg, value))
-        return false;
-    pause_sometimes(a);
-    note(a, 'K', 0, 0);
-    return true;
+    if (is_done)
+        note_answer(a, call->letter == 'W' ? 'K' : 'V', value);
+    return is_done;
 }
 
 bool tmwatch_calls(tmwatch_attempt *a)
 {
-    if (!a->is_live)
+    if (a->is_live && a->has_called)
+        stop(a->bench, TMWATCH_OUT_OF_TURN);
+    if (!a->is_live || a->has_called)
         return false;
-    for (unsigned i = 0; i < a->count; i++) {
+    a->has_called = true;
+    for (size_t i = 0; i + 1 < a->count; i++) {
         if (i > 0)
-            note_step(a, &a->steps[i]);
-        if (!make_step(a, &a->steps[i]))
+            note_call(a);
+        if (!make_call(a, &a->calls[i]))
             return false;
     }
-    a->has_asked = a->asks_abort;
-    note(a, a->has_asked ? 'X' : 'T', 0, 0);
-    pause_sometimes(a);
+    a->has_asked = a->calls[a->count - 1].letter == 'X';
+    note_call(a);
     return !a->has_asked;
 }
 
@@ -270,18 +290,28 @@ static void make_transaction(tmwatch_attempt *a)
     }
 }
 
+static void add_call(tmwatch_attempt *a, char letter, uint64_t reg)
+{
+    a->calls[a->count++] = (tmwatch_call){(uint32_t)letter, reg, 0};
+}
+
+/* A transaction uses registers, one after another: it adds to one, or reads it, and then may write it. */
 static void draw_transaction(tmwatch_attempt *a)
 {
     const tmwatch_plan *plan = a->bench->plan;
     a->looks = false;
     a->most = a->bench->attempts;
-    a->count = (unsigned)plan->calls;
-    a->asks_abort = draw(&a->draws, 100) < plan->aborts;
-    for (struct step *step = a->steps; step < a->steps + a->count; step++) {
-        step->reg = (unsigned)draw(&a->draws, plan->registers);
-        step->adds = draw(&a->draws, 100) < plan->adds && a->bench->memory->add;
-        step->writes = draw(&a->draws, 100) < plan->writes && !step->adds;
+    a->count = 0;
+    bool asks_abort = draw(&a->draws, 100) < plan->aborts;
+    for (uint64_t used = 0; used < plan->calls; used++) {
+        uint64_t reg = draw(&a->draws, plan->registers);
+        bool adds = draw(&a->draws, 100) < plan->adds && a->bench->memory->add;
+        bool writes = draw(&a->draws, 100) < plan->writes && !adds;
+        add_call(a, adds ? 'N' : 'R', reg);
+        if (writes)
+            add_call(a, 'W', reg);
     }
+    add_call(a, asks_abort ? 'X' : 'T', 0);
 }
 
 /* Reads all registers while all other threads wait. What they hold is then known, whatever serial order the rounds before have. */
@@ -289,10 +319,10 @@ static void look(tmwatch_attempt *a)
 {
     a->looks = true;
     a->most = a->bench->attempts < MOST_ATTEMPTS ? a->bench->attempts : MOST_ATTEMPTS;
-    a->asks_abort = false;
-    a->count = (unsigned)a->bench->plan->registers;
-    for (unsigned i = 0; i < a->count; i++)
-        a->steps[i] = (struct step){i, false, false};
+    a->count = 0;
+    for (uint64_t reg = 0; reg < a->bench->plan->registers; reg++)
+        add_call(a, 'R', reg);
+    add_call(a, 'T', 0);
     make_transaction(a);
 }
 
@@ -503,7 +533,7 @@ static uint32_t check(const tmwatch_memory *memory, const tmwatch_plan *plan)
     for (uint64_t reg = plan->registers; reg < MOST_REGISTERS; reg++)
         if (plan->start[reg] != 0)
             return TMWATCH_BAD_START;
-    if (plan->calls < 1 || plan->calls > MOST_CALLS || plan->schedule > TMWATCH_PERMITS)
+    if (plan->calls < 1 || plan->calls > MOST_USES || plan->schedule > TMWATCH_PERMITS)
         return TMWATCH_BAD_BOUNDS;
     if (plan->schedule == TMWATCH_ROUNDS && plan->attempts > MOST_ATTEMPTS / plan->threads)
         return TMWATCH_BAD_BOUNDS;
@@ -653,6 +683,20 @@ static int tell_usage(bool has_all)
     return 4;
 }
 
+/* Tells why the bench has come to no verdict. */
+static int tell_status(uint32_t status)
+{
+    bool is_misused = status == TMWATCH_MISFIT || status == TMWATCH_OUT_OF_TURN;
+    puts(is_misused ? "{\"fault\":\"usage\"}" : "{\"fault\":\"memory\"}");
+    if (status == TMWATCH_MISFIT)
+        fputs("`run` has answered true, and tmwatch_calls has not\n", stderr);
+    else if (status == TMWATCH_OUT_OF_TURN)
+        fputs("`run` has called tmwatch_calls twice in one attempt\n", stderr);
+    else if (status != TMWATCH_MEMORY)
+        fprintf(stderr, "the watch has answered %u\n", (unsigned)status);
+    return 4;
+}
+
 /* Closes a file: whether all was written. */
 static bool close_file(FILE *file)
 {
@@ -673,10 +717,10 @@ int tmwatch_bench_main(const tmwatch_memory *memory, int count, char **words)
     }
     uint32_t status = tmwatch_bench(memory, &plan, &benched);
     bool is_written = !plan.trace || close_file(plan.trace);
-    if (status != TMWATCH_DONE && status != TMWATCH_MEMORY)
-        fprintf(stderr, "the watch has answered %u\n", (unsigned)status);
-    if (status != TMWATCH_DONE || !is_written) {
-        puts(is_written ? "{\"fault\":\"memory\"}" : "{\"fault\":\"io\"}");
+    if (status != TMWATCH_DONE)
+        return tell_status(status);
+    if (!is_written) {
+        puts("{\"fault\":\"io\"}");
         return 4;
     }
     tmwatch_bench_print(stdout, &benched);

@@ -78,7 +78,7 @@ enum tmwatch_status {
     TMWATCH_MISSING = 13,      /* the handles don't hold all recorders of the watch, each at its place */
     TMWATCH_CLOSING = 14,      /* the watch was being closed, and isn't open any more */
     TMWATCH_OUT_OF_TURN = 15,  /* the transaction's turn is another: no call is due, or none waits for its answer */
-    TMWATCH_NOT_CALL = 16,     /* the event that is to be the next call is an answer */
+    TMWATCH_NOT_CALL = 16,     /* the event that is to be the next call is an answer, or no call for this place of a transaction */
     TMWATCH_MISFIT = 17        /* the event doesn't answer the call */
 };
 
@@ -230,7 +230,7 @@ call with an answer that fits it, up to an abort event or the last answer.
 
     tmwatch_turn turn = TMWATCH_FIRST_TURN;
     while (turn.phase != TMWATCH_OVER) {
-        while (tmwatch_next(&recorder, calls, count, &turn) == TMWATCH_FULL)
+        while (tmwatch_next(&recorder, calls, count, &turn, &place) == TMWATCH_FULL)
             ... waits for room ...
         ... makes calls[turn.place] ...
         while (tmwatch_answered(&recorder, calls, count, &turn, letter, value, &place) == TMWATCH_FULL)
@@ -239,13 +239,15 @@ call with an answer that fits it, up to an abort event or the last answer.
 
 tmwatch_next records the call that is due, which then waits for its answer. tmwatch_answered records the answer of this letter to the call
 that waits: V with the value that a read or an add gave, K after a write, C after a commit, or A, which answers any call and ends the
-transaction. Its place in the log is stored in *place; the next call is due then, or the transaction is over.
+transaction; the next call is due then, or the transaction is over. Each stores in *place the event's place in the log.
 
-TMWATCH_OUT_OF_TURN: another phase, or `place` isn't below `count`. TMWATCH_NO_HANDLE. TMWATCH_BAD_KIND and TMWATCH_BAD_REGISTER, of the call
-or of the answer. TMWATCH_NOT_CALL, of tmwatch_next. TMWATCH_MISFIT, of tmwatch_answered: another answer may be told. TMWATCH_FULL and
-TMWATCH_SPENT as above. They come in this order; where it isn't TMWATCH_DONE, nothing is recorded, and *turn and *place stay.
+TMWATCH_OUT_OF_TURN: another phase, or `place` of the turn isn't below `count`. TMWATCH_NO_HANDLE. TMWATCH_BAD_KIND and
+TMWATCH_BAD_REGISTER, of the call or of the answer. TMWATCH_NOT_CALL, of tmwatch_next: an answer, T or X before the last place, or another
+call at the last. TMWATCH_MISFIT, of tmwatch_answered: another answer may be told. TMWATCH_FULL and TMWATCH_SPENT as above. They come in
+this order; where it isn't TMWATCH_DONE, nothing is recorded, and *turn and *place stay.
 */
-TMWATCH_PURE TMWATCH_LOOK uint32_t tmwatch_next(tmwatch_recorder *recorder, const tmwatch_call *calls, size_t count, tmwatch_turn *turn);
+TMWATCH_PURE TMWATCH_LOOK uint32_t tmwatch_next(tmwatch_recorder *recorder, const tmwatch_call *calls, size_t count, tmwatch_turn *turn,
+                                                uint64_t *place);
 TMWATCH_PURE TMWATCH_LOOK uint32_t tmwatch_answered(tmwatch_recorder *recorder, const tmwatch_call *calls, size_t count, tmwatch_turn *turn,
                                                     uint32_t letter, uint64_t value, uint64_t *place);
 

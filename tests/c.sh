@@ -175,8 +175,9 @@ wrong_bench() {
 
 wrong_bench 'records that a transaction has committed before it commits' \
     's/return m->commit(m->memory, a->tx);/return end_attempt(a, true), m->commit(m->memory, a->tx);/' 1
-wrong_bench 'records no call to commit' "s/note(a, a->has_asked ? 'X' : 'T', 0, 0);/if (a->has_asked) note(a, 'X', 0, 0);/" 3
-wrong_bench 'records no abort' "s/note(a, has_committed ? 'C' : 'A', 0, 0);/if (has_committed) note(a, 'C', 0, 0);/" 3
+# The library takes no answer to a call that is not recorded.
+wrong_bench 'records no call to commit' '/has_asked = a->calls/{n;s/note_call(a);/if (a->has_asked) note_call(a);/}' 4
+wrong_bench 'records no abort' "s/note_answer(a, has_committed ? 'C' : 'A', 0);/if (has_committed) note_answer(a, 'C', 0);/" 3
 # Without its permits, threads that run freely are undecided.
 schedule=permits wrong_bench 'takes no permit and gives none' 's/tmwatch_permits_[a-z_]*(&[^;]*);/(void)0;/' 2
 for words in --rounds '--rounds x' '--threads 9' '--registers 0' '--calls 17' '--writes 101' '--seed 18446744073709551616' '--none 1' '--schedule x' 3; do

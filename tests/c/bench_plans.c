@@ -72,6 +72,27 @@ static bool begin_all(void *memory, void *tx, tmwatch_attempt *attempt)
     return false;
 }
 
+/* Tells that it has committed what it has not even called. */
+static bool call_none(void *memory, void *tx, tmwatch_attempt *attempt)
+{
+    (void)memory, (void)tx;
+    return tmwatch_begins(attempt);
+}
+
+/* Tells that it has committed, also where it was told to abort. */
+static bool commit_all(void *memory, void *tx, tmwatch_attempt *attempt)
+{
+    if (tmwatch_begins(attempt) && begin(memory, tx) && !tmwatch_calls(attempt))
+        cancel(memory, tx);
+    return true;
+}
+
+/* Makes the calls of an attempt again. */
+static bool call_twice(void *memory, void *tx, tmwatch_attempt *attempt)
+{
+    return tmwatch_begins(attempt) && begin(memory, tx) && tmwatch_calls(attempt) && tmwatch_calls(attempt);
+}
+
 static const tmwatch_memory memory = {words, sizeof words, begin, read, write, add, commit, cancel, NULL};
 static const tmwatch_plan usual = TMWATCH_PLAN;
 
@@ -183,6 +204,21 @@ static void run_idle(void)
     CHECK(calls == 306 * 8 && out.counts.transactions == 306 * 8 && out.told.verdict == TMWATCH_OPAQUE_SO_FAR);
 }
 
+/* Runs that break their promise: nothing comes out, and the status says which it was. */
+static void refuse_runs(void)
+{
+    tmwatch_memory it = memory;
+    tmwatch_plan plan = one_thread();
+    tmwatch_benched benched;
+    plan.aborts = 100;
+    it.run = call_none;
+    CHECK(tmwatch_bench(&it, &plan, &benched) == TMWATCH_MISFIT);
+    it.run = commit_all;
+    CHECK(tmwatch_bench(&it, &plan, &benched) == TMWATCH_MISFIT);
+    it.run = call_twice;
+    CHECK(tmwatch_bench(&it, &plan, &benched) == TMWATCH_OUT_OF_TURN);
+}
+
 /* One thread by permits: a look comes at first, some time after each 512 attempts, and at the end. */
 static void run_by_permits(void)
 {
@@ -264,6 +300,7 @@ int main(int count, char **given)
     run_one_thread();
     find_another_start();
     run_idle();
+    refuse_runs();
     run_by_permits();
     never_begin();
     run_for_a_second();

@@ -30,7 +30,8 @@ static bool is_at(tmwatch_turn turn, size_t place, uint32_t phase)
 static void turn_once(tmwatch_turn *turn, char letter, uint64_t value, uint64_t wanted)
 {
     uint64_t place = 99;
-    CHECK(tmwatch_next(&recorder, calls, COUNT, turn) == TMWATCH_DONE && turn->phase == TMWATCH_WAITS);
+    CHECK(tmwatch_next(&recorder, calls, COUNT, turn, &place) == TMWATCH_DONE && turn->phase == TMWATCH_WAITS);
+    CHECK(place + 1 == wanted);
     CHECK(tmwatch_answered(&recorder, calls, COUNT, turn, (uint32_t)letter, value, &place) == TMWATCH_DONE);
     CHECK(place == wanted);
 }
@@ -77,13 +78,15 @@ static void is_refused(tmwatch_turn turn, size_t count, char letter, uint32_t st
 static void is_no_turn(const tmwatch_call *those, size_t count, tmwatch_turn turn, uint32_t status)
 {
     tmwatch_turn same = turn;
-    CHECK(tmwatch_next(&recorder, those, count, &same) == status);
-    CHECK(is_at(same, turn.place, turn.phase));
+    uint64_t place = 99;
+    CHECK(tmwatch_next(&recorder, those, count, &same, &place) == status);
+    CHECK(place == 99 && is_at(same, turn.place, turn.phase));
 }
 
 static void what_does_not_fit_is_refused(void)
 {
-    static const tmwatch_call wrong[] = {{'V', 0, 0}, {'Q', 0, 0}, {'R', 1, 0}};
+    static const tmwatch_call wrong[] = {{'V', 0, 0}, {'Q', 0, 0}, {'R', 1, 0}, {'T', 0, 0}, {'X', 0, 0}, {'R', 0, 0}};
+    uint64_t place;
     tmwatch_turn due = TMWATCH_FIRST_TURN, waits = {0, TMWATCH_WAITS}, over = {0, TMWATCH_OVER}, high = {COUNT, TMWATCH_DUE};
     is_no_turn(calls, COUNT, due, TMWATCH_NO_HANDLE);
     is_refused(waits, COUNT, 'V', TMWATCH_NO_HANDLE);
@@ -98,7 +101,10 @@ static void what_does_not_fit_is_refused(void)
     is_no_turn(wrong, 3, due, TMWATCH_NOT_CALL);
     is_no_turn(wrong + 1, 2, due, TMWATCH_BAD_KIND);
     is_no_turn(wrong + 2, 1, due, TMWATCH_BAD_REGISTER);
-    CHECK(tmwatch_next(&recorder, calls, COUNT, &due) == TMWATCH_DONE);
+    is_no_turn(wrong + 3, 2, due, TMWATCH_NOT_CALL);
+    is_no_turn(wrong + 4, 2, due, TMWATCH_NOT_CALL);
+    is_no_turn(wrong + 5, 1, due, TMWATCH_NOT_CALL);
+    CHECK(tmwatch_next(&recorder, calls, COUNT, &due, &place) == TMWATCH_DONE);
     for (const char *letter = "KCRWNTX"; *letter; letter++)
         is_refused(due, COUNT, *letter, TMWATCH_MISFIT);
     is_refused(due, COUNT, 'Q', TMWATCH_BAD_KIND);
@@ -108,9 +114,10 @@ static void what_does_not_fit_is_refused(void)
 static void a_spent_watch_refuses(void)
 {
     tmwatch_turn turn = TMWATCH_FIRST_TURN;
+    uint64_t place;
     open_one(3);
     turn_once(&turn, 'V', 0, 1);
-    CHECK(tmwatch_next(&recorder, calls, COUNT, &turn) == TMWATCH_DONE);
+    CHECK(tmwatch_next(&recorder, calls, COUNT, &turn, &place) == TMWATCH_DONE && place == 2);
     is_refused(turn, COUNT, 'K', TMWATCH_SPENT);
     close_one(3);
 }

@@ -1,7 +1,7 @@
 -- What a transaction is after its next event, and what a handle holds where the event was refused.
 use Rattle.std.proofs.Common.{◌≡◌, ◌+◌, ◌<◌, ◌++◌, ℕ, true, false, List, [], ◌∷◌, Option, length, get_or, drop, inl, inr, refl, sym, ap, subst, ◌∙◌, arith}
 use Rattle.std.proofs.lemmas.List.{append_assoc, drop_all}
-use Rattle.tmw_c.specs.Turning.{EndsTransaction, Follows, GoesOn, HasNotAnswered, HasNotCalled, Holds, IsAnswering, IsCalling}
+use Rattle.tmw_c.specs.Turning.{EndsTransaction, GoesOn, HasNotAnswered, HasNotCalled, Holds, IsAnswering, IsAt, IsCalling, IsTurn}
 use Rattle.tmw_c.specs.declared.status.Status.{Status}
 use Rattle.tmw_c.specs.declared.status.Status.TheVariants.{Done, NoHandle, FullHandle, BadRegisters, BadStart, BadBounds, BadSize, BadLimit, Memory, Full, Spent, BadKind, BadRegister, Missing, Closing, OutOfTurn, NotCall, Misfit}
 use Rattle.tmw_c.specs.declared.turn.Call.{Call}
@@ -11,47 +11,36 @@ use Rattle.tmw_events.specs.declared.event.Kind.{Kind}
 use Rattle.tmw_events.specs.declared.event.Kind.TheVariants.{A}
 use Rattle.tmw_handles.specs.declared.held_recorder.HeldRecorder.{HeldRecorder}
 use Rattle.tmw_runs.specs.Runs.{IsWholeText, is_abort}
-use Rattle.tmw_turns.specs.Turning.{LeavesCalls}
+use Rattle.tmw_turns.specs.Turning.{Follows, LeavesCalls}
 use Rattle.tmw_turns.proofs.Leaving.{leaves-aborted, leaves-answered, whole-text}
 
 -- the call that is due
-pub after-call : (count : ℕ) (call : Kind) (turn next : Turn) → turn.phase ≡ 0 → next.place ≡ turn.place → next.phase ≡ 1
-    → GoesOn count call call turn next
-after-call count call turn next due same asked calls kinds long is follows =
+pub after-call : (count : ℕ) (call : Kind) (turn next : Turn) → turn.place < count → turn.phase ≡ 0 → next.place ≡ turn.place
+    → next.phase ≡ 1 → GoesOn count call call turn next
+after-call count call turn next low due same asked calls kinds long is follows =
     let leaves : LeavesCalls calls kinds (drop turn.place calls)
     = subst (λ (phase : ℕ). Follows calls turn.place phase kinds) due follows
     in
-    let waits : Follows calls turn.place 1 (kinds ++ call ∷ []) = (kinds, ap (λ (k : Kind). kinds ++ k ∷ []) (sym is), leaves) in
+    let below : turn.place < length calls = subst (λ (n : ℕ). turn.place < n) (sym long) low in
+    let waits : Follows calls turn.place 1 (kinds ++ call ∷ []) = (below, kinds, ap (λ (k : Kind). kinds ++ k ∷ []) (sym is), leaves) in
     subst (λ (place : ℕ). Follows calls place next.phase (kinds ++ call ∷ [])) (sym same)
     (subst (λ (phase : ℕ). Follows calls turn.place phase (kinds ++ call ∷ [])) (sym asked) waits)
 
 -- what it is that was not called, by the status
-pub not-called : (calls : List Call) (old new : Option HeldRecorder) (turn : Turn) → turn.place < length calls → turn.phase ≡ 0
-    → (before after : HeldRecorder) → Holds old new before after → (call : Call) → ((fallback : Call) → get_or calls turn.place fallback ≡ call)
-    → (status : Status) → HasNotCalled call before after status → IsCalling calls old new turn turn status
-not-called calls old new turn low due before after holds call is Done refused = absurd refused
-not-called calls old new turn low due before after holds call is NoHandle refused = absurd refused
-not-called calls old new turn low due before after holds call is FullHandle refused = absurd refused
-not-called calls old new turn low due before after holds call is BadRegisters refused = absurd refused
-not-called calls old new turn low due before after holds call is BadStart refused = absurd refused
-not-called calls old new turn low due before after holds call is BadBounds refused = absurd refused
-not-called calls old new turn low due before after holds call is BadSize refused = absurd refused
-not-called calls old new turn low due before after holds call is BadLimit refused = absurd refused
-not-called calls old new turn low due before after holds call is Memory refused = absurd refused
-not-called calls old new turn low due before after holds call is Full refused =
-    (record { low = low; due = due; before = before; after = after; holds = holds; call = call; is = is; refused = refused }, refl)
-not-called calls old new turn low due before after holds call is Spent refused =
-    (record { low = low; due = due; before = before; after = after; holds = holds; call = call; is = is; refused = refused }, refl)
-not-called calls old new turn low due before after holds call is BadKind refused =
-    (record { low = low; due = due; before = before; after = after; holds = holds; call = call; is = is; refused = refused }, refl)
-not-called calls old new turn low due before after holds call is BadRegister refused =
-    (record { low = low; due = due; before = before; after = after; holds = holds; call = call; is = is; refused = refused }, refl)
-not-called calls old new turn low due before after holds call is Missing refused = absurd refused
-not-called calls old new turn low due before after holds call is Closing refused = absurd refused
-not-called calls old new turn low due before after holds call is OutOfTurn refused = absurd refused
-not-called calls old new turn low due before after holds call is NotCall refused =
-    (record { low = low; due = due; before = before; after = after; holds = holds; call = call; is = is; refused = refused }, refl)
-not-called calls old new turn low due before after holds call is Misfit refused = absurd refused
+pub not-called : (calls : List Call) (old new : Option HeldRecorder) (turn : Turn) (place : ℕ) → IsTurn 0 calls turn
+    → (before after : HeldRecorder) → Holds old new before after → (call : Call) → IsAt calls turn call
+    → (status : Status) → HasNotCalled (length calls) turn call before after status → IsCalling calls old new turn turn place place status
+not-called calls old new turn place due before after holds call is Full refused =
+    (record { due = due; before = before; after = after; holds = holds; call = call; is = is; refused = refused }, refl, refl)
+not-called calls old new turn place due before after holds call is Spent refused =
+    (record { due = due; before = before; after = after; holds = holds; call = call; is = is; refused = refused }, refl, refl)
+not-called calls old new turn place due before after holds call is BadKind refused =
+    (record { due = due; before = before; after = after; holds = holds; call = call; is = is; refused = refused }, refl, refl)
+not-called calls old new turn place due before after holds call is BadRegister refused =
+    (record { due = due; before = before; after = after; holds = holds; call = call; is = is; refused = refused }, refl, refl)
+not-called calls old new turn place due before after holds call is NotCall refused =
+    (record { due = due; before = before; after = after; holds = holds; call = call; is = is; refused = refused }, refl, refl)
+not-called calls old new turn place due before after holds call is _ refused = absurd refused
 
 -- the calls with the one that waits and an answer behind it
 with-answer : (calls : List Kind) (place : ℕ) (before kinds : List Kind) (answer : Kind) → kinds ≡ before ++ get_or calls place A ∷ []
@@ -67,9 +56,8 @@ AnyGoesOn count answer old new = (call : Kind) → answers call answer ≡ true 
 pub after-abort : (count : ℕ) (answer : Kind) (turn next : Turn) → turn.phase ≡ 1 → turn.place < count → is_abort answer ≡ true
     → next.phase ≡ 2 → AnyGoesOn count answer turn next
 after-abort count answer turn next asked low aborts over call fits calls kinds long is follows =
-    let (before, was, leaves) = subst (λ (phase : ℕ). Follows calls turn.place phase kinds) asked follows in
+    let (below, before, was, leaves) = subst (λ (phase : ℕ). Follows calls turn.place phase kinds) asked follows in
     let fit : answers (get_or calls turn.place A) answer ≡ true = subst (λ (k : Kind). answers k answer ≡ true) (sym is) fits in
-    let below : turn.place < length calls = subst (λ (n : ℕ). turn.place < n) (sym long) low in
     let whole = leaves-aborted calls turn.place answer before below fit aborts leaves in
     let ended : IsWholeText calls (kinds ++ answer ∷ [])
     = subst (λ (k : List Kind). IsWholeText calls k) (sym (with-answer calls turn.place before kinds answer was)) whole
@@ -81,9 +69,8 @@ leaves-later : (count : ℕ) (answer : Kind) (turn : Turn) → turn.phase ≡ 1 
     → (call : Kind) → answers call answer ≡ true → (calls kinds : List Kind) → length calls ≡ count → get_or calls turn.place A ≡ call
     → Follows calls turn.place turn.phase kinds → LeavesCalls calls (kinds ++ answer ∷ []) (drop (turn.place + 1) calls)
 leaves-later count answer turn asked low goes call fits calls kinds long is follows =
-    let (before, was, leaves) = subst (λ (phase : ℕ). Follows calls turn.place phase kinds) asked follows in
+    let (below, before, was, leaves) = subst (λ (phase : ℕ). Follows calls turn.place phase kinds) asked follows in
     let fit : answers (get_or calls turn.place A) answer ≡ true = subst (λ (k : Kind). answers k answer ≡ true) (sym is) fits in
-    let below : turn.place < length calls = subst (λ (n : ℕ). turn.place < n) (sym long) low in
     let later = leaves-answered calls turn.place answer before below fit goes leaves in
     subst (λ (k : List Kind). LeavesCalls calls k (drop (turn.place + 1) calls))
     (sym (with-answer calls turn.place before kinds answer was)) later
@@ -112,30 +99,17 @@ not-ended count place answer goes further (inl aborts) = absurd (cc (sym aborts 
 not-ended count place answer goes further (inr last) = further last
 
 -- what it is whose answer was not recorded, by the status
-pub not-answered : (calls : List Call) (letter value place : ℕ) (old new : Option HeldRecorder) (turn : Turn) → turn.place < length calls
-    → turn.phase ≡ 1 → (before after : HeldRecorder) → Holds old new before after → (call : Call)
-    → ((fallback : Call) → get_or calls turn.place fallback ≡ call) → (status : Status)
+pub not-answered : (calls : List Call) (letter value place : ℕ) (old new : Option HeldRecorder) (turn : Turn) → IsTurn 1 calls turn
+    → (before after : HeldRecorder) → Holds old new before after → (call : Call) → IsAt calls turn call → (status : Status)
     → HasNotAnswered call letter value before after status → IsAnswering calls letter value old new turn turn place place status
-not-answered calls letter value place old new turn low asked before after holds call is Done refused = absurd refused
-not-answered calls letter value place old new turn low asked before after holds call is NoHandle refused = absurd refused
-not-answered calls letter value place old new turn low asked before after holds call is FullHandle refused = absurd refused
-not-answered calls letter value place old new turn low asked before after holds call is BadRegisters refused = absurd refused
-not-answered calls letter value place old new turn low asked before after holds call is BadStart refused = absurd refused
-not-answered calls letter value place old new turn low asked before after holds call is BadBounds refused = absurd refused
-not-answered calls letter value place old new turn low asked before after holds call is BadSize refused = absurd refused
-not-answered calls letter value place old new turn low asked before after holds call is BadLimit refused = absurd refused
-not-answered calls letter value place old new turn low asked before after holds call is Memory refused = absurd refused
-not-answered calls letter value place old new turn low asked before after holds call is Full refused =
-    (record { low = low; asked = asked; before = before; after = after; holds = holds; call = call; is = is; refused = refused }, refl, refl)
-not-answered calls letter value place old new turn low asked before after holds call is Spent refused =
-    (record { low = low; asked = asked; before = before; after = after; holds = holds; call = call; is = is; refused = refused }, refl, refl)
-not-answered calls letter value place old new turn low asked before after holds call is BadKind refused =
-    (record { low = low; asked = asked; before = before; after = after; holds = holds; call = call; is = is; refused = refused }, refl, refl)
-not-answered calls letter value place old new turn low asked before after holds call is BadRegister refused =
-    (record { low = low; asked = asked; before = before; after = after; holds = holds; call = call; is = is; refused = refused }, refl, refl)
-not-answered calls letter value place old new turn low asked before after holds call is Missing refused = absurd refused
-not-answered calls letter value place old new turn low asked before after holds call is Closing refused = absurd refused
-not-answered calls letter value place old new turn low asked before after holds call is OutOfTurn refused = absurd refused
-not-answered calls letter value place old new turn low asked before after holds call is NotCall refused = absurd refused
-not-answered calls letter value place old new turn low asked before after holds call is Misfit refused =
-    (record { low = low; asked = asked; before = before; after = after; holds = holds; call = call; is = is; refused = refused }, refl, refl)
+not-answered calls letter value place old new turn waits before after holds call is Full refused =
+    (record { waits = waits; before = before; after = after; holds = holds; call = call; is = is; refused = refused }, refl, refl)
+not-answered calls letter value place old new turn waits before after holds call is Spent refused =
+    (record { waits = waits; before = before; after = after; holds = holds; call = call; is = is; refused = refused }, refl, refl)
+not-answered calls letter value place old new turn waits before after holds call is BadKind refused =
+    (record { waits = waits; before = before; after = after; holds = holds; call = call; is = is; refused = refused }, refl, refl)
+not-answered calls letter value place old new turn waits before after holds call is BadRegister refused =
+    (record { waits = waits; before = before; after = after; holds = holds; call = call; is = is; refused = refused }, refl, refl)
+not-answered calls letter value place old new turn waits before after holds call is Misfit refused =
+    (record { waits = waits; before = before; after = after; holds = holds; call = call; is = is; refused = refused }, refl, refl)
+not-answered calls letter value place old new turn waits before after holds call is _ refused = absurd refused

@@ -1,6 +1,7 @@
 pub mod Closing
 pub mod Judging
 pub mod Kinds
+pub mod Law
 pub mod Opening
 pub mod Recording
 pub mod Rooms

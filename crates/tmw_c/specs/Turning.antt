@@ -1,5 +1,5 @@
 -- How a call is answered that carries a transaction out, an event at a time.
-use Rattle.std.specs.Prelude.{◌≡◌, ◌⊎◌, ◌<◌, ◌≤◌, ◌+◌, ◌++◌, ℕ, zero, suc, true, false, List, [], ◌∷◌, Option, Some, None, length, get_or, drop}
+use Rattle.std.specs.Prelude.{◌≡◌, ◌⊎◌, ◌<◌, ◌+◌, ◌++◌, ℕ, Bool, true, false, List, [], ◌∷◌, Option, Some, None, length, get_or}
 use Rattle.tmw_c.specs.Kinds.{AsksFor, IsNoLetter, IsNoRegister}
 use Rattle.tmw_c.specs.Recording.{HasRefused, IsSameEnd, WasFull, WasSpent}
 use Rattle.tmw_c.specs.declared.status.Status.{Status}
@@ -12,17 +12,9 @@ use Rattle.tmw_events.specs.declared.event.Kind.{Kind}
 use Rattle.tmw_events.specs.declared.event.Kind.TheVariants.{A}
 use Rattle.tmw_handles.specs.declared.held_recorder.HeldRecorder.{HeldRecorder}
 use Rattle.tmw_ring.specs.Recording.{HasRecorded}
-use Rattle.tmw_runs.specs.Runs.{IsWholeText, is_abort}
-use Rattle.tmw_turns.specs.Turning.{LeavesCalls}
+use Rattle.tmw_runs.specs.Runs.{is_abort}
+use Rattle.tmw_turns.specs.Turning.{Follows, IsPlaced}
 use Rattle.tmw_watch.specs.Shown.{writer_of}
-
--- What was recorded of a transaction, by the phase that it is in: it leaves the call at this place and the later ones; or so it did
--- before that call, which is its last event; or it is a whole text.
-abbrev pub Follows : (calls : List Kind) → (place phase : ℕ) → (kinds : List Kind) → Type 0
-Follows calls place zero kinds = LeavesCalls calls kinds (drop place calls)
-Follows calls place (suc zero) kinds =
-    (before : List Kind) × (kinds ≡ before ++ get_or calls place A ∷ []) × LeavesCalls calls before (drop place calls)
-Follows calls place (suc (suc more)) kinds = IsWholeText calls kinds
 
 -- This kind is recorded next, where the transaction has this call at its turn: what was recorded of it with that follows the new turn
 -- as what was recorded before has followed the old one.
@@ -55,106 +47,128 @@ pub record HasRecordedKind (kind : Kind) (place : ℕ) (old new : HeldRecorder) 
   pub same : IsSameEnd old new
   pub recorded : HasRecorded kind place (writer_of old.recorder) (writer_of new.recorder)
 
--- The call was recorded, as an event of this kind.
-pub record HasCalled (call : Call) (kind : Kind) (old new : HeldRecorder) : Type 0 where
-  pub asks : Asks old.registers.number call kind
-  pub is_call : answers kind A ≡ true
-  pub place : ℕ
-  pub recorded : HasRecordedKind kind place old new
+-- The call was recorded, as an event of a kind that may stand at its turn among so many calls.
+pub record HasCalled (count : ℕ) (turn : Turn) (call : Call) (told : Recorded) (old new : HeldRecorder) : Type 0 where
+  pub asks : Asks old.registers.number call told.kind
+  pub placed : IsPlaced count turn.place told.kind
+  pub recorded : HasRecordedKind told.kind told.place old new
+
+-- The call asks for a kind that may stand at its turn.
+abbrev pub MayBeCalled : (count : ℕ) → Turn → Call → HeldRecorder → Type 0
+MayBeCalled count turn call old = (kind : Kind) × Asks old.registers.number call kind × IsPlaced count turn.place kind
+
+-- The call asks for a kind that may not stand at its turn.
+abbrev pub IsMisplaced : (count : ℕ) → Turn → Call → HeldRecorder → Type 0
+IsMisplaced count turn call old = (kind : Kind) × Asks old.registers.number call kind × (IsPlaced count turn.place kind → ⊥)
 
 -- why a recorder has not recorded the call, and what it is then
-abbrev pub HasNotCalled : Call → HeldRecorder → HeldRecorder → Status → Type 0
-HasNotCalled call old new NotCall =
-    (kind : Kind) × Asks old.registers.number call kind × (answers kind A ≡ false) × (new ≡ old)
-HasNotCalled call old new status = HasRefused call.letter call.register call.value old new status
+abbrev pub HasNotCalled : (count : ℕ) → Turn → Call → HeldRecorder → HeldRecorder → Status → Type 0
+HasNotCalled count turn call old new NotCall = IsMisplaced count turn call old × (new ≡ old)
+HasNotCalled count turn call old new BadKind = IsNoLetter call.letter × (new ≡ old)
+HasNotCalled count turn call old new BadRegister = IsNoRegister old.registers.number call.letter call.register × (new ≡ old)
+HasNotCalled count turn call old new Full = WasFull call.letter call.register call.value old new × MayBeCalled count turn call old
+HasNotCalled count turn call old new Spent = WasSpent call.letter call.register call.value old new × MayBeCalled count turn call old
+HasNotCalled count turn call old new _ = ⊥
 
 -- The answer to the call was recorded, at its place of the one log, and it fits the call.
 pub record HasAnswered (call : Call) (letter value : ℕ) (told : Recorded) (old new : HeldRecorder) : Type 0 where
   pub kind : Kind
   pub asks : Asks old.registers.number call kind
-  pub answered : AsksFor old.registers.number letter 0 value told.answer
-  pub fits : answers kind told.answer ≡ true
-  pub recorded : HasRecordedKind told.answer told.place old new
+  pub answered : AsksFor old.registers.number letter 0 value told.kind
+  pub fits : answers kind told.kind ≡ true
+  pub recorded : HasRecordedKind told.kind told.place old new
 
--- the answer does not fit the call
-pub record IsMisfit (call : Call) (letter value : ℕ) (old : HeldRecorder) : Type 0 where
+-- The call and its answer ask for kinds of which the second fits the first, or does not.
+pub record Answers (fits : Bool) (call : Call) (letter value : ℕ) (old : HeldRecorder) : Type 0 where
   pub kind : Kind
   pub answer : Kind
   pub asks : Asks old.registers.number call kind
   pub answered : AsksFor old.registers.number letter 0 value answer
-  pub fits : answers kind answer ≡ false
+  pub does : answers kind answer ≡ fits
 
 -- why a recorder has not recorded the answer, and what it is then
 abbrev pub HasNotAnswered : Call → (letter value : ℕ) → HeldRecorder → HeldRecorder → Status → Type 0
-HasNotAnswered call letter value old new Misfit = IsMisfit call letter value old × (new ≡ old)
+HasNotAnswered call letter value old new Misfit = Answers false call letter value old × (new ≡ old)
 HasNotAnswered call letter value old new BadKind = (IsNoLetter call.letter ⊎ IsNoLetter letter) × (new ≡ old)
 HasNotAnswered call letter value old new BadRegister =
     (IsNoRegister old.registers.number call.letter call.register ⊎ IsNoRegister old.registers.number letter 0) × (new ≡ old)
-HasNotAnswered call letter value old new Full = WasFull letter 0 value old new
-HasNotAnswered call letter value old new Spent = WasSpent letter 0 value old new
+HasNotAnswered call letter value old new Full = WasFull letter 0 value old new × Answers true call letter value old
+HasNotAnswered call letter value old new Spent = WasSpent letter 0 value old new × Answers true call letter value old
 HasNotAnswered call letter value old new _ = ⊥
 
 -- The handle held one recorder and holds the other then.
 abbrev pub Holds : (old new : Option HeldRecorder) → (before after : HeldRecorder) → Type 0
 Holds old new before after = (old ≡ Some before) × (new ≡ Some after)
 
--- the recorder that a handle holds has recorded the transaction's next call
-pub record HasCalledHeld (calls : List Call) (old new : Option HeldRecorder) (turn next : Turn) : Type 0 where
+-- The transaction is in this phase, at the place of one of its calls: the call is due in phase 0, and waits for its answer in phase 1.
+pub record IsTurn (phase : ℕ) (calls : List Call) (turn : Turn) : Type 0 where
   pub low : turn.place < length calls
-  pub due : turn.phase ≡ 0
+  pub is : turn.phase ≡ phase
+
+-- This call stands at the turn's place.
+abbrev pub IsAt : List Call → Turn → Call → Type 0
+IsAt calls turn call = (fallback : Call) → get_or calls turn.place fallback ≡ call
+
+-- Neither the handle's recorder nor the turn nor the place that the caller is told has changed.
+abbrev pub IsUnchanged : (old new : Option HeldRecorder) → (turn next : Turn) → (old_place new_place : ℕ) → Type 0
+IsUnchanged old new turn next old_place new_place = (new ≡ old) × (next ≡ turn) × (new_place ≡ old_place)
+
+-- the recorder that a handle holds has recorded the transaction's next call
+pub record HasCalledHeld (calls : List Call) (place : ℕ) (old new : Option HeldRecorder) (turn next : Turn) : Type 0 where
+  pub due : IsTurn 0 calls turn
   pub before : HeldRecorder
   pub after : HeldRecorder
   pub holds : Holds old new before after
   pub call : Call
-  pub is : (fallback : Call) → get_or calls turn.place fallback ≡ call
-  pub kind : Kind
-  pub called : HasCalled call kind before after
+  pub is : IsAt calls turn call
+  pub told : Recorded
+  pub place_is : place ≡ told.place
+  pub called : HasCalled (length calls) turn call told before after
   pub waits : next ≡ record { place = turn.place; phase = 1 }
-  pub goes_on : GoesOn (length calls) kind kind turn next
+  pub goes_on : GoesOn (length calls) told.kind told.kind turn next
 
 -- why the recorder that a handle holds has not recorded the transaction's next call, and what it is then
 pub record HasNotCalledHeld (calls : List Call) (old new : Option HeldRecorder) (turn : Turn) (status : Status) : Type 0 where
-  pub low : turn.place < length calls
-  pub due : turn.phase ≡ 0
+  pub due : IsTurn 0 calls turn
   pub before : HeldRecorder
   pub after : HeldRecorder
   pub holds : Holds old new before after
   pub call : Call
-  pub is : (fallback : Call) → get_or calls turn.place fallback ≡ call
-  pub refused : HasNotCalled call before after status
+  pub is : IsAt calls turn call
+  pub refused : HasNotCalled (length calls) turn call before after status
 
--- Each status of a call to record the next call, with what the handle holds then, and the turn.
-abbrev pub IsCalling : List Call → (old new : Option HeldRecorder) → (turn next : Turn) → Status → Type 0
-IsCalling calls old new turn next Done = HasCalledHeld calls old new turn next
-IsCalling calls old new turn next NoHandle = (old ≡ None) × (new ≡ None) × (next ≡ turn)
-IsCalling calls old new turn next OutOfTurn =
-    ((turn.phase ≡ 0 → ⊥) ⊎ (length calls ≤ turn.place)) × (new ≡ old) × (next ≡ turn)
-IsCalling calls old new turn next status = HasNotCalledHeld calls old new turn status × (next ≡ turn)
+-- Each status of a call to record the next call, with what the handle holds then, the turn, and what place the caller is told.
+abbrev pub IsCalling : List Call → (old new : Option HeldRecorder) → (turn next : Turn) → (old_place new_place : ℕ) → Status → Type 0
+IsCalling calls old new turn next old_place new_place Done = HasCalledHeld calls new_place old new turn next
+IsCalling calls old new turn next old_place new_place NoHandle =
+    IsTurn 0 calls turn × (old ≡ None) × IsUnchanged old new turn next old_place new_place
+IsCalling calls old new turn next old_place new_place OutOfTurn =
+    (IsTurn 0 calls turn → ⊥) × IsUnchanged old new turn next old_place new_place
+IsCalling calls old new turn next old_place new_place status =
+    HasNotCalledHeld calls old new turn status × (next ≡ turn) × (new_place ≡ old_place)
 
 -- the recorder that a handle holds has recorded the answer to the transaction's call
 pub record HasAnsweredHeld (calls : List Call) (letter value place : ℕ) (old new : Option HeldRecorder) (turn next : Turn) : Type 0 where
-  pub low : turn.place < length calls
-  pub asked : turn.phase ≡ 1
+  pub waits : IsTurn 1 calls turn
   pub before : HeldRecorder
   pub after : HeldRecorder
   pub holds : Holds old new before after
   pub call : Call
-  pub is : (fallback : Call) → get_or calls turn.place fallback ≡ call
+  pub is : IsAt calls turn call
   pub told : Recorded
   pub place_is : place ≡ told.place
   pub answered : HasAnswered call letter value told before after
-  pub turns : TurnsTo (length calls) told.answer turn next
-  pub goes_on : GoesOn (length calls) answered.kind told.answer turn next
+  pub turns : TurnsTo (length calls) told.kind turn next
+  pub goes_on : GoesOn (length calls) answered.kind told.kind turn next
 
 -- why the recorder that a handle holds has not recorded the answer, and what it is then
 pub record HasNotAnsweredHeld (calls : List Call) (letter value : ℕ) (old new : Option HeldRecorder) (turn : Turn) (status : Status) : Type 0 where
-  pub low : turn.place < length calls
-  pub asked : turn.phase ≡ 1
+  pub waits : IsTurn 1 calls turn
   pub before : HeldRecorder
   pub after : HeldRecorder
   pub holds : Holds old new before after
   pub call : Call
-  pub is : (fallback : Call) → get_or calls turn.place fallback ≡ call
+  pub is : IsAt calls turn call
   pub refused : HasNotAnswered call letter value before after status
 
 -- Each status of a call to record an answer, with what the handle holds then, the turn, and what place the caller is told.
@@ -163,8 +177,8 @@ abbrev pub IsAnswering : List Call → (letter value : ℕ) → (old new : Optio
 IsAnswering calls letter value old new turn next old_place new_place Done =
     HasAnsweredHeld calls letter value new_place old new turn next
 IsAnswering calls letter value old new turn next old_place new_place NoHandle =
-    (old ≡ None) × (new ≡ None) × (next ≡ turn) × (new_place ≡ old_place)
+    IsTurn 1 calls turn × (old ≡ None) × IsUnchanged old new turn next old_place new_place
 IsAnswering calls letter value old new turn next old_place new_place OutOfTurn =
-    ((turn.phase ≡ 1 → ⊥) ⊎ (length calls ≤ turn.place)) × (new ≡ old) × (next ≡ turn) × (new_place ≡ old_place)
+    (IsTurn 1 calls turn → ⊥) × IsUnchanged old new turn next old_place new_place
 IsAnswering calls letter value old new turn next old_place new_place status =
     HasNotAnsweredHeld calls letter value old new turn status × (next ≡ turn) × (new_place ≡ old_place)

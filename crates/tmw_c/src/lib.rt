@@ -7,6 +7,7 @@ mod exports;
 mod judge;
 mod kind_exports;
 mod kinds;
+mod law;
 mod opening;
 mod record;
 mod room;

@@ -36,7 +36,7 @@ pub enum Status {
     Closing,
     /// The turn is another: no call is due, or none waits for its answer.
     OutOfTurn,
-    /// The event is no call.
+    /// The event is no call, or none that a transaction makes at this turn.
     NotCall,
     /// The answer does not fit the call.
     Misfit,

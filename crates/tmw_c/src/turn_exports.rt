@@ -8,18 +8,19 @@ use crate::turning;
 use std::alloc::Global;
 use tmw_handles::RecorderHandle;
 
-/// Records the next call of the transaction that makes these calls.
+/// Records the next call of the transaction that makes these calls. Its place in the log is counted from 0.
 #[unsafe(no_mangle)]
 pub extern "C" fn tmwatch_next(
     alloc: Global,
     recorder: &mut RecorderHandle,
     calls: &[Call],
     turn: &mut Turn,
+    place: &mut u64,
 ) -> u32
     ensures { Tells result (IsCalling calls.now (recorder_in recorder.old)
-        (recorder_in recorder.new) turn.old turn.new) }
+        (recorder_in recorder.new) turn.old turn.new place.old place.new) }
 {
-    turning::next(alloc, recorder, calls, turn).number()
+    turning::next(alloc, recorder, calls, turn, place).number()
 }
 
 /// Records the answer that the memory gave to the call that waits for it, if it fits, and turns to the next call.

@@ -1,5 +1,5 @@
 //! Carrying a transaction out by a handle, an event at a time.
-ghost use Rattle.std.specs.Prelude.{◌≡◌, ◌<◌, IfOk, IfErr};
+ghost use Rattle.std.specs.Prelude.{◌≡◌, ◌<◌, IfOk, IfErr, length};
 ghost use Rattle.tmw_c.specs.Turning.{GoesOnBy, HasAnswered, HasCalled, HasNotAnswered, HasNotCalled, IsAnswering, IsCalling};
 ghost use Rattle.tmw_handles.specs.Held.{recorder_in};
 
@@ -10,42 +10,52 @@ use std::alloc::Global;
 use tmw_events::Kind;
 use tmw_handles::{HeldRecorder, RecorderHandle};
 use tmw_ring::Refused;
-use tmw_turns::{fits, is_abort};
+use tmw_turns::{fits, is_abort, is_placed};
 
-/// What was recorded of an answer.
+/// An event that was recorded, and its place in the one log of all threads.
 #[derive(Clone, Copy)]
 struct Recorded {
-    answer: Kind,
-    // In the one log of all threads.
+    kind: Kind,
     place: u64,
 }
 
-/// Records the call, if it is one, and returns its kind, or why not.
-fn call_held(held: &mut HeldRecorder, call: Call) -> Result<Kind, Status>
-    ensures ok { IfOk result (λ kind. HasCalled call kind held.old held.new) }
-    ensures err { IfErr result (HasNotCalled call held.old held.new) }
+/// Records the call if a transaction of so many calls may have it at this turn, or returns why not.
+fn call_held(
+    held: &mut HeldRecorder,
+    count: usize,
+    turn: Turn,
+    call: Call,
+) -> Result<Recorded, Status>
+    requires { turn.place < count }
+    ensures ok { IfOk result (λ told. HasCalled count turn call told held.old held.new) }
+    ensures err { IfErr result (HasNotCalled count turn call held.old held.new) }
 {
     let kind = match asked(held.registers, call.letter, call.register, call.value) {
         Ok(kind) => kind,
         Err(status) => return Err(status),
     };
-    // An abort event may answer each call, and nothing but a call.
-    let is_call = fits(kind, Kind::A);
-    if !is_call {
+    let may_stand = is_placed(kind, turn.place, count);
+    if !may_stand {
         return Err(Status::NotCall);
     }
     match held.recorder.record(kind) {
-        Ok(_) => Ok(kind),
+        Ok(place) => Ok(Recorded { kind, place }),
         Err(Refused::Full { .. }) => Err(Status::Full),
         Err(Refused::Spent { .. }) => Err(Status::Spent),
     }
 }
 
-/// Records the call that is due by what the handle holds, which it holds again afterwards. The turn changes only if the
-/// call was recorded.
-pub fn next(alloc: Global, recorder: &mut RecorderHandle, calls: &[Call], turn: &mut Turn) -> Status
+/// Records the call that is due by what the handle holds, which it holds again afterwards. `place` and the turn change
+/// only if the call was recorded.
+pub fn next(
+    alloc: Global,
+    recorder: &mut RecorderHandle,
+    calls: &[Call],
+    turn: &mut Turn,
+    place: &mut u64,
+) -> Status
     ensures { IsCalling calls.now (recorder_in recorder.old) (recorder_in recorder.new) turn.old
-        turn.new result }
+        turn.new place.old place.new result }
 {
     if turn.phase != 0 || turn.place >= calls.len() {
         return Status::OutOfTurn;
@@ -54,10 +64,11 @@ pub fn next(alloc: Global, recorder: &mut RecorderHandle, calls: &[Call], turn: 
     let Some(mut held) = recorder.take(alloc) else {
         return Status::NoHandle;
     };
-    let answer = call_held(&mut held, call);
+    let answer = call_held(&mut held, calls.len(), *turn, call);
     *recorder = RecorderHandle::of(held);
     match answer {
-        Ok(_) => {
+        Ok(told) => {
+            *place = told.place;
             turn.phase = 1;
             Status::Done
         }
@@ -88,7 +99,10 @@ fn answer_held(
         return Err(Status::Misfit);
     }
     match held.recorder.record(answer) {
-        Ok(place) => Ok(Recorded { answer, place }),
+        Ok(place) => Ok(Recorded {
+            kind: answer,
+            place,
+        }),
         Err(Refused::Full { .. }) => Err(Status::Full),
         Err(Refused::Spent { .. }) => Err(Status::Spent),
     }
@@ -139,7 +153,7 @@ pub fn answered(
     match answer {
         Ok(told) => {
             *place = told.place;
-            *turn = after(calls.len(), *turn, told.answer);
+            *turn = after(calls.len(), *turn, told.kind);
             Status::Done
         }
         Err(status) => status,

@@ -1,27 +1,42 @@
--- How a transaction goes on after an answer, by the events that are recorded of it.
-use Rattle.std.specs.Prelude.{◌≡◌, ◌+◌, ℕ, false, List, [], ◌∷◌, ◌++◌, drop, get_or}
+-- A transaction that is carried out by turns, a call or an answer at a time, by the events that are recorded of it.
+use Rattle.std.specs.Prelude.{◌≡◌, ◌<◌, ◌+◌, ◌++◌, ◌↔◌, ℕ, zero, suc, true, IsTrue, List, [], ◌∷◌, length, drop, get_or}
 use Rattle.tmw_defs.specs.History.{answers}
 use Rattle.tmw_events.specs.declared.event.Kind.{Kind}
 use Rattle.tmw_events.specs.declared.event.Kind.TheVariants.{A}
-use Rattle.tmw_runs.specs.Runs.{IsWholeText}
-use Rattle.tmw_turns.specs.declared.turning.Turn.{Turn}
-use Rattle.tmw_turns.specs.declared.turning.Turn.TheVariants.{Misfit, Next, Over}
+use Rattle.tmw_runs.specs.Runs.{IsWholeRun, IsWholeText}
+use Rattle.tmw_runs.specs.Scripts.{are_transactions, is_request}
+
+-- The call may stand at this place among the calls of a transaction, which are so many: a request to commit or to abort is the last
+-- one, and no other call is.
+abbrev pub IsPlaced : (count place : ℕ) → Kind → Type 0
+IsPlaced count place call = (answers call A ≡ true) × ((is_request call ≡ true) ↔ (place + 1 ≡ count))
 
 -- After these events the transaction leaves these calls: each whole text of what is left completes them to a whole text of it.
 abbrev pub LeavesCalls : (calls kinds left : List Kind) → Type 0
 LeavesCalls calls kinds left = (more : List Kind) → IsWholeText left more → IsWholeText calls (kinds ++ more)
 
--- the events with the call at this place and its answer behind them
-abbrev pub with_answer : (calls : List Kind) → (place : ℕ) → Kind → List Kind → List Kind
-with_answer calls place answer kinds = kinds ++ get_or calls place A ∷ answer ∷ []
+-- What was recorded of a transaction, by the phase that it is in: it leaves the call at this place and the later ones; or so it did
+-- before that call, which is its last event; or it is a whole text.
+abbrev pub Follows : (calls : List Kind) → (place phase : ℕ) → (kinds : List Kind) → Type 0
+Follows calls place zero kinds = LeavesCalls calls kinds (drop place calls)
+Follows calls place (suc zero) kinds =
+    (place < length calls) × (before : List Kind) × (kinds ≡ before ++ get_or calls place A ∷ [])
+    × LeavesCalls calls before (drop place calls)
+Follows calls place (suc (suc more)) kinds = IsWholeText calls kinds
 
--- What the answer to the call at this place means, whatever was recorded before that left this call and the later ones. A misfit
--- does not answer the call. With the call and its answer the events leave the later calls, of which the first is told; or they are
--- a whole text of the transaction.
-abbrev pub TurnsTo : List Kind → ℕ → Kind → Turn → Type 0
-TurnsTo calls place answer Misfit = answers (get_or calls place A) answer ≡ false
-TurnsTo calls place answer (Next call) =
-    (kinds : List Kind) → LeavesCalls calls kinds (drop place calls)
-    → LeavesCalls calls (with_answer calls place answer kinds) (drop (place + 1) calls) × (get_or calls (place + 1) A ≡ call)
-TurnsTo calls place answer Over =
-    (kinds : List Kind) → LeavesCalls calls kinds (drop place calls) → IsWholeText calls (with_answer calls place answer kinds)
+-- What a thread has recorded by turns: a whole run of these transactions, and then what follows of one more.
+pub record HasTurned (script : List (List Kind)) (calls : List Kind) (place phase : ℕ) (kinds : List Kind) : Type 0 where
+  pub run : List Kind
+  pub text : List Kind
+  pub parts : kinds ≡ run ++ text
+  pub whole : IsWholeRun script run
+  pub follows : Follows calls place phase text
+
+-- A thread has recorded these events by turns alone, of transactions on registers that the run has.
+pub record IsByTurns (registers : ℕ) (kinds : List Kind) : Type 0 where
+  pub script : List (List Kind)
+  pub calls : List Kind
+  pub asks : IsTrue (are_transactions registers (script ++ calls ∷ []))
+  pub place : ℕ
+  pub phase : ℕ
+  pub turned : HasTurned script calls place phase kinds

@@ -1,8 +1,10 @@
-//! A transaction, a call at a time: the caller asks the memory itself, and tells the answer.
+//! A transaction by turns: the caller makes each call itself, and tells the answer.
 #![tactic(auto)]
 
 mod fitting;
-mod turning;
+mod law;
+mod placing;
 
 pub use fitting::{fits, is_abort};
-pub use turning::{Turn, answered};
+pub use law::law_turns;
+pub use placing::is_placed;

@@ -1,28 +1,26 @@
-use Rattle.std.proofs.Common.{rules, ◌≡◌, ◌<◌, length, get_or, refl}
+use Rattle.std.proofs.Common.{rules, length, get_or, refl}
 use Rattle.std.proofs.lemmas.List.{get_or_default}
 use Rattle.tmw_c.proofs.Turns.{not-answered}
-use Rattle.tmw_c.specs.Turning.{GoesOnBy, HasAnswered}
+use Rattle.tmw_c.specs.Turning.{GoesOnBy, HasAnswered, IsTurn}
 use Rattle.tmw_c.specs.declared.turn.Call.{Call}
 use Rattle.tmw_c.proofs.turning.answered.Goals as goal
 
 pub returns-in-Ok : goal.returns-in-Ok
 returns-in-Ok c =
-    let low : c.args.turn.now.place < length c.args.calls.now = search rules in
-    let asked : c.args.turn.now.phase ≡ 1 = search rules in
+    let waits : IsTurn 1 c.args.calls.now c.args.turn.now = record { low = search rules; is = search rules } in
     let none : Call = record { register = 0; value = 0; letter = 0 } in
     let answered : HasAnswered (get_or c.args.calls.now c.args.turn.now.place none) c.args.letter c.args.value c.in-Ok.told c.in-Some.held.value
     c.answer_held-answer.new.held
     = search rules
     in
-    let goes : GoesOnBy (length c.args.calls.now) c.in-Ok.told.answer c.args.turn.now c.after.result = search rules in
+    let goes : GoesOnBy (length c.args.calls.now) c.in-Ok.told.kind c.args.turn.now c.after.result = search rules in
     record {
-      low = low;
-      asked = asked;
+      waits = waits;
       before = c.in-Some.held.value;
       after = c.answer_held-answer.new.held;
       holds = (search rules, search rules);
       call = get_or c.args.calls.now c.args.turn.now.place none;
-      is = λ fallback. get_or_default c.args.calls.now c.args.turn.now.place fallback none low;
+      is = λ fallback. get_or_default c.args.calls.now c.args.turn.now.place fallback none waits.low;
       told = c.in-Ok.told;
       place_is = refl;
       answered = answered;
@@ -32,10 +30,9 @@ returns-in-Ok c =
 
 pub returns-in-Err : goal.returns-in-Err
 returns-in-Err c =
-    let low : c.args.turn.now.place < length c.args.calls.now = search rules in
-    let asked : c.args.turn.now.phase ≡ 1 = search rules in
+    let waits : IsTurn 1 c.args.calls.now c.args.turn.now = record { low = search rules; is = search rules } in
     let none : Call = record { register = 0; value = 0; letter = 0 } in
     not-answered c.args.calls.now c.args.letter c.args.value c.args.place.now c.args.recorder.now.slot.held c.of.result.slot.held
-    c.args.turn.now low asked c.in-Some.held.value c.answer_held-answer.new.held (search rules, search rules)
+    c.args.turn.now waits c.in-Some.held.value c.answer_held-answer.new.held (search rules, search rules)
     (get_or c.args.calls.now c.args.turn.now.place none)
-    (λ fallback. get_or_default c.args.calls.now c.args.turn.now.place fallback none low) c.in-Err.status (search rules)
+    (λ fallback. get_or_default c.args.calls.now c.args.turn.now.place fallback none waits.low) c.in-Err.status (search rules)

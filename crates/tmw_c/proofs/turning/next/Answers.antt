@@ -1,35 +1,34 @@
-use Rattle.std.proofs.Common.{rules, ◌≡◌, ◌<◌, length, get_or, refl}
+use Rattle.std.proofs.Common.{rules, ◌≡◌, length, get_or, refl}
 use Rattle.std.proofs.lemmas.List.{get_or_default}
 use Rattle.tmw_c.proofs.Turns.{after-call, not-called}
+use Rattle.tmw_c.specs.Turning.{IsTurn}
 use Rattle.tmw_c.specs.declared.turn.Call.{Call}
 use Rattle.tmw_c.specs.declared.turn.Turn.{Turn}
 use Rattle.tmw_c.proofs.turning.next.Goals as goal
 
 pub returns-in-Ok : goal.returns-in-Ok
 returns-in-Ok c =
-    let low : c.args.turn.now.place < length c.args.calls.now = search rules in
-    let due : c.args.turn.now.phase ≡ 0 = search rules in
+    let due : IsTurn 0 c.args.calls.now c.args.turn.now = record { low = search rules; is = search rules } in
     let none : Call = record { register = 0; value = 0; letter = 0 } in
     let asked : Turn = record { place = c.args.turn.now.place; phase = 1 } in
     record {
-      low = low;
       due = due;
       before = c.in-Some.held.value;
       after = c.call_held-answer.new.held;
       holds = (search rules, search rules);
       call = get_or c.args.calls.now c.args.turn.now.place none;
-      is = λ fallback. get_or_default c.args.calls.now c.args.turn.now.place fallback none low;
-      kind = c.in-Ok.field-0;
+      is = λ fallback. get_or_default c.args.calls.now c.args.turn.now.place fallback none due.low;
+      told = c.in-Ok.told;
+      place_is = refl;
       called = search rules;
       waits = refl;
-      goes_on = after-call (length c.args.calls.now) c.in-Ok.field-0 c.args.turn.now asked due refl refl;
+      goes_on = after-call (length c.args.calls.now) c.in-Ok.told.kind c.args.turn.now asked due.low due.is refl refl;
     }
 
 pub returns-in-Err : goal.returns-in-Err
 returns-in-Err c =
-    let low : c.args.turn.now.place < length c.args.calls.now = search rules in
-    let due : c.args.turn.now.phase ≡ 0 = search rules in
+    let due : IsTurn 0 c.args.calls.now c.args.turn.now = record { low = search rules; is = search rules } in
     let none : Call = record { register = 0; value = 0; letter = 0 } in
-    not-called c.args.calls.now c.args.recorder.now.slot.held c.of.result.slot.held c.args.turn.now low due c.in-Some.held.value
+    not-called c.args.calls.now c.args.recorder.now.slot.held c.of.result.slot.held c.args.turn.now c.args.place.now due c.in-Some.held.value
     c.call_held-answer.new.held (search rules, search rules) (get_or c.args.calls.now c.args.turn.now.place none)
-    (λ fallback. get_or_default c.args.calls.now c.args.turn.now.place fallback none low) c.in-Err.status (search rules)
+    (λ fallback. get_or_default c.args.calls.now c.args.turn.now.place fallback none due.low) c.in-Err.status (search rules)

@@ -1,0 +1,93 @@
+-- A watch that is closed, and whose recorders have recorded by turns alone, has a well-formed log.
+use Rattle.std.proofs.Common.{◌≡◌, ◌==◌, ◌<◌, ◌≤◌, ◌+◌, ◌++◌, ℕ, List, [], ◌∷◌, All, map, length, get_or, take, IsTrue, inl, inr, refl, sym, ap, subst, ◌∙◌, arith}
+use Rattle.std.proofs.lemmas.Bool.{both_ways, cases_Bool, cases_lt}
+use Rattle.std.proofs.lemmas.List.Elements.{All-head, All-map, All-tail}
+use Rattle.std.proofs.lemmas.List.Sorted.{All-permutation}
+use Rattle.std.proofs.lemmas.Nat.{ne_eqb}
+use Rattle.tmw_c.specs.Law.{FormedLaw, kinds_recorded}
+use Rattle.tmw_defs.specs.History.{is_well_formed}
+use Rattle.tmw_defs.specs.Texts.{kinds_of}
+use Rattle.tmw_defs.specs.Verdict.{IsFirst, IsMalformed}
+use Rattle.tmw_events.specs.declared.event.Event.{Event}
+use Rattle.tmw_events.specs.declared.event.Kind.{Kind}
+use Rattle.tmw_events.specs.declared.event.Kind.TheVariants.{T}
+use Rattle.tmw_ring.specs.Ends.{WriterIs}
+use Rattle.tmw_ring.specs.Parts.{made_from}
+use Rattle.tmw_ring.specs.declared.part.Made.{Made}
+use Rattle.tmw_turns.proofs.Completing.{formed_by_turns}
+use Rattle.tmw_turns.specs.Turning.{IsByTurns}
+use Rattle.tmw_watch.specs.Closing.{HasEnded, IsClosed, writers_of}
+use Rattle.tmw_watch.specs.Shown.{writer_of}
+use Rattle.tmw_watch.specs.declared.recorder.Recorder.{Recorder}
+use Rattle.tmw_watch.specs.declared.watch.Watch.{Watch}
+
+-- the kinds of the events for which these places were claimed
+abbrev kinds_made : List Made → List Kind
+kinds_made made = map (λ it. it.event.kind) made
+
+-- of a writer's places in a log they are those of its thread's events there
+kinds-made_from : (writer place : ℕ) (log : List Event) → kinds_made (made_from writer place log) ≡ kinds_of writer log
+kinds-made_from writer place [] = refl
+kinds-made_from writer place (event ∷ log) =
+    let rest = kinds-made_from writer (place + 1) log in
+    elim (cases_Bool (event.thread.number == writer)) [
+      | inl own ↦ rw own (ap (λ (l : List Kind). event.kind ∷ l) rest)
+      | inr other ↦ rw other rest
+    ]
+
+-- no thread beyond the writers has events
+no_kinds : (count thread : ℕ) (log : List Event) → All (λ event. event.thread.number < count) log → count ≤ thread → kinds_of thread log ≡ []
+no_kinds count thread [] own past = refl
+no_kinds count thread (event ∷ log) own past =
+    let low : event.thread.number < count = All-head (λ e. e.thread.number < count) event log own in
+    rw (ne_eqb event.thread.number thread (λ same. absurd (omega arith)))
+    (no_kinds count thread log (All-tail (λ e. e.thread.number < count) event log own) past)
+
+-- a thread that records nothing
+silent : (registers : ℕ) → IsByTurns registers []
+silent registers = record {
+  script = [];
+  calls = T ∷ [];
+  asks = refl;
+  place = 0;
+  phase = 0;
+  turned = record { run = []; text = []; parts = refl; whole = refl; follows = λ more whole. whole };
+}
+
+-- what a writer has recorded, of those that the ring ended with
+of_writer : (registers : ℕ) (watch : Watch) (recorders : List Recorder) (log : List Event) → (ended : HasEnded watch recorders log)
+    → All (λ recorder. IsByTurns registers (kinds_recorded recorder)) recorders
+    → All (λ (writer : WriterIs). IsByTurns registers (kinds_made writer.made)) ended.writers
+of_writer registers watch recorders log ended turns =
+    All-permutation (λ (writer : WriterIs). IsByTurns registers (kinds_made writer.made)) (writers_of recorders) ended.writers ended.same
+    (All-map (λ (writer : WriterIs). IsByTurns registers (kinds_made writer.made)) writer_of recorders turns)
+
+first_of : (writers : List WriterIs) (thread : ℕ) → thread < length writers → WriterIs
+first_of [] thread low = absurd (omega (arith, low))
+first_of (writer ∷ writers) thread low = writer
+
+by_turns : (registers : ℕ) (watch : Watch) (recorders : List Recorder) (log : List Event) → HasEnded watch recorders log
+    → All (λ recorder. IsByTurns registers (kinds_recorded recorder)) recorders → (thread : ℕ) → IsByTurns registers (kinds_of thread log)
+by_turns registers watch recorders log ended turns thread =
+    let settled = ended.settled in
+    let same : settled.log ≡ log = settled.rest ∙ sym ended.whole in
+    elim (cases_lt thread (length ended.writers)) [
+      | inl low ↦
+          let writer : WriterIs = get_or ended.writers thread (first_of ended.writers thread low) in
+          let kinds : kinds_made writer.made ≡ kinds_of thread log
+          = ap kinds_made (settled.made thread (first_of ended.writers thread low) low) ∙ kinds-made_from thread 0 settled.log ∙ ap (kinds_of thread) same
+          in
+          subst (IsByTurns registers) kinds
+          (of_writer registers watch recorders log ended turns thread (first_of ended.writers thread low) low)
+      | inr past ↦
+          let none : kinds_of thread log ≡ []
+          = ap (kinds_of thread) (sym same) ∙ no_kinds (length ended.writers) thread settled.log settled.own past
+          in
+          subst (IsByTurns registers) (sym none) (silent registers)
+    ]
+
+pub formed_closed : FormedLaw
+formed_closed watch recorders report rules closed fits turns at malformed =
+    let first : IsFirst IsMalformed rules closed.log at = ((closed.headline rules fits).malformed at).0 malformed in
+    both_ways (is_well_formed rules.registers (take at closed.log)) first.here.ill_formed
+    (formed_by_turns rules.registers closed.log (by_turns rules.registers watch recorders closed.log closed.ended turns) at)

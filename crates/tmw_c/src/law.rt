@@ -1,0 +1,10 @@
+ghost use Rattle.tmw_c.specs.Law.{FormedLaw, OneKindLaw};
+
+/// Proves two laws of what a C program records.
+///
+/// A letter, a register and a value ask for at most one kind of event. If a closed watch's recorders have recorded by
+/// turns alone, its verdict is not `Malformed`.
+pub fn law_recorded()
+    ensures one_kind { OneKindLaw }
+    ensures formed { FormedLaw }
+{}

@@ -1,0 +1,31 @@
+-- That transactions which are carried out by turns have whole texts, in well-formed histories.
+use Rattle.std.specs.Prelude.{◌≡◌, ◌<◌, ◌++◌, ℕ, suc, true, IsTrue, List, [], ◌∷◌, length, get_or, take}
+use Rattle.tmw_defs.specs.History.{is_call, is_well_formed}
+use Rattle.tmw_defs.specs.Texts.{kinds_of}
+use Rattle.tmw_events.specs.declared.event.Event.{Event}
+use Rattle.tmw_events.specs.declared.event.Kind.{Kind}
+use Rattle.tmw_events.specs.declared.event.Kind.TheVariants.{A}
+use Rattle.tmw_runs.specs.Runs.{IsWholeRun}
+use Rattle.tmw_runs.specs.Scripts.{is_transaction}
+use Rattle.tmw_turns.specs.Turning.{Follows, HasTurned, IsByTurns, IsPlaced}
+
+-- Before the first call of a transaction nothing is recorded of it.
+abbrev pub BeginsLaw : Type 0
+BeginsLaw = (calls : List Kind) → Follows calls 0 0 []
+
+-- Once the last transaction is over, the thread's events are a whole run of all.
+abbrev pub OverLaw : Type 0
+OverLaw = (script : List (List Kind)) (calls kinds : List Kind) (place more : ℕ) → HasTurned script calls place (suc (suc more)) kinds
+    → IsWholeRun (script ++ calls ∷ []) kinds
+
+-- Where each thread's events are recorded by turns alone, each prefix of the history is well-formed.
+abbrev pub FormedLaw : Type 0
+FormedLaw = (registers : ℕ) (history : List Event) → ((thread : ℕ) → IsByTurns registers (kinds_of thread history))
+    → (m : ℕ) → IsTrue (is_well_formed registers (take m history))
+
+-- Calls, at least one, of which each is at its place and on a register that the run has, are those of a transaction.
+abbrev pub PlacedLaw : Type 0
+PlacedLaw = (registers : ℕ) (calls : List Kind) → 0 < length calls
+    → ((place : ℕ) → place < length calls
+    → (is_call registers (get_or calls place A) ≡ true) × IsPlaced (length calls) place (get_or calls place A))
+    → IsTrue (is_transaction registers calls)
