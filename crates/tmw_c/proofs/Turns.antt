@@ -3,7 +3,7 @@ use Rattle.std.proofs.Common.{◌≡◌, ◌+◌, ◌<◌, ◌++◌, ℕ, true, 
 use Rattle.std.proofs.lemmas.List.{append_assoc, drop_all}
 use Rattle.tmw_c.specs.Turning.{EndsTransaction, GoesOn, HasNotAnswered, HasNotCalled, Holds, IsAnswering, IsAt, IsCalling, IsTurn}
 use Rattle.tmw_c.specs.declared.status.Status.{Status}
-use Rattle.tmw_c.specs.declared.status.Status.TheVariants.{Done, NoHandle, FullHandle, BadRegisters, BadStart, BadBounds, BadSize, BadLimit, Memory, Full, Spent, BadKind, BadRegister, Missing, Closing, OutOfTurn, NotCall, Misfit}
+use Rattle.tmw_c.specs.declared.status.Status.TheVariants.{Full, Spent, BadKind, BadRegister, NotCall, Misfit}
 use Rattle.tmw_c.specs.declared.turn.Call.{Call}
 use Rattle.tmw_c.specs.declared.turn.Turn.{Turn}
 use Rattle.tmw_defs.specs.History.{answers}

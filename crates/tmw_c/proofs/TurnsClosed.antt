@@ -1,5 +1,5 @@
 -- A watch that is closed, and whose recorders have recorded by turns alone, has a well-formed log.
-use Rattle.std.proofs.Common.{◌≡◌, ◌==◌, ◌<◌, ◌≤◌, ◌+◌, ◌++◌, ℕ, List, [], ◌∷◌, All, map, length, get_or, take, IsTrue, inl, inr, refl, sym, ap, subst, ◌∙◌, arith}
+use Rattle.std.proofs.Common.{◌≡◌, ◌==◌, ◌<◌, ◌≤◌, ◌+◌, ℕ, List, [], ◌∷◌, All, map, length, get_or, take, inl, inr, refl, sym, ap, subst, ◌∙◌, arith}
 use Rattle.std.proofs.lemmas.Bool.{both_ways, cases_Bool, cases_lt, ne_eqb}
 use Rattle.std.proofs.lemmas.List.Elements.{All-head, All-map, All-tail}
 use Rattle.std.proofs.lemmas.List.Sorted.{All-permutation}
@@ -15,7 +15,7 @@ use Rattle.tmw_ring.specs.Parts.{made_from}
 use Rattle.tmw_ring.specs.declared.part.Made.{Made}
 use Rattle.tmw_turns.proofs.Completing.{formed_by_turns}
 use Rattle.tmw_turns.specs.Turning.{IsByTurns}
-use Rattle.tmw_watch.specs.Closing.{HasEnded, IsClosed, writers_of}
+use Rattle.tmw_watch.specs.Closing.{HasEnded, writers_of}
 use Rattle.tmw_watch.specs.Shown.{writer_of}
 use Rattle.tmw_watch.specs.declared.recorder.Recorder.{Recorder}
 use Rattle.tmw_watch.specs.declared.watch.Watch.{Watch}

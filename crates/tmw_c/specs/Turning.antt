@@ -1,7 +1,7 @@
 -- How a call is answered that carries a transaction out, an event at a time.
 use Rattle.std.specs.Prelude.{◌≡◌, ◌⊎◌, ◌<◌, ◌+◌, ◌++◌, ℕ, Bool, true, false, List, [], ◌∷◌, Option, Some, None, length, get_or}
 use Rattle.tmw_c.specs.Kinds.{AsksFor, IsNoLetter, IsNoRegister}
-use Rattle.tmw_c.specs.Recording.{HasRefused, IsSameEnd, WasFull, WasSpent}
+use Rattle.tmw_c.specs.Recording.{IsSameEnd, WasFull, WasSpent}
 use Rattle.tmw_c.specs.declared.status.Status.{Status}
 use Rattle.tmw_c.specs.declared.status.Status.TheVariants.{Done, NoHandle, Full, Spent, BadKind, BadRegister, OutOfTurn, NotCall, Misfit}
 use Rattle.tmw_c.specs.declared.turn.Call.{Call}

@@ -1,4 +1,4 @@
-use Rattle.std.proofs.Common.{rules, ◌≡◌, length, get_or, refl}
+use Rattle.std.proofs.Common.{rules, length, get_or, refl}
 use Rattle.std.proofs.lemmas.List.{get_or_default}
 use Rattle.tmw_c.proofs.Turns.{after-call, not-called}
 use Rattle.tmw_c.specs.Turning.{IsTurn}
