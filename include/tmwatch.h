@@ -78,7 +78,7 @@ enum tmwatch_status {
     TMWATCH_MISSING = 13,      /* the handles don't hold all recorders of the watch, each at its place */
     TMWATCH_CLOSING = 14,      /* the watch was being closed, and isn't open any more */
     TMWATCH_OUT_OF_TURN = 15,  /* the transaction's turn is another: no call is due, or none waits for its answer */
-    TMWATCH_NOT_CALL = 16,     /* the event that is to be the next call is an answer, or no call for this place of a transaction */
+    TMWATCH_NOT_CALL = 16,     /* the event that is to be the next call is none, or none that a transaction has at this place */
     TMWATCH_MISFIT = 17        /* the event doesn't answer the call */
 };
 
@@ -147,7 +147,7 @@ typedef struct tmwatch_counts {
     uint64_t transactions;   /* all */
     uint64_t unasked;        /* aborted ones that didn't ask for it */
     uint64_t widest;         /* the most from one moment at which all have ended to the next, or to the end */
-    uint8_t none_overlapped; /* 1: no two transactions overlapped, although two threads or more ran: if nothing is wrong, this run shows nothing; or 0 */
+    uint8_t none_overlapped; /* 1: two threads or more ran, and no two transactions overlapped: if nothing is wrong, this shows nothing; or 0 */
 } tmwatch_counts;
 
 /* A call of a transaction. What its kind doesn't have of a register and a value isn't looked at. */
@@ -222,19 +222,23 @@ TMWATCH_PURE TMWATCH_LOOK uint32_t tmwatch_record(tmwatch_recorder *recorder, ui
                                                   uint64_t value, uint64_t *place);
 
 /*
-These two carry a transaction out by turns: the program says at first which calls it makes, makes each itself once tmwatch_next has recorded
-it, and tells tmwatch_answered what the memory gave. `calls` is to the `count` calls of a transaction: reads, writes and adds, and then, only
-then, T or X. They stay the same from the first turn to the last, and nothing else is recorded by this recorder meanwhile. Whatever the memory
-gives, the events so recorded are then a run of these calls: when the turn is TMWATCH_OVER they are the whole text of the transaction, each
-call with an answer that fits it, up to an abort event or the last answer.
+These two carry a transaction out by turns: the program says at first which calls it makes, makes each itself once tmwatch_next has
+recorded it, and tells tmwatch_answered what the memory gave. `calls` is to the `count` calls of a transaction: reads, writes and adds, and
+then, only then, T or X. From the first turn to the last the calls and the recorder stay the same, the turn is as the last call left it, and
+nothing else is recorded by this recorder. Whatever the memory gives, the events so recorded are then a run of these calls: when the turn is
+TMWATCH_OVER they are the whole text of the transaction, each call with an answer that fits it, up to an abort event or the last answer.
 
     tmwatch_turn turn = TMWATCH_FIRST_TURN;
     while (turn.phase != TMWATCH_OVER) {
-        while (tmwatch_next(&recorder, calls, count, &turn, &place) == TMWATCH_FULL)
+        while ((status = tmwatch_next(&recorder, calls, count, &turn, &place)) == TMWATCH_FULL)
             ... waits for room ...
+        if (status != TMWATCH_DONE)
+            ... ends recording ...
         ... makes calls[turn.place] ...
-        while (tmwatch_answered(&recorder, calls, count, &turn, letter, value, &place) == TMWATCH_FULL)
+        while ((status = tmwatch_answered(&recorder, calls, count, &turn, letter, value, &place)) == TMWATCH_FULL)
             ... waits for room ...
+        if (status != TMWATCH_DONE)
+            ... ends recording ...
     }
 
 tmwatch_next records the call that is due, which then waits for its answer. tmwatch_answered records the answer of this letter to the call
@@ -242,14 +246,14 @@ that waits: V with the value that a read or an add gave, K after a write, C afte
 transaction; the next call is due then, or the transaction is over. Each stores in *place the event's place in the log.
 
 TMWATCH_OUT_OF_TURN: another phase, or `place` of the turn isn't below `count`. TMWATCH_NO_HANDLE. TMWATCH_BAD_KIND and
-TMWATCH_BAD_REGISTER, of the call or of the answer. TMWATCH_NOT_CALL, of tmwatch_next: an answer, T or X before the last place, or another
-call at the last. TMWATCH_MISFIT, of tmwatch_answered: another answer may be told. TMWATCH_FULL and TMWATCH_SPENT as above. They come in
-this order; where it isn't TMWATCH_DONE, nothing is recorded, and *turn and *place stay.
+TMWATCH_BAD_REGISTER, of the call, and then TMWATCH_BAD_KIND, of the answer. TMWATCH_NOT_CALL, of tmwatch_next: an answer, T or X before the
+last place, or another call at the last. TMWATCH_MISFIT, of tmwatch_answered: another answer may be told. TMWATCH_FULL and TMWATCH_SPENT as
+above. They come in this order; where it isn't TMWATCH_DONE, nothing is recorded, and *turn and *place stay.
 */
-TMWATCH_PURE TMWATCH_LOOK uint32_t tmwatch_next(tmwatch_recorder *recorder, const tmwatch_call *calls, size_t count, tmwatch_turn *turn,
-                                                uint64_t *place);
-TMWATCH_PURE TMWATCH_LOOK uint32_t tmwatch_answered(tmwatch_recorder *recorder, const tmwatch_call *calls, size_t count, tmwatch_turn *turn,
-                                                    uint32_t letter, uint64_t value, uint64_t *place);
+TMWATCH_PURE TMWATCH_LOOK uint32_t tmwatch_next(tmwatch_recorder *recorder, const tmwatch_call *calls, size_t count,
+                                                tmwatch_turn *turn, uint64_t *place);
+TMWATCH_PURE TMWATCH_LOOK uint32_t tmwatch_answered(tmwatch_recorder *recorder, const tmwatch_call *calls, size_t count,
+                                                    tmwatch_turn *turn, uint32_t letter, uint64_t value, uint64_t *place);
 
 /*
 Tells whether this many events find room, one after another: asked before a transaction begins, so that none of its events is refused. 0 is

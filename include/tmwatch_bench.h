@@ -20,8 +20,9 @@ round has at most eight attempts, so that its run is decided. By permits, the th
 permits (tmwatch_permits.h), and a transaction is attempted as often as it takes: one that never commits, until plan.seconds are over.
 
 A call is recorded before the memory is asked, and its answer after it has answered; a transaction's first call, before the memory begins
-it. Each is recorded by turns (tmwatch_next, tmwatch_answered), so that no record is malformed. No two writes have the same value, a register is read before it is written, and what is added is any number of 64 bits. Each 64th round
-and at the end, one thread reads all registers while the others wait; by permits, some time after each 512 attempts, and at the end.
+it. Each is recorded by turns (tmwatch_next, tmwatch_answered), so that no record is malformed. No two writes have the same value, a
+register is read before it is written, and what is added is any number of 64 bits. Each 64th round and at the end, one thread reads all
+registers while the others wait; by permits, some time after each 512 attempts, and at the end.
 
 What the program owes beside the duties of tmwatch.h. Nothing of it is tested:
 
@@ -109,8 +110,8 @@ begins, and by permits no attempt; some may have been run by then. The statuses 
 TMWATCH_MISSING: a function that the memory has to have is null. TMWATCH_BAD_SIZE: not 1 to 8 threads. TMWATCH_BAD_REGISTERS: not 1 to 8.
 TMWATCH_BAD_START: as in tmwatch_open. TMWATCH_BAD_BOUNDS: the calls, the attempts, a part of 100, the pause or the schedule are out of
 their range.
-TMWATCH_MEMORY: a growth of memory or a thread was refused, before or while the rounds ran. TMWATCH_MISFIT: `run` has answered true
-where tmwatch_calls has not. TMWATCH_OUT_OF_TURN: `run` has called tmwatch_calls twice in one attempt. Another status: as the watch answered.
+TMWATCH_MEMORY: a growth of memory or a thread was refused, before or while the rounds ran. TMWATCH_MISFIT: `run` has answered true where
+tmwatch_calls has not. TMWATCH_OUT_OF_TURN: `run` has called tmwatch_calls twice in one attempt. Another status: as the watch answered.
 
 The trace ends with the event at length `at`, or with the last one if nothing is wrong. If something is, it begins after the last reading of
 all registers, whose values are its start; else with the run, or with the earliest such reading among the last 131,072 events. Its `at` is

@@ -86,7 +86,7 @@ by_turns registers watch recorders log ended turns thread =
     ]
 
 pub formed_closed : FormedLaw
-formed_closed watch recorders report rules closed fits turns at malformed =
-    let first : IsFirst IsMalformed rules closed.log at = ((closed.headline rules fits).malformed at).0 malformed in
-    both_ways (is_well_formed rules.registers (take at closed.log)) first.here.ill_formed
-    (formed_by_turns rules.registers closed.log (by_turns rules.registers watch recorders closed.log closed.ended turns) at)
+formed_closed watch recorders log rules verdict ended headline turns at malformed =
+    let first : IsFirst IsMalformed rules log at = (headline.malformed at).0 malformed in
+    both_ways (is_well_formed rules.registers (take at log)) first.here.ill_formed
+    (formed_by_turns rules.registers log (by_turns rules.registers watch recorders log ended turns) at)

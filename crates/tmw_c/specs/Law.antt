@@ -2,15 +2,15 @@
 use Rattle.std.specs.Prelude.{◌≡◌, ◌≢◌, ℕ, List, All, map}
 use Rattle.tmw_c.specs.Kinds.{AsksFor}
 use Rattle.tmw_defs.specs.Verdict.{Rules}
+use Rattle.tmw_defs.specs.declared.verdict.Verdict.{Verdict}
 use Rattle.tmw_defs.specs.declared.verdict.Verdict.TheVariants.{Malformed}
+use Rattle.tmw_events.specs.declared.event.Event.{Event}
 use Rattle.tmw_events.specs.declared.event.Kind.{Kind}
-use Rattle.tmw_monitor.specs.Fitting.{Fits}
-use Rattle.tmw_pump.specs.Fronts.{judged_of, monitor_of}
+use Rattle.tmw_pump.specs.Headline.{Headline}
 use Rattle.tmw_turns.specs.Turning.{IsByTurns}
-use Rattle.tmw_watch.specs.Closing.{IsClosed}
-use Rattle.tmw_watch.specs.Shown.{watch_front, writer_of}
+use Rattle.tmw_watch.specs.Closing.{HasEnded, writers_of}
+use Rattle.tmw_watch.specs.Shown.{writer_of}
 use Rattle.tmw_watch.specs.declared.recorder.Recorder.{Recorder}
-use Rattle.tmw_watch.specs.declared.report.Report.{Report}
 use Rattle.tmw_watch.specs.declared.watch.Watch.{Watch}
 
 -- A letter, a register and a value ask for one kind at most.
@@ -22,9 +22,10 @@ OneKindLaw = (registers letter register value : ℕ) (one other : Kind) → Asks
 abbrev pub kinds_recorded : Recorder → List Kind
 kinds_recorded recorder = map (λ made. made.event.kind) (writer_of recorder).made
 
--- A watch was closed of which each recorder has recorded by turns alone. Then the verdict on its log is not malformed.
+-- A watch's ring has ended, of which each recorder has recorded by turns alone. Then no headline on the whole log, whichever call
+-- tells it, has the verdict malformed.
 abbrev pub FormedLaw : Type 0
-FormedLaw = (watch : Watch) (recorders : List Recorder) (report : Report) (rules : Rules) → IsClosed watch recorders report
-    → Fits rules (judged_of (watch_front watch)) (monitor_of (watch_front watch))
+FormedLaw = (watch : Watch) (recorders : List Recorder) (log : List Event) (rules : Rules) (verdict : Verdict)
+    → HasEnded watch recorders log → Headline rules log (writers_of recorders) log verdict
     → All (λ recorder. IsByTurns rules.registers (kinds_recorded recorder)) recorders
-    → (length : ℕ) → report.verdict ≢ Malformed length
+    → (length : ℕ) → verdict ≢ Malformed length

@@ -16,8 +16,7 @@ use Rattle.tmw_runs.specs.Runs.{is_abort}
 use Rattle.tmw_turns.specs.Turning.{Follows, IsPlaced}
 use Rattle.tmw_watch.specs.Shown.{writer_of}
 
--- This kind is recorded next, where the transaction has this call at its turn: what was recorded of it with that follows the new turn
--- as what was recorded before has followed the old one.
+-- The event brings the transaction of this call from turn to turn: behind whatever brings it to the old turn, it brings it to the new.
 abbrev pub GoesOn : (count : ℕ) → (call recorded : Kind) → (old new : Turn) → Type 0
 GoesOn count call recorded old new =
     (calls kinds : List Kind) → length calls ≡ count → get_or calls old.place A ≡ call
@@ -89,9 +88,9 @@ pub record Answers (fits : Bool) (call : Call) (letter value : ℕ) (old : HeldR
 -- why a recorder has not recorded the answer, and what it is then
 abbrev pub HasNotAnswered : Call → (letter value : ℕ) → HeldRecorder → HeldRecorder → Status → Type 0
 HasNotAnswered call letter value old new Misfit = Answers false call letter value old × (new ≡ old)
-HasNotAnswered call letter value old new BadKind = (IsNoLetter call.letter ⊎ IsNoLetter letter) × (new ≡ old)
-HasNotAnswered call letter value old new BadRegister =
-    (IsNoRegister old.registers.number call.letter call.register ⊎ IsNoRegister old.registers.number letter 0) × (new ≡ old)
+HasNotAnswered call letter value old new BadKind =
+    (IsNoLetter call.letter ⊎ (IsNoLetter letter × (kind : Kind) × Asks old.registers.number call kind)) × (new ≡ old)
+HasNotAnswered call letter value old new BadRegister = IsNoRegister old.registers.number call.letter call.register × (new ≡ old)
 HasNotAnswered call letter value old new Full = WasFull letter 0 value old new × Answers true call letter value old
 HasNotAnswered call letter value old new Spent = WasSpent letter 0 value old new × Answers true call letter value old
 HasNotAnswered call letter value old new _ = ⊥
@@ -137,7 +136,7 @@ pub record HasNotCalledHeld (calls : List Call) (old new : Option HeldRecorder) 
   pub is : IsAt calls turn call
   pub refused : HasNotCalled (length calls) turn call before after status
 
--- Each status of a call to record the next call, with what the handle holds then, the turn, and what place the caller is told.
+-- Each status of tmwatch_next, with what the handle holds then, the turn, and what place the caller is told.
 abbrev pub IsCalling : List Call → (old new : Option HeldRecorder) → (turn next : Turn) → (old_place new_place : ℕ) → Status → Type 0
 IsCalling calls old new turn next old_place new_place Done = HasCalledHeld calls new_place old new turn next
 IsCalling calls old new turn next old_place new_place NoHandle =
@@ -171,7 +170,7 @@ pub record HasNotAnsweredHeld (calls : List Call) (letter value : ℕ) (old new 
   pub is : IsAt calls turn call
   pub refused : HasNotAnswered call letter value before after status
 
--- Each status of a call to record an answer, with what the handle holds then, the turn, and what place the caller is told.
+-- Each status of tmwatch_answered, with what the handle holds then, the turn, and what place the caller is told.
 abbrev pub IsAnswering : List Call → (letter value : ℕ) → (old new : Option HeldRecorder) → (turn next : Turn)
     → (old_place new_place : ℕ) → Status → Type 0
 IsAnswering calls letter value old new turn next old_place new_place Done =

@@ -127,8 +127,8 @@ fn after(count: usize, turn: Turn, answer: Kind) -> Turn
     }
 }
 
-/// Records the answer to the call that waits for it by what the handle holds, which it holds again afterwards. `place`
-/// and the turn change only if the answer was recorded.
+/// Records the answer to the call that waits, by what the handle holds, which it holds again afterwards. `place` and the
+/// turn change only if it was recorded.
 pub fn answered(
     alloc: Global,
     recorder: &mut RecorderHandle,

@@ -11,7 +11,7 @@ use Rattle.tmw_runs.proofs.Calls.{answers_abort, are_calls-transactions}
 use Rattle.tmw_runs.proofs.NeverMalformed.{formed_law}
 use Rattle.tmw_runs.specs.Runs.{IsBeginning, IsWholeRun, IsWholeText}
 use Rattle.tmw_runs.specs.Scripts.{are_calls}
-use Rattle.tmw_turns.specs.Law.{FormedLaw, OverLaw}
+use Rattle.tmw_turns.specs.Law.{FormedLaw, OverLaw, StepLaw}
 use Rattle.tmw_turns.specs.Turning.{Follows, IsByTurns}
 
 -- calls have a whole text: the first is answered by an abort event
@@ -66,6 +66,15 @@ whole_run-more (first ∷ script) calls run text (front, rest, split, front_whol
   front_whole,
   whole_run-more script calls rest text later whole,
 )
+
+pub step_law : StepLaw
+step_law script calls kinds recorded place phase next_place next_phase turned goes = record {
+  run = turned.run;
+  text = turned.text ++ recorded ∷ [];
+  parts = ap (λ (k : List Kind). k ++ recorded ∷ []) turned.parts ∙ append_assoc turned.run turned.text (recorded ∷ []);
+  whole = turned.whole;
+  follows = goes turned.text turned.follows;
+}
 
 pub over_law : OverLaw
 over_law script calls kinds place more turned =

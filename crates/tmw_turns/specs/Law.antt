@@ -9,9 +9,16 @@ use Rattle.tmw_runs.specs.Runs.{IsWholeRun}
 use Rattle.tmw_runs.specs.Scripts.{is_transaction}
 use Rattle.tmw_turns.specs.Turning.{Follows, HasTurned, IsByTurns, IsPlaced}
 
--- Before the first call of a transaction nothing is recorded of it.
+-- No event at all brings a transaction to its first turn.
 abbrev pub BeginsLaw : Type 0
 BeginsLaw = (calls : List Kind) → Follows calls 0 0 []
+
+-- An event that brings a transaction from turn to turn, whatever was recorded of it, brings the thread on.
+abbrev pub StepLaw : Type 0
+StepLaw = (script : List (List Kind)) (calls kinds : List Kind) (recorded : Kind) (place phase next_place next_phase : ℕ)
+    → HasTurned script calls place phase kinds
+    → ((text : List Kind) → Follows calls place phase text → Follows calls next_place next_phase (text ++ recorded ∷ []))
+    → HasTurned script calls next_place next_phase (kinds ++ recorded ∷ [])
 
 -- Once the last transaction is over, the thread's events are a whole run of all.
 abbrev pub OverLaw : Type 0

@@ -6,17 +6,16 @@ use Rattle.tmw_events.specs.declared.event.Kind.TheVariants.{A}
 use Rattle.tmw_runs.specs.Runs.{IsWholeRun, IsWholeText}
 use Rattle.tmw_runs.specs.Scripts.{are_transactions, is_request}
 
--- The call may stand at this place among the calls of a transaction, which are so many: a request to commit or to abort is the last
--- one, and no other call is.
+-- A transaction of so many calls may have this one at this place: a request to commit or to abort is the last, and no other call is.
 abbrev pub IsPlaced : (count place : ℕ) → Kind → Type 0
 IsPlaced count place call = (answers call A ≡ true) × ((is_request call ≡ true) ↔ (place + 1 ≡ count))
 
--- After these events the transaction leaves these calls: each whole text of what is left completes them to a whole text of it.
+-- After these events the transaction leaves these calls: each whole text of what is left completes them to one of the transaction.
 abbrev pub LeavesCalls : (calls kinds left : List Kind) → Type 0
 LeavesCalls calls kinds left = (more : List Kind) → IsWholeText left more → IsWholeText calls (kinds ++ more)
 
--- What was recorded of a transaction, by the phase that it is in: it leaves the call at this place and the later ones; or so it did
--- before that call, which is its last event; or it is a whole text.
+-- These events bring a transaction to its turn. In phase 0 they leave the call at this place and the later ones. In phase 1 that
+-- call is recorded behind such events. Afterwards they are a whole text.
 abbrev pub Follows : (calls : List Kind) → (place phase : ℕ) → (kinds : List Kind) → Type 0
 Follows calls place zero kinds = LeavesCalls calls kinds (drop place calls)
 Follows calls place (suc zero) kinds =
@@ -24,7 +23,7 @@ Follows calls place (suc zero) kinds =
     × LeavesCalls calls before (drop place calls)
 Follows calls place (suc (suc more)) kinds = IsWholeText calls kinds
 
--- What a thread has recorded by turns: a whole run of these transactions, and then what follows of one more.
+-- A thread has recorded by turns: a whole run of these transactions, and then events that bring one more to its turn.
 pub record HasTurned (script : List (List Kind)) (calls : List Kind) (place phase : ℕ) (kinds : List Kind) : Type 0 where
   pub run : List Kind
   pub text : List Kind

@@ -4,8 +4,8 @@ ghost use Rattle.tmw_turns.specs.Turning.{IsPlaced};
 
 use tmw_events::Kind;
 
-/// Tells whether a transaction of `count` calls may have this one at `place`, counted from 0: a request to commit or to
-/// abort comes last, and each other call before it.
+/// Tells whether a transaction of `count` calls may have this one at `place`, counted from 0. A request to commit or to
+/// abort comes last, and no other call does.
 pub fn is_placed(call: Kind, place: usize, count: usize) -> bool
     requires { place < count }
     ensures yes { IsTrue result → IsPlaced count place call }
