@@ -90,8 +90,8 @@ elif [ -x "$folder/counted" ]; then
     done
 fi
 program memory "$top/tests/c/memory.c" 0 '' "${static[@]}" "${wrapped[@]}"
-program bank "$top/examples/c/bank.c" 0 "${ROUNDS:-2000}" "${static[@]}"
-program bank_broken "$top/examples/c/bank.c" 1 "${ROUNDS:-2000} broken" "${static[@]}"
+program audit "$top/examples/c/audit.c" 0 "${ROUNDS:-2000}" "${static[@]}"
+program audit_broken "$top/examples/c/audit.c" 1 "${ROUNDS:-2000} broken" "${static[@]}"
 
 rounds=${ROUNDS:-2000}
 # The little memory of examples/recorders under the recorder of examples/c, which closes nothing at its end, so that RUN doesn't run it: a
@@ -153,6 +153,11 @@ ends 'a replay compiles' 0 "$cc" -std=c11 "${strict[@]}" -o "$folder/bench_repla
 program bench_plans "$top/tests/c/bench_plans.c" 0 '' "${bench[@]}"
 [ ! -x "$folder/bench_plans" ] || "$folder/bench_plans" print >"$folder/lines" 2>&1
 ends 'what a bench prints' 0 diff "$folder/lines" "$top/tests/c/bench_plans.lines"
+program bank "$top/examples/c/bank.c" 0 "$rounds" "${bench[@]}"
+cp "$folder/output" "$folder/benched"
+ends 'bank: has met' 0 grep -q '"overlapping":[1-9]' "$folder/benched"
+program bank_broken "$top/examples/c/bank.c" 1 "$rounds broken" "${bench[@]}"
+ends 'bank: output that can not be written' 4 sh -c '"$@" >/dev/full' sh "${run[@]}" "$folder/bank" 9
 program bench_memory "$top/tests/c/bench_memory.c" 0 '' "${bench[@]}" "${wrapped[@]}" -Wl,--wrap=pthread_create
 for fault in NONE READS COMMIT PLACE; do
     ends "norec_$fault compiles" 0 "$cc" -std=c11 "${strict[@]}" "-DFAULT=$fault" -o "$folder/norec_$fault" \
