@@ -35,9 +35,15 @@ pub enum Status {
     Missing = 13,
     /// Not expected: the watch was being closed.
     Closing = 14,
+    /// A memory's `run` has made an attempt's calls twice.
+    OutOfTurn = 15,
+    /// Not expected: an answer in place of a call.
+    NotCall = 16,
+    /// A memory's `run` has returned that a transaction has committed, but it was to be rolled back.
+    Misfit = 17,
 }
 
-const STATUSES: [(Status, &str); 14] = [
+const STATUSES: [(Status, &str); 17] = [
     (Status::NoHandle, "the watch has been closed"),
     (Status::FullHandle, "a handle is not empty"),
     (Status::BadRegisters, "not 1 to 8 registers"),
@@ -52,6 +58,9 @@ const STATUSES: [(Status, &str); 14] = [
     (Status::BadRegister, "no such register"),
     (Status::Missing, "a recorder of the watch is still alive"),
     (Status::Closing, "the watch was being closed"),
+    (Status::OutOfTurn, "a memory's `run` has made an attempt's calls twice"),
+    (Status::NotCall, "an answer in place of a call"),
+    (Status::Misfit, "a memory's `run` has returned that a transaction has committed, but it was to be rolled back"),
 ];
 
 impl Status {
