@@ -6,7 +6,7 @@
 //!
 //! The types keep the duties that include/tmwatch.h numbers, except two. Events are recorded at the right moments (duty 8): otherwise the
 //! verdict is on another run. And no call is made in a signal handler, or in a forked child of a process that has threads (duty 6): only
-//! unsafe code gets there.
+//! unsafe code gets there. What moves a [`Recorder`] from thread to thread in safe code serves for duty 2.
 #![deny(unsafe_op_in_unsafe_fn)]
 #![warn(missing_docs)]
 
