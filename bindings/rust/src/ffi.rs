@@ -130,7 +130,9 @@ mod tests {
         layout!(to, Told, "tmwatch_told", events at verdict why);
         layout!(to, Counts, "tmwatch_counts", aborted committed cuts live overlapping transactions unasked widest none_overlapped);
         layout!(to, Memory, "tmwatch_memory", memory tx_size begin read write add commit abort run);
-        layout!(to, Plan, "tmwatch_plan", rounds seed threads registers calls attempts writes adds aborts pause seconds schedule start trace);
+        layout!(
+            to, Plan, "tmwatch_plan", rounds seed threads registers calls attempts writes adds aborts pause seconds schedule start trace
+        );
         layout!(to, Benched, "tmwatch_benched", told counts rounds from);
         to
     }
