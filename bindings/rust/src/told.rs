@@ -37,9 +37,9 @@ pub enum Status {
     Closing = 14,
     /// A memory's `run` has made an attempt's calls twice.
     OutOfTurn = 15,
-    /// Not expected: an answer in place of a call.
+    /// Not expected: what is to be a transaction's next call is none.
     NotCall = 16,
-    /// A memory's `run` has returned that a transaction has committed, but it was to be rolled back.
+    /// A memory's `run` has returned true, but the attempt's `calls` has not.
     Misfit = 17,
 }
 
@@ -59,8 +59,8 @@ const STATUSES: [(Status, &str); 17] = [
     (Status::Missing, "a recorder of the watch is still alive"),
     (Status::Closing, "the watch was being closed"),
     (Status::OutOfTurn, "a memory's `run` has made an attempt's calls twice"),
-    (Status::NotCall, "an answer in place of a call"),
-    (Status::Misfit, "a memory's `run` has returned that a transaction has committed, but it was to be rolled back"),
+    (Status::NotCall, "what is to be a transaction's next call is none"),
+    (Status::Misfit, "a memory's `run` has returned true, but its attempt's `calls` has not"),
 ];
 
 impl Status {
