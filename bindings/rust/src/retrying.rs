@@ -67,6 +67,8 @@ pub trait RetryingMemory: Sync {
     ///
     /// Before each attempt, ask [`Attempt::begins`]: before the memory begins it, and after the one before is rolled back. If it returns
     /// false, begin none and return false. In the attempt call [`Attempt::calls`], once: if it returns true, commit, and else roll back.
+    ///
+    /// If the memory's own loop can't ask before it begins an attempt, have it attempt once, and loop here.
     fn run(&self, attempt: &Attempt<'_, Self>) -> bool;
 
     /// Returns what the register holds. After [`Aborted`], no other call of the attempt follows.
@@ -139,8 +141,8 @@ impl<M: RetryingMemory + ?Sized> Attempt<'_, M> {
 /// Returns the memory and its transaction behind the bench's two pointers.
 ///
 /// # Safety
-/// The bench calls, within `Attempt::calls`, with the pointers that it got from `table::<M>`, and made for it; no other call has the
-/// transaction.
+/// The bench calls, within `Attempt::calls`, with the pointers that it got from `bench_retrying::<M>`, and made for it; no other call has
+/// the transaction.
 unsafe fn parts<'t, 's, M: RetryingMemory + 't>(memory: *mut c_void, slot: *mut c_void) -> (&'s M, &'s mut M::Transaction<'t>) {
     // SAFETY: the caller's promise. The transaction's own lifetime isn't known here: what uses it is right for each.
     unsafe { (&*memory.cast::<M>().cast_const(), &mut *(*slot.cast::<Cell<*mut c_void>>()).get().cast()) }
@@ -173,7 +175,8 @@ unsafe extern "C" fn add<M: RetryingMemory>(
 }
 
 unsafe extern "C" fn run<M: RetryingMemory>(memory: *mut c_void, slot: *mut c_void, attempt: *mut c_void) -> bool {
-    // SAFETY: the bench calls it with what it got from `table::<M>`, and a slot of this thread's, whose bytes are all 0 at first: null.
+    // SAFETY: the bench calls it with what it got from `bench_retrying::<M>`, and a slot of this thread's, whose bytes are all 0 at first:
+    // null.
     let (memory, transaction) = unsafe { (&*memory.cast::<M>().cast_const(), &*slot.cast::<Cell<*mut c_void>>()) };
     memory.run(&Attempt { attempt, transaction, memory: PhantomData })
 }
