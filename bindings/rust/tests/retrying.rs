@@ -1,7 +1,7 @@
 //! Memories on the bench that themselves attempt a transaction again: right ones, a broken one, and those that use their attempt wrongly.
 
 use std::cell::Cell;
-use std::sync::atomic::{AtomicU64, Ordering::SeqCst};
+use std::sync::atomic::{AtomicBool, AtomicU64, Ordering::SeqCst};
 use std::sync::{Mutex, MutexGuard};
 use tmwatch::{bench_retrying, pause, Aborted, Attempt, Plan, RetryingMemory, Verdict};
 
@@ -88,9 +88,11 @@ impl RetryingMemory for Versioned {
     }
 }
 
-/// One lock. An attempt aborts at a third write.
-#[derive(Default)]
-struct OneLock(Mutex<[u64; 8]>);
+/// One lock. Each other third write of an attempt aborts it.
+struct OneLock {
+    words: Mutex<[u64; 8]>,
+    refuses: AtomicBool,
+}
 
 struct Locked<'t> {
     words: MutexGuard<'t, [u64; 8]>,
@@ -102,7 +104,7 @@ impl RetryingMemory for OneLock {
 
     fn run(&self, attempt: &Attempt<'_, Self>) -> bool {
         while attempt.begins() {
-            let mut it = Locked { words: self.0.lock().unwrap(), writes: 0 };
+            let mut it = Locked { words: self.words.lock().unwrap(), writes: 0 };
             let before = *it.words;
             if attempt.calls(&mut it) {
                 return true;
@@ -120,7 +122,10 @@ impl RetryingMemory for OneLock {
     fn write(&self, it: &mut Locked<'_>, register: usize, value: u64) -> Result<(), Aborted> {
         it.writes += 1;
         it.words[register] = value;
-        (it.writes < 3).then_some(()).ok_or(Aborted)
+        if it.writes == 3 && self.refuses.fetch_xor(true, SeqCst) {
+            return Err(Aborted);
+        }
+        Ok(())
     }
 
     fn add(&self, it: &mut Locked<'_>, register: usize, addend: u64) -> Result<u64, Aborted> {
@@ -135,9 +140,10 @@ fn a_right_memory_is_opaque_so_far() {
     for (seed, permits) in [(1, false), (2, false), (1, true), (2, true)] {
         let start = [7, 8, 9, 0, 0, 0, 0, 0];
         let plan = Plan { rounds: 2000, seed, permits, start, trace: true, ..Plan::default() };
-        for benched in
-            [bench_retrying(&Versioned::new(true, start), &plan).unwrap(), bench_retrying(&OneLock(Mutex::new(start)), &plan).unwrap()]
-        {
+        for benched in [
+            bench_retrying(&Versioned::new(true, start), &plan).unwrap(),
+            bench_retrying(&OneLock { words: Mutex::new(start), refuses: AtomicBool::new(true) }, &plan).unwrap(),
+        ] {
             assert_eq!(benched.told.verdict, Verdict::OpaqueSoFar);
             assert_eq!(benched.rounds, 2000);
             let trace = benched.trace.unwrap();
