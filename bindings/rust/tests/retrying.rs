@@ -3,7 +3,7 @@
 use std::cell::Cell;
 use std::sync::atomic::{AtomicBool, AtomicU64, Ordering::SeqCst};
 use std::sync::{Mutex, MutexGuard};
-use tmwatch::{bench_retrying, pause, Aborted, Attempt, Plan, RetryingMemory, Verdict};
+use tmwatch::{bench_retrying, pause, Aborted, Attempt, Plan, RetryingMemory, Status, Verdict};
 
 /// Stores all that a transaction writes when it commits, and its version is odd meanwhile. If `looks`, each read looks whether the version
 /// is still the one at which the attempt began.
@@ -227,4 +227,45 @@ fn an_attempt_within_its_calls_ends_the_process() {
     let output = again.env("TMWATCH_NESTS", "1").output().unwrap();
     assert!(String::from_utf8_lossy(&output.stderr).contains("the attempt is within its calls"));
     assert_eq!(output.status.code(), None, "it has to end by a signal");
+}
+
+/// Runs that break their promise.
+enum Wrong {
+    CallsNone,
+    CommitsAll,
+    CallsTwice,
+}
+
+impl RetryingMemory for Wrong {
+    type Transaction<'t> = ();
+
+    fn run(&self, attempt: &Attempt<'_, Self>) -> bool {
+        let calls = match self {
+            _ if !attempt.begins() => return false,
+            Wrong::CallsNone => 0,
+            Wrong::CommitsAll => 1,
+            Wrong::CallsTwice => 2,
+        };
+        for _ in 0..calls {
+            attempt.calls(&mut ());
+        }
+        true
+    }
+
+    fn read(&self, _: &mut (), _: usize) -> Result<u64, Aborted> {
+        Ok(0)
+    }
+
+    fn write(&self, _: &mut (), _: usize, _: u64) -> Result<(), Aborted> {
+        Ok(())
+    }
+}
+
+#[test]
+fn a_run_that_breaks_its_promise_is_told() {
+    let plan = Plan { threads: 1, aborts: 100, ..Plan::default() };
+    let status = |wrong| bench_retrying(&wrong, &plan).unwrap_err();
+    assert_eq!(status(Wrong::CallsNone), Status::Misfit);
+    assert_eq!(status(Wrong::CommitsAll), Status::Misfit);
+    assert_eq!(status(Wrong::CallsTwice), Status::OutOfTurn);
 }
