@@ -56,6 +56,8 @@ pub struct Plan {
     /// How many registers a transaction uses: 1 to 16.
     pub calls: u64,
     /// How often a transaction is attempted: `threads * attempts` is at most 8. 0: as often as that allows.
+    ///
+    /// With `permits`, any number. 0: as often as it takes, so that a transaction which always aborts ends only after `seconds`.
     pub attempts: u64,
     /// Of 100 registers that are read, how many are written then.
     pub writes: u64,
