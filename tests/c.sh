@@ -73,6 +73,12 @@ wrong_permits 'are taken all while others are active' 's/% (UINT64_C(1) << 32) !
 program kept "$top/tests/c/kept.c" 0 '' "${static[@]}"
 [ ! -x "$folder/kept" ] || "$folder/kept" >"$folder/traces"
 ends 'what was kept' 0 diff "$folder/traces" "$top/tests/c/kept.traces"
+if command -v "$cxx" >/dev/null; then
+    ends 'kept compiles, in C++17' 0 "$cxx" -std=c++17 "${strict[@]}" -o "$folder/kept_cxx" -x c++ "$top/tests/c/kept.c" -x none \
+        "${static[@]}"
+    [ ! -x "$folder/kept_cxx" ] || "$folder/kept_cxx" >"$folder/traces"
+    ends 'what was kept, in C++17' 0 diff "$folder/traces" "$top/tests/c/kept.traces"
+fi
 program counted "$top/tests/c/counted.c" 0 '' "${static[@]}"
 if [ ! -x "$program" ]; then
     echo 'what judge counts: skipped, since the program is not built'
@@ -84,10 +90,31 @@ elif [ -x "$folder/counted" ]; then
     done
 fi
 program memory "$top/tests/c/memory.c" 0 '' "${static[@]}" "${wrapped[@]}"
-program bank "$top/examples/c/bank.c" 0 "${ROUNDS:-2000}" "${static[@]}"
-program bank_broken "$top/examples/c/bank.c" 1 "${ROUNDS:-2000} broken" "${static[@]}"
+program audit "$top/examples/c/audit.c" 0 "${ROUNDS:-2000}" "${static[@]}"
+program audit_broken "$top/examples/c/audit.c" 1 "${ROUNDS:-2000} broken" "${static[@]}"
 
 rounds=${ROUNDS:-2000}
+# The little memory of examples/recorders under the recorder of examples/c, which closes nothing at its end, so that RUN doesn't run it: a
+# flag or none, the words, and the status that its verdict has to be.
+watched() {
+    local words name="watched${1:+ $1} $2"
+    read -r -a words <<<"$2"
+    ends "$name compiles" 0 "$cc" -std=gnu11 "${strict[@]}" ${1:+"$1"} -include "$top/examples/c/recorder.h" -o "$folder/watched" \
+        "$top/examples/recorders/little.c" "${static[@]}"
+    ends "$name" "$3" "$folder/watched" "${words[@]}" "$rounds" 1
+}
+
+watched '' 'none right' 0
+ends 'watched, output that can not be written' 4 sh -c '"$@" >/dev/full' sh "$folder/watched" none right 9 1
+watched '' 'reads right' 1
+watched -DWAIT_EVERY=4 'none right' 2
+watched '' 'none no-abort' 3
+# The recorder that writes a trace, with room for a round's events, and for fewer.
+for room in 112 16; do
+    ends "room for $room events compiles" 0 "$cc" -std=gnu11 "${strict[@]}" "-DROOM=$room" -o "$folder/room" \
+        "$top/examples/recorders/little.c"
+    ends "room for $room events" "$([ "$room" = 112 ] && echo 0 || echo 134)" "$folder/room" none right 99 1
+done
 # The bench is compiled here, so that the flags reach it too.
 bench=(-DTMWATCH_PAUSES "$folder/bench.o" "${static[@]}")
 
@@ -126,6 +153,11 @@ ends 'a replay compiles' 0 "$cc" -std=c11 "${strict[@]}" -o "$folder/bench_repla
 program bench_plans "$top/tests/c/bench_plans.c" 0 '' "${bench[@]}"
 [ ! -x "$folder/bench_plans" ] || "$folder/bench_plans" print >"$folder/lines" 2>&1
 ends 'what a bench prints' 0 diff "$folder/lines" "$top/tests/c/bench_plans.lines"
+program bank "$top/examples/c/bank.c" 0 "$rounds" "${bench[@]}"
+cp "$folder/output" "$folder/benched"
+ends 'bank: has met' 0 grep -q '"overlapping":[1-9]' "$folder/benched"
+program bank_broken "$top/examples/c/bank.c" 1 "$rounds broken" "${bench[@]}"
+ends 'bank: output that can not be written' 4 sh -c '"$@" >/dev/full' sh "${run[@]}" "$folder/bank" 9
 program bench_memory "$top/tests/c/bench_memory.c" 0 '' "${bench[@]}" "${wrapped[@]}" -Wl,--wrap=pthread_create
 for fault in NONE READS COMMIT PLACE; do
     ends "norec_$fault compiles" 0 "$cc" -std=c11 "${strict[@]}" "-DFAULT=$fault" -o "$folder/norec_$fault" \

@@ -28,8 +28,10 @@ TMWATCH_PURE static inline uint32_t kept_record(tmwatch_recorder *recorder, unsi
 {
     uint64_t place;
     uint32_t status = tmwatch_record(recorder, (uint32_t)letter, reg, value, &place);
-    if (status == TMWATCH_DONE && place < KEPT_MOST)
-        kept_events[place] = (struct kept_event){value, (uint8_t)thread, (uint8_t)reg, letter};
+    if (status == TMWATCH_DONE && place < KEPT_MOST) {
+        const struct kept_event event = {value, (uint8_t)thread, (uint8_t)reg, letter};
+        kept_events[place] = event;
+    }
     return status;
 }
 

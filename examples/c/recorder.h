@@ -3,9 +3,12 @@ The recorder of examples/recorders, by a watch in the program's own process: a p
 
     -include examples/c/recorder.h
 
-and is then judged as it runs. In place of the trace it writes the verdict on all that it recorded, as its last line. An event is recorded
-by one call that never waits, so that it may be made within a transaction, whatever the memory holds there: the ring has room for what is
-recorded between two calls of write_events.
+and is then judged as it runs. In place of the trace it writes the verdict on all that it recorded, as its last line, and ends with the exit
+status of `tmwatch judge` for it: 0 opaque so far, 1 violated, 2 undecided, 3 malformed, 4 if standard output failed. The status that main
+returns is lost.
+
+An event is recorded by one call that never waits, so that it may be made within a transaction, whatever the memory holds there: the ring
+has room for what is recorded between two calls of write_events.
 */
 #ifndef RECORDER_H
 #define RECORDER_H
@@ -44,10 +47,15 @@ static inline void record(unsigned thread, char kind, unsigned reg, uint64_t val
     expect_done("an event", tmwatch_record(&recorders[thread], (uint32_t)kind, reg, value, &place));
 }
 
+/* At the program's end: writes the verdict, and ends with its status. */
 static void write_verdict(void)
 {
     static const char *const verdicts[] = {"opaque so far", "violated", "undecided", "malformed"};
     printf("%s at %llu of %llu events\n", verdicts[told.verdict], (unsigned long long)told.at, (unsigned long long)told.events);
+    if (fflush(NULL) == 0 && !ferror(stdout))
+        _Exit((int)told.verdict);
+    fputs("recorder: standard output failed\n", stderr);
+    _Exit(4);
 }
 
 static inline void write_header(unsigned registers)

@@ -10,8 +10,10 @@ Records what threads call and are answered, and writes it as the trace that `tmw
 #include <stdio.h>
 #include <stdlib.h>
 
-/* As many events as may be recorded between two calls of write_events. */
-enum { ROOM = 1 << 16 };
+/* As many events as may be recorded between two calls of write_events. -DROOM=N chooses another number. */
+#ifndef ROOM
+#define ROOM 65536
+#endif
 
 struct event {
     uint64_t value;

@@ -4,8 +4,8 @@
 #
 #   tests/long/libitm_watched.sh
 #
-# A row tells how often each verdict came, of RUNS runs. The last line is 'N passed, M failed', and the exit status is 1 where a row's
-# verdict wasn't the one that is wanted, 2 where there is no gcc that compiles and links transactions.
+# A row tells how often each verdict and exit status came, of RUNS runs. The last line is 'N passed, M failed', and the exit status is 1
+# where a row's weren't those that are wanted, 2 where there is no gcc that compiles and links transactions.
 # Environment: RUNS (5), ROUNDS (1000), CC (gcc), BUILT (a folder that ./tmwatch-c has filled). The little memory needs x86-64.
 set -eu
 # shellcheck source=tests/common.sh
@@ -28,19 +28,23 @@ for fault in NONE READS COMMIT PLACE; do
     "${compile[@]}" -o "$folder/$fault" "$folder/run.o" "$folder/transaction.o" "$folder/memory.o" "$built/lib/libtmwatch.a"
 done
 
+declare -A statuses=(['opaque so far']=0 [violated]=1 [undecided]=2 [malformed]=3)
+
 # A row: its name, the verdict that each run has to have, the method of libitm, the program, and where it records.
 row() {
-    local name=$1 wanted=$2 method=$3 program=$4 placing=$5 seed
+    local name=$1 wanted=$2 method=$3 program=$4 placing=$5 seed status
     : >"$folder/verdicts"
     for seed in $(seq "$runs"); do
-        ITM_DEFAULT_METHOD=$method timeout 120 "$folder/$program" "$placing" "$rounds" "$seed" 2>/dev/null | tail -n 1 >>"$folder/verdicts"
+        status=0
+        ITM_DEFAULT_METHOD=$method timeout 120 "$folder/$program" "$placing" "$rounds" "$seed" >"$folder/output" 2>/dev/null || status=$?
+        echo "$(tail -n 1 "$folder/output"), status $status" >>"$folder/verdicts"
     done
-    if [ "$(grep -c "^$wanted at " "$folder/verdicts")" -eq "$runs" ]; then
+    if [ "$(grep -c "^$wanted at .*, status ${statuses[$wanted]}\$" "$folder/verdicts")" -eq "$runs" ]; then
         passed=$((passed + 1))
     else
         failed=$((failed + 1))
     fi
-    printf '%-32s %s\n' "$name" "$(sed 's/ at .*//' "$folder/verdicts" | sort | uniq -c | tr -s ' \n' ' ')"
+    printf '%-32s %s\n' "$name" "$(sed 's/ at .*,/,/' "$folder/verdicts" | sort | uniq -c | tr -s ' \n' ' ')"
 }
 
 for method in serialirr serial gl_wt ml_wt; do

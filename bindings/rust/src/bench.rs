@@ -56,6 +56,8 @@ pub struct Plan {
     /// How many registers a transaction uses: 1 to 16.
     pub calls: u64,
     /// How often a transaction is attempted: `threads * attempts` is at most 8. 0: as often as that allows.
+    ///
+    /// With `permits`, any number. 0: as often as it takes, so that a transaction which always aborts ends only after `seconds`.
     pub attempts: u64,
     /// Of 100 registers that are read, how many are written then.
     pub writes: u64,
@@ -265,6 +267,15 @@ impl Stream {
 /// # Panics
 /// Panics if the memory's transaction is to be aligned to more than 16 bytes.
 pub fn bench<M: Memory>(memory: &M, plan: &Plan) -> Result<Benched, Status> {
+    // SAFETY: the memory is Sync and borrowed meanwhile; its functions take the bench's pointers.
+    unsafe { run_table(&table(memory), plan) }
+}
+
+/// Runs the plan's rounds on the memory of this table.
+///
+/// # Safety
+/// Its functions may be called by threads of the bench, as the header says, until this returns.
+pub(crate) unsafe fn run_table(table: &ffi::Memory, plan: &Plan) -> Result<Benched, Status> {
     let stream = if plan.trace { Some(Stream::open()?) } else { None };
     // SAFETY: the stream is open.
     let trace = stream.map_or(null_mut(), |it| unsafe { (*it).stream });
@@ -286,8 +297,8 @@ pub fn bench<M: Memory>(memory: &M, plan: &Plan) -> Result<Benched, Status> {
         trace,
     };
     let mut benched = ffi::Benched::default();
-    // SAFETY: all pointers live through the call, which ends its threads; the memory is Sync; its functions take the bench's pointers.
-    let status = unsafe { ffi::tmwatch_bench(&table(memory), &plan, &mut benched) };
+    // SAFETY: all pointers live through the call, which ends its threads; the caller's promise.
+    let status = unsafe { ffi::tmwatch_bench(table, &plan, &mut benched) };
     // SAFETY: it was opened above, and the bench has returned.
     let trace = stream.map(|it| unsafe { Stream::close(it) }).transpose();
     Status::check(status)?;

@@ -87,6 +87,8 @@ extern "C" {
     pub fn tmwatch_discard(watch: *mut Watch);
     pub fn tmwatch_discard_recorder(recorder: *mut Recorder);
     pub fn tmwatch_bench(memory: *const Memory, plan: *const Plan, benched: *mut Benched) -> u32;
+    pub fn tmwatch_begins(attempt: *mut c_void) -> bool;
+    pub fn tmwatch_calls(attempt: *mut c_void) -> bool;
     pub fn tmwatch_pause();
     // The C library's: a stream that writes into memory.
     pub fn open_memstream(bytes: *mut *mut c_char, size: *mut usize) -> *mut c_void;
@@ -98,6 +100,7 @@ extern "C" {
 #[cfg(test)]
 mod tests {
     use super::*;
+    use crate::Status;
     use std::fmt::Write;
     use std::mem::{offset_of, size_of};
     use std::process::Command;
@@ -127,9 +130,23 @@ mod tests {
         layout!(to, Told, "tmwatch_told", events at verdict why);
         layout!(to, Counts, "tmwatch_counts", aborted committed cuts live overlapping transactions unasked widest none_overlapped);
         layout!(to, Memory, "tmwatch_memory", memory tx_size begin read write add commit abort run);
-        layout!(to, Plan, "tmwatch_plan", rounds seed threads registers calls attempts writes adds aborts pause seconds schedule start trace);
+        layout!(
+            to, Plan, "tmwatch_plan", rounds seed threads registers calls attempts writes adds aborts pause seconds schedule start trace
+        );
         layout!(to, Benched, "tmwatch_benched", told counts rounds from);
         to
+    }
+
+    /// Adds a check of each status's number.
+    fn statuses(to: &mut String) {
+        let names = "NO_HANDLE FULL_HANDLE BAD_REGISTERS BAD_START BAD_BOUNDS BAD_SIZE BAD_LIMIT MEMORY FULL SPENT BAD_KIND BAD_REGISTER \
+                     MISSING CLOSING OUT_OF_TURN NOT_CALL MISFIT";
+        for (name, number) in names.split(' ').zip(1..) {
+            let status = Status::check(number).unwrap_err();
+            assert_eq!(status as u32, number);
+            assert_eq!(format!("{status:?}").to_uppercase(), name.replace('_', ""));
+            writeln!(to, "_Static_assert(TMWATCH_{name} == {number}, \"{name}\");").unwrap();
+        }
     }
 
     /// Adds a function that returns 0 if the headers' default settings and plan are those of Rust.
@@ -164,11 +181,12 @@ mod tests {
     }
 
     #[test]
-    fn layouts_and_defaults_are_those_of_the_headers() {
+    fn layouts_statuses_and_defaults_are_those_of_the_headers() {
         let folder = std::env::temp_dir().join(format!("tmwatch-layout-{}", std::process::id()));
         std::fs::create_dir_all(&folder).unwrap();
         let (source, program) = (folder.join("layout.c"), folder.join("layout"));
         let mut text = checks();
+        statuses(&mut text);
         text += "int main(void)\n{\n    tmwatch_plan plan = TMWATCH_PLAN;\n    tmwatch_settings settings = TMWATCH_SETTINGS(3);\n";
         defaults(&mut text);
         text += "    return 0;\n}\n";

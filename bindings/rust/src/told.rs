@@ -35,9 +35,15 @@ pub enum Status {
     Missing = 13,
     /// Not expected: the watch was being closed.
     Closing = 14,
+    /// A memory's `run` has made an attempt's calls twice.
+    OutOfTurn = 15,
+    /// Not expected: what is to be a transaction's next call is none.
+    NotCall = 16,
+    /// A memory's `run` has returned true, but the attempt's `calls` has not.
+    Misfit = 17,
 }
 
-const STATUSES: [(Status, &str); 14] = [
+const STATUSES: [(Status, &str); 17] = [
     (Status::NoHandle, "the watch has been closed"),
     (Status::FullHandle, "a handle is not empty"),
     (Status::BadRegisters, "not 1 to 8 registers"),
@@ -52,6 +58,9 @@ const STATUSES: [(Status, &str); 14] = [
     (Status::BadRegister, "no such register"),
     (Status::Missing, "a recorder of the watch is still alive"),
     (Status::Closing, "the watch was being closed"),
+    (Status::OutOfTurn, "a memory's `run` has made an attempt's calls twice"),
+    (Status::NotCall, "what is to be a transaction's next call is none"),
+    (Status::Misfit, "a memory's `run` has returned true, but its attempt's `calls` has not"),
 ];
 
 impl Status {

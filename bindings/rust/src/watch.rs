@@ -88,7 +88,10 @@ struct Handles {
 
 // SAFETY: a handle is used by one thread at a time, the one that `users` names; it is handed over by a sequentially consistent swap.
 unsafe impl Sync for Handles {}
-// SAFETY: a handle may be used by another thread than the one that opened it; whatever moves a `Recorder` there hands it over.
+// SAFETY: a handle may be used by another thread than the one that opened it. Whatever moves a `Recorder` there, its calls in the thread
+// before happen before those in the next. A thread's start, its end and a lock give no more. All steps on the ring are sequentially
+// consistent. Their one order keeps what happens before by steps that lie between two calls, as those of a move do (C11, 7.17.3; C++20,
+// [atomics.order], which is Rust's model). So a channel serves too, or an atomic that releases and acquires.
 unsafe impl Send for Handles {}
 
 impl Handles {
@@ -197,6 +200,9 @@ impl Drop for Watch {
 /// let (_watch, recorders) = tmwatch::Watch::open(&tmwatch::Settings::new(1), 1).unwrap();
 /// let copy = recorders[0].clone();
 /// ```
+///
+/// It moves as any other value does: also through a channel, and again once it has recorded. What it has recorded comes before what it
+/// records next. A transaction is one thread's, so move it between two.
 pub struct Recorder {
     handles: Arc<Handles>,
     number: usize,

@@ -1,13 +1,14 @@
 //! A watch and its recorders in threads.
 
+use std::sync::mpsc;
 use std::thread;
 use tmwatch::{Event, Recorder, Settings, Status, Told, Verdict, Watch, Why};
 
 const READ: Event = Event::Read { register: 0 };
 
 /// Records a transaction that adds 1.
-fn add_one(recorder: &mut Recorder, before: u64) {
-    let add = Event::Add { register: 0, value: 1 };
+fn add_one(recorder: &mut Recorder, register: u64, before: u64) {
+    let add = Event::Add { register, value: 1 };
     for event in [add, Event::Value(before), Event::Commit, Event::Committed] {
         while recorder.record(event) == Err(Status::Full) {
             thread::yield_now();
@@ -26,7 +27,7 @@ fn a_right_run_is_opaque_so_far() {
             thread::spawn(move || {
                 for _ in 0..1000 {
                     let mut held = word.lock().unwrap();
-                    add_one(&mut recorder, *held);
+                    add_one(&mut recorder, 0, *held);
                     *held += 1;
                 }
             })
@@ -132,6 +133,36 @@ fn what_is_refused_is_told() {
     assert_eq!(watch.pump(9), Ok(2));
     assert_eq!(recorders[0].record(Event::Committed), Err(Status::Spent));
     assert_eq!(Status::Spent.to_string(), "the watch's limit is reached");
+}
+
+/// Two recorders go round three threads by channels, each with what its register holds, and add to it between two moves.
+#[test]
+fn a_recorder_goes_by_channels_from_thread_to_thread() {
+    let (watch, recorders) = Watch::open(&Settings { cells: 16, ..Settings::new(2) }, 2).unwrap();
+    let (senders, receivers): (Vec<_>, Vec<_>) = (0..3).map(|_| mpsc::channel::<(Recorder, u64)>()).unzip();
+    for (sender, recorder) in senders.iter().zip(recorders) {
+        sender.send((recorder, 0)).unwrap();
+    }
+    let goes_round = |(place, receiver): (usize, mpsc::Receiver<(Recorder, u64)>)| {
+        let next = senders[(place + 1) % 3].clone();
+        thread::spawn(move || {
+            for (mut recorder, held) in receiver.into_iter().take(2000) {
+                let register = recorder.number() as u64;
+                add_one(&mut recorder, register, held);
+                // The next thread may have ended: then the recorder is dropped.
+                let _ = next.send((recorder, held + 1));
+            }
+        })
+    };
+    let threads: Vec<_> = receivers.into_iter().enumerate().map(goes_round).collect();
+    drop(senders);
+    while !threads.iter().all(|it| it.is_finished()) {
+        watch.pump(64).unwrap();
+    }
+    threads.into_iter().for_each(|it| it.join().unwrap());
+    let Told { events, verdict } = watch.close().unwrap();
+    assert_eq!(verdict, Verdict::OpaqueSoFar);
+    assert!(events % 4 == 0 && events >= 4 * 2000, "{events}");
 }
 
 /// A recorder may outlive its watch, in whichever order the two go.

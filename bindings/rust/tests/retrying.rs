@@ -1,0 +1,271 @@
+//! Memories on the bench that themselves attempt a transaction again: right ones, a broken one, and those that use their attempt wrongly.
+
+use std::cell::Cell;
+use std::sync::atomic::{AtomicBool, AtomicU64, Ordering::SeqCst};
+use std::sync::{Mutex, MutexGuard};
+use tmwatch::{bench_retrying, pause, Aborted, Attempt, Plan, RetryingMemory, Status, Verdict};
+
+/// Stores all that a transaction writes when it commits, and its version is odd meanwhile. If `looks`, each read looks whether the version
+/// is still the one at which the attempt began.
+struct Versioned {
+    version: AtomicU64,
+    words: [AtomicU64; 8],
+    looks: bool,
+}
+
+struct Tx<'t> {
+    memory: &'t Versioned,
+    version: u64,
+    writes: [Option<u64>; 8],
+}
+
+impl Versioned {
+    fn new(looks: bool, start: [u64; 8]) -> Versioned {
+        Versioned { version: AtomicU64::new(0), words: start.map(AtomicU64::new), looks }
+    }
+
+    fn begin(&self) -> Tx<'_> {
+        loop {
+            let version = self.version.load(SeqCst);
+            if version % 2 == 0 {
+                return Tx { memory: self, version, writes: [None; 8] };
+            }
+            std::thread::yield_now();
+        }
+    }
+
+    /// Attempts the body until it returns Ok and commits, or no further attempt may begin. Returns whether it has committed.
+    fn atomically(&self, may_begin: impl Fn() -> bool, mut body: impl FnMut(&mut Tx<'_>) -> Result<(), Aborted>) -> bool {
+        while may_begin() {
+            let mut tx = self.begin();
+            if body(&mut tx).and_then(|()| tx.commit()).is_ok() {
+                return true;
+            }
+        }
+        false
+    }
+}
+
+impl Tx<'_> {
+    fn read(&self, register: usize) -> Result<u64, Aborted> {
+        let value = self.memory.words[register].load(SeqCst);
+        pause();
+        if self.memory.looks && self.memory.version.load(SeqCst) != self.version {
+            return Err(Aborted);
+        }
+        Ok(self.writes[register].unwrap_or(value))
+    }
+
+    fn commit(self) -> Result<(), Aborted> {
+        if self.writes.iter().all(Option::is_none) {
+            return Ok(());
+        }
+        let version = &self.memory.version;
+        version.compare_exchange(self.version, self.version + 1, SeqCst, SeqCst).map_err(|_| Aborted)?;
+        for (word, value) in self.memory.words.iter().zip(self.writes) {
+            pause();
+            value.inspect(|it| word.store(*it, SeqCst));
+        }
+        version.store(self.version + 2, SeqCst);
+        Ok(())
+    }
+}
+
+impl RetryingMemory for Versioned {
+    type Transaction<'t> = Tx<'t>;
+
+    fn run(&self, attempt: &Attempt<'_, Self>) -> bool {
+        self.atomically(|| attempt.begins(), |tx| if attempt.calls(tx) { Ok(()) } else { Err(Aborted) })
+    }
+
+    fn read(&self, tx: &mut Tx<'_>, register: usize) -> Result<u64, Aborted> {
+        tx.read(register)
+    }
+
+    fn write(&self, tx: &mut Tx<'_>, register: usize, value: u64) -> Result<(), Aborted> {
+        tx.writes[register] = Some(value);
+        Ok(())
+    }
+}
+
+/// One lock. Each other third write of an attempt aborts it.
+struct OneLock {
+    words: Mutex<[u64; 8]>,
+    refuses: AtomicBool,
+}
+
+struct Locked<'t> {
+    words: MutexGuard<'t, [u64; 8]>,
+    writes: u64,
+}
+
+impl RetryingMemory for OneLock {
+    type Transaction<'t> = Locked<'t>;
+
+    fn run(&self, attempt: &Attempt<'_, Self>) -> bool {
+        while attempt.begins() {
+            let mut it = Locked { words: self.words.lock().unwrap(), writes: 0 };
+            let before = *it.words;
+            if attempt.calls(&mut it) {
+                return true;
+            }
+            *it.words = before;
+        }
+        false
+    }
+
+    fn read(&self, it: &mut Locked<'_>, register: usize) -> Result<u64, Aborted> {
+        pause();
+        Ok(it.words[register])
+    }
+
+    fn write(&self, it: &mut Locked<'_>, register: usize, value: u64) -> Result<(), Aborted> {
+        it.writes += 1;
+        it.words[register] = value;
+        if it.writes == 3 && self.refuses.fetch_xor(true, SeqCst) {
+            return Err(Aborted);
+        }
+        Ok(())
+    }
+
+    fn add(&self, it: &mut Locked<'_>, register: usize, addend: u64) -> Result<u64, Aborted> {
+        let before = it.words[register];
+        it.words[register] = before.wrapping_add(addend);
+        Ok(before)
+    }
+}
+
+#[test]
+fn a_right_memory_is_opaque_so_far() {
+    for (seed, permits) in [(1, false), (2, false), (1, true), (2, true)] {
+        let start = [7, 8, 9, 0, 0, 0, 0, 0];
+        let plan = Plan { rounds: 2000, seed, permits, start, trace: true, ..Plan::default() };
+        for benched in [
+            bench_retrying(&Versioned::new(true, start), &plan).unwrap(),
+            bench_retrying(&OneLock { words: Mutex::new(start), refuses: AtomicBool::new(true) }, &plan).unwrap(),
+        ] {
+            assert_eq!(benched.told.verdict, Verdict::OpaqueSoFar);
+            assert_eq!(benched.rounds, 2000);
+            let trace = benched.trace.unwrap();
+            assert!([" R ", " W ", " N ", " X\n", " A\n"].iter().all(|event| trace.contains(event)));
+            assert!(benched.counts.committed > 1000 && benched.counts.unasked > 100, "{:?}", benched.counts);
+            assert!(benched.counts.overlapping > 100, "{:?}", benched.counts);
+        }
+    }
+}
+
+#[test]
+fn a_memory_that_does_not_look_is_violated() {
+    for (seed, permits) in [(1, false), (2, false), (1, true), (2, true)] {
+        let benched = bench_retrying(&Versioned::new(false, [0; 8]), &Plan { seed, permits, ..Plan::default() }).unwrap();
+        assert!(matches!(benched.told.verdict, Verdict::Violated { .. }), "{:?}", benched.told);
+    }
+}
+
+/// Makes no calls, before an attempt has begun, and then none at all.
+#[derive(Default)]
+struct Idle(AtomicU64);
+
+impl RetryingMemory for Idle {
+    type Transaction<'t> = ();
+
+    fn run(&self, attempt: &Attempt<'_, Self>) -> bool {
+        self.0.fetch_add(u64::from(attempt.calls(&mut ())), SeqCst);
+        false
+    }
+
+    fn read(&self, _: &mut (), _: usize) -> Result<u64, Aborted> {
+        unreachable!("no attempt has begun")
+    }
+
+    fn write(&self, _: &mut (), _: usize, _: u64) -> Result<(), Aborted> {
+        unreachable!("no attempt has begun")
+    }
+}
+
+#[test]
+fn no_calls_are_made_before_an_attempt_begins() {
+    let memory = Idle::default();
+    let benched = bench_retrying(&memory, &Plan { rounds: 100, ..Plan::default() }).unwrap();
+    assert_eq!((benched.told.events, memory.0.load(SeqCst)), (0, 0));
+}
+
+/// A transaction that has its attempt, and begins another within a call.
+struct Nested;
+
+struct Nesting<'t> {
+    attempt: &'t Attempt<'t, Nested>,
+    begun: Cell<bool>,
+}
+
+impl RetryingMemory for Nested {
+    type Transaction<'t> = Nesting<'t>;
+
+    fn run(&self, attempt: &Attempt<'_, Self>) -> bool {
+        attempt.begins() && attempt.calls(&mut Nesting { attempt, begun: Cell::new(false) })
+    }
+
+    fn read(&self, it: &mut Nesting<'_>, _: usize) -> Result<u64, Aborted> {
+        it.begun.set(it.attempt.begins());
+        Ok(0)
+    }
+
+    fn write(&self, _: &mut Nesting<'_>, _: usize, _: u64) -> Result<(), Aborted> {
+        Ok(())
+    }
+}
+
+/// Runs this test again in a process of its own, which is to end at the panic.
+#[test]
+fn an_attempt_within_its_calls_ends_the_process() {
+    if std::env::var_os("TMWATCH_NESTS").is_some() {
+        let _ = bench_retrying(&Nested, &Plan { adds: 0, ..Plan::default() });
+        return;
+    }
+    let mut again = std::process::Command::new(std::env::current_exe().unwrap());
+    again.args(["--exact", "an_attempt_within_its_calls_ends_the_process", "--nocapture"]);
+    let output = again.env("TMWATCH_NESTS", "1").output().unwrap();
+    assert!(String::from_utf8_lossy(&output.stderr).contains("the attempt is within its calls"));
+    assert_eq!(output.status.code(), None, "it has to end by a signal");
+}
+
+/// Runs that break their promise.
+enum Wrong {
+    CallsNone,
+    CommitsAll,
+    CallsTwice,
+}
+
+impl RetryingMemory for Wrong {
+    type Transaction<'t> = ();
+
+    fn run(&self, attempt: &Attempt<'_, Self>) -> bool {
+        let calls = match self {
+            _ if !attempt.begins() => return false,
+            Wrong::CallsNone => 0,
+            Wrong::CommitsAll => 1,
+            Wrong::CallsTwice => 2,
+        };
+        for _ in 0..calls {
+            attempt.calls(&mut ());
+        }
+        true
+    }
+
+    fn read(&self, _: &mut (), _: usize) -> Result<u64, Aborted> {
+        Ok(0)
+    }
+
+    fn write(&self, _: &mut (), _: usize, _: u64) -> Result<(), Aborted> {
+        Ok(())
+    }
+}
+
+#[test]
+fn a_run_that_breaks_its_promise_is_told() {
+    let plan = Plan { threads: 1, aborts: 100, ..Plan::default() };
+    let status = |wrong| bench_retrying(&wrong, &plan).unwrap_err();
+    assert_eq!(status(Wrong::CallsNone), Status::Misfit);
+    assert_eq!(status(Wrong::CommitsAll), Status::Misfit);
+    assert_eq!(status(Wrong::CallsTwice), Status::OutOfTurn);
+}
