@@ -22,7 +22,7 @@ What the program owes. Nothing of it is tested:
 1. A handle is all bytes 0, or TMWATCH_EMPTY, before its first call, and then as the last call left it. Its fields and what they point to
    are the library's, and it isn't copied.
 2. A handle is used by one call at a time. A watch's handle is used by the thread that has opened it. Before a recorder's handle is used by
-   another thread, that thread is started, or the thread before is joined, or a lock or a sequentially consistent atomic hands it over.
+   another thread, that thread is started, or the thread before is joined, or a lock or an atomic that releases and acquires hands it over.
 3. A pointer is to what its type says, for as long as the call runs, and never null; `recorders` is to `count` handles. What two pointers
    of one call point to doesn't overlap, and nothing else reads or writes it meanwhile (`settings` may be read). Each call runs to its
    return: its thread isn't cancelled or killed within it, and no signal handler jumps out of it.
@@ -147,7 +147,7 @@ typedef struct tmwatch_counts {
     uint64_t transactions;   /* all */
     uint64_t unasked;        /* aborted ones that didn't ask for it */
     uint64_t widest;         /* the most from one moment at which all have ended to the next, or to the end */
-    uint8_t none_overlapped; /* 1: two threads or more ran, and no two transactions overlapped: if nothing is wrong, this shows nothing; or 0 */
+    uint8_t none_overlapped; /* 1: two threads or more ran, but no two transactions overlapped: if all is right, it shows nothing; or 0 */
 } tmwatch_counts;
 
 /* A call of a transaction. What its kind doesn't have of a register and a value isn't looked at. */
@@ -296,22 +296,22 @@ TMWATCH_NO_HANDLE, TMWATCH_CLOSING: *counts stays. It takes no memory.
 uint32_t tmwatch_summary(tmwatch *watch, tmwatch_counts *counts);
 
 /*
-Closes a watch with all its recorders, with recorder i in recorders[i], as tmwatch_open has filled them: judges what was recorded and not yet
-judged, leaves all handles empty, and tells the verdict on all events that were ever recorded.
+Closes a watch with all its recorders, with recorder i in recorders[i], as tmwatch_open has filled them: judges what was recorded and not
+yet judged, leaves all handles empty, and tells the verdict on all events that were ever recorded.
 
 TMWATCH_NO_HANDLE: the watch's handle holds nothing. TMWATCH_MISSING, while the watch is open: the handles aren't as many as it has
-recorders, or one of them doesn't hold the recorder of its place; all is as it was. TMWATCH_MEMORY: the same call may be made again. Either all is as it was; or
-recording has ended, the recorders' handles are empty, and the watch's handle holds what is left to be judged, of which no event is lost.
-TMWATCH_CLOSING: isn't expected, since no call makes a further owner of a watch; that it doesn't come is tested, not proved, and the handle
-is only good to be discarded then. But for TMWATCH_DONE, *told stays.
+recorders, or one of them doesn't hold the recorder of its place; all is as it was. TMWATCH_MEMORY: the same call may be made again. Either
+all is as it was; or recording has ended, the recorders' handles are empty, and the watch's handle holds what is left to be judged, of which
+no event is lost. TMWATCH_CLOSING: isn't expected, since no call makes a further owner of a watch; that it doesn't come is tested, not
+proved, and the handle is only good to be discarded then. But for TMWATCH_DONE, *told stays.
 
 Memory: some hundreds of bytes for the time of the call, and the judge's.
 */
 uint32_t tmwatch_close(tmwatch *watch, tmwatch_recorder *recorders, size_t count, tmwatch_told *told);
 
 /* Each gives back all that the handle holds, if anything, and leaves it empty. What was recorded and not judged is lost. A watch of which a
-   recorder was discarded can't be closed any more, and is discarded too. Recorders of a discarded watch record until they are full or spent;
-   discard them too. */
+   recorder was discarded can't be closed any more, and is discarded too. Recorders of a discarded watch record until they are full or
+   spent; discard them too. */
 void tmwatch_discard(tmwatch *watch);
 void tmwatch_discard_recorder(tmwatch_recorder *recorder);
 
