@@ -1,8 +1,8 @@
 /*
-GCC's libitm on the bench, by `run`. Compile it with -fgnu-tm; ITM_DEFAULT_METHOD chooses libitm's method.
+GCC's libitm on the bench, by `run`. Compile it with -fgnu-tm. ITM_DEFAULT_METHOD chooses libitm's method.
 
-libitm itself begins again what it has rolled back. Such an attempt is cancelled here before it reads anything, and `run` begins another
-one. So tmwatch_begins comes before libitm begins, and it waits while libitm holds nothing.
+libitm begins a transaction again when it has rolled it back. Here such an attempt is cancelled before it reads anything, and `run` begins
+another one. So tmwatch_begins is called before libitm begins, and while it holds nothing.
 */
 #include "tmwatch_bench.h"
 
@@ -15,8 +15,7 @@ struct word {
     _Alignas(64) uint64_t value;
 };
 
-/* How often libitm has begun the attempt, and whether that is to commit. GCC doesn't reckon with a block that begins twice: so they are
-   volatile. */
+/* How often libitm has begun the attempt, and whether that commits. They are volatile, since GCC takes it that a block begins once. */
 struct tx {
     volatile unsigned begun;
     volatile bool commits;
@@ -45,7 +44,7 @@ static bool add(void *memory, void *tx, unsigned reg, uint64_t addend, uint64_t 
     return read(memory, tx, reg, before) && write(memory, tx, reg, *before + addend);
 }
 
-/* Makes the calls, once: false if libitm has to cancel. A roll-back doesn't undo what this does to the tx. */
+/* Makes the calls, unless the block has begun again: false if it is to be cancelled. A roll-back undoes nothing of this. */
 __attribute__((transaction_pure)) static bool make_calls(struct tx *tx, tmwatch_attempt *attempt)
 {
     tx->begun++;

@@ -1,8 +1,8 @@
 /*
-A memory with a lock for each word, by strict two-phase locking (Eswaran, Gray, Lorie and Traiger, CACM 1976), on the bench. A transaction
-takes a word's lock when it first uses the word, and keeps it to its end. It writes in place. If another has the lock, it aborts.
+A memory with a lock for each word, by two-phase locking (Eswaran, Gray, Lorie and Traiger, CACM 1976), on the bench. A transaction takes a
+word's lock when it first uses the word, and keeps it to its end. It writes in place. If another transaction has the lock, it aborts.
 
-By -DFAULT=EARLY it gives a lock back as soon as it has read the word, unless it has written it before.
+By -DFAULT=EARLY it gives the lock back after a read, unless it has written the word before.
 */
 #include "tmwatch_bench.h"
 #include <stdatomic.h>

@@ -1,9 +1,9 @@
 /*
 A memory that locks a word when it first writes it, and writes in place, after TinySTM's write-through (Felber, Fetzer and Riegel,
-PPoPP 2008), on the bench. A transaction that aborts restores the values that it has found, and then unlocks with a new version.
+PPoPP 2008), on the bench. A transaction that aborts restores what the words held before, and then unlocks them with a new version.
 
-By -DFAULT=UNLOCK it unlocks before it restores them. By VERSION it unlocks with the version that it has found: a read that looks at the
-lock before and after it loads the value may have loaded what was undone in between.
+By -DFAULT=UNLOCK it unlocks them before it restores. By VERSION it unlocks them with their old version: a read that looks at the lock
+before and after the load can't tell that the value it has loaded was undone in between.
 */
 #include "tmwatch_bench.h"
 #include <stdatomic.h>

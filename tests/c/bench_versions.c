@@ -1,7 +1,8 @@
 /*
-A memory that keeps each word's latest versions, after JVSTM (Cachopo and Rito-Silva, Science of Computer Programming 2006), on the bench. A
-transaction reads the newest versions that are as old as its clock. So one that only reads always commits, if what it reads is still kept. A
-commit that writes takes the one lock, validates what was read, adds its versions, and then raises the clock.
+A memory that keeps each word's last versions, after JVSTM (Cachopo and Rito-Silva, Science of Computer Programming 2006), on the bench. A
+transaction reads the clock when it begins, and then of each word the newest version that is no younger. So one that only reads commits
+always; it aborts only if a version that it needs is no longer kept. A commit that writes takes the one lock, validates what was read, adds
+its versions, and then raises the clock.
 
 By -DFAULT=CLOCK the commit raises the clock first: a transaction that begins then misses its versions.
 */
@@ -13,7 +14,7 @@ By -DFAULT=CLOCK the commit raises the clock first: a transaction that begins th
 #define FAULT NONE
 #endif
 
-enum { REGISTERS = 8, KEPT = 16 };
+enum { REGISTERS = 8, KEPT = 4 };
 enum fault { NONE, CLOCK };
 
 /* A version: the clock of its commit, and the value. */
@@ -45,7 +46,7 @@ static bool begin(void *memory, void *tx)
     return true;
 }
 
-/* Reads the newest version that is as old as the snapshot. False if it is not kept: all versions are younger then. */
+/* Reads the newest version that is no younger than the snapshot. False if it is no longer kept. */
 static bool read_version(struct word *word, uint64_t snapshot, uint64_t *value)
 {
     uint64_t newest = word->newest;
@@ -96,7 +97,7 @@ static bool is_valid(const struct tx *tx)
     return true;
 }
 
-/* Adds a version in the place of the oldest, which is younger than any snapshot meanwhile. */
+/* Adds a version in the place of the oldest. Meanwhile the place is younger than any snapshot. */
 static void add_version(struct word *word, uint64_t value, uint64_t now)
 {
     struct version *version = &word->versions[(word->newest + 1) % KEPT];

@@ -3,14 +3,14 @@
 #
 #   tests/long/memories.sh
 #
-# A row for each memory and schedule comes out: how many of its seeds were opaque so far, violated, undecided, malformed, or other; the
-# least and the most `at` of those that were violated; the seconds of all. A run is other if it ended by none of the verdicts, or within 300
-# seconds by none, or if it is opaque so far but not all of its rounds were run, or no two of its transactions overlapped.
-# The row of a right memory passes if all seeds are opaque so far. That of a broken one passes if nine in ten are violated, and the others
-# opaque so far. The last line is 'N passed, M failed', and the exit status is 1 where one failed.
-# What can't be built here is skipped, and a line says so.
-# Environment: BUILT (a folder that ./tmwatch-c has filled; it is made where there is none), SEEDS (10), ROUNDS (100000, at most, of a broken
-# memory), RIGHT_ROUNDS (20000), CC (cc), CXX (c++), CARGO (cargo).
+# It prints a row for each memory and schedule: how many seeds came out opaque so far, violated, undecided, malformed and other; the least
+# and the most `at` of those that are violated; the seconds of all. A run is other if it ends without a verdict, if it takes 300 seconds, or
+# if it is opaque so far and shows little: not all rounds were run, or no two transactions overlapped.
+# A right memory passes if all its seeds are opaque so far. A broken one passes if nine seeds in ten are violated, and the others opaque so
+# far. Standard error has a line for each seed that came out otherwise.
+# What can't be built here is skipped, and a line says so. The last line is 'N passed, M failed', and the exit status is 1 where one failed.
+# Environment: BUILT (a folder that ./tmwatch-c has filled; it is made where there is none), SEEDS (10), ROUNDS (100000, at most, of a
+# broken memory), RIGHT_ROUNDS (20000), CC (cc), CXX (c++), CARGO (cargo).
 set -eu
 # shellcheck source=tests/common.sh
 . "$(dirname "${BASH_SOURCE[0]}")/../common.sh"
@@ -37,8 +37,8 @@ in_cpp() {
     "$cxx" -std=c++17 "${flags[@]}" "-DFAULT=$3" -o "$folder/$1" "$top/$2" "${link[@]}"
 }
 
-# Each of these makes one run, of $rounds with $seed by $schedule: of a program in C or C++, with these options of the bench; of libitm by
-# this method; of the program in Rust.
+# Each of these makes a run of $rounds with $seed by $schedule: of a program in C or C++, with further options of the bench; of libitm, by
+# one of its methods; of the program in Rust.
 bench() {
     timeout 300 "$folder/$1" --rounds "$rounds" --seed "$seed" --schedule "$schedule" "${@:2}"
 }
@@ -77,14 +77,16 @@ is_wanted() {
 
 # A row: its name, whether the memory is right or broken, the schedule, and how a run is made.
 row() {
-    local name=$1 kind=$2 schedule=$3 least='' most='' counts=(0 0 0 0 0) passes=passed began=$EPOCHREALTIME rounds seed status found
-    [ "$kind" = right ] && rounds=$right_rounds || rounds=$broken_rounds
+    local name=$1 kind=$2 schedule=$3 least='' most='' counts=(0 0 0 0 0) passes=passed began=$EPOCHREALTIME seed status found
+    local rounds=$broken_rounds usual=1
+    [ "$kind" = broken ] || rounds=$right_rounds usual=0
     shift 3
     for seed in $(seq "$seeds"); do
         status=0
         "$@" >"$folder/output" 2>"$folder/told" || status=$?
         found=$(outcome $status)
         counts[found]=$((counts[found] + 1))
+        [ "$found" -eq "$usual" ] || echo "$name by $schedule, seed $seed: status $status, $(head -n 1 "$folder/output")" >&2
         [ "$found" -eq 1 ] || continue
         found=$(sed -n '1s/^{"at":\([0-9]*\),.*/\1/p' "$folder/output")
         [ -n "$least" ] && [ "$least" -le "$found" ] || least=$found
@@ -151,7 +153,7 @@ else
     echo 'a memory in Rust: skipped, since there is no cargo'
 fi
 
-# Two need a long pause between two steps of a read: another transaction's lock, stores and end have to come there.
+# Two faults need long pauses: within one read, another transaction has to store and to end.
 rows 'NOrec, reads not validated' broken bench norec_READS
 rows 'NOrec, commits not validated' broken bench norec_COMMIT
 rows 'NOrec, writes in place' broken bench norec_PLACE

@@ -2,8 +2,8 @@
 //!
 //!     TMWATCH_LIB=../../built/lib cargo run --release --example lock -- 20000 1 permits
 //!
-//! The words are the number of rounds, a seed, and `rounds` or `permits`. The program prints what a memory in C prints on the bench. The exit
-//! status is the verdict's number, or 4 if nothing was run.
+//! The words are the number of rounds, a seed, and `rounds` or `permits`. The program prints what a memory in C prints on the bench. The
+//! exit status is the verdict's number, or 4 if nothing was run.
 
 use std::process::ExitCode;
 use std::sync::{Mutex, MutexGuard};
