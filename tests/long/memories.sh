@@ -10,7 +10,7 @@
 # far. Standard error has a line for each seed that came out otherwise.
 # What can't be built here is skipped, and a line says so. The last line is 'N passed, M failed', and the exit status is 1 where one failed.
 # Environment: BUILT (a folder that ./tmwatch-c has filled; it is made where there is none), SEEDS (10), ROUNDS (100000, at most, of a
-# broken memory), RIGHT_ROUNDS (20000; libitm: a quarter), CC (cc), CXX (c++), CARGO (cargo).
+# broken memory), RIGHT_ROUNDS (20000; libitm: a tenth), CC (cc), CXX (c++), CARGO (cargo).
 set -eu
 # shellcheck source=tests/common.sh
 . "$(dirname "${BASH_SOURCE[0]}")/../common.sh"
@@ -141,7 +141,7 @@ if echo 'int main(void) { __transaction_atomic { } }' | "$cc" -fgnu-tm -x c -o "
     in_c libitm tests/c/bench_libitm.c NONE -fgnu-tm
     # It spins while another thread has its lock. On a busy machine that takes long.
     all_rounds=$right_rounds
-    right_rounds=$((all_rounds / 4))
+    right_rounds=$((all_rounds / 10))
     for method in gl_wt ml_wt serial; do
         rows "libitm, $method" right libitm $method
     done
