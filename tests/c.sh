@@ -128,15 +128,17 @@ is_same_report() {
 }
 
 # A memory that was compiled for the bench: its name, its exit status, how many rounds, and the seeds. Its transactions overlap, and its
-# trace has the same verdict by the library, and by the program where that is built. Its threads run by $schedule, and else in rounds.
+# trace has the same verdict by the library, and by the program where that is built. Its threads run by $schedule, and else in rounds; there
+# may be further $options.
 on_bench() {
-    local name=$1 wanted=$2 rounds=$3 seed row
+    local name=$1 wanted=$2 rounds=$3 seed row words
+    read -r -a words <<<"${options:-}"
     shift 3
     [ -x "$folder/$name" ] || return 0
     for seed; do
         row="$name${schedule:+ by $schedule}, seed $seed"
         ends "$row" "$wanted" "${run[@]}" "$folder/$name" --rounds "$rounds" --seed "$seed" --trace "$folder/trace" \
-            --schedule "${schedule:-rounds}"
+            --schedule "${schedule:-rounds}" "${words[@]}"
         cp "$folder/output" "$folder/benched"
         ends "$row, has met" 0 grep -q '"overlapping":[1-9]' "$folder/benched"
         "$folder/bench_replay" <"$folder/trace" >"$folder/replayed" || true
@@ -171,6 +173,22 @@ for fault in NONE READS; do
     on_bench "jumping_$fault" "$([ "$fault" = NONE ] && echo 0 || echo 1)" "$rounds" 1 2 3
     schedule=permits on_bench "jumping_$fault" "$([ "$fault" = NONE ] && echo 0 || echo 1)" "$rounds" 1 2 3
 done
+# A memory of tests/c: its name, its fault or NONE, and its exit status. A broken one is run until it is violated.
+on_memory() {
+    ends "$1_$2 compiles" 0 "$cc" -std=c11 "${strict[@]}" "-DFAULT=$2" -o "$folder/$1_$2" "$top/tests/c/bench_$1.c" "${bench[@]}"
+    on_bench "$1_$2" "$3" "$([ "$3" -eq 0 ] && echo "$rounds" || echo 100000)" 1 2 3
+    [ "$3" -ne 0 ] || schedule=permits on_bench "$1_$2" "$3" "$rounds" 1 2 3
+}
+on_memory tl2 NONE 0
+on_memory tl2 BEFORE 1
+on_memory tl2 AFTER 1
+on_memory versions NONE 0
+on_memory versions CLOCK 1
+on_memory undo NONE 0
+on_memory undo UNLOCK 1
+options='--threads 8 --registers 1 --calls 2 --aborts 80' on_memory undo VERSION 1
+on_memory locks NONE 0
+on_memory locks EARLY 1
 if command -v "$cxx" >/dev/null; then
     ends 'a lock compiles, in C++17' 0 "$cxx" -std=c++17 "${strict[@]}" -o "$folder/lock" "$top/tests/c/bench_lock.cpp" "${bench[@]}"
     on_bench lock 0 "$rounds" 1 2 3
