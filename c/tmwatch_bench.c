@@ -286,6 +286,8 @@ static void make_transaction(tmwatch_attempt *a)
         pause_sometimes(a);
         if (a->is_live)
             end_attempt(a, has_committed);
+        else if (m->run && has_committed)
+            stop(a->bench, TMWATCH_MISFIT);
         has_begun = a->made > before;
     }
 }

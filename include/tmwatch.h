@@ -23,9 +23,9 @@ What the program owes. Nothing of it is tested:
    are the library's, and it isn't copied.
 2. A handle is used by one call at a time. A watch's handle is used by the thread that has opened it. Before a recorder's handle is used by
    another thread, that thread is started, or the thread before is joined, or a lock or an atomic that releases and acquires hands it over.
-3. A pointer is to what its type says, for as long as the call runs, and never null; `recorders` is to `count` handles. What two pointers
-   of one call point to doesn't overlap, and nothing else reads or writes it meanwhile (`settings` may be read). Each call runs to its
-   return: its thread isn't cancelled or killed within it, and no signal handler jumps out of it.
+3. A pointer is to what its type says, for as long as the call runs, and never null; `recorders` is to `count` handles. What two pointers of
+   one call point to doesn't overlap, and nothing else reads or writes it meanwhile (`settings` and `calls` may be read). Each call runs to
+   its return: its thread isn't cancelled or killed within it, and no signal handler jumps out of it.
 4. The recorders that are given to tmwatch_close, if any are held, are those that were opened with this watch.
 5. malloc, realloc and free are one allocator's. It aligns a block to each power of two up to 16 that divides its size.
 6. No call is made in a signal handler, nor in a forked child of a process that has threads.
@@ -224,21 +224,22 @@ TMWATCH_PURE TMWATCH_LOOK uint32_t tmwatch_record(tmwatch_recorder *recorder, ui
 /*
 These two carry a transaction out by turns: the program says at first which calls it makes, makes each itself once tmwatch_next has
 recorded it, and tells tmwatch_answered what the memory gave. `calls` is to the `count` calls of a transaction: reads, writes and adds, and
-then, only then, T or X. From the first turn to the last the calls and the recorder stay the same, the turn is as the last call left it, and
-nothing else is recorded by this recorder. Whatever the memory gives, the events so recorded are then a run of these calls: when the turn is
-TMWATCH_OVER they are the whole text of the transaction, each call with an answer that fits it, up to an abort event or the last answer.
+then, only then, T or X. Before the first turn all that this recorder has recorded is over. From the first turn to the last the calls and the
+recorder stay the same, the turn is as the last call left it, and nothing else is recorded by this recorder. Whatever the memory gives, the
+events so recorded are then a run of these calls: when the turn is TMWATCH_OVER they are the whole text of the transaction, each call with
+an answer that fits it, up to an abort event or the last answer.
 
     tmwatch_turn turn = TMWATCH_FIRST_TURN;
     while (turn.phase != TMWATCH_OVER) {
         while ((status = tmwatch_next(&recorder, calls, count, &turn, &place)) == TMWATCH_FULL)
             ... waits for room ...
         if (status != TMWATCH_DONE)
-            ... ends recording ...
-        ... makes calls[turn.place] ...
+            ... has all threads end recording, and breaks ...
+        ... makes calls[turn.place], the first one after the memory has begun the transaction ...
         while ((status = tmwatch_answered(&recorder, calls, count, &turn, letter, value, &place)) == TMWATCH_FULL)
             ... waits for room ...
         if (status != TMWATCH_DONE)
-            ... ends recording ...
+            ... has all threads end recording, and breaks ...
     }
 
 tmwatch_next records the call that is due, which then waits for its answer. tmwatch_answered records the answer of this letter to the call
@@ -247,7 +248,7 @@ transaction; the next call is due then, or the transaction is over. Each stores 
 
 TMWATCH_OUT_OF_TURN: another phase, or `place` of the turn isn't below `count`. TMWATCH_NO_HANDLE. TMWATCH_BAD_KIND and
 TMWATCH_BAD_REGISTER, of the call, and then TMWATCH_BAD_KIND, of the answer. TMWATCH_NOT_CALL, of tmwatch_next: an answer, T or X before the
-last place, or another call at the last. TMWATCH_MISFIT, of tmwatch_answered: another answer may be told. TMWATCH_FULL and TMWATCH_SPENT as
+last place, or another call at the last. TMWATCH_MISFIT, of tmwatch_answered: another answer may be told. TMWATCH_SPENT and TMWATCH_FULL as
 above. They come in this order; where it isn't TMWATCH_DONE, nothing is recorded, and *turn and *place stay.
 */
 TMWATCH_PURE TMWATCH_LOOK uint32_t tmwatch_next(tmwatch_recorder *recorder, const tmwatch_call *calls, size_t count,

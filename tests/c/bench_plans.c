@@ -72,6 +72,13 @@ static bool begin_all(void *memory, void *tx, tmwatch_attempt *attempt)
     return false;
 }
 
+/* Tells that it has committed, and has begun nothing. */
+static bool commit_none(void *memory, void *tx, tmwatch_attempt *attempt)
+{
+    (void)memory, (void)tx, (void)attempt;
+    return true;
+}
+
 /* Tells that it has committed what it has not even called. */
 static bool call_none(void *memory, void *tx, tmwatch_attempt *attempt)
 {
@@ -211,6 +218,8 @@ static void refuse_runs(void)
     tmwatch_plan plan = one_thread();
     tmwatch_benched benched;
     plan.aborts = 100;
+    it.run = commit_none;
+    CHECK(tmwatch_bench(&it, &plan, &benched) == TMWATCH_MISFIT);
     it.run = call_none;
     CHECK(tmwatch_bench(&it, &plan, &benched) == TMWATCH_MISFIT);
     it.run = commit_all;

@@ -1,4 +1,4 @@
--- That a kind is asked for in one way, and that what is recorded by turns is never malformed.
+-- That at most one kind is asked for, and that what is recorded by turns is never malformed.
 use Rattle.std.specs.Prelude.{◌≡◌, ◌≢◌, ℕ, List, All, map}
 use Rattle.tmw_c.specs.Kinds.{AsksFor}
 use Rattle.tmw_defs.specs.Verdict.{Rules}

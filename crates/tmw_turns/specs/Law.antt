@@ -9,7 +9,7 @@ use Rattle.tmw_runs.specs.Runs.{IsWholeRun}
 use Rattle.tmw_runs.specs.Scripts.{is_transaction}
 use Rattle.tmw_turns.specs.Turning.{Follows, HasTurned, IsByTurns, IsPlaced}
 
--- No event at all brings a transaction to its first turn.
+-- The empty list of events brings a transaction to its first turn.
 abbrev pub BeginsLaw : Type 0
 BeginsLaw = (calls : List Kind) → Follows calls 0 0 []
 

@@ -1,0 +1,62 @@
+#!/usr/bin/env bash
+# Plants mistakes into the bench for memories in C, and runs memories on it that are right: so the bench is tested itself.
+#
+#   tests/long/mistakes.sh
+#
+# A row for each mistake and memory comes out: with how many of its seeds the run came out opaque so far, violated, undecided or malformed, or
+# was refused by the library, or did not end within 120 seconds. It says whether the mistake shows: if no more than one seed in ten is opaque
+# so far. Without a mistake each seed has to be opaque so far; each mistake has to show with one memory at least. The last line is
+# 'N passed, M failed', and the exit status is 1 where one failed.
+# Environment: BUILT (a folder that ./tmwatch-c has filled; it is made where there is none), SEEDS (10), ROUNDS (20000), CC (cc), CXX (c++).
+set -eu
+# shellcheck source=tests/common.sh
+. "$(dirname "${BASH_SOURCE[0]}")/../common.sh"
+seeds=${SEEDS:-10} rounds=${ROUNDS:-20000}
+built=${BUILT:-$folder/built}
+[ -n "${BUILT:-}" ] || "$top/tmwatch-c" "$built"
+flags=(-O2 -Wall -Wextra -pthread -DTMWATCH_PAUSES "-I$top/include")
+"${CC:-cc}" -std=c11 "${flags[@]}" -c -o "$folder/norec.o" "$top/examples/c/norec.c"
+"${CC:-cc}" -std=c11 "${flags[@]}" -c -o "$folder/versions.o" "$top/tests/c/bench_versions.c"
+"${CXX:-c++}" -std=c++17 "${flags[@]}" -c -o "$folder/lock.o" "$top/tests/c/bench_lock.cpp"
+
+# A row: the mistake and the memory, whose program is compiled. It sets opaque, how many seeds were so.
+row() {
+    local seed status counts=(0 0 0 0 0)
+    for seed in $(seq "$seeds"); do
+        status=0
+        timeout 120 "$folder/$2" --rounds "$rounds" --seed "$seed" --pause 1000 >"$folder/output" 2>"$folder/told" || status=$?
+        [ $status -lt 4 ] || status=4
+        counts[status]=$((counts[status] + 1))
+    done
+    opaque=${counts[0]}
+    printf '%-36s %-9s %6d %8d %9d %9d %7d  %s\n' "$1" "$2" "${counts[@]}" "$(shows && echo shows || echo 'does not show')"
+}
+
+shows() {
+    [ $((10 * opaque)) -le "$seeds" ]
+}
+
+# A mistake: its name, and the change of the bench's source. It is none without a change.
+mistake() {
+    local memory is_shown=no is_hidden=yes
+    sed "$2" "$top/c/tmwatch_bench.c" >"$folder/bench.c"
+    "${CC:-cc}" -std=c11 "${flags[@]}" -c -o "$folder/bench.o" "$folder/bench.c"
+    for memory in lock norec versions; do
+        "${CXX:-c++}" -pthread -o "$folder/$memory" "$folder/$memory.o" "$folder/bench.o" "$built/lib/libtmwatch.a"
+        row "$1" "$memory"
+        ! shows || is_shown=yes
+        [ "$opaque" -eq "$seeds" ] || is_hidden=no
+    done
+    if cmp -s "$folder/bench.c" "$top/c/tmwatch_bench.c"; then is_shown=$is_hidden; fi
+    if [ $is_shown = yes ]; then passed=$((passed + 1)); else failed=$((failed + 1)); fi
+}
+
+printf '%-36s %-9s %6s %8s %9s %9s %7s\n' mistake memory opaque violated undecided malformed refused
+mistake 'none' ''
+mistake 'C is recorded before the commit' \
+    's/return m->commit(m->memory, a->tx);/return end_attempt(a, true), pause_sometimes(a), m->commit(m->memory, a->tx);/'
+mistake 'T is left out' '/has_asked = a->calls/{n;s/note_call(a);/if (a->has_asked) note_call(a);/}'
+mistake 'no barrier' 's/b->round == round; turns++/turns == 0; turns++/'
+mistake 'begins before the first call' \
+    's/!tmwatch_begins(a) || !m->begin(m->memory, a->tx)/!m->begin(m->memory, a->tx) || (pause_sometimes(a), !tmwatch_begins(a))/'
+end_rows
