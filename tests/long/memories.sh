@@ -157,14 +157,14 @@ else
     echo 'a memory in Rust: skipped, since there is no cargo'
 fi
 
-# Two faults need long pauses: within one read, another transaction has to store and to end.
+# The last but one shows only if another transaction writes and is rolled back within one read. So most of them ask to abort here.
 rows 'NOrec, reads not validated' broken bench norec_READS
 rows 'NOrec, commits not validated' broken bench norec_COMMIT
 rows 'NOrec, writes in place' broken bench norec_PLACE
 rows 'TL2, one look, before the load' broken bench tl2_BEFORE
-rows 'TL2, one look, after the load' broken bench tl2_AFTER --pause 1000
+rows 'TL2, one look, after the load' broken bench tl2_AFTER
 rows 'versions, the clock first' broken bench versions_CLOCK
 rows 'undo log, unlocks before it undoes' broken bench undo_UNLOCK
-rows 'undo log, an abort keeps the version' broken bench undo_VERSION --pause 1000
+rows 'undo log, an abort keeps the version' broken bench undo_VERSION --threads 8 --registers 1 --calls 2 --aborts 80
 rows 'a lock given back early' broken bench locks_EARLY
 end_rows
