@@ -518,15 +518,20 @@ static uint32_t run_watched(struct bench *b, tmwatch_benched *benched)
     return TMWATCH_DONE;
 }
 
-static bool has_functions(const tmwatch_memory *m)
+/* The first function that is null and that the memory has to have, or none. */
+static const char *missing_function(const tmwatch_memory *m)
 {
-    return m->read && m->write && (m->run || (m->begin && m->commit && m->abort));
+    if (!m->read || !m->write)
+        return m->read ? "write" : "read";
+    if (m->run)
+        return NULL;
+    return !m->begin ? "begin" : !m->commit ? "commit" : !m->abort ? "abort" : NULL;
 }
 
 /* Looks at what no watch looks at. */
 static uint32_t check(const tmwatch_memory *memory, const tmwatch_plan *plan)
 {
-    if (!has_functions(memory))
+    if (missing_function(memory))
         return TMWATCH_MISSING;
     if (plan->threads < 1 || plan->threads > MOST_THREADS)
         return TMWATCH_BAD_SIZE;
@@ -620,6 +625,8 @@ void tmwatch_bench_print(FILE *file, const tmwatch_benched *benched)
         fputs("no two transactions overlapped: this run shows nothing\n", stderr);
     if (!is_wrong && benched->counts.committed == 0)
         fputs("no transaction has committed: this run shows little\n", stderr);
+    if (benched->told.verdict == TMWATCH_VIOLATED && benched->counts.transactions == 1)
+        fputs("the first reading is wrong: does the memory hold plan.start?\n", stderr);
 }
 
 /* An option: its name, and where its number goes. */
@@ -649,9 +656,9 @@ static bool read_value(const char *name, const char *word, uint64_t *number)
     return *number == TMWATCH_PERMITS || strcmp(word, "rounds") == 0;
 }
 
-/* Reads the words into the plan and the trace's name: false if they are wrong. With a time and without a number of rounds, the time alone
-   counts. */
-static bool read_words(tmwatch_plan *plan, const char **trace, char **words)
+/* Reads the words into the plan and the trace's name: the first word that is wrong, or none. With a time and without a number of rounds,
+   the time alone counts. */
+static const char *read_words(tmwatch_plan *plan, const char **trace, char **words)
 {
     struct option options[] = {{"--rounds", &plan->rounds},       {"--seed", &plan->seed},     {"--threads", &plan->threads},
                                {"--registers", &plan->registers}, {"--calls", &plan->calls},   {"--writes", &plan->writes},
@@ -662,26 +669,34 @@ static bool read_words(tmwatch_plan *plan, const char **trace, char **words)
         const struct option *option = options;
         while (option->name && strcmp(option->name, words[0]) != 0)
             option++;
-        if (!words[1] || (option->name ? !read_value(option->name, words[1], option->to) : strcmp(words[0], "--trace") != 0))
-            return false;
+        if (!words[1] || (!option->name && strcmp(words[0], "--trace") != 0))
+            return words[0];
         if (!option->name)
             *trace = words[1];
+        else if (!read_value(option->name, words[1], option->to))
+            return words[1];
         has_rounds = has_rounds || option == options;
     }
     if (plan->seconds > 0 && !has_rounds)
         plan->rounds = UINT64_MAX;
-    return true;
+    return NULL;
 }
 
+/* The words that there are. */
+static const char usage[] = "usage: [--rounds N] [--seed N] [--threads 1-8] [--registers 1-8] [--calls 1-16] [--writes PERCENT]"
+                            " [--adds PERCENT] [--aborts PERCENT] [--pause 0-1048576] [--seconds N] [--schedule rounds|permits]"
+                            " [--trace FILE]\n";
+
 /* Tells what is wrong with the words, or with the memory. */
-static int tell_usage(bool has_all)
+static int tell_usage(const char *wrong, const char *missing)
 {
     puts("{\"fault\":\"usage\"}");
-    if (!has_all)
-        fputs("a function that the memory has to have is null\n", stderr);
-    fputs("usage: [--rounds N] [--seed N] [--threads 1-8] [--registers 1-8] [--calls 1-16] [--writes PERCENT] [--adds PERCENT]"
-          " [--aborts PERCENT] [--pause TURNS] [--seconds N] [--schedule rounds|permits] [--trace FILE]\n",
-          stderr);
+    if (missing)
+        fprintf(stderr, "the memory's function `%s` is null\n", missing);
+    else if (wrong)
+        fprintf(stderr, "wrong, or without its value: %s\n%s", wrong, usage);
+    else
+        fprintf(stderr, "a number is out of its range\n%s", usage);
     return 4;
 }
 
@@ -706,25 +721,31 @@ static bool close_file(FILE *file)
     return fclose(file) == 0 && is_well;
 }
 
+static int tell_unwritten(const char *name)
+{
+    puts("{\"fault\":\"io\"}");
+    fprintf(stderr, "the trace can't be written: %s\n", name);
+    return 4;
+}
+
 int tmwatch_bench_main(const tmwatch_memory *memory, int count, char **words)
 {
     tmwatch_plan plan = TMWATCH_PLAN;
     tmwatch_benched benched;
     const char *name = NULL;
-    if (!read_words(&plan, &name, count > 0 ? words + 1 : words) || check(memory, &plan) != TMWATCH_DONE)
-        return tell_usage(has_functions(memory));
-    if (name && !(plan.trace = fopen(name, "w"))) {
-        puts("{\"fault\":\"io\"}");
-        return 4;
-    }
+    if (count == 2 && strcmp(words[1], "--help") == 0)
+        return fputs(usage, stdout) < 0 || fflush(stdout) != 0 ? 4 : 0;
+    const char *wrong = read_words(&plan, &name, count > 0 ? words + 1 : words);
+    if (wrong || check(memory, &plan) != TMWATCH_DONE)
+        return tell_usage(wrong, missing_function(memory));
+    if (name && !(plan.trace = fopen(name, "w")))
+        return tell_unwritten(name);
     uint32_t status = tmwatch_bench(memory, &plan, &benched);
     bool is_written = !plan.trace || close_file(plan.trace);
     if (status != TMWATCH_DONE)
         return tell_status(status);
-    if (!is_written) {
-        puts("{\"fault\":\"io\"}");
-        return 4;
-    }
+    if (!is_written)
+        return tell_unwritten(name);
     tmwatch_bench_print(stdout, &benched);
     if (fflush(stdout) == 0 && !ferror(stdout))
         return (int)benched.told.verdict;

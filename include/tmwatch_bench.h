@@ -127,8 +127,8 @@ TMWATCH_PURE bool tmwatch_calls(tmwatch_attempt *attempt);
 
 /*
 Prints three lines of JSON: the report as `tmwatch judge` prints it; how many rounds were run and, if there are any, how many events precede
-the trace; and the counts as `judge --summary` prints them. If nothing is wrong, but no transactions overlapped, or none has committed,
-standard error says so.
+the trace; and the counts as `judge --summary` prints them. If nothing is wrong, but two threads or more ran and no two transactions
+overlapped, or none has committed, standard error says so; and if the very first transaction is wrong, as from another start.
 */
 void tmwatch_bench_print(FILE *file, const tmwatch_benched *benched);
 
@@ -145,7 +145,8 @@ TMWATCH_PURE void tmwatch_pause(void);
 
 /*
 Runs the bench by a program's words, prints what came out, and answers with the exit status of `tmwatch judge`: the verdict's number, or 4
-where the words are wrong, something was refused, or a file can't be written. The memory's registers hold 0 at first.
+where the words are wrong, something was refused, or a file can't be written. Standard error then says what. --help alone prints the words
+there are, with 0. The memory's registers hold 0 at first.
 */
 int tmwatch_bench_main(const tmwatch_memory *memory, int count, char **words);
 

@@ -235,10 +235,26 @@ for words in --rounds '--rounds x' '--threads 9' '--registers 0' '--calls 17' '-
     ends "wrong words, $words" 4 "${run[@]}" "$folder/norec_NONE" "${given[@]}"
     cp "$folder/output" "$folder/told"
     ends "wrong words, $words: what is told" 0 grep -qx '{"fault":"usage"}' "$folder/told"
+    case $words in
+    --threads* | --registers* | --calls* | --writes*) reason='a number is out of its range' ;;
+    --none*) reason='wrong, or without its value: --none' ;;
+    *) reason="wrong, or without its value: ${given[-1]}" ;;
+    esac
+    ends "wrong words, $words: why" 0 grep -qxF -- "$reason" "$folder/told"
 done
+ends 'the words there are' 0 "${run[@]}" "$folder/norec_NONE" --help
+sed 's/begin, read, write, add, commit, cancel/begin, read, write, add, NULL, cancel/; /^static bool commit/,/^}/d' "$top/examples/c/norec.c" \
+    >"$folder/lacking.c"
+ends 'a memory without a function compiles' 0 "$cc" -std=c11 -O2 -pthread "-I$built/include" "-I$top/examples/c" "${flags[@]}" \
+    -o "$folder/lacking" "$folder/lacking.c" "${bench[@]}"
+ends 'a memory without a function' 4 "${run[@]}" "$folder/lacking"
+cp "$folder/output" "$folder/told"
+ends 'a memory without a function: which' 0 grep -qx "the memory's function \`commit\` is null" "$folder/told"
 ends 'all words' 0 "${run[@]}" "$folder/norec_NONE" --rounds 9 --seed 3 --threads 2 --registers 2 --calls 2 \
     --writes 90 --adds 0 --aborts 0 --pause 9 --seconds 9 --schedule permits
 ends 'a trace that can not be opened' 4 "${run[@]}" "$folder/norec_NONE" --rounds 9 --trace "$folder/none/trace"
+cp "$folder/output" "$folder/told"
+ends 'a trace that can not be opened: which' 0 grep -q "none/trace\$" "$folder/told"
 ends 'a trace that can not be written' 4 "${run[@]}" "$folder/norec_NONE" --rounds 9 --trace /dev/full
 ends 'output that can not be written' 4 sh -c '"$@" >/dev/full' sh "${run[@]}" "$folder/norec_NONE" --rounds 9
 ends 'no pause compiles' 0 "$cc" -std=c11 "${strict[@]}" -c -o "$folder/plain.o" "$top/examples/c/norec.c"
