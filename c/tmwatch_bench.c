@@ -55,7 +55,7 @@ struct bench {
     tmwatch_attempt workers[MOST_THREADS];
     struct kept kept[KEPT];
     atomic_int gate;
-    atomic_uint here, ended; /* how many threads wait for the others, and how many have ended */
+    atomic_uint come, here, ended; /* how many threads have come, how many wait for the others, and how many have ended */
     atomic_uint_least64_t round;
     tmwatch_permits permits;
     atomic_uint_least64_t attempted, next_look; /* by permits: how many attempts were begun, and at how many a look is due */
@@ -368,7 +368,8 @@ static void *work(void *argument)
 {
     tmwatch_attempt *a = argument;
     this_thread = a;
-    while (a->bench->gate == WAIT)
+    a->bench->come++;
+    while (a->bench->gate == WAIT || (a->bench->gate == RUN && a->bench->come < a->bench->plan->threads))
         sched_yield();
     while (a->bench->gate == RUN && (by_permits(a->bench) ? go_on(a) : meet(a))) {
         draw_transaction(a);
