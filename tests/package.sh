@@ -73,17 +73,19 @@ ends 'no folder' 2 "$top/package"
 mkdir -p "$folder/other/bin" && cp -R "$BUILT/lib" "$BUILT/include" "$folder/other"
 printf '%s\n' '#!/bin/sh' 'echo tmwatch 0.0.9, by opacity' >"$folder/other/bin/tmwatch" && chmod +x "$folder/other/bin/tmwatch"
 ends 'a program of another version' 1 env BUILT="$folder/other" "$top/package" "$folder/none"
+cp "$folder/output" "$folder/told"
+ends 'a program of another version: what is told' 0 grep -q "is not of version $version: tmwatch 0.0.9, by opacity" "$folder/told"
 
 # A root of its own, whose only package is the C library of this machine: tmwatch depends on it.
 root=$folder/root prefix=$folder/prefix
 mkdir -p "$root" "$prefix"
 ends 'tar' 0 tar -xzf "$folder/once/$name.tar.gz" --strip-components=2 -C "$prefix"
-if has dpkg 'installing'; then
+as_root=()
+[ "$(id -u)" -eq 0 ] || as_root=(fakeroot)
+dpkg=("${as_root[@]}" dpkg "--root=$root" --force-not-root --force-script-chrootless --force-bad-path --log=/dev/null)
+if has dpkg 'dpkg -i' && has "${dpkg[0]}" 'dpkg -i'; then
     mkdir -p "$root/var/lib/dpkg/info" "$root/var/lib/dpkg/updates"
     dpkg-query --status libc6:amd64 >"$root/var/lib/dpkg/status"
-    as_root=()
-    [ "$(id -u)" -eq 0 ] || as_root=(fakeroot)
-    dpkg=("${as_root[@]}" dpkg "--root=$root" --force-not-root --force-script-chrootless --force-bad-path --log=/dev/null)
     ends 'dpkg -i' 0 "${dpkg[@]}" -i "$folder/once/$name.deb"
     tells 'what is installed' "tmwatch $version amd64 ii " 0 \
         dpkg-query "--admindir=$root/var/lib/dpkg" -W -f '${Package} ${Version} ${Architecture} ${db:Status-Abbrev}\n' tmwatch
@@ -289,7 +291,7 @@ if has lintian lintian; then
     ends lintian 0 env LC_ALL=C.UTF-8 lintian --fail-on error "$folder/once/$name.deb"
     grep '^[A-Z]:' "$folder/output" || true
 fi
-if has dpkg 'removing'; then
+if [ -e "$root/var" ]; then
     ends 'dpkg -r' 0 "${dpkg[@]}" -r tmwatch
     tells 'nothing is left' '' 0 find "$root" -mindepth 1 '(' ! -path "$root/var*" -o -name '*tmwatch*' ')'
     ends 'dpkg has forgotten it' 1 dpkg-query "--admindir=$root/var/lib/dpkg" -W tmwatch
