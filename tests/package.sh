@@ -190,6 +190,14 @@ for command in "${commands[@]}"; do
     ends "the options of $command in tmwatch.1" 0 diff <(helped "$command" Options) \
         <(entries "$page" ".SS $command" | cat - "$folder/help")
 done
+# The first example of the page, with what it prints, which begins after the command line.
+sed -n '/^\.EX/,/^\.EE/{/^\.E/d;s/\\-/-/g;s/\\e/\\/g;p}' "$page" | sed -n '1,/^\$ tmwatch/{/^\$ tmwatch/!p}' >"$folder/example"
+ends 'the example of tmwatch.1' 0 diff <(sed 1d "$folder/example") \
+    <(PATH=$root/usr/bin:$PATH sh -c "$(sed -n '1s/^\$ //p' "$folder/example")")
+ends 'an example that prints' 0 test "$(wc -l <"$folder/example")" -eq 2
+while read -r path; do
+    ends "$path is there" 0 test -e "$root$path"
+done < <(grep -ho '/usr/[A-Za-z0-9_./-]*' "$folder"/*tmwatch.[13] | sort -u)
 ends 'the exit status in tmwatch.1' 0 diff <(helped '' 'Exit status' | sed '/^[0-9] /!d') <(entries "$page" '.SH EXIT STATUS')
 
 page=$folder/libtmwatch.3
