@@ -58,6 +58,8 @@ else
 fi
 program misuse "$top/tests/c/misuse.c" 0 '' "${static[@]}"
 program misuse_shared "$top/tests/c/misuse.c" 0 '' "${shared[@]}"
+readelf -W -d "$folder/misuse_shared" >"$folder/dynamic"
+ends 'a program loads the shared library by its number' 0 grep -q '(NEEDED).*\[libtmwatch\.so\.[0-9]*\]' "$folder/dynamic"
 program threads "$top/tests/c/threads.c" 0 '' "${static[@]}"
 program turns "$top/tests/c/turns.c" 0 '' "${static[@]}"
 program permits "$top/tests/c/permits.c" 0 '' "${static[@]}"

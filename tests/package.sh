@@ -1,0 +1,307 @@
+#!/usr/bin/env bash
+# Makes the packages, installs them into folders, and uses there what was installed: the program, the library for C, the man pages and the
+# completions. Man pages and completions have the words of the program's help, and the functions and statuses of the library.
+#
+#   tests/package.sh
+#
+# The last line is 'N passed, M failed', and the exit status is 1 where M is above 0. Where a tool is missing, that is said, and its part
+# skipped; without a C compiler nothing is packaged, and the status is 0.
+# Environment: CC (cc), BUILT (a folder that ./tmwatch-c has filled, beside the built program; both are made where there is none), ROUNDS
+# (500, of the examples).
+# (What stands in single quotes is for awk and other shells.)
+# shellcheck disable=SC2016
+set -eu
+# shellcheck source=tests/common.sh
+. "$(dirname "${BASH_SOURCE[0]}")/common.sh"
+cc=${CC:-cc}
+if ! command -v "$cc" >/dev/null; then
+    echo 'tests/package.sh: skipped, since there is no C compiler: nothing was packaged'
+    exit 0
+fi
+if [ -z "${BUILT:-}" ]; then
+    "$top/build" --install "$folder/built"
+    BUILT=$folder/built
+fi
+export BUILT
+[ ! -x "$BUILT/bin/tmwatch" ] || program=$BUILT/bin/tmwatch
+
+# Runs these words, which have to end with this status.
+ends() {
+    local name=$1 wanted=$2 status=0
+    shift 2
+    "$@" >"$folder/output" 2>&1 || status=$?
+    if [ "$status" -eq "$wanted" ]; then
+        passed=$((passed + 1))
+        echo "$name: passed"
+    else
+        failed=$((failed + 1))
+        echo "$name: FAILED, status $status"
+        tail -n 20 "$folder/output"
+    fi
+}
+
+# Runs these words, which have to write this text and nothing else, with this status.
+tells() {
+    local name=$1 text=$2 wanted=$3
+    shift 3
+    "$@" >"$folder/told" 2>&1 || echo "status $?" >>"$folder/told"
+    [ "$wanted" -eq 0 ] || text+="${text:+$'\n'}status $wanted"
+    ends "$name" 0 diff <(printf '%s' "${text:+$text$'\n'}") "$folder/told"
+}
+
+# Whether a tool is there; what is skipped without it is said.
+has() {
+    command -v "$1" >/dev/null && return
+    echo "$2: skipped, since there is no $1"
+    return 1
+}
+
+version=$(sed -n 's/.*\.version("\(.*\)").*/\1/p' "$top/crates/tmw_words/src/program.rt")
+name=tmwatch_${version}_amd64
+
+# The packages, twice: in folders of other names, by other settings of the user.
+ends 'the packages' 0 "$top/package" "$folder/once"
+ends 'the packages again' 0 env TZ=Asia/Tokyo LC_ALL=C sh -c 'umask 077 && cd / && "$@"' sh "$top/package" "$folder/twice/deep"
+for kind in deb tar.gz; do
+    ends "$name.$kind: the same bytes" 0 cmp "$folder/once/$name.$kind" "$folder/twice/deep/$name.$kind"
+done
+ends 'the packages of another time' 0 env SOURCE_DATE_EPOCH=1000000000 "$top/package" "$folder/early"
+tar --utc --full-time -tvzf "$folder/early/$name.tar.gz" >"$folder/listed"
+tells 'that time alone' '2001-09-09 01:46:40 root/root' 0 awk '!seen[$4 $5 $2]++ { print $4, $5, $2 }' "$folder/listed"
+ends 'a folder that was not built' 1 env BUILT="$folder/none" "$top/package" "$folder/none"
+ends 'no folder' 2 "$top/package"
+mkdir -p "$folder/other/bin" && cp -R "$BUILT/lib" "$BUILT/include" "$folder/other"
+printf '%s\n' '#!/bin/sh' 'echo tmwatch 0.0.9, by opacity' >"$folder/other/bin/tmwatch" && chmod +x "$folder/other/bin/tmwatch"
+ends 'a program of another version' 1 env BUILT="$folder/other" "$top/package" "$folder/none"
+cp "$folder/output" "$folder/told"
+ends 'a program of another version: what is told' 0 grep -q "is not of version $version: tmwatch 0.0.9, by opacity" "$folder/told"
+
+# A root of its own, whose only package is the C library of this machine: tmwatch depends on it.
+root=$folder/root prefix=$folder/prefix
+mkdir -p "$root" "$prefix"
+ends 'tar' 0 tar -xzf "$folder/once/$name.tar.gz" --strip-components=2 -C "$prefix"
+as_root=()
+[ "$(id -u)" -eq 0 ] || as_root=(fakeroot)
+dpkg=("${as_root[@]}" dpkg "--root=$root" --force-not-root --force-script-chrootless --force-bad-path --log=/dev/null)
+if has dpkg 'dpkg -i' && has "${dpkg[0]}" 'dpkg -i'; then
+    mkdir -p "$root/var/lib/dpkg/info" "$root/var/lib/dpkg/updates"
+    dpkg-query --status libc6:amd64 >"$root/var/lib/dpkg/status"
+    ends 'dpkg -i' 0 "${dpkg[@]}" -i "$folder/once/$name.deb"
+    tells 'what is installed' "tmwatch $version amd64 ii " 0 \
+        dpkg-query "--admindir=$root/var/lib/dpkg" -W -f '${Package} ${Version} ${Architecture} ${db:Status-Abbrev}\n' tmwatch
+    tells 'dpkg --verify' '' 0 "${dpkg[@]}" --verify tmwatch
+    ends 'tar and dpkg install the same' 0 diff -r --no-dereference "$root/usr" "$prefix"
+else
+    tar -xzf "$folder/once/$name.tar.gz" -C "$root"
+fi
+tells 'nobody else may write there' '' 0 find "$root/usr" ! -type l -perm /022
+installed=$root/usr/bin/tmwatch examples=$root/usr/share/doc/tmwatch/examples library=$root/usr/lib
+
+# The program.
+ends 'the program that was built' 0 cmp "$program" "$installed"
+tells '--version' "$("$program" --version)" 0 "$installed" --version
+ends 'the version of the package' 0 grep -q "^tmwatch $version, " "$folder/told"
+tells judge '{"at":4,"events":8,"verdict":"violated"}' 1 "$installed" judge <"$examples/dirty_read.trace"
+tells show '{"at":6,"events":6,"verdict":"violated"}
+    state  1
+    event  thread 0    thread 1
+        5              R 0
+        6              V 0       violated, by opacity' 1 "$installed" show <"$examples/stale_read.trace"
+tells 'judge, by tar' '{"at":4,"events":8,"verdict":"violated"}' 1 "$prefix/bin/tmwatch" judge <"$examples/dirty_read.trace"
+
+# The library: its names and links, and programs in C that are linked against it.
+soname=$(readlink "$library/libtmwatch.so")
+tells 'the links' "$soname"$'\n'"libtmwatch.so.$version" 0 readlink "$library/libtmwatch.so" "$library/$soname"
+readelf -W -d "$library/libtmwatch.so" >"$folder/dynamic"
+ends 'the soname' 0 grep -q "(SONAME).*\[$soname\]" "$folder/dynamic"
+ends 'a soname with a version' 0 grep -qx 'libtmwatch\.so\.[0-9]*' <<<"$soname"
+
+# Compiles an example against what is installed, with these words of pkg-config, and tells whether it loads the shared library.
+compile() {
+    local name=$1 file=$2 loads=$3
+    shift 3
+    ends "$name compiles" 0 "$cc" -std=c11 -Wall -Wextra -Werror -O2 -pthread -o "$folder/program" "$examples/c/$file" "$@"
+    readelf -W -d "$folder/program" >"$folder/dynamic"
+    tells "$name loads the library: $loads" "$loads" $((1 - loads)) grep -c "(NEEDED).*\[$soname\]" "$folder/dynamic"
+}
+
+# What pkg-config says of a package in the root, or in the prefix.
+in_root() {
+    PKG_CONFIG_SYSROOT_DIR=$root PKG_CONFIG_LIBDIR=$library/pkgconfig pkg-config "$@"
+}
+in_prefix() {
+    PKG_CONFIG_LIBDIR=$prefix/lib/pkgconfig pkg-config "$@"
+}
+rounds=${ROUNDS:-500}
+if has pkg-config 'programs in C'; then
+    for at in in_root in_prefix; do
+        tells "pkg-config, $at" "$version"$'\n'"$version" 0 "$at" --modversion tmwatch tmwatch_bench
+        read -r -a cflags < <("$at" --cflags tmwatch)
+        read -r -a libs < <("$at" --libs tmwatch)
+        read -r -a bench < <("$at" --libs tmwatch_bench)
+        folder_of=$("$at" --variable=libdir tmwatch)
+        compile "a bank, $at, shared" bank.c 1 "${cflags[@]}" "${libs[@]}"
+        ends "a bank, $at, shared" 0 env LD_LIBRARY_PATH="$folder_of" "$folder/program" "$rounds"
+        ends "a broken bank, $at, shared" 1 env LD_LIBRARY_PATH="$folder_of" "$folder/program" "$rounds" broken
+        compile "a bank, $at, static" bank.c 0 "${cflags[@]}" "$folder_of/libtmwatch.a"
+        ends "a bank, $at, static" 0 "$folder/program" "$rounds"
+        ends "a broken bank, $at, static" 1 "$folder/program" "$rounds" broken
+        compile "a memory on the bench, $at, shared" norec.c 1 "${cflags[@]}" "${bench[@]}"
+        ends "a memory on the bench, $at, shared" 0 env LD_LIBRARY_PATH="$folder_of" "$folder/program" --rounds "$rounds"
+        compile "a memory on the bench, $at, static" norec.c 0 "${cflags[@]}" "$folder_of/libtmwatch_bench.a" "$folder_of/libtmwatch.a"
+        ends "a memory on the bench, $at, static" 0 "$folder/program" --rounds "$rounds"
+    done
+fi
+
+# The man pages: no warning, and the words of the program and the library.
+for page in man1/tmwatch.1 man3/libtmwatch.3; do
+    gunzip -c "$root/usr/share/man/$page.gz" >"$folder/${page#*/}"
+    if has man "man -l ${page#*/}"; then
+        tells "man -l ${page#*/} warns of nothing" '' 0 sh -c 'LC_ALL=C.UTF-8 man --warnings -E UTF-8 -l -Tutf8 -Z "$1" 2>&1 >/dev/null' \
+            sh "$root/usr/share/man/$page.gz"
+        MANWIDTH=80 LC_ALL=C man -l "$root/usr/share/man/$page.gz" >"$folder/rendered"
+        ends "man -l ${page#*/}" 0 grep -q "^ *tmwatch $version .*([13])" "$folder/rendered"
+    fi
+    if has mandoc "mandoc -T lint ${page#*/}"; then
+        tells "mandoc -T lint ${page#*/}" '' 0 mandoc -T lint -W warning "$folder/${page#*/}"
+    fi
+done
+
+# Of the help of a command, or of the program: the options of a list, each with its text, or the commands.
+helped() {
+    "$installed" ${1:+"$1"} --help | sed -n "/^$2:/,/^\$/s/^  *//p" | tr -d '<>' | tr -s ' '
+}
+
+# Of a man page's section: each entry with its text.
+entries() {
+    awk -v section="$2" '/^\.S[SH] / { on = $0 == section } on && /^\.TP/ { getline; name = $0; getline; print name " " $0 }' "$1" |
+        sed 's/^\.[A-Z]* //; s/\\-/-/g; s/"//g; s/  */ /g'
+}
+page=$folder/tmwatch.1
+awk '/^\.SS / { name = $2; getline; print name " " $0 }' "$page" >"$folder/commands"
+helped '' Commands >"$folder/wanted"
+ends 'the commands of tmwatch.1' 0 diff "$folder/wanted" "$folder/commands"
+ends 'some commands' 0 test "$(wc -l <"$folder/commands")" -ge 5
+mapfile -t commands < <(cut -d' ' -f1 "$folder/wanted")
+entries "$page" '.SH OPTIONS' | sed 's/ ,/,/' >"$folder/options"
+ends 'the options of tmwatch.1' 0 diff <(helped '' Options) "$folder/options"
+grep -- --help "$folder/options" >"$folder/help"
+for command in "${commands[@]}"; do
+    ends "the options of $command in tmwatch.1" 0 diff <(helped "$command" Options) \
+        <(entries "$page" ".SS $command" | cat - "$folder/help")
+done
+# The first example of the page, with what it prints, which begins after the command line.
+sed -n '/^\.EX/,/^\.EE/{/^\.E/d;s/\\-/-/g;s/\\e/\\/g;p}' "$page" | sed -n '1,/^\$ tmwatch/{/^\$ tmwatch/!p}' >"$folder/example"
+ends 'the example of tmwatch.1' 0 diff <(sed 1d "$folder/example") \
+    <(PATH=$root/usr/bin:$PATH sh -c "$(sed -n '1s/^\$ //p' "$folder/example")")
+ends 'an example that prints' 0 test "$(wc -l <"$folder/example")" -eq 2
+while read -r path; do
+    ends "$path is there" 0 test -e "$root$path"
+done < <(grep -ho '/usr/[A-Za-z0-9_./-]*' "$folder"/*tmwatch.[13] | sort -u)
+ends 'the exit status in tmwatch.1' 0 diff <(helped '' 'Exit status' | sed '/^[0-9] /!d') <(entries "$page" '.SH EXIT STATUS')
+
+page=$folder/libtmwatch.3
+# The prototypes of the page, which have to be those of the headers, and are all that the libraries have.
+sed -n '/^\.SH SYNOPSIS/,/^\.fi/s/^\.B "\?\([^"]*\)"\?$/\1/p' "$page" >"$folder/prototypes.c"
+ends 'the prototypes of libtmwatch.3' 0 "$cc" -std=c11 -Wall -Wextra -Werror "-I$root/usr/include" -c -o "$folder/prototypes.o" \
+    "$folder/prototypes.c"
+{
+    nm -D --defined-only "$library/libtmwatch.so" | cut -d' ' -f3
+    nm -g --defined-only "$library/libtmwatch_bench.a" | sed -n 's/.* T //p'
+    # (two functions are there for the others)
+    awk '/^static inline/ && !/_(look|enter)\(/ { sub(/\(.*/, ""); sub(/.*[ *]/, ""); print }' "$root/usr/include/tmwatch_permits.h"
+} | sort >"$folder/wanted"
+ends 'the functions of libtmwatch.3' 0 diff "$folder/wanted" \
+    <(sed -n 's/^[a-z].* \**\(tmwatch_[a-z_]*\)(.*/\1/p' "$folder/prototypes.c" | sort)
+ends 'each function has words in libtmwatch.3' 0 diff "$folder/wanted" \
+    <(sed -n '/^\.SH DESCRIPTION/,$p' "$page" | grep -o 'tmwatch_[a-z_]*[ "]*(' | tr -d ' "(' | sort -u)
+ends 'the statuses of libtmwatch.3' 0 diff <(entries "$page" '.SH RETURN VALUE') \
+    <(sed -n '/^enum tmwatch_status/,/^}/s/^ *\(TMWATCH_[A-Z_]*\) = .*\/\* \(.*\) \*\/$/\1 \2/p' "$root/usr/include/tmwatch.h")
+
+# The completions: what each shell offers is what the program takes.
+# Words in one line, sorted.
+in_line() {
+    tr ' ' '\n' | sort | xargs -r
+}
+
+# The long options of a command, or of the program; those that take a value; and the values of one of these, if the program has a list.
+options_of() {
+    helped "$1" Options | grep -o -- '--[a-z-]*' | in_line
+}
+taking_of() {
+    helped "$1" Options | sed -n 's/^\(--[a-z-]*\) [A-Z][A-Z]* .*/\1/p'
+}
+values_of() {
+    { "$installed" "$1" "$2" '?' 2>&1 || true; } | sed -n 's/.*\[possible values: \(.*\)\]$/\1/p' | tr -d , | in_line
+}
+
+# What a shell offers for the last of these words, in one line.
+by_bash() {
+    bash --norc -c '. "$0" && name=$(complete -p tmwatch) && name=${name#complete -F } && COMP_WORDS=("$@") && COMP_CWORD=$(($# - 1)) &&
+        "${name% *}" tmwatch "${COMP_WORDS[COMP_CWORD]}" "${COMP_WORDS[COMP_CWORD - 1]}" && echo "${COMPREPLY[@]}"' \
+        "$root/usr/share/bash-completion/completions/tmwatch" "$@" | in_line
+}
+by_zsh() {
+    zsh -f "$top/tests/offered.zsh" "$root/usr/share/zsh/vendor-completions" "$*" | in_line
+}
+by_fish() {
+    fish --no-config -c 'source $argv[1]; complete -C "$argv[2]"' "$root/usr/share/fish/vendor_completions.d/tmwatch.fish" "$*" |
+        cut -f1 | in_line
+}
+
+# Compares what this shell offers with what the program takes: commands, options and values.
+compare_offered() {
+    local by=by_$1 command option
+    tells "$1: commands" "$(printf '%s\n' "${commands[@]}" | in_line)" 0 no_options "$("$by" tmwatch '')"
+    tells "$1: options" "$(options_of '')" 0 "$by" tmwatch --
+    tells "$1: a window's numbers" '' 0 "$by" tmwatch judge --window ''
+    for command in "${commands[@]}"; do
+        tells "$1: options of $command" "$(options_of "$command")" 0 "$by" tmwatch "$command" --
+        for option in $(taking_of "$command"); do
+            if [ -n "$(values_of "$command" "$option")" ]; then
+                tells "$1: values of $command $option" "$(values_of "$command" "$option")" 0 "$by" tmwatch "$command" "$option" ''
+            fi
+        done
+    done
+}
+no_options() {
+    tr ' ' '\n' <<<"$*" | sed '/^-/d' | in_line
+}
+ends 'the criteria are listed' 0 test "$(values_of judge --criterion)" = 'both opacity strict'
+compare_offered bash
+tells 'bash: an option after =' 'strict' 0 by_bash tmwatch judge --criterion = s
+tells 'bash: all values after =' 'opacity strict' 0 by_bash tmwatch show --criterion =
+tells 'bash: an option is given once' '--first --help --states --window' 0 by_bash tmwatch judge --summary --criterion = both ''
+tells 'bash: a beginning' '--trace --trace-only' 0 by_bash tmwatch drive --tr
+helped '' Commands | cut -d' ' -f2- >"$folder/texts"
+for command in '' "${commands[@]}"; do
+    helped "$command" Options | sed 's/ \[default: .*//; s/^\(-., \)\?--[a-z-]* \([A-Z][A-Z]* \)\?//'
+done | sort -u >>"$folder/texts"
+# Prints each text of the help that a file has not.
+lacks() {
+    while read -r text; do
+        grep -qF -- "$text" "$1" || echo "$text"
+    done <"$folder/texts"
+}
+ends 'the texts of the help' 0 test "$(wc -l <"$folder/texts")" -ge 20
+for shell in zsh fish; do
+    file=$root/usr/share/zsh/vendor-completions/_tmwatch
+    [ "$shell" = zsh ] || file=$root/usr/share/fish/vendor_completions.d/tmwatch.fish
+    tells "$shell: the texts of the help" '' 0 lacks "$file"
+    if has "$shell" "completion by $shell"; then
+        ends "$shell reads it" 0 "$shell" -n "$file"
+        compare_offered "$shell"
+    fi
+done
+
+# What lintian finds, and what is left when the package goes.
+if has lintian lintian; then
+    ends lintian 0 env LC_ALL=C.UTF-8 lintian --fail-on error "$folder/once/$name.deb"
+    grep '^[A-Z]:' "$folder/output" || true
+fi
+if [ -e "$root/var" ]; then
+    ends 'dpkg -r' 0 "${dpkg[@]}" -r tmwatch
+    tells 'nothing is left' '' 0 find "$root" -mindepth 1 '(' ! -path "$root/var*" -o -name '*tmwatch*' ')'
+    ends 'dpkg has forgotten it' 1 dpkg-query "--admindir=$root/var/lib/dpkg" -W tmwatch
+fi
+end_rows
