@@ -1,4 +1,5 @@
 mod Alike
+mod Appends
 mod Behind
 mod GivenFaults
 mod Outcomes
