@@ -4,6 +4,7 @@ mod Behind
 mod GivenFaults
 mod Outcomes
 mod Part
+mod Puts
 pub mod Reasons
 mod Rows
 mod ShownStates
