@@ -1,5 +1,5 @@
 -- One event more.
-use Rattle.std.proofs.Common.{rules, ◌≡◌, ◌++◌, take, codes, ap, ◌∙◌, append_assoc}
+use Rattle.std.proofs.Common.{◌≡◌, ◌++◌, take, codes, ap, ◌∙◌, append_assoc}
 use Rattle.tmw_streams.proofs.FlatMaps.{flat_map-take}
 use Rattle.tmw_show.specs.Page.{event_json, more_events}
 use Rattle.tmw_show.proofs.command.page.json.push_more_events.Goals as goal
