@@ -12,14 +12,18 @@ use Rattle.tmw_judge.specs.Judging.{JudgesBytes}
 use Rattle.tmw_judge.specs.Summing.{SumsBytes}
 use Rattle.tmw_bench.specs.Running.{BenchesBytes}
 use Rattle.tmw_drive.specs.Running.{DrivesBytes}
+use Rattle.tmw_show.specs.Page.{PagesBytes}
 use Rattle.tmw_show.specs.Running.{ShowsBytes}
 use Rattle.tmw_steps.specs.Running.{RunsSteps}
 use Rattle.tmw_defs.specs.declared.criterion.Asked.{Asked}
+use Rattle.tmw_defs.specs.declared.criterion.Criterion.{Criterion}
 use Rattle.tmw_monitor.specs.declared.bounds.Bounds.{Bounds}
 use Rattle.tmw_tm.specs.Memory.{MemoryIs}
 use Rattle.tmw_command.specs.Options.{flags_of, settings_of, written_of}
 use Rattle.tmw_words.specs.Reading.{IsReading}
 use Rattle.tmw_command.specs.Version.{version_line}
+use Rattle.tmw_words.specs.declared.form.Form.{Form}
+use Rattle.tmw_words.specs.declared.form.Form.TheVariants.{Drawing, Traces, Page}
 use Rattle.tmw_words.specs.declared.order.Order.{Order}
 use Rattle.tmw_words.specs.declared.order.Order.TheVariants.{Judge, Show, Drive, Bench, Steps}
 use Rattle.tmw_words.specs.declared.refusal.Refusal.{Refusal}
@@ -46,6 +50,12 @@ abbrev pub Sums : {S K E : Type 0} → FromSource S → ToSink K → ToSink E �
 Sums From To Errors bounds asked false = SumsBytes From To Errors bounds asked
 Sums From To Errors bounds asked true = SumsFirst From To Errors bounds asked
 
+-- What a run of `show` does: it draws the last window, or writes it as traces or as a page.
+abbrev pub Shows : {S K : Type 0} → FromSource S → ToSink K → Criterion → Form → Bounds → S → S → K → K → ℕ → Type 0
+Shows From To criterion Drawing bounds = ShowsBytes From To criterion false bounds
+Shows From To criterion Traces bounds = ShowsBytes From To criterion true bounds
+Shows From To criterion Page bounds = PagesBytes From To criterion bounds
+
 -- This is done, and nothing is sent to the sink for errors.
 abbrev pub Silently : {S K E : Type 0} → (S → S → K → K → ℕ → Type 0) → S → S → K → K → E → E → ℕ → Type 0
 Silently Does source source_after sink sink_after errors errors_after status =
@@ -56,7 +66,7 @@ Silently Does source source_after sink sink_after errors errors_after status =
 abbrev pub RunsOrder : {S K E : Type 0} → FromSource S → ToSink K → ToSink E → MemoriesAre → Order → S → S → K → K → E → E → ℕ → Type 0
 RunsOrder From To Errors memories (Judge bounds asked true first) = Sums From To Errors bounds asked first
 RunsOrder From To Errors memories (Judge bounds asked false first) = Silently (Judges From To bounds asked first)
-RunsOrder From To Errors memories (Show criterion trace bounds) = Silently (ShowsBytes From To criterion trace bounds)
+RunsOrder From To Errors memories (Show criterion form bounds) = Silently (Shows From To criterion form bounds)
 RunsOrder From To Errors memories (Drive memory written bounds) = Silently (DrivesBytes From To (memories memory) (written_of written) bounds)
 RunsOrder From To Errors memories (Bench memory written options) =
     BenchesBytes From To Errors (memories memory) (flags_of written options) (settings_of options)

@@ -7,4 +7,4 @@ mod settings;
 
 pub use memories::Memories;
 pub use run::run_command;
-pub use tmw_words::{BenchOptions, Order, Refusal, Which, read_words};
+pub use tmw_words::{BenchOptions, Form, Order, Refusal, Which, read_words};

@@ -1,7 +1,7 @@
 ghost use Rattle.std.specs.Prelude.{◌≡◌, MatchBool, None, Some, map, string_bytes};
 ghost use Rattle.std.specs.Result.{result_map_both};
 ghost use Rattle.tmw_report.specs.Putting.{IsPut, IsSent};
-ghost use Rattle.tmw_command.specs.Running.{AnswersRefusal, Judges, RunsCommand, RunsOrder, RunsWords, Sums, by_name};
+ghost use Rattle.tmw_command.specs.Running.{AnswersRefusal, Judges, RunsCommand, RunsOrder, RunsWords, Shows, Sums, by_name};
 ghost use Rattle.tmw_tm.specs.Memory.{memory_is};
 
 use crate::memories::Memories;
@@ -11,16 +11,16 @@ use std::convert::AsStr;
 use std::sync::Wait;
 use std::thread::Threads;
 use tmw_bench::{Plan, Progress, run_bench_cmd};
-use tmw_defs::Asked;
+use tmw_defs::{Asked, Criterion};
 use tmw_drive::run_drive;
 use tmw_judge::{run_first, run_first_summary, run_judge, run_summary};
 use tmw_monitor::Bounds;
 use tmw_report::{FAULT_STATUS, Fault, answer_fault};
-use tmw_show::run_show;
+use tmw_show::{run_page, run_show};
 use tmw_steps::run_steps;
 use tmw_streams::{Sink, Source, put_all};
 use tmw_tm::Tm;
-use tmw_words::{Order, Refusal, read_words};
+use tmw_words::{Form, Order, Refusal, read_words};
 
 /// Which program this is: its name and version, and what it judges by.
 // The program's own line and not clap's, so that a clause has its bytes.
@@ -122,9 +122,9 @@ fn run_order<S: Source, K: Sink, E: Sink, R: AllocGlobal + Threads + Wait + Sync
         }
         Order::Show {
             criterion,
-            trace,
+            form,
             bounds,
-        } => run_show(alloc, source, sink, criterion, trace, bounds),
+        } => show(alloc, source, sink, criterion, form, bounds),
         Order::Drive {
             memory,
             written,
@@ -193,6 +193,25 @@ fn sum<S: Source, K: Sink, E: Sink>(
         run_first_summary(alloc, source, sink, errors, bounds, asked)
     } else {
         run_summary(alloc, source, sink, errors, bounds, asked)
+    }
+}
+
+/// Shows the last window of a trace, in this form.
+fn show<S: Source, K: Sink>(
+    alloc: Global,
+    source: &mut S,
+    sink: &mut K,
+    criterion: Criterion,
+    form: Form,
+    bounds: Bounds,
+) -> u8
+    ensures { Shows S.from K.to criterion form bounds
+        source.old source.new sink.old sink.new result }
+{
+    match form {
+        Form::Drawing => run_show(alloc, source, sink, criterion, false, bounds),
+        Form::Traces => run_show(alloc, source, sink, criterion, true, bounds),
+        Form::Page => run_page(alloc, source, sink, criterion, bounds),
     }
 }
 

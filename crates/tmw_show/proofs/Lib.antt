@@ -1,8 +1,10 @@
 mod Alike
+mod Appends
 mod Behind
 mod GivenFaults
 mod Outcomes
 mod Part
+mod Puts
 pub mod Reasons
 mod Rows
 mod ShownStates

@@ -1,6 +1,7 @@
 pub mod Drawing
 pub mod Feeding
 pub mod Keeping
+pub mod Page
 pub mod Reasons
 pub mod Running
 pub mod Showing

@@ -1,10 +1,12 @@
 //! The command `show`: reads a trace, judges it event by event, and writes where it went wrong: its last window, drawn in
-//! columns, or as traces of its own.
+//! columns, as traces of its own, or drawn by a page of HTML.
 
 mod answer;
 mod kind_text;
 mod law;
 mod numbers;
+mod page;
+mod paging;
 mod reading;
 mod run;
 mod shown;
@@ -15,6 +17,7 @@ mod traces;
 mod window;
 
 pub use law::law_traces;
+pub use paging::run_page;
 pub use run::run_show;
 pub use shown::Shown;
 pub use text::shown_text;

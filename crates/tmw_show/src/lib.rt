@@ -10,7 +10,7 @@ mod next_shown;
 mod reason;
 mod showing;
 
-pub use command::{Shown, law_traces, run_show, shown_text};
+pub use command::{Shown, law_traces, run_page, run_show, shown_text};
 pub use kept_window::KeptWindow;
 pub use last_window::LastWindow;
 pub use law::{law_states, law_window};

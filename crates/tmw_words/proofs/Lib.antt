@@ -1,4 +1,5 @@
 mod Commands
+mod Forms
 mod HelpWords
 mod Numbers
 mod Orders

@@ -5,8 +5,9 @@ use Rattle.clap.specs.Words.{Row, Text}
 use Rattle.tmw_defs.specs.declared.criterion.Asked.{Asked}
 use Rattle.tmw_defs.specs.declared.criterion.Criterion.{Criterion}
 use Rattle.tmw_monitor.specs.declared.bounds.Bounds.{Bounds}
-use Rattle.tmw_words.specs.Words.{HasBounds, HasFlag, HasOptions, HasRunOptions, HasTrace, IsOrder, NamesCriteria, NamesCriterion, NamesMemory}
+use Rattle.tmw_words.specs.Words.{HasBounds, HasFlag, HasForm, HasOptions, HasRunOptions, IsOrder, NamesCriteria, NamesCriterion, NamesMemory}
 use Rattle.tmw_words.specs.declared.bench_options.BenchOptions.{BenchOptions}
+use Rattle.tmw_words.specs.declared.form.Form.{Form}
 use Rattle.tmw_words.specs.declared.order.Order.{Order}
 use Rattle.tmw_words.specs.declared.order.Order.TheVariants.{Judge, Show, Drive, Bench, Steps}
 use Rattle.tmw_words.specs.declared.run_options.RunOptions.{RunOptions}
@@ -41,20 +42,20 @@ judge-lacking found rows is none (Drive memory written bounds) (given, same, nam
 judge-lacking found rows is none (Bench memory written options) (given, same, named, wrote, has) =
     let first = one_name found (codes "judge") (codes "bench") rows given is same in
     absurd (omega (arith, first))
-judge-lacking found rows is none (Show criterion trace bounds) (given, same, named, traced, has) =
+judge-lacking found rows is none (Show criterion form bounds) (given, same, named, formed, has) =
     let first = one_name found (codes "judge") (codes "show") rows given is same in
     absurd (omega (arith, first))
 judge-lacking found rows is none Steps (given, same) =
     let first = one_name found (codes "judge") (codes "steps") rows given is same in
     absurd (omega (arith, first))
 
--- without a criterion, a flag or bounds `show` is no order
+-- without a criterion, a form or bounds `show` is no order
 pub show-lacking : (found : Option (Text × List Row)) (rows : List Row) → found ≡ Some (codes "show", rows)
-    → ((criterion : Criterion) (trace : Bool) (bounds : Bounds) → NamesCriterion rows criterion → HasTrace rows trace → HasBounds rows bounds → ⊥)
+    → ((criterion : Criterion) (form : Form) (bounds : Bounds) → NamesCriterion rows criterion → HasForm rows form → HasBounds rows bounds → ⊥)
     → (order : Order) → IsOrder found order → ⊥
-show-lacking found rows is none (Show criterion trace bounds) (given, same, named, traced, has) =
+show-lacking found rows is none (Show criterion form bounds) (given, same, named, formed, has) =
     let own = own_rows found (codes "show") rows given is same in
-    none criterion trace bounds (subst (λ (r : List Row). NamesCriterion r criterion) own named) (subst (λ (r : List Row). HasTrace r trace) own traced)
+    none criterion form bounds (subst (λ (r : List Row). NamesCriterion r criterion) own named) (subst (λ (r : List Row). HasForm r form) own formed)
     (subst (λ (r : List Row). HasBounds r bounds) own has)
 show-lacking found rows is none (Judge bounds asked summary first) (given, same, named, flagged, ends, has) =
     let letter = same_letter 0 found (codes "show") (codes "judge") rows given is same in
@@ -83,7 +84,7 @@ drive-lacking found rows is none (Judge bounds asked summary first) (given, same
 drive-lacking found rows is none (Bench memory written options) (given, same, named, wrote, has) =
     let first = one_name found (codes "drive") (codes "bench") rows given is same in
     absurd (omega (arith, first))
-drive-lacking found rows is none (Show criterion trace bounds) (given, same, named, traced, has) =
+drive-lacking found rows is none (Show criterion form bounds) (given, same, named, formed, has) =
     let first = one_name found (codes "drive") (codes "show") rows given is same in
     absurd (omega (arith, first))
 drive-lacking found rows is none Steps (given, same) =
@@ -104,7 +105,7 @@ bench-lacking found rows is none (Judge bounds asked summary first) (given, same
 bench-lacking found rows is none (Drive memory written bounds) (given, same, named, wrote, has) =
     let first = one_name found (codes "bench") (codes "drive") rows given is same in
     absurd (omega (arith, first))
-bench-lacking found rows is none (Show criterion trace bounds) (given, same, named, traced, has) =
+bench-lacking found rows is none (Show criterion form bounds) (given, same, named, formed, has) =
     let first = one_name found (codes "bench") (codes "show") rows given is same in
     absurd (omega (arith, first))
 bench-lacking found rows is none Steps (given, same) =

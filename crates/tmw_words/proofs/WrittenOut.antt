@@ -412,3 +412,11 @@ drawn_by_default = refl
 traces_asked_for : of_traces (codes "--states=2" ∷ codes "--trace" ∷ []) ≡ Some (Some (codes "true"))
 unfolding clap_on_literals
 traces_asked_for = refl
+
+-- and whether it writes a page: both together are no order, though the parser finds no fault in them
+abbrev of_page : List Text → Option (Option Text)
+of_page words = option_map (λ p. one_of (codes "page") p.1) (subcommand_of program (help_as_flag (said (codes "show" ∷ words))))
+
+page_asked_for : of_page (codes "--page" ∷ codes "--trace" ∷ []) ≡ Some (Some (codes "true"))
+unfolding clap_on_literals
+page_asked_for = refl

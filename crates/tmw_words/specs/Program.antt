@@ -102,7 +102,8 @@ judge_among criteria =
 
 -- `show`, by one of these criteria
 abbrev pub show_among : ValueParser → App
-show_among criteria = with_bounds (with_flag (codes "trace") (with_criterion criteria (new_app (codes "show"))))
+show_among criteria =
+    with_bounds (with_flag (codes "page") (with_flag (codes "trace") (with_criterion criteria (new_app (codes "show")))))
 
 -- `drive`, over one of these memories
 abbrev pub drive_among : ValueParser → App

@@ -1,5 +1,5 @@
 -- What the words of a command line ask for: an order, help, the version, or nothing that the program knows.
-use Rattle.std.specs.Prelude.{◌≡◌, ◌≢◌, ◌⊎◌, ℕ, Bool, false, List, [], ◌∷◌, ◌++◌, Option, Some, codes, if◌then◌else◌}
+use Rattle.std.specs.Prelude.{◌≡◌, ◌≢◌, ◌⊎◌, ℕ, Bool, true, false, List, [], ◌∷◌, ◌++◌, Option, Some, None, codes, if◌then◌else◌}
 use Rattle.std.specs.List.{remove}
 use Rattle.std.specs.Str.{bytes_eq}
 use Rattle.std.specs.Str.Parse.{IsNumeral, digits_value, without_leading_plus}
@@ -12,6 +12,8 @@ use Rattle.tmw_defs.specs.declared.criterion.Criterion.{Criterion}
 use Rattle.tmw_monitor.specs.declared.bounds.Bounds.{Bounds}
 use Rattle.tmw_words.specs.Program.{asked_name, criterion_name, memory_name, program}
 use Rattle.tmw_words.specs.declared.bench_options.BenchOptions.{BenchOptions}
+use Rattle.tmw_words.specs.declared.form.Form.{Form}
+use Rattle.tmw_words.specs.declared.form.Form.TheVariants.{Drawing, Traces, Page}
 use Rattle.tmw_words.specs.declared.order.Order.{Order}
 use Rattle.tmw_words.specs.declared.order.Order.TheVariants.{Judge, Show, Drive, Bench, Steps}
 use Rattle.tmw_words.specs.declared.run_options.RunOptions.{RunOptions}
@@ -62,6 +64,17 @@ HasFlag flag rows set = one_of flag rows ≡ Some (bool_text set)
 abbrev pub HasTrace : List Row → Bool → Type 0
 HasTrace = HasFlag (codes "trace")
 
+-- The form that the flags `--trace` and `--page` of `show` ask for. Both together ask for none.
+abbrev pub form_by : Bool → Bool → Option Form
+form_by false false = Some Drawing
+form_by true false = Some Traces
+form_by false true = Some Page
+form_by true true = None
+
+-- The words ask for this form.
+abbrev pub HasForm : List Row → Form → Type 0
+HasForm rows form = (trace : Bool) × (page : Bool) × HasTrace rows trace × HasFlag (codes "page") rows page × (form_by trace page ≡ Some form)
+
 -- The words give these numbers of cells, of tries and of rounds, and these bounds, and have each of two flags or have it not.
 pub record HasOptions (rows : List Row) (options : BenchOptions) : Type 0 where
   pub cells : Gives (codes "ring") rows options.cells
@@ -82,8 +95,8 @@ abbrev pub IsOrder : Option (Text × List Row) → Order → Type 0
 IsOrder found (Judge bounds asked summary first) =
     (rows : List Row) × (found ≡ Some (codes "judge", rows)) × NamesCriteria rows asked × HasFlag (codes "summary") rows summary
     × HasFlag (codes "first") rows first × HasBounds rows bounds
-IsOrder found (Show criterion trace bounds) =
-    (rows : List Row) × (found ≡ Some (codes "show", rows)) × NamesCriterion rows criterion × HasTrace rows trace × HasBounds rows bounds
+IsOrder found (Show criterion form bounds) =
+    (rows : List Row) × (found ≡ Some (codes "show", rows)) × NamesCriterion rows criterion × HasForm rows form × HasBounds rows bounds
 IsOrder found (Drive memory written bounds) =
     (rows : List Row) × (found ≡ Some (codes "drive", rows)) × NamesMemory rows memory × HasRunOptions rows written × HasBounds rows bounds
 IsOrder found (Bench memory written options) =

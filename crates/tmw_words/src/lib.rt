@@ -3,6 +3,7 @@
 
 mod asked;
 mod bench_options;
+mod form;
 mod order;
 mod parse;
 mod program;
@@ -12,6 +13,7 @@ mod which;
 mod words;
 
 pub use bench_options::BenchOptions;
+pub use form::Form;
 pub use order::Order;
 pub use refusal::Refusal;
 pub use run_options::RunOptions;

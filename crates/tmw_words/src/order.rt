@@ -1,4 +1,5 @@
 use crate::bench_options::BenchOptions;
+use crate::form::Form;
 use crate::run_options::RunOptions;
 use crate::which::Which;
 use tmw_defs::{Asked, Criterion};
@@ -16,10 +17,10 @@ pub enum Order {
         first: bool,
     },
     /// To judge the trace on standard input by this criterion within these bounds, and to show where it went wrong: its
-    /// last window, drawn, or by `trace` as traces of its own.
+    /// last window, in this form.
     Show {
         criterion: Criterion,
-        trace: bool,
+        form: Form,
         bounds: Bounds,
     },
     /// To run the workload on standard input on this memory, and to judge the run within these bounds. The options say

@@ -3,8 +3,9 @@ ghost use Rattle.clap.specs.Walk.{texts};
 ghost use Rattle.clap.specs.Words.{Text, app_of, found_of, kind_of, rows_of, subcommand_rows_of};
 ghost use Rattle.tmw_words.specs.Program.{IsProgram};
 ghost use Rattle.tmw_words.specs.Reading.{FailsAs};
-ghost use Rattle.tmw_words.specs.Words.{Asks, Gives, HasBounds, HasFlag, HasOptions, HasRunOptions, HasTrace, IsOrder, NamesCriteria, NamesCriterion, NamesMemory, help_as_flag, names_help};
+ghost use Rattle.tmw_words.specs.Words.{Asks, Gives, HasBounds, HasFlag, HasForm, HasOptions, HasRunOptions, IsOrder, NamesCriteria, NamesCriterion, NamesMemory, form_by, help_as_flag, names_help};
 ghost use Rattle.tmw_words.specs.declared.bench_options.BenchOptions.{BenchOptions};
+ghost use Rattle.tmw_words.specs.declared.form.Form.{Form};
 ghost use Rattle.tmw_words.specs.declared.order.Order.{Order};
 ghost use Rattle.tmw_words.specs.declared.run_options.RunOptions.{RunOptions};
 ghost use Rattle.tmw_words.specs.declared.which.Which.{Which};
@@ -14,6 +15,7 @@ ghost use Rattle.tmw_monitor.specs.declared.bounds.Bounds.{Bounds};
 
 use crate::asked::{asked_named, criterion_named};
 use crate::bench_options::BenchOptions;
+use crate::form::Form;
 use crate::order::Order;
 use crate::program::new_program;
 use crate::run_options::RunOptions;
@@ -50,7 +52,10 @@ fn parse_by<'a>(program: &mut Command<'a>, spelled: &'a [&'a str]) -> Result<Ord
     let matches = program.try_get_matches_from_mut(spelled)?;
     match order_of(&matches) {
         Some(order) => Ok(order),
-        None => Err(program.error(ErrorKind::InvalidSubcommand, "the words give no command")?),
+        None => Err(program.error(
+            ErrorKind::InvalidSubcommand,
+            "the argument '--page' cannot be used with '--trace'",
+        )?),
     }
 }
 
@@ -150,7 +155,10 @@ fn show_of(show: &ArgMatches<'_>) -> Option<Order>
     ensures none { IfNone result
         ((order : Order) → IsOrder (Some (codes "show", rows_of (found_of show.now))) order → ⊥) }
 {
-    let Some((criterion, trace)) = criterion_and_trace_of(show) else {
+    let Some(criterion) = criterion_of(show) else {
+        return None;
+    };
+    let Some(form) = form_of(show) else {
         return None;
     };
     let Some(bounds) = bounds_of(show) else {
@@ -158,20 +166,16 @@ fn show_of(show: &ArgMatches<'_>) -> Option<Order>
     };
     Some(Order::Show {
         criterion,
-        trace,
+        form,
         bounds,
     })
 }
 
-/// The criterion that the matches of `show` name, and whether they have the flag `--trace`.
-fn criterion_and_trace_of(matches: &ArgMatches<'_>) -> Option<(Criterion, bool)>
-    ensures some { IfSome result
-        (λ found. NamesCriterion (rows_of (found_of matches.now)) found.0
-        × HasTrace (rows_of (found_of matches.now)) found.1) }
+/// The criterion that the matches of `show` name.
+fn criterion_of(matches: &ArgMatches<'_>) -> Option<Criterion>
+    ensures some { IfSome result (NamesCriterion (rows_of (found_of matches.now))) }
     ensures none { IfNone result
-        ((criterion : Criterion) (trace : Bool)
-        → NamesCriterion (rows_of (found_of matches.now)) criterion
-        → HasTrace (rows_of (found_of matches.now)) trace → ⊥) }
+        ((criterion : Criterion) → NamesCriterion (rows_of (found_of matches.now)) criterion → ⊥) }
 {
     let Some(name) = matches.get_str("criterion") else {
         return None;
@@ -179,10 +183,34 @@ fn criterion_and_trace_of(matches: &ArgMatches<'_>) -> Option<(Criterion, bool)>
     let Some(criterion) = criterion_named(name) else {
         return None;
     };
+    Some(criterion)
+}
+
+/// The form that the flags `--trace` and `--page` of the matches of `show` ask for. Both together ask for none.
+fn form_of(matches: &ArgMatches<'_>) -> Option<Form>
+    ensures some { IfSome result (HasForm (rows_of (found_of matches.now))) }
+    ensures none { IfNone result
+        ((form : Form) → HasForm (rows_of (found_of matches.now)) form → ⊥) }
+{
     let Some(trace) = flag_of(matches, "trace") else {
         return None;
     };
-    Some((criterion, trace))
+    let Some(page) = flag_of(matches, "page") else {
+        return None;
+    };
+    form_by(trace, page)
+}
+
+/// The form that these two flags ask for. Both together ask for none.
+fn form_by(trace: bool, page: bool) -> Option<Form>
+    ensures { result ≡ form_by trace page }
+{
+    match (trace, page) {
+        (false, false) => Some(Form::Drawing),
+        (true, false) => Some(Form::Traces),
+        (false, true) => Some(Form::Page),
+        (true, true) => None,
+    }
 }
 
 /// The order that the matches of `drive` hold. There is none where they lack one of its values.

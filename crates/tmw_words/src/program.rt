@@ -34,6 +34,8 @@ const TRACE_ONLY_HELP: &str = "Write only the run's trace";
 
 const SHOW_TRACE_HELP: &str = "Write only the window, as traces";
 
+const SHOW_PAGE_HELP: &str = "Write the window as a page of HTML";
+
 const BENCH_SHOW_HELP: &str = "Write what `show` writes in place of the report";
 
 const QUIET_HELP: &str = "Show no progress on a terminal";
@@ -93,7 +95,8 @@ the event where the run went wrong, or at the last event. Beside that event
 stands what is wrong; if malformed, which rule it broke.
 
 With --trace it writes, for each state, a trace that starts with this state and
-has the window's events, and nothing else.
+has the window's events, and nothing else. With --page it writes one page of
+HTML that draws the window, for a browser; it needs no network.
 
 Exit status: 0 opaque (or strict) so far, 1 violated, 2 undecided, 3 malformed,
 4 for a fault, which one line on standard output names.
@@ -196,7 +199,8 @@ fn new_show<'a>(alloc: Global, criteria: &'a [&'a str]) -> Result<Command<'a>, A
     let about = "Judge a trace, and draw its last window, where it went wrong";
     let show = described(alloc, "show", about, SHOW_HELP);
     let judged = with_criterion(alloc, show, criteria, SHOW_CRITERION_HELP)?;
-    with_bounds(alloc, with_flag(alloc, judged, "trace", SHOW_TRACE_HELP)?)
+    let traced = with_flag(alloc, judged, "trace", SHOW_TRACE_HELP)?;
+    with_bounds(alloc, with_flag(alloc, traced, "page", SHOW_PAGE_HELP)?)
 }
 
 /// The command `drive`, over memories of these names.

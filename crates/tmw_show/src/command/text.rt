@@ -63,8 +63,8 @@ fn push_drawn(
     Ok(())
 }
 
-/// The line that `judge` writes, by the same criterion.
-fn line_by(
+/// Makes the line that `judge` writes, by the same criterion.
+pub fn line_by(
     alloc: Global,
     criterion: Criterion,
     events: u64,

@@ -9,7 +9,7 @@ pub returns-else-summary : goal.returns-else-summary
 returns-else-summary g c = rw (c.in-Judge.is, c.if-summary.false) (c.judge.ensures, refl)
 
 pub returns-in-Show : goal.returns-in-Show
-returns-in-Show g c = rw c.in-Show.is (c.run_show.ensures, refl)
+returns-in-Show g c = rw c.in-Show.is (c.show.ensures, refl)
 
 pub returns-in-Drive : goal.returns-in-Drive
 returns-in-Drive g c = rw c.in-Drive.is (rw (c.named-picked.ensures, c.written_of.ensures) at c.run_drive.ensures, refl)

@@ -7,9 +7,14 @@ use Rattle.tmw_words.proofs.parse.show_of.Goals as goal
 pub returns-in_default-clause-none : goal.returns-in_default-clause-none
 returns-in_default-clause-none c =
     show-lacking (Some (codes "show", rows_of (found_of c.args.show.now))) (rows_of (found_of c.args.show.now)) refl
-    (λ criterion trace bounds named traced has. c.in_default.ensures.none criterion trace named traced)
+    (λ criterion form bounds named formed has. c.in_default.ensures.none criterion named)
+
+pub returns-in_default-form_of-clause-none : goal.returns-in_default-form_of-clause-none
+returns-in_default-form_of-clause-none c =
+    show-lacking (Some (codes "show", rows_of (found_of c.args.show.now))) (rows_of (found_of c.args.show.now)) refl
+    (λ criterion form bounds named formed has. c.in_default-form_of.ensures.none form formed)
 
 pub returns-in_default-bounds_of-clause-none : goal.returns-in_default-bounds_of-clause-none
 returns-in_default-bounds_of-clause-none c =
     show-lacking (Some (codes "show", rows_of (found_of c.args.show.now))) (rows_of (found_of c.args.show.now)) refl
-    (λ criterion trace bounds named traced has. c.in_default-bounds_of.ensures.none bounds has)
+    (λ criterion form bounds named formed has. c.in_default-bounds_of.ensures.none bounds has)

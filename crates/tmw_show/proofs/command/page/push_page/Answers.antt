@@ -1,0 +1,10 @@
+-- Each part follows the one before it.
+use Rattle.tmw_show.specs.Page.{json_text}
+use Rattle.tmw_show.specs.declared.command.page.parts.TheConstants.{HEAD, TAIL}
+use Rattle.tmw_show.proofs.Appends.{three}
+use Rattle.tmw_show.proofs.command.page.push_page.Goals as goal
+
+pub returns : goal.returns
+returns c =
+    three c.args.text.now.items HEAD.now (json_text c.args.criterion c.args.shown.now) c.in_ok-extend_from_slice.ensures.items
+    c.in_ok-push_json.ensures TAIL.now c.in_ok-extend_from_slice-2.ensures.items

@@ -1,0 +1,99 @@
+-- The page that draws a window: a constant head, what is shown as one JSON object, and a constant tail. Of a trace the object has digits,
+-- the letters of events and blanks alone, within strings, and numbers.
+use Rattle.std.specs.Prelude.{ℕ, ◌+◌, List, [], ◌∷◌, ◌++◌, take, codes, Option, Some, None}
+use Rattle.std.specs.List.{flat_map}
+use Rattle.std.specs.Fmt.{decimal}
+use Rattle.tmw_events.specs.Text.{event_text}
+use Rattle.tmw_events.specs.declared.event.Event.{Event}
+use Rattle.tmw_events.specs.declared.registers.Registers.{Registers}
+use Rattle.tmw_trace.specs.Text.{values_text}
+use Rattle.tmw_cuts.specs.Members.{members}
+use Rattle.tmw_defs.specs.Opaque.{State}
+use Rattle.tmw_defs.specs.declared.criterion.Criterion.{Criterion}
+use Rattle.tmw_defs.specs.declared.criterion.Criterion.TheVariants.{Opacity, Strict}
+use Rattle.tmw_defs.specs.declared.verdict.Verdict.{Verdict}
+use Rattle.tmw_defs.specs.declared.verdict.Verdict.TheVariants.{OpaqueSoFar, StrictSoFar, Violated, Undecided, Malformed}
+use Rattle.tmw_show.specs.Drawing.{told_text}
+use Rattle.tmw_monitor.specs.declared.bounds.Bounds.{Bounds}
+use Rattle.tmw_report.specs.CommandRun.{IsCommandRun}
+use Rattle.tmw_streams.specs.Streams.{FromSource, ToSink}
+use Rattle.tmw_show.specs.Running.{AnswersShow, line_by, shown_status, told_of}
+use Rattle.tmw_show.specs.declared.command.page.parts.TheConstants.{HEAD, TAIL}
+use Rattle.tmw_show.specs.declared.command.shown.Shown.{Shown}
+use Rattle.tmw_show.specs.declared.command.told.Told.{Told}
+
+-- a state as a string: what the run's registers hold, each value after one space
+abbrev pub state_json : List ℕ → Registers → State → List ℕ
+state_json opened registers state = opened ++ (values_text (take registers.number state) ++ 34 ∷ [])
+
+-- the states, with a comma between each and the next
+abbrev pub more_states : Registers → List State → List ℕ
+more_states registers states = flat_map (state_json (codes ",\"") registers) states
+
+abbrev pub states_json : Registers → List State → List ℕ
+states_json registers [] = []
+states_json registers (state ∷ states) = state_json (codes "\"") registers state ++ more_states registers states
+
+-- an event as a string: its line in a trace
+abbrev pub event_json : List ℕ → Event → List ℕ
+event_json opened event = opened ++ (event_text event ++ 34 ∷ [])
+
+-- the events, with a comma between each and the next
+abbrev pub more_events : List Event → List ℕ
+more_events events = flat_map (event_json (codes ",\"")) events
+
+abbrev pub events_json : List Event → List ℕ
+events_json [] = []
+events_json (event ∷ events) = event_json (codes "\"") event ++ more_events events
+
+-- both lists
+abbrev pub window_json : Registers → List State → List Event → List ℕ
+window_json registers states events =
+    codes ",\"states\":[" ++ (states_json registers states ++ (codes "],\"events\":[" ++ (events_json events ++ codes "]")))
+
+-- the criterion, how many registers there are, and how many events stand before the window
+abbrev pub criterion_json : Criterion → List ℕ
+criterion_json Opacity = codes ",\"criterion\":\"opacity\",\"registers\":"
+criterion_json Strict = codes ",\"criterion\":\"strict\",\"registers\":"
+
+abbrev pub numbers_json : Criterion → Registers → ℕ → List ℕ
+numbers_json criterion registers from =
+    criterion_json criterion ++ ((48 + registers.number) ∷ codes ",\"before\":" ++ decimal from)
+
+-- the line that `judge` writes, and these
+abbrev pub about_json : Criterion → Shown → List ℕ
+about_json criterion shown =
+    codes "{\"report\":"
+    ++ (line_by criterion shown.showing.fed shown.showing.verdict ++ numbers_json criterion shown.registers shown.showing.from)
+
+-- the number of the event that the verdict names, if it names one
+abbrev pub settled_at : Verdict → Option ℕ
+settled_at OpaqueSoFar = None
+settled_at StrictSoFar = None
+settled_at (Violated at) = Some at
+settled_at (Undecided at why) = Some at
+settled_at (Malformed at) = Some at
+
+-- that event, and what is told of it
+abbrev pub mark_at : Told → Option ℕ → List ℕ
+mark_at told None = []
+mark_at told (Some at) = codes ",\"mark\":" ++ (decimal at ++ (codes ",\"told\":\"" ++ (told_text told at ++ codes "\"")))
+
+abbrev pub mark_json : Told → List ℕ
+mark_json told = mark_at told (settled_at told.verdict)
+
+-- what is shown, as one JSON object and a line feed
+abbrev pub json_text : Criterion → Shown → List ℕ
+json_text criterion shown =
+    about_json criterion shown
+    ++ (window_json shown.registers (members shown.showing.states) shown.showing.events.items
+    ++ (mark_json (told_of criterion shown) ++ codes "}\n"))
+
+-- the page
+abbrev pub page_text : Criterion → Shown → List ℕ
+page_text criterion shown = HEAD.now ++ (json_text criterion shown ++ TAIL.now)
+
+-- What a run of `show --page` does: it answers the bytes that its source tells in it as one of `show` does, with the page in place of
+-- the text.
+abbrev pub PagesBytes : {S K : Type 0} → FromSource S → ToSink K → Criterion → Bounds → S → S → K → K → ℕ → Type 0
+PagesBytes From To criterion bounds = IsCommandRun From To (AnswersShow criterion bounds) (page_text criterion) shown_status

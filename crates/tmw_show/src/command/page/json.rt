@@ -1,0 +1,207 @@
+ghost use Rattle.std.specs.Prelude.{◌≡◌, ◌++◌, OnOk};
+ghost use Rattle.tmw_show.specs.Page.{about_json, criterion_json, event_json, events_json, json_text, mark_json, more_events, more_states, numbers_json, settled_at, state_json, states_json, window_json};
+ghost use Rattle.tmw_show.specs.Running.{IsVerdictBy};
+
+use crate::command::kind_text::{digit_of, push_kind};
+use crate::command::numbers::{push_number, push_values};
+use crate::command::shown::Shown;
+use crate::command::text::line_by;
+use crate::command::told::{Told, told_of};
+use std::alloc::{AllocError, Global};
+use tmw_cuts::State;
+use tmw_defs::{Criterion, Verdict};
+use tmw_events::{Event, Registers};
+
+/// Adds what is shown by this criterion as one JSON object: the members of the report, the criterion, how many registers
+/// there are and how many events stand before the window; its states and its events; and what is wrong, if anything is.
+pub fn push_json(
+    alloc: Global,
+    text: &mut Vec<u8>,
+    criterion: Criterion,
+    shown: &Shown,
+) -> Result<(), AllocError>
+    requires { IsVerdictBy criterion shown.now.showing.verdict }
+    ensures { OnOk result (text.new.items ≡ text.old.items ++ json_text criterion shown.now) }
+{
+    let showing = &shown.showing;
+    push_about(alloc, text, criterion, shown)?;
+    push_window(
+        text,
+        shown.registers,
+        showing.states.states(),
+        &showing.events,
+    )?;
+    let told = Told {
+        criterion,
+        verdict: showing.verdict,
+        fault: showing.fault,
+    };
+    push_mark(text, told)?;
+    text.extend_from_slice(b"}\n")?;
+    Ok(())
+}
+
+/// Adds the members that tell of the whole run.
+fn push_about(
+    alloc: Global,
+    text: &mut Vec<u8>,
+    criterion: Criterion,
+    shown: &Shown,
+) -> Result<(), AllocError>
+    requires { IsVerdictBy criterion shown.now.showing.verdict }
+    ensures { OnOk result (text.new.items ≡ text.old.items ++ about_json criterion shown.now) }
+{
+    let showing = &shown.showing;
+    let line = line_by(alloc, criterion, showing.fed, &showing.verdict)?;
+    text.extend_from_slice(b"{\"report\":")?;
+    text.extend_from_slice(line.as_bytes())?;
+    push_numbers(text, criterion, shown.registers, showing.from)?;
+    Ok(())
+}
+
+/// Adds the criterion, how many registers there are, and how many events stand before the window.
+fn push_numbers(
+    text: &mut Vec<u8>,
+    criterion: Criterion,
+    registers: Registers,
+    from: u64,
+) -> Result<(), AllocError>
+    ensures { OnOk result
+        (text.new.items ≡ text.old.items ++ numbers_json criterion registers from) }
+{
+    text.extend_from_slice(criterion_json(criterion))?;
+    text.push(b'0' + registers.get())?;
+    text.extend_from_slice(b",\"before\":")?;
+    push_number(text, from)?;
+    Ok(())
+}
+
+/// The member that names the criterion, and the key of the next.
+fn criterion_json(criterion: Criterion) -> &'static [u8]
+    ensures { result.now ≡ criterion_json criterion }
+{
+    match criterion {
+        Criterion::Opacity => b",\"criterion\":\"opacity\",\"registers\":",
+        Criterion::Strict => b",\"criterion\":\"strict\",\"registers\":",
+    }
+}
+
+/// Adds the states from which the window begins, and its events.
+fn push_window(
+    text: &mut Vec<u8>,
+    registers: Registers,
+    states: &[State],
+    events: &[Event],
+) -> Result<(), AllocError>
+    ensures { OnOk result
+        (text.new.items ≡ text.old.items ++ window_json registers states.now events.now) }
+{
+    text.extend_from_slice(b",\"states\":[")?;
+    push_states(text, registers, states)?;
+    text.extend_from_slice(b"],\"events\":[")?;
+    push_events(text, events)?;
+    text.push(b']')?;
+    Ok(())
+}
+
+/// Adds the states, with a comma between each and the next.
+fn push_states(text: &mut Vec<u8>, registers: Registers, states: &[State]) -> Result<(), AllocError>
+    ensures { OnOk result (text.new.items ≡ text.old.items ++ states_json registers states.now) }
+{
+    let [first, rest @ ..] = states else {
+        return Ok(());
+    };
+    push_state(text, b"\"", registers, *first)?;
+    push_more_states(text, registers, rest)?;
+    Ok(())
+}
+
+/// Adds further states, with a comma before each.
+fn push_more_states(
+    text: &mut Vec<u8>,
+    registers: Registers,
+    states: &[State],
+) -> Result<(), AllocError>
+    ensures { OnOk result (text.new.items ≡ text.old.items ++ more_states registers states.now) }
+{
+    for state in states {
+        push_state(text, b",\"", registers, *state)?;
+    }
+    Ok(())
+}
+
+/// Adds a state as a string, after what opens it.
+fn push_state(
+    text: &mut Vec<u8>,
+    opened: &[u8],
+    registers: Registers,
+    state: State,
+) -> Result<(), AllocError>
+    ensures { OnOk result
+        (text.new.items ≡ text.old.items ++ state_json opened.now registers state) }
+{
+    text.extend_from_slice(opened)?;
+    push_values(text, &state[..registers.get() as usize])?;
+    text.push(b'"')?;
+    Ok(())
+}
+
+/// Adds the events, with a comma between each and the next.
+fn push_events(text: &mut Vec<u8>, events: &[Event]) -> Result<(), AllocError>
+    ensures { OnOk result (text.new.items ≡ text.old.items ++ events_json events.now) }
+{
+    let [first, rest @ ..] = events else {
+        return Ok(());
+    };
+    push_event(text, b"\"", *first)?;
+    push_more_events(text, rest)?;
+    Ok(())
+}
+
+/// Adds further events, with a comma before each.
+fn push_more_events(text: &mut Vec<u8>, events: &[Event]) -> Result<(), AllocError>
+    ensures { OnOk result (text.new.items ≡ text.old.items ++ more_events events.now) }
+{
+    for event in events {
+        push_event(text, b",\"", *event)?;
+    }
+    Ok(())
+}
+
+/// Adds an event as a string, after what opens it: its line in a trace.
+fn push_event(text: &mut Vec<u8>, opened: &[u8], event: Event) -> Result<(), AllocError>
+    ensures { OnOk result (text.new.items ≡ text.old.items ++ event_json opened.now event) }
+{
+    text.extend_from_slice(opened)?;
+    text.extend_from_slice(&[digit_of(event.thread), b' '])?;
+    push_kind(text, event.kind)?;
+    text.push(b'"')?;
+    Ok(())
+}
+
+/// Adds the number of the event at which something is wrong, and what is told of it, if the verdict names one.
+fn push_mark(text: &mut Vec<u8>, told: Told) -> Result<(), AllocError>
+    ensures { OnOk result (text.new.items ≡ text.old.items ++ mark_json told) }
+{
+    match settled_at(told.verdict) {
+        Some(at) => {
+            text.extend_from_slice(b",\"mark\":")?;
+            push_number(text, at)?;
+            text.extend_from_slice(b",\"told\":\"")?;
+            text.extend_from_slice(told_of(told, at).as_bytes())?;
+            text.push(b'"')?;
+        }
+        None => {}
+    }
+    Ok(())
+}
+
+/// The number of the event that the verdict names, if it names one.
+fn settled_at(verdict: Verdict) -> Option<u64>
+    ensures { result ≡ settled_at verdict }
+{
+    match verdict {
+        Verdict::OpaqueSoFar | Verdict::StrictSoFar => None,
+        Verdict::Violated(at) | Verdict::Undecided(at, _) | Verdict::Malformed(at) => Some(at),
+    }
+}

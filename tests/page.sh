@@ -1,0 +1,48 @@
+#!/usr/bin/env bash
+# Compares the page of `show --page` with its files and with the traces of examples/.
+#
+#   tests/page.sh
+#   tests/page.sh write
+#
+# The constants of the program are to be the files of crates/tmw_show/page; `write` writes them anew from these. Then tests/page.py opens
+# the page of each trace in a headless Chromium, and compares what it draws with the trace. Without a browser only the constants are
+# compared, and a line says so.
+# Each row that fails is told. The last line is 'N passed, M failed', and the exit status is 1 where one failed.
+# Environment: BROWSER, the browser's command.
+set -eu
+# shellcheck source=tests/common.sh
+. "$(dirname "${BASH_SOURCE[0]}")/common.sh"
+page=$top/crates/tmw_show/page
+constants=$top/crates/tmw_show/src/command/page/parts.rt
+
+# The source file that holds both files as constants.
+write_constants() {
+    printf '//! The constant parts of a page: tests/page.sh writes them from the files of page/.\n'
+    printf '\n/// What stands before the window: head.html.\npub const HEAD: &[u8] = br##"%s\n"##;\n' "$(<"$page/head.html")"
+    printf '\n/// What stands after it: tail.html.\npub const TAIL: &[u8] = br##"%s\n"##;\n' "$(<"$page/tail.html")"
+}
+
+if [ "${1:-}" = write ]; then
+    write_constants >"$constants"
+    exit
+fi
+
+if write_constants | cmp -s - "$constants"; then
+    passed=1
+else
+    failed=1
+    echo "$constants is not as 'tests/page.sh write' writes it"
+fi
+
+browser=$(command -v "${BROWSER:-chromium}" || true)
+if [ -z "$browser" ]; then
+    echo 'no chromium: no page was opened'
+    end_rows
+    exit
+fi
+[ -x "$program" ] || "$top/build"
+python3 "$top/tests/page.py" "$program" "$browser" "$top"/examples/*.trace >"$folder/pages" || true
+sed '$d' "$folder/pages"
+read -r well _ badly _ <<<"$(tail -n 1 "$folder/pages")"
+passed=$((passed + well)) failed=$((failed + badly))
+end_rows
