@@ -140,12 +140,12 @@ if has pkg-config 'programs in C'; then
         read -r -a libs < <("$at" --libs tmwatch)
         read -r -a bench < <("$at" --libs tmwatch_bench)
         folder_of=$("$at" --variable=libdir tmwatch)
-        compile "a bank, $at, shared" bank.c 1 "${cflags[@]}" "${libs[@]}"
-        ends "a bank, $at, shared" 0 env LD_LIBRARY_PATH="$folder_of" "$folder/program" "$rounds"
-        ends "a broken bank, $at, shared" 1 env LD_LIBRARY_PATH="$folder_of" "$folder/program" "$rounds" broken
-        compile "a bank, $at, static" bank.c 0 "${cflags[@]}" "$folder_of/libtmwatch.a"
-        ends "a bank, $at, static" 0 "$folder/program" "$rounds"
-        ends "a broken bank, $at, static" 1 "$folder/program" "$rounds" broken
+        compile "an audited bank, $at, shared" audit.c 1 "${cflags[@]}" "${libs[@]}"
+        ends "an audited bank, $at, shared" 0 env LD_LIBRARY_PATH="$folder_of" "$folder/program" "$rounds"
+        ends "a broken audited bank, $at, shared" 1 env LD_LIBRARY_PATH="$folder_of" "$folder/program" "$rounds" broken
+        compile "an audited bank, $at, static" audit.c 0 "${cflags[@]}" "$folder_of/libtmwatch.a"
+        ends "an audited bank, $at, static" 0 "$folder/program" "$rounds"
+        ends "a broken audited bank, $at, static" 1 "$folder/program" "$rounds" broken
         compile "a memory on the bench, $at, shared" norec.c 1 "${cflags[@]}" "${bench[@]}"
         ends "a memory on the bench, $at, shared" 0 env LD_LIBRARY_PATH="$folder_of" "$folder/program" --rounds "$rounds"
         compile "a memory on the bench, $at, static" norec.c 0 "${cflags[@]}" "$folder_of/libtmwatch_bench.a" "$folder_of/libtmwatch.a"
