@@ -12,8 +12,9 @@
 # `seed`: PROGRAM is a memory on the bench in C (examples/c/norec.c); a task passes it its own number as --seed.
 # `workload`: a task runs `tmwatch bench OPTION..` on one of the *.json in FOLDER, which are taken in turn.
 #
-# Each run writes a line of JSON into OUT, {"run":"seed 17",..}: `summary OUT` counts them. A violated run leaves OUT/NAME.found, a folder
-# with its trace and its report, and cancels the array's other tasks. A task that is requeued runs again, unless it has its line.
+# Each run writes a line of JSON into OUT, {"run":"seed 17",..}: `summary OUT` counts them. The first violated run stops the array: its other
+# tasks are cancelled, and OUT takes no further run. It leaves the folder OUT/NAME.found with its trace and its line; a task that finds
+# a violation at the same time may leave another. A task that is requeued runs again, unless it has its line.
 #
 # A task fails if its run gave no verdict; its output says why.
 # Environment: TMWATCH, the program (./tmwatch of the folder that you submit from).
@@ -43,13 +44,7 @@ workload)
 esac
 found=$out/$name.found line=$out/$array.$task.jsonl
 
-# Writes the run's line, in one step: a killed task has written all or nothing.
-write_line() {
-    printf '{"run":"%s",%s\n' "$name" "${1#?}" >"$line.new"
-    mv "$line.new" "$line"
-}
-
-# Cancels the array's other tasks. Those that begin meanwhile see OUT/stopped.
+# Cancels the array's other tasks. A task that begins meanwhile sees OUT/stopped.
 stop_others() {
     local others
     : >"$out/stopped"
@@ -58,9 +53,8 @@ stop_others() {
     grep -vxF "${array}_$task" <<<"$others" | xargs -r scancel || true
 }
 
-# A killed task may have found something before.
+# This task was killed after it had found something.
 if [ -e "$found" ]; then
-    write_line "$(cat "$found/report")"
     stop_others
     exit 0
 fi
@@ -87,12 +81,16 @@ case $status:$report in
 [0-3]:'{'*'"verdict":'*'}') ;;
 *) refuse "$name: no verdict: status $status $report" ;;
 esac
+
+# What is moved is there whole or not at all, whenever the task is killed.
 if [ "$status" -eq 1 ]; then
     rm -rf "$found.new"
     mkdir "$found.new"
     cp "$run/trace" "$found.new/trace"
-    printf '%s\n' "$report" >"$found.new/report"
+    printf '{"run":"%s",%s\n' "$name" "${report#?}" >"$found.new/line.jsonl"
     mv "$found.new" "$found"
+    stop_others
+else
+    printf '{"run":"%s",%s\n' "$name" "${report#?}" >"$line.new"
+    mv "$line.new" "$line"
 fi
-write_line "$report"
-[ "$status" -ne 1 ] || stop_others

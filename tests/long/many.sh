@@ -49,7 +49,7 @@ row() {
     else
         failed=$((failed + 1))
         echo "FAILED: $name"
-        tail -n 20 told
+        tail -n 20 told | cut -c 1-300
     fi
 }
 
@@ -102,7 +102,7 @@ for k in $(seq "$large"); do ./traces calm "$k" "$events" >"large/$k.trace"; don
 printf '0 R 0\n0 V 1000000007\n' >>large/1.trace
 find small -name '*.trace' | LC_ALL=C sort >small.list
 find large -name '*.trace' | LC_ALL=C sort >large.list
-head -n 200 small.list | xargs -d '\n' cp -t few
+head -n 100 small.list | xargs -d '\n' cp -t few
 find few -name '*.trace' | LC_ALL=C sort >few.list
 for kind in small large few; do python3 "$top/tests/long/many.py" expect "$program" $kind/*.trace >$kind.expected; done
 
@@ -200,7 +200,7 @@ kill_and_call_again() {
     for k in 1 2 3; do
         TMWATCH=$folder/slow setsid "$many/judge-all" : : <few.list &
         pid=$!
-        wait_for 30 has_lines "$OUT" $((k * 25))
+        wait_for 30 has_lines "$OUT" $((k * 15))
         # (this call's process group; what parallel has begun has one of its own, and ends soon)
         kill -9 -- -$pid
         wait $pid || true
@@ -208,9 +208,9 @@ kill_and_call_again() {
         [ $k -ne 2 ] || truncate -s -9 "$OUT/verdicts.jsonl"
         [ $k -ne 3 ] || truncate -s -9 "$OUT/joblog"
     done
-    [ "$("$many/summary" --left "$OUT" | wc -l)" -gt 50 ]
+    [ "$("$many/summary" --left "$OUT" | wc -l)" -gt 20 ]
     "$many/judge-all" : : <few.list
-    compare few.expected "$OUT" 60
+    compare few.expected "$OUT" 40
 }
 
 # Whether a folder has so many lines.
@@ -389,7 +389,7 @@ requeue() {
     local own count
     TMWATCH=$folder/slow submit --array=1-2 "$many/judge.sbatch" few requeued
     own=requeued/$job.2.jsonl
-    wait_for 30 has_lines requeued 40
+    wait_for 30 has_lines requeued 30
     scontrol requeue "${job}_2"
     wait_for 10 is_pending "${job}_2"
     sleep 0.5
@@ -411,11 +411,11 @@ is_pending() {
 # Tasks are killed by a signal. The array, submitted again with other tasks, judges what is left.
 killed() {
     TMWATCH=$folder/slow submit --array=1-2 "$many/judge.sbatch" few signalled
-    wait_for 30 has_lines signalled 40
+    wait_for 30 has_lines signalled 30
     scancel --signal=KILL --full "${job}_1" "${job}_2"
     finish 60
     all_are CANCELLED
-    [ "$("$many/summary" --left signalled | wc -l)" -gt 50 ]
+    [ "$("$many/summary" --left signalled | wc -l)" -gt 20 ]
     submit --array=0-9:3 "$many/judge.sbatch" few signalled
     finish 60
     all_are COMPLETED
@@ -461,11 +461,15 @@ refused_folder() {
     grep -h 'another folder' "slurm/$job".*.out
 }
 
-# Task 1 would run for a minute. Task 2 finds a violation.
+# Task 1 would run for a minute. Task 2 finds a violation meanwhile.
 hunt_seeds() {
     local status=0
-    # shellcheck disable=SC2016
-    printf '#!/bin/sh\ncase " $* " in *" --seed 1 "*) exec ./norec --seconds 60 ;; esac\nexec ./norec_bad "$@"\n' >mixed
+    cat >mixed <<'END'
+#!/bin/sh
+case " $* " in *" --seed 1 "*) : >running && exec ./norec --seconds 60 ;; esac
+until [ -e running ]; do sleep 0.1; done
+exec ./norec_bad "$@"
+END
     chmod +x mixed
     submit --array=1-30 --cpus-per-task=$((processors > 2 ? processors / 2 : 1)) "$many/hunt.sbatch" seeds seed ./mixed --rounds 50000
     finish 50
@@ -474,18 +478,25 @@ hunt_seeds() {
     scontrol --oneliner show job "${job}_2" | grep JobState=COMPLETED
     "$program" judge <'seeds/seed 2.found/trace' || status=$?
     [ $status -eq 1 ]
-    cat seeds/*.jsonl >seeds.lines
-    [ "$(wc -l <seeds.lines)" -eq 1 ]
-    "$many/summary" seeds | grep -xFf seeds.lines
+    "$many/summary" seeds >seeds.summary || status=$?
+    cat seeds.summary
+    [ $status -eq 1 ]
+    diff <(head -n 2 seeds.summary) <(printf '       1 runs\n       1 violated\n')
+    sed '1,2d' seeds.summary | cmp - 'seeds/seed 2.found/line.jsonl'
+    grep '^{"run":"seed 2","at":' seeds.summary
 }
 
-# What a killed task had found has its line when the task runs again, and the hunt stays stopped.
+# A task that was killed after it had found something stops the hunt when it runs again, and no later task runs.
 hunt_again() {
-    mv seeds/*.jsonl .
-    submit --array=1-3 "$many/hunt.sbatch" seeds seed ./mixed --rounds 50000
-    finish 50
-    cat seeds/*.jsonl | cmp - seeds.lines
-    grep -h 'not run' "slurm/$job".*.out
+    rm seeds/stopped
+    submit --array=2 "$many/hunt.sbatch" seeds seed ./mixed --rounds 50000
+    finish 30
+    all_are COMPLETED
+    submit --array=1-3:2 "$many/hunt.sbatch" seeds seed ./mixed --rounds 50000
+    finish 30
+    all_are COMPLETED
+    [ "$(cat "slurm/$job".*.out | grep -c 'not run')" -eq 2 ]
+    "$many/summary" seeds | cmp - seeds.summary
 }
 
 hunt_finds_nothing() {
@@ -501,7 +512,7 @@ hunt_fails() {
     submit --array=1-2 --cpus-per-task=1 "$many/hunt.sbatch" lineless seed ./killed
     finish 60
     all_are FAILED
-    [ -z "$(find lineless -name '*.jsonl')" ]
+    [ -z "$(find lineless -name '*.jsonl' -o -name '*.found')" ]
 }
 
 hunt_workloads() {
@@ -515,9 +526,9 @@ hunt_workloads() {
     scontrol --oneliner show job "$job" | grep -c JobState=CANCELLED
     [ -e torn/stopped ]
     for found in torn/*.found; do
-        "$program" judge <"$found/trace" | cmp - "$found/report"
-        grep '"verdict":"violated"}' "$found/report"
-        echo "    $(basename "$found"): $(cat "$found/report")"
+        diff <("$program" judge <"$found/trace") <(sed 's/"run":"[^"]*",//' "$found/line.jsonl")
+        grep '"verdict":"violated"}' "$found/line.jsonl"
+        echo "    $(cat "$found/line.jsonl")"
     done
     [ "$("$many/summary" torn | grep -c '^{.*"verdict":"violated"}')" -eq "$(find torn -name '*.found' | wc -l)" ]
 }
