@@ -81,12 +81,12 @@ def cuts(lines, summary, folder):
     lines = pathlib.Path(lines).read_text().splitlines()
     runs = [json.loads(line)["run"] for line in lines]
     (folder / "list").write_text("".join(run + "\n" for run in runs))
-    # Each cut of each line but the first one stands by itself, and before the first line without a line feed between.
+    # Each cut of each line but the first one stands by itself; the first line stands in the next file; and after each cut on its line.
     pieces = [line.encode()[:length] for line in lines[1:] for length in range(1, len(line.encode()))]
     first = lines[0].encode()
-    (folder / "a.jsonl").write_bytes(b"\n".join([first] + pieces))
-    (folder / "b.jsonl").write_bytes(b"\n".join(piece + first for piece in pieces))
-    (folder / "c.jsonl").write_bytes(first)
+    (folder / "a.jsonl").write_bytes(b"\n".join(pieces))
+    (folder / "b.jsonl").write_bytes(first)
+    (folder / "c.jsonl").write_bytes(b"\n".join(piece + first for piece in pieces))
     print(f"    {len(pieces)} cuts of {len(lines) - 1} lines")
     return same_summary(folder, summary, {runs[0]: lines[0]}, runs)
 

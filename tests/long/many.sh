@@ -45,7 +45,7 @@ row() {
     if [ $status -eq 0 ]; then
         passed=$((passed + 1))
         echo "passed: $name"
-        grep '^    ' told || true
+        grep '^    [^ ]' told || true
     else
         failed=$((failed + 1))
         echo "FAILED: $name"
@@ -489,10 +489,10 @@ END
 # A task that was killed after it had found something stops the hunt when it runs again, and no later task runs.
 hunt_again() {
     rm seeds/stopped
-    submit --array=2 "$many/hunt.sbatch" seeds seed ./mixed --rounds 50000
+    submit --array=2 --cpus-per-task=1 "$many/hunt.sbatch" seeds seed ./mixed --rounds 50000
     finish 30
     all_are COMPLETED
-    submit --array=1-3:2 "$many/hunt.sbatch" seeds seed ./mixed --rounds 50000
+    submit --array=1-3:2 --cpus-per-task=1 "$many/hunt.sbatch" seeds seed ./mixed --rounds 50000
     finish 30
     all_are COMPLETED
     [ "$(cat "slurm/$job".*.out | grep -c 'not run')" -eq 2 ]
