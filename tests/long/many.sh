@@ -12,7 +12,7 @@
 #
 # It prints a row a part, and last the traces and events a second of each way. The last line is 'N passed, M failed', and the exit status
 # is 1 where one failed, 2 where the program is not built. It ends by itself after LIMIT seconds, and has failed then.
-# Environment: LIMIT (540), SMALL (1000), LARGE (20), EVENTS (1000000, of a large trace), CC (cc), BUILT (a folder that ./tmwatch-c has
+# Environment: LIMIT (540), SMALL (1000), LARGE (20), EVENTS (200000, of a large trace), CC (cc), BUILT (a folder that ./tmwatch-c has
 # filled, for the hunt in C).
 set -eu
 if [ -z "${BOUNDED:-}" ]; then
@@ -22,7 +22,7 @@ fi
 . "$(dirname "${BASH_SOURCE[0]}")/../common.sh"
 PATH=$PATH:/usr/sbin
 many=$top/examples/many
-small=${SMALL:-1000} large=${LARGE:-20} events=${EVENTS:-1000000}
+small=${SMALL:-1000} large=${LARGE:-20} events=${EVENTS:-200000}
 daemons=()
 trap 'stop_slurm; rm -rf "$folder"' EXIT
 trap 'echo "many.sh: not done after ${LIMIT:-540} seconds, 1 failed" >&2; exit 1' TERM
