@@ -12,8 +12,8 @@
 # `seed`: PROGRAM is a memory on the bench in C (examples/c/norec.c); a task passes it its own number as --seed.
 # `workload`: a task runs `tmwatch bench OPTION..` on one of the *.json in FOLDER, which are taken in turn.
 #
-# Each run writes a line of JSON into OUT, {"run":"seed 17",..}: `summary OUT` counts them. The first violated run stops the array: its other
-# tasks are cancelled, and OUT takes no further run. It leaves the folder OUT/NAME.found with its trace and its line; a task that finds
+# Each run writes a line of JSON into OUT, {"run":"seed 17",..}: `summary OUT` counts them. The first violated run stops the array: its
+# other tasks are cancelled, and OUT takes no further run. It leaves the folder OUT/NAME.found with its trace and its line; a task that finds
 # a violation at the same time may leave another. A task that is requeued runs again, unless it has its line.
 #
 # A task fails if its run gave no verdict; its output says why.

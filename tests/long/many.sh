@@ -221,7 +221,10 @@ has_lines() {
 by_hosts() {
     PARALLEL_SSH=$folder/ssh OUT='hosts out' CHUNK=7 "$many/judge-all" 2/first 2/second <few.list
     awk -F '\t' '{ n[$2]++ }
-        END { print "    " n["first"] " by the first host, " n["second"] " by the second"; exit !(n["first"] && n["second"]) }' 'hosts out/joblog'
+        END {
+            print "    " n["first"] " by the first host, " n["second"] " by the second"
+            exit !(n["first"] && n["second"])
+        }' 'hosts out/joblog'
     compare few.expected 'hosts out'
 }
 
@@ -322,8 +325,8 @@ KillWait=5
 NodeName=$(hostname -s) NodeAddr=127.0.0.1 CPUs=$((processors > 2 ? processors : 2))
 PartitionName=many Nodes=ALL Default=YES State=UP
 END
-    setsid munged --foreground --force --key-file="$folder/slurm/key" --socket="$folder/slurm/socket" --pid-file="$folder/slurm/munged.pid" \
-        --seed-file="$folder/slurm/seed" >slurm/munged.log 2>&1 &
+    setsid munged --foreground --force --key-file="$folder/slurm/key" --socket="$folder/slurm/socket" \
+        --pid-file="$folder/slurm/munged.pid" --seed-file="$folder/slurm/seed" >slurm/munged.log 2>&1 &
     daemons+=($!)
     wait_for 10 test -S slurm/socket
     setsid slurmctld -D >slurm/slurmctld.log 2>&1 &
@@ -534,7 +537,8 @@ hunt_workloads() {
 }
 
 only_loopback() {
-    ss -ltnpH | grep -E "pid=(${daemons[1]}|${daemons[2]})," | awk '{ print "    " $4 } $4 !~ /^127\./ { bad = 1 } END { exit bad || NR != 2 }'
+    ss -ltnpH | grep -E "pid=(${daemons[1]}|${daemons[2]})," |
+        awk '{ print "    " $4 } $4 !~ /^127\./ { bad = 1 } END { exit bad || NR != 2 }'
 }
 
 missing=
