@@ -13,8 +13,8 @@
 # `workload`: a task runs `tmwatch bench OPTION..` on one of the *.json in FOLDER, which are taken in turn.
 #
 # Each run writes a line of JSON into OUT, {"run":"seed 17",..}: `summary OUT` counts them. The first violated run stops the array: its
-# other tasks are cancelled, and OUT takes no further run. It leaves the folder OUT/NAME.found with its trace and its line; a task that finds
-# a violation at the same time may leave another. A task that is requeued runs again, unless it has its line.
+# other tasks are cancelled, and OUT takes no further run. It leaves the folder OUT/NAME.found with its trace and its line; a task that
+# finds a violation at the same time may leave another. A task that is requeued runs again, unless it has its line.
 #
 # A task fails if its run gave no verdict; its output says why.
 # Environment: TMWATCH, the program (./tmwatch of the folder that you submit from).
