@@ -21,7 +21,7 @@ _tmwatch() {
         return
         ;;
     judge) options='--criterion --summary --first --window --states' ;;
-    show) options='--criterion --trace --window --states' ;;
+    show) options='--criterion --trace --page --window --states' ;;
     drive) options='--memory --trace --trace-only --summary --window --states' ;;
     bench) options='--memory --trace --trace-only --summary --show --quiet --ring --patience --rounds --window --states' ;;
     steps) ;;

@@ -21,6 +21,7 @@ complete -c tmwatch -n $judge -l first -d 'End once every verdict is final'
 set -l show '__fish_seen_subcommand_from show'
 complete -c tmwatch -n $show -l criterion -x -a 'opacity strict' -d 'By opacity or strict, not both'
 complete -c tmwatch -n $show -l trace -d 'Write only the window, as traces'
+complete -c tmwatch -n $show -l page -d 'Write the window as a page of HTML'
 
 set -l run '__fish_seen_subcommand_from drive bench'
 complete -c tmwatch -n $run -l memory -x -a 'norec lock torn' -d 'Memory: norec, lock or torn (faulty)'
