@@ -1,7 +1,7 @@
 #!/usr/bin/env python3
 """Opens the pages of `show --page` in a headless browser, and compares what they draw and say with the trace.
 
-    tests/page.py PROGRAM BROWSER TRACE..
+    tests/page.py PROGRAM BROWSER 'TRACE OPTION..'..
     tests/page.py PROGRAM BROWSER --picture FILE SIZE MODE SCRIPT TRACE
 
 What is expected is read from the trace itself and from the text that `show` writes, never from the page's own JSON. Each page that differs
@@ -118,7 +118,8 @@ def wanted(trace, text):
             del current[thread]
     for tx in transactions:
         tx['first'], tx['last'] = tx['events'][0][0], tx['events'][-1][0]
-        tx['status'] = ENDS.get(tx['events'][-1][1][0], 'live')
+        fitting = [words for number, words in tx['events'] if report['verdict'] != 'malformed' or number != end]
+        tx['status'] = ENDS.get(fitting[-1][0], 'live') if fitting else 'live'
         tx['operations'] = operations_of(tx)
     mark = re.search(r'  (violated, by.*|undecided, by.*|malformed: .*)$', text, re.M)
     return {'report': report, 'line': lines[0], 'start': max(cut + 1, end - MOST + 1), 'cut': cut, 'end': end, 'transactions': transactions,
@@ -135,7 +136,7 @@ def differences(page, text, want):
             found.append(f'{what}: {got!r}, not {right!r}')
 
     every = lambda pattern: re.findall(pattern, text)
-    boxes = [tx for tx in want['transactions'] if tx['last'] >= want['start']]
+    boxes = [tx for tx in want['transactions'] if tx['last'] >= want['start'] or tx['status'] not in ('committed', 'aborted')]
     all_bars = [bar for tx in want['transactions'] for bar in tx['operations']]
     bars = sorted(bar for bar in all_bars if bar[1] >= want['start'])
     threads = sorted({tx['thread'] for tx in boxes})
@@ -190,15 +191,16 @@ def differences(page, text, want):
     return found
 
 
-def compare(program, browser, trace):
-    """Compares one page, and returns whether it is right."""
-    page = shown(program, trace, '--page')
+def compare(program, browser, words):
+    """Compares the page of a trace by these options, and returns whether it is right."""
+    trace, *options = words.split()
+    page = shown(program, trace, '--page', *options)
     if not page.startswith('<!DOCTYPE html>'):
-        print(f'{trace}: no page: {page[:200]!r}')
+        print(f'{words}: no page: {page[:200]!r}')
         return False
-    found = differences(page, opened(browser, page.replace('</body>', PROBE), '--dump-dom'), wanted(trace, shown(program, trace)))
+    found = differences(page, opened(browser, page.replace('</body>', PROBE), '--dump-dom'), wanted(trace, shown(program, trace, *options)))
     if found:
-        print(f'{trace}: ' + '; '.join(found)[:800])
+        print(f'{words}: ' + '; '.join(found)[:800])
     return not found
 
 

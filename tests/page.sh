@@ -41,7 +41,22 @@ if [ -z "$browser" ]; then
     exit
 fi
 [ -x "$program" ] || "$top/build"
-python3 "$top/tests/page.py" "$program" "$browser" "$top"/examples/*.trace >"$folder/pages" || true
+# Traces of what those of examples/ don't have: events that fit no run, and more events than are drawn, behind a transaction that stays open.
+printf '%s\n' 'opacity-trace 1 1' '0 R 0' '0 V 0' '0 K' >"$folder/answer.trace"
+printf '%s\n' 'opacity-trace 1 1' '1 R 0' '0 W 0 1' '0 C' >"$folder/commit.trace"
+{
+    printf '%s\n' 'opacity-trace 1 1' '0 R 0' '0 V 0'
+    yes $'1 R 0\n1 V 0' | head -n 498
+} >"$folder/long.trace"
+{
+    printf '%s\n' 'opacity-trace 1 1' '2 W 0 7' '2 K' '2 T'
+    yes $'1 R 0\n1 V 0\n1 T\n1 C' | head -n 20
+    yes $'1 R 0\n1 V 0' | head -n 500
+    printf '%s\n' '1 T' '1 C' '0 R 0' '0 V 9'
+} >"$folder/pending.trace"
+traces=("$top"/examples/*.trace "$folder"/*.trace)
+python3 "$top/tests/page.py" "$program" "$browser" "${traces[@]}" "${traces[@]/%/ --criterion strict}" \
+    "$top/examples/two_writers.trace --states 1" "$top/examples/left_open.trace --window 2" >"$folder/pages" || true
 sed '$d' "$folder/pages"
 read -r well _ badly _ <<<"$(tail -n 1 "$folder/pages")"
 passed=$((passed + well)) failed=$((failed + badly))

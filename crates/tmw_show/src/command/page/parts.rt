@@ -164,7 +164,9 @@ events.forEach((event, i) => {
   }
   const tx = open.get(event.t);
   tx.last = n;
-  tx.status = { C: 'committed', A: 'aborted', T: 'commit-pending' }[event.k] || 'live';
+  // What fits no run ends nothing.
+  if (report.verdict !== 'malformed' || n !== mark) tx.status = { C: 'committed', A: 'aborted', T: 'commit-pending' }[event.k] || 'live';
+  tx.status ||= 'live';
   const before = tx.latest;
   if (!isCall && before && before.call && !before.answer) {
     before.answer = event;
@@ -206,22 +208,22 @@ const words = {
   'opaque so far': () => `Opaque so far: every prefix of these ${plural(report.events, 'event')} has a serial order that explains it`,
   'strict so far': () => `Strict so far: every prefix of these ${plural(report.events, 'event')} has a ${order} that explains it`,
   violated: () => `Violated at event ${mark}: no ${order} explains the first ${plural(mark, 'event')}`,
-  undecided: () => report.why === 'states' ? `Undecided at event ${mark}: more states are possible before it than the bound allows`
+  undecided: () => report.why === 'states' ? `Undecided at event ${mark}: more states are possible after it than the bound allows`
     : `Undecided at event ${mark}: ${plural(txs.length, 'transaction')} since none was open, more than the bound allows`,
   malformed: () => `Malformed at event ${mark}: ${wrong.replace('malformed: ', '')}`,
 };
 byId('verdict').textContent = document.title = words[report.verdict]();
 byId('verdict').classList.toggle('wrong', ['violated', 'malformed'].includes(report.verdict));
 const extent = events.length === 0 ? 'It has no events.'
-  : from > first ? `No transaction was open before event ${first}. Of the ${plural(events.length, 'event')} since then the last ${MOST} are drawn, ${from} to ${last}.`
-  : `Drawn: events ${first} to ${last}, from the last moment at which no transaction was open.`;
+  : from > first ? `No transaction was open before event ${first}. Of the ${plural(events.length, 'event')} from there to event ${last} the last ${MOST} are drawn, ${from} to ${last}.`
+  : `Drawn: events ${first} to ${last}. No transaction was open before event ${first}.`;
 byId('about').textContent = `By ${strict ? 'strict serializability' : 'opacity'}, of a run of ${plural(report.events, 'event')} over ${plural(registers, 'register')}. ${extent}`;
 
-// Columns: one for each event, as wide as the texts that end there need.
-const shown = txs.filter(tx => tx.last >= from), bars = ops.filter(op => op.last >= from);
+// Columns: one for each event, as wide as the texts that end there need. A transaction that is still open is drawn, if only as a heading.
+const shown = txs.filter(tx => tx.last >= from || !isEnded(tx)), bars = ops.filter(op => op.last >= from);
 const threads = [...new Set(shown.map(tx => tx.thread))].sort();
 const ends = new Map();
-const need = (part, width) => ends.set(part.last, [...(ends.get(part.last) || []), [Math.max(part.first, from), width]]);
+const need = (part, width, end = Math.max(part.last, from)) => ends.set(end, [...(ends.get(end) || []), [Math.max(part.first, from), width]]);
 bars.forEach(op => need(op, op.text.length * CHAR + 14));
 shown.forEach(tx => need(tx, heading(tx, tx.status).length * 6.05 + 16));
 function columns(least) {
@@ -232,7 +234,7 @@ function columns(least) {
 }
 const room = byId('scroll').clientWidth;
 const left = [44, 36, 30, 26, 22, 18, 15, 12, 10].map(columns).find(c => c.at(-1) <= room - 1) || columns(10);
-const xOf = n => left[Math.max(n, from) - from], endOf = n => left[n - from + 1];
+const xOf = n => left[Math.max(n, from) - from], endOf = n => left[Math.max(n, from) - from + 1];
 const width = Math.ceil(left.at(-1)), height = TOP + LANE * threads.length + 4;
 const yOf = thread => TOP + LANE * threads.indexOf(thread);
 
