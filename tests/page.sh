@@ -41,7 +41,7 @@ if [ -z "$browser" ]; then
     exit
 fi
 [ -x "$program" ] || "$top/build"
-# Traces of what those of examples/ don't have: events that fit no run, and more events than are drawn, behind a transaction that stays open.
+# What no trace of examples/ has: events that fit no run, and more events than are drawn, after one of a transaction that stays open.
 printf '%s\n' 'opacity-trace 1 1' '0 R 0' '0 V 0' '0 K' >"$folder/answer.trace"
 printf '%s\n' 'opacity-trace 1 1' '1 R 0' '0 W 0 1' '0 C' >"$folder/commit.trace"
 {

@@ -273,6 +273,7 @@ row 'show, one window' 0 1 "$top/examples/own_write.trace" show
 row 'show, violated' 1 4 "$top/examples/dirty_read.trace" show
 row 'show, 64 outcomes and a reader of none' 1 4 "$folder/impossible" show
 row 'show, 64 outcomes and a reader of none, as traces' 1 4 "$folder/impossible" show --trace
+row 'show, 64 outcomes and a reader of none, as a page' 1 1024 "$folder/impossible" show --page
 row 'steps, a late claim' 0 4 "$top/examples/late_claim.steps" steps
 row 'steps, many' 0 16 "$folder/steps" steps
 for memory in norec lock torn; do

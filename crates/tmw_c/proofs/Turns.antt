@@ -31,15 +31,15 @@ pub not-called : (calls : List Call) (old new : Option HeldRecorder) (turn : Tur
     → (before after : HeldRecorder) → Holds old new before after → (call : Call) → IsAt calls turn call
     → (status : Status) → HasNotCalled (length calls) turn call before after status → IsCalling calls old new turn turn place place status
 not-called calls old new turn place due before after holds call is Full refused =
-    (record { due = due; before = before; after = after; holds = holds; call = call; is = is; refused = refused }, refl, refl)
+    (record { turned = due; before = before; after = after; holds = holds; call = call; is = is; refused = refused }, refl, refl)
 not-called calls old new turn place due before after holds call is Spent refused =
-    (record { due = due; before = before; after = after; holds = holds; call = call; is = is; refused = refused }, refl, refl)
+    (record { turned = due; before = before; after = after; holds = holds; call = call; is = is; refused = refused }, refl, refl)
 not-called calls old new turn place due before after holds call is BadKind refused =
-    (record { due = due; before = before; after = after; holds = holds; call = call; is = is; refused = refused }, refl, refl)
+    (record { turned = due; before = before; after = after; holds = holds; call = call; is = is; refused = refused }, refl, refl)
 not-called calls old new turn place due before after holds call is BadRegister refused =
-    (record { due = due; before = before; after = after; holds = holds; call = call; is = is; refused = refused }, refl, refl)
+    (record { turned = due; before = before; after = after; holds = holds; call = call; is = is; refused = refused }, refl, refl)
 not-called calls old new turn place due before after holds call is NotCall refused =
-    (record { due = due; before = before; after = after; holds = holds; call = call; is = is; refused = refused }, refl, refl)
+    (record { turned = due; before = before; after = after; holds = holds; call = call; is = is; refused = refused }, refl, refl)
 not-called calls old new turn place due before after holds call is _ refused = absurd refused
 
 -- the calls with the one that waits and an answer behind it
@@ -103,13 +103,13 @@ pub not-answered : (calls : List Call) (letter value place : ℕ) (old new : Opt
     → (before after : HeldRecorder) → Holds old new before after → (call : Call) → IsAt calls turn call → (status : Status)
     → HasNotAnswered call letter value before after status → IsAnswering calls letter value old new turn turn place place status
 not-answered calls letter value place old new turn waits before after holds call is Full refused =
-    (record { waits = waits; before = before; after = after; holds = holds; call = call; is = is; refused = refused }, refl, refl)
+    (record { turned = waits; before = before; after = after; holds = holds; call = call; is = is; refused = refused }, refl, refl)
 not-answered calls letter value place old new turn waits before after holds call is Spent refused =
-    (record { waits = waits; before = before; after = after; holds = holds; call = call; is = is; refused = refused }, refl, refl)
+    (record { turned = waits; before = before; after = after; holds = holds; call = call; is = is; refused = refused }, refl, refl)
 not-answered calls letter value place old new turn waits before after holds call is BadKind refused =
-    (record { waits = waits; before = before; after = after; holds = holds; call = call; is = is; refused = refused }, refl, refl)
+    (record { turned = waits; before = before; after = after; holds = holds; call = call; is = is; refused = refused }, refl, refl)
 not-answered calls letter value place old new turn waits before after holds call is BadRegister refused =
-    (record { waits = waits; before = before; after = after; holds = holds; call = call; is = is; refused = refused }, refl, refl)
+    (record { turned = waits; before = before; after = after; holds = holds; call = call; is = is; refused = refused }, refl, refl)
 not-answered calls letter value place old new turn waits before after holds call is Misfit refused =
-    (record { waits = waits; before = before; after = after; holds = holds; call = call; is = is; refused = refused }, refl, refl)
+    (record { turned = waits; before = before; after = after; holds = holds; call = call; is = is; refused = refused }, refl, refl)
 not-answered calls letter value place old new turn waits before after holds call is _ refused = absurd refused

@@ -3,7 +3,7 @@ use Rattle.std.proofs.Common.{◌≡◌, ◌==◌, ◌<◌, ◌≤◌, ◌+◌, 
 use Rattle.std.proofs.lemmas.Bool.{both_ways, cases_Bool, cases_lt, ne_eqb}
 use Rattle.std.proofs.lemmas.List.Elements.{All-head, All-map, All-tail}
 use Rattle.std.proofs.lemmas.List.Sorted.{All-permutation}
-use Rattle.tmw_c.specs.Law.{FormedLaw, kinds_recorded}
+use Rattle.tmw_c.specs.Law.{NeverMalformedLaw, kinds_recorded}
 use Rattle.tmw_defs.specs.History.{is_well_formed}
 use Rattle.tmw_defs.specs.Texts.{kinds_of}
 use Rattle.tmw_defs.specs.Verdict.{IsFirst, IsMalformed}
@@ -85,8 +85,8 @@ by_turns registers watch recorders log ended turns thread =
           subst (IsByTurns registers) (sym none) (silent registers)
     ]
 
-pub formed_closed : FormedLaw
-formed_closed watch recorders log rules verdict ended headline turns at malformed =
+pub never_malformed_closed : NeverMalformedLaw
+never_malformed_closed watch recorders log rules verdict ended headline turns at malformed =
     let first : IsFirst IsMalformed rules log at = (headline.malformed at).0 malformed in
     both_ways (is_well_formed rules.registers (take at log)) first.here.ill_formed
     (formed_by_turns rules.registers log (by_turns rules.registers watch recorders log ended turns) at)

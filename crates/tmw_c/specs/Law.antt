@@ -24,8 +24,8 @@ kinds_recorded recorder = map (λ made. made.event.kind) (writer_of recorder).ma
 
 -- A watch's ring has ended, of which each recorder has recorded by turns alone. Then no headline on the whole log, whichever call
 -- tells it, has the verdict malformed.
-abbrev pub FormedLaw : Type 0
-FormedLaw = (watch : Watch) (recorders : List Recorder) (log : List Event) (rules : Rules) (verdict : Verdict)
+abbrev pub NeverMalformedLaw : Type 0
+NeverMalformedLaw = (watch : Watch) (recorders : List Recorder) (log : List Event) (rules : Rules) (verdict : Verdict)
     → HasEnded watch recorders log → Headline rules log (writers_of recorders) log verdict
     → All (λ recorder. IsByTurns rules.registers (kinds_recorded recorder)) recorders
     → (length : ℕ) → verdict ≢ Malformed length

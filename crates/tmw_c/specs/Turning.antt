@@ -112,6 +112,17 @@ IsAt calls turn call = (fallback : Call) → get_or calls turn.place fallback �
 abbrev pub IsUnchanged : (old new : Option HeldRecorder) → (turn next : Turn) → (old_place new_place : ℕ) → Type 0
 IsUnchanged old new turn next old_place new_place = (new ≡ old) × (next ≡ turn) × (new_place ≡ old_place)
 
+-- The recorder that a handle holds has recorded nothing for the call at this turn, for this reason.
+pub record WasRefusedAt (phase : ℕ) (calls : List Call) (old new : Option HeldRecorder) (turn : Turn)
+    (Refused : Call → HeldRecorder → HeldRecorder → Type 0) : Type 0 where
+  pub turned : IsTurn phase calls turn
+  pub before : HeldRecorder
+  pub after : HeldRecorder
+  pub holds : Holds old new before after
+  pub call : Call
+  pub is : IsAt calls turn call
+  pub refused : Refused call before after
+
 -- the recorder that a handle holds has recorded the transaction's next call
 pub record HasCalledHeld (calls : List Call) (place : ℕ) (old new : Option HeldRecorder) (turn next : Turn) : Type 0 where
   pub due : IsTurn 0 calls turn
@@ -126,16 +137,6 @@ pub record HasCalledHeld (calls : List Call) (place : ℕ) (old new : Option Hel
   pub waits : next ≡ record { place = turn.place; phase = 1 }
   pub goes_on : GoesOn (length calls) told.kind told.kind turn next
 
--- why the recorder that a handle holds has not recorded the transaction's next call, and what it is then
-pub record HasNotCalledHeld (calls : List Call) (old new : Option HeldRecorder) (turn : Turn) (status : Status) : Type 0 where
-  pub due : IsTurn 0 calls turn
-  pub before : HeldRecorder
-  pub after : HeldRecorder
-  pub holds : Holds old new before after
-  pub call : Call
-  pub is : IsAt calls turn call
-  pub refused : HasNotCalled (length calls) turn call before after status
-
 -- Each status of tmwatch_next, with what the handle holds then, the turn, and what place the caller is told.
 abbrev pub IsCalling : List Call → (old new : Option HeldRecorder) → (turn next : Turn) → (old_place new_place : ℕ) → Status → Type 0
 IsCalling calls old new turn next old_place new_place Done = HasCalledHeld calls new_place old new turn next
@@ -144,7 +145,8 @@ IsCalling calls old new turn next old_place new_place NoHandle =
 IsCalling calls old new turn next old_place new_place OutOfTurn =
     (IsTurn 0 calls turn → ⊥) × IsUnchanged old new turn next old_place new_place
 IsCalling calls old new turn next old_place new_place status =
-    HasNotCalledHeld calls old new turn status × (next ≡ turn) × (new_place ≡ old_place)
+    WasRefusedAt 0 calls old new turn (λ call before after. HasNotCalled (length calls) turn call before after status)
+    × (next ≡ turn) × (new_place ≡ old_place)
 
 -- the recorder that a handle holds has recorded the answer to the transaction's call
 pub record HasAnsweredHeld (calls : List Call) (letter value place : ℕ) (old new : Option HeldRecorder) (turn next : Turn) : Type 0 where
@@ -160,16 +162,6 @@ pub record HasAnsweredHeld (calls : List Call) (letter value place : ℕ) (old n
   pub turns : TurnsTo (length calls) told.kind turn next
   pub goes_on : GoesOn (length calls) answered.kind told.kind turn next
 
--- why the recorder that a handle holds has not recorded the answer, and what it is then
-pub record HasNotAnsweredHeld (calls : List Call) (letter value : ℕ) (old new : Option HeldRecorder) (turn : Turn) (status : Status) : Type 0 where
-  pub waits : IsTurn 1 calls turn
-  pub before : HeldRecorder
-  pub after : HeldRecorder
-  pub holds : Holds old new before after
-  pub call : Call
-  pub is : IsAt calls turn call
-  pub refused : HasNotAnswered call letter value before after status
-
 -- Each status of tmwatch_answered, with what the handle holds then, the turn, and what place the caller is told.
 abbrev pub IsAnswering : List Call → (letter value : ℕ) → (old new : Option HeldRecorder) → (turn next : Turn)
     → (old_place new_place : ℕ) → Status → Type 0
@@ -180,4 +172,5 @@ IsAnswering calls letter value old new turn next old_place new_place NoHandle =
 IsAnswering calls letter value old new turn next old_place new_place OutOfTurn =
     (IsTurn 1 calls turn → ⊥) × IsUnchanged old new turn next old_place new_place
 IsAnswering calls letter value old new turn next old_place new_place status =
-    HasNotAnsweredHeld calls letter value old new turn status × (next ≡ turn) × (new_place ≡ old_place)
+    WasRefusedAt 1 calls old new turn (λ call before after. HasNotAnswered call letter value before after status)
+    × (next ≡ turn) × (new_place ≡ old_place)

@@ -1,4 +1,4 @@
-ghost use Rattle.tmw_c.specs.Law.{FormedLaw, OneKindLaw};
+ghost use Rattle.tmw_c.specs.Law.{NeverMalformedLaw, OneKindLaw};
 
 /// Proves two laws of what a C program records.
 ///
@@ -6,5 +6,5 @@ ghost use Rattle.tmw_c.specs.Law.{FormedLaw, OneKindLaw};
 /// turns alone until its ring ended, no verdict on its whole log is `Malformed`.
 pub fn law_recorded()
     ensures one_kind { OneKindLaw }
-    ensures formed { FormedLaw }
+    ensures formed { NeverMalformedLaw }
 {}
