@@ -1,142 +1,120 @@
-//! The ends of windows that were worked out by hand: by both calls, and by layers.
-use crate::calls::{
-    ASKS, COMMITS, EIGHT, FIRST, LAST, ONE, SECOND, THREADS, few, holding, push_from_each,
-    push_writes, read, window_of, window_of_calls, write,
-};
+//! The ends of windows over one register, worked out by hand.
 use std::alloc::{AllocError, Global};
-use std::test::Fail;
+use std::process::Abort;
+use test_support::{FIRST, one, other};
 use tmw_cuts::{States, Window};
 use tmw_defs::Criterion;
-use tmw_events::{Event, Kind};
-use tmw_search::{EndStates, layer, outcomes, possible};
+use tmw_events::{Event, Kind, Registers};
+use tmw_search::{EndStates, outcomes, possible};
+use tmw_wellformed::Tracker;
 
-/// The set of the states with the values below `count` in register 0 and 0 in the others.
-fn states_below(alloc: Global, count: u64) -> Result<States, AllocError> {
+const ONE: Registers = Registers { number: 1 };
+
+/// Makes two transactions that write different values at once.
+const fn writers() -> [Event; 8] {
+    [
+        one(Kind::W(FIRST, 1)),
+        other(Kind::W(FIRST, 2)),
+        one(Kind::K),
+        other(Kind::K),
+        one(Kind::T),
+        other(Kind::T),
+        one(Kind::C),
+        other(Kind::C),
+    ]
+}
+
+/// Makes a transaction that reads 2.
+const fn reader_of_2() -> [Event; 4] {
+    [
+        one(Kind::R(FIRST)),
+        one(Kind::V(2)),
+        one(Kind::T),
+        one(Kind::C),
+    ]
+}
+
+/// Makes the window of these events, up to the first that is ill-formed or begins a ninth transaction.
+fn window_of(events: &[Event]) -> Window {
+    let mut tracker = Tracker::new(ONE);
+    let mut window = Window::open(ONE);
+    for event in events {
+        let Ok(note) = tracker.step(*event) else {
+            return window;
+        };
+        if note.begins && window.count() >= 8 {
+            return window;
+        }
+        window.push(*event, note);
+    }
+    window
+}
+
+/// Makes the set of the states with these values of the register.
+fn states_of(alloc: Global, values: &[u64]) -> Result<States, AllocError> {
     let mut states = States::empty(alloc);
-    for value in 0..count {
-        states.insert(holding(value, 0))?;
+    for value in values {
+        states.insert([*value, 0, 0, 0, 0, 0, 0, 0])?;
     }
     Ok(states)
 }
 
-/// Finds the ends, at most so many.
+/// Returns what the register may hold after these events, from these values, if that is at most `cap` values.
 fn ends_of(
     alloc: Global,
-    states: &States,
-    window: &Window,
+    values: &[u64],
+    events: &[Event],
     cap: u8,
-) -> Result<Option<EndStates>, AllocError> {
-    Ok(Some(outcomes(Criterion::Opacity, alloc, states, window, cap)?))
-}
-
-/// Each thread reads 0 in register 7, writes 1 to another and asks to commit.
-fn push_readers(events: &mut Vec<Event>) -> Result<(), AllocError> {
-    push_from_each(events, Kind::R(LAST))?;
-    push_from_each(events, Kind::V(0))?;
-    for thread in THREADS {
-        let register = if thread == LAST { FIRST } else { thread };
-        events.push(Event {
-            thread,
-            kind: Kind::W(register, 1),
-        })?;
+) -> Result<Option<Vec<u64>>, AllocError> {
+    let states = states_of(alloc, values)?;
+    let found = outcomes(Criterion::Opacity, alloc, &states, &window_of(events), cap)?;
+    let EndStates::Few(ends) = found else {
+        return Ok(None);
+    };
+    let mut list = Vec::new(alloc);
+    for end in ends.states() {
+        list.push(end[0])?;
     }
-    push_from_each(events, Kind::K)?;
-    push_from_each(events, Kind::T)
+    Ok(Some(list))
 }
 
-#[test]
-fn two_writers_leave_one_of_two_states(rt: HostRuntime) -> Result<(), Fail> {
-    let window = window_of_calls(
-        rt.alloc(),
-        ONE,
-        &[
-            (FIRST, write(FIRST, 1)),
-            (FIRST, ASKS),
-            (SECOND, write(FIRST, 2)),
-            (SECOND, COMMITS),
-            (FIRST, (Kind::C, None)),
-        ],
-    )?;
-    let zeros = States::zeros(rt.alloc())?;
-    let ends = ends_of(rt.alloc(), &zeros, &window, 2)?;
-    assert_eq!(rt; few(&ends), Some([holding(1, 0), holding(2, 0)].as_slice()));
-    let more = ends_of(rt.alloc(), &zeros, &window, 1)?;
-    assert_eq!(rt; few(&more), None);
-    Ok(())
+/// Returns whether a serial order of these events is legal from one of these values.
+fn is_possible(alloc: Global, values: &[u64], events: &[Event]) -> Result<bool, AllocError> {
+    let states = states_of(alloc, values)?;
+    possible(Criterion::Opacity, alloc, &states, &window_of(events))
 }
 
-#[test]
-fn a_read_leaves_the_states_that_it_may_have_read(rt: HostRuntime) -> Result<(), Fail> {
-    let window = window_of_calls(
-        rt.alloc(),
-        ONE,
-        &[(FIRST, read(FIRST, 2)), (FIRST, COMMITS)],
-    )?;
-    let mut both = States::only(rt.alloc(), holding(1, 0))?;
-    both.insert(holding(2, 0))?;
-    assert!(rt; possible(Criterion::Opacity, rt.alloc(), &both, &window)?);
-    let ends = ends_of(rt.alloc(), &both, &window, 2)?;
-    assert_eq!(rt; few(&ends), Some([holding(2, 0)].as_slice()));
-    let other = States::only(rt.alloc(), holding(1, 0))?;
-    assert!(rt; !possible(Criterion::Opacity, rt.alloc(), &other, &window)?);
-    let none = ends_of(rt.alloc(), &other, &window, 0)?;
-    assert_eq!(rt; few(&none), Some([].as_slice()));
-    Ok(())
-}
+/// Values before a window, how many ends are asked for at most, and the ends if they are so few.
+type Case = (&'static [u64], u8, Option<&'static [u64]>);
 
-#[test]
-fn an_empty_window_keeps_the_states(rt: HostRuntime) -> Result<(), Fail> {
-    let window = Window::open(ONE);
-    let states = states_below(rt.alloc(), 5)?;
-    for cap in [5, 6] {
-        let ends = ends_of(rt.alloc(), &states, &window, cap)?;
-        assert_eq!(rt; few(&ends), Some(states.states()), "asked for {cap}");
+const OF_WRITERS: [Case; 2] = [(&[0], 2, Some(&[1, 2])), (&[0], 1, None)];
+
+const OF_READER: [Case; 2] = [(&[1, 2], 2, Some(&[2])), (&[1], 1, Some(&[]))];
+
+const OF_NONE: [Case; 3] = [
+    (&[3, 4, 5], 4, Some(&[3, 4, 5])),
+    (&[3, 4, 5], 3, Some(&[3, 4, 5])),
+    (&[3, 4, 5], 2, None),
+];
+
+/// Compares the ends of the window of these events with those worked out.
+fn expect(
+    rt: &(impl Abort + AllocGlobal),
+    events: &[Event],
+    cases: &[Case],
+) -> Result<(), AllocError> {
+    for (values, cap, want) in cases {
+        let ends = ends_of(rt.alloc(), values, events, *cap)?;
+        assert_eq!(rt; ends.as_deref(), *want, "from {values:?} of {events:?}");
+        let found = is_possible(rt.alloc(), values, events)?;
+        assert_eq!(rt; found, *want != Some(&[]), "from {values:?} of {events:?}");
     }
-    let over = ends_of(rt.alloc(), &states, &window, 4)?;
-    assert_eq!(rt; few(&over), None);
     Ok(())
 }
 
 #[test]
-fn eight_writers_leave_one_of_eight_states(rt: HostRuntime) -> Result<(), Fail> {
-    let mut events = Vec::new(rt.alloc());
-    push_writes(&mut events)?;
-    for kind in [Kind::K, Kind::T, Kind::C] {
-        push_from_each(&mut events, kind)?;
-    }
-    let window = window_of(rt.alloc(), ONE, &events)?.expect(&rt, "well-formed");
-    let zeros = States::zeros(rt.alloc())?;
-    assert!(rt; possible(Criterion::Opacity, rt.alloc(), &zeros, &window)?);
-    let found = ends_of(rt.alloc(), &zeros, &window, 8)?;
-    let ends = few(&found).expect(&rt, "at most eight");
-    assert_eq!(rt; ends.len(), 8);
-    assert_eq!(rt; ends.first(), Some(&holding(1, 0)));
-    assert_eq!(rt; ends.last(), Some(&holding(8, 0)));
-    let more = ends_of(rt.alloc(), &zeros, &window, 7)?;
-    assert_eq!(rt; few(&more), None);
-    Ok(())
-}
-
-#[test]
-fn readers_and_writers_from_many_states(rt: HostRuntime) -> Result<(), Fail> {
-    let mut events = Vec::new(rt.alloc());
-    push_readers(&mut events)?;
-    push_from_each(&mut events, Kind::C)?;
-    let window = window_of(rt.alloc(), EIGHT, &events)?.expect(&rt, "well-formed");
-    let ends = ends_of(rt.alloc(), &states_below(rt.alloc(), 64)?, &window, 64)?;
-    assert_eq!(rt; few(&ends), Some([[1, 1, 1, 1, 1, 1, 1, 0]].as_slice()));
-    Ok(())
-}
-
-#[test]
-fn pending_writers_leave_each_choice(rt: HostRuntime) -> Result<(), Fail> {
-    let mut events = Vec::new(rt.alloc());
-    push_readers(&mut events)?;
-    let window = window_of(rt.alloc(), EIGHT, &events)?.expect(&rt, "well-formed");
-    let states = states_below(rt.alloc(), 64)?;
-    let last = layer(rt.alloc(), &states, &window, window.count())?;
-    assert_eq!(rt; last.len(), 64 * 64);
-    let ends = ends_of(rt.alloc(), &states, &window, 255)?;
-    assert_eq!(rt; few(&ends), None);
-    Ok(())
+fn windows_have_the_ends_worked_out_by_hand(rt: HostRuntime) -> Result<(), AllocError> {
+    expect(&rt, &writers(), &OF_WRITERS)?;
+    expect(&rt, &reader_of_2(), &OF_READER)?;
+    expect(&rt, &[], &OF_NONE)
 }

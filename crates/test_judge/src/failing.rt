@@ -1,4 +1,4 @@
-//! `judge` after a failed read or write, at each byte of a text and of a report, by one criterion and by both.
+//! `judge` after a failed read or write, at each byte of a text and of a report.
 use std::process::Abort;
 use tmw_defs::Asked;
 use tmw_judge::run_judge;
@@ -23,9 +23,6 @@ const WIDEST: Bounds = Bounds {
 
 /// A transaction reads what another, not yet commit-pending, has written.
 const DIRTY_READ: &[u8] = b"opacity-trace 1 1\n0 W 0 1\n0 K\n1 R 0\n1 V 1\n0 T\n0 C\n1 T\n1 C\n";
-
-const BOTH: &str =
-    "{\"at\":4,\"events\":8,\"verdict\":\"violated\"}\n{\"criterion\":\"strict\",\"events\":8,\"verdict\":\"strict so far\"}\n";
 
 /// Judges a text of which so many bytes are told, a byte a call or all by one call, before a read fails.
 fn expect_after(rt: &(impl Abort + AllocGlobal), text: &[u8], told: usize, line: &str) {
@@ -131,17 +128,5 @@ fn a_write_that_takes_nothing_has_failed(rt: HostRuntime) {
             let want = if size == line.len() { status } else { FAULT };
             assert_eq!(rt; answered, want, "of {line} in {size}");
         }
-    }
-}
-
-#[test]
-fn writes_that_fail_by_both_criteria(rt: HostRuntime) {
-    // Among them those between the two lines.
-    for sent in 0..BOTH.len() {
-        let mut source = MemorySource::new(DIRTY_READ);
-        let mut sink = MemorySink::limited(rt.alloc(), 1, Some(sent as u64 + 1));
-        let answered = run_judge(rt.alloc(), &mut source, &mut sink, WIDEST, Asked::Both);
-        assert_eq!(rt; answered, FAULT, "after {sent}");
-        assert_eq!(rt; sink.bytes(), &BOTH.as_bytes()[..sent], "after {sent}");
     }
 }

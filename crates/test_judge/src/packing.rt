@@ -1,70 +1,38 @@
-//! Words of single events, and the texts of events that a sink was given.
-ghost use Rattle.std.specs.Prelude.{◌<◌};
+//! Words of single events, worked out by hand.
+use tmw_events::{Event, Ix, Kind, pack, unpack};
 
-use tmw_events::{Event, Ix, Kind, join, pack, put_event, split, unpack};
-use tmw_streams::{IoFault, MemorySink};
-
-/// The thread or register of this number.
-fn ix(number: u8) -> Ix
-    requires { number < 8 }
-{
-    Ix { number }
+const fn event(thread: Ix, kind: Kind) -> Event {
+    Event { thread, kind }
 }
 
-/// The thread's event.
-fn event(thread: u8, kind: Kind) -> Event
-    requires { thread < 8 }
-{
-    Event {
-        thread: ix(thread),
-        kind,
-    }
-}
+const ZERO: Ix = Ix { number: 0 };
 
-/// Some events with their words and their texts.
-fn events() -> [(Event, (u64, u64), &'static [u8]); 6] {
+const TWO: Ix = Ix { number: 2 };
+
+const THREE: Ix = Ix { number: 3 };
+
+const FIVE: Ix = Ix { number: 5 };
+
+const SEVEN: Ix = Ix { number: 7 };
+
+/// Some events with their words.
+fn packed() -> [(Event, (u64, u64)); 5] {
     [
-        (event(3, Kind::W(ix(5), 77)), (157, 77), b"3 W 5 77"),
-        (event(7, Kind::A), (504, 0), b"7 A"),
-        (event(0, Kind::R(ix(0))), (0, 0), b"0 R 0"),
-        (event(2, Kind::N(ix(3), 7)), (531, 7), b"2 N 3 7"),
-        (event(0, Kind::N(ix(0), 0)), (512, 0), b"0 N 0 0"),
-        (
-            event(1, Kind::V(u64::MAX)),
-            (72, u64::MAX),
-            b"1 V 18446744073709551615",
-        ),
+        (event(THREE, Kind::W(FIVE, 77)), (157, 77)),
+        (event(SEVEN, Kind::A), (504, 0)),
+        (event(ZERO, Kind::R(ZERO)), (0, 0)),
+        (event(TWO, Kind::N(THREE, 7)), (531, 7)),
+        (event(ZERO, Kind::N(ZERO, 0)), (512, 0)),
     ]
 }
 
 #[test]
 fn two_words_are_an_event(rt: HostRuntime) {
-    for (event, words, _) in events() {
+    for (event, words) in packed() {
         assert_eq!(rt; pack(event), words);
         assert_eq!(rt; unpack(words.0, words.1), Some(event));
     }
-    for (header, value) in [(505, 0), (576, 0), (0, 9), (u64::MAX, 0)] {
+    for (header, value) in [(505, 0), (576, 0), (0, 9)] {
         assert_eq!(rt; unpack(header, value), None);
     }
-}
-
-#[test]
-fn a_joined_word_is_split_again(rt: HostRuntime) {
-    assert_eq!(rt; join(0, 0), 1024);
-    assert_eq!(rt; join(6, 157), 7325);
-    assert_eq!(rt; split(7325), (7, 157));
-    assert_eq!(rt; split(157), (0, 157));
-}
-
-#[test]
-fn an_event_is_written_as_its_text(rt: HostRuntime) {
-    for (event, _, text) in events() {
-        let mut sink = MemorySink::new(rt.alloc());
-        assert_eq!(rt; put_event(&mut sink, &event), Ok(()));
-        assert_eq!(rt; sink.bytes(), text);
-    }
-    let mut failing = MemorySink::limited(rt.alloc(), 1, Some(7));
-    let add = event(2, Kind::N(ix(3), 7));
-    assert_eq!(rt; put_event(&mut failing, &add), Err(IoFault));
-    assert_eq!(rt; failing.bytes(), b"2 N 3 ".as_slice());
 }

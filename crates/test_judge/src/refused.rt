@@ -1,8 +1,9 @@
-//! The command `judge` after a failed allocation.
+//! `judge` and `read_all` after a failed allocation. The tests pass also under `rt try --test --fail-alloc`, which fails one.
+use std::test::Fail;
 use tmw_defs::Asked;
 use tmw_judge::run_judge;
 use tmw_monitor::Bounds;
-use tmw_streams::{MemorySource, StdSink};
+use tmw_streams::{MemorySource, StdSink, read_all};
 
 const VIOLATED: u8 = 1;
 
@@ -27,7 +28,6 @@ fn judge_into(rt: &impl AllocGlobal, room: &mut [u8]) -> u8 {
     run_judge(rt.alloc(), &mut source, &mut sink, bounds, Asked::Opacity)
 }
 
-/// Passes also under `rt try --test --fail-alloc`, which refuses one growth of memory.
 #[test]
 fn a_refused_growth_is_answered_by_judge_with_memory_alone(rt: HostRuntime) {
     let mut room = [b'-'; 43];
@@ -39,4 +39,16 @@ fn a_refused_growth_is_answered_by_judge_with_memory_alone(rt: HostRuntime) {
     }
     assert_eq!(rt; room.as_slice(), REPORT);
     assert_eq!(rt; answered, VIOLATED);
+}
+
+#[test]
+fn a_refused_growth_loses_no_byte(rt: HostRuntime) -> Result<(), Fail> {
+    const TEXT: &[u8] = &[7; 10_000];
+    let mut source = MemorySource::limited(TEXT, 1000, None);
+    let mut bytes = Vec::new(rt.alloc());
+    if read_all(&mut source, &mut bytes).is_err() {
+        read_all(&mut source, &mut bytes)?;
+    }
+    assert_eq!(rt; bytes.as_slice(), TEXT);
+    Ok(())
 }
