@@ -8,12 +8,17 @@ use Rattle.tmw_events.specs.declared.event.Event.{Event}
 use Rattle.tmw_monitor.specs.Fitting.{Fits}
 use Rattle.tmw_monitor.specs.declared.monitor.Monitor.{Monitor}
 use Rattle.tmw_pump.proofs.Turns.{judged-none, judged-came}
-use Rattle.tmw_pump.specs.Fronts.{came, HasCome, HasJudged, KeepsFit}
+use Rattle.tmw_pump.specs.Fronts.{came, judged_of, HasCome, HasJudged, KeepsFit}
 use Rattle.tmw_pump.specs.Held.{listed}
 use Rattle.tmw_pump.specs.Resting.{all_of}
 use Rattle.tmw_pump.specs.declared.forgetting_rest.ForgettingRest.{ForgettingRest}
 use Rattle.tmw_pump.specs.declared.front.Front.{Front}
-use Rattle.tmw_recorded.specs.Pumping.{GoesOn}
+
+-- More events were judged, behind those before, and by the same rules.
+pub record GoesOn (old new : Front) : Type 0 where
+  pub more : List Event
+  pub judged : judged_of new ≡ judged_of old ++ more
+  pub fits : KeepsFit old new
 
 -- the judged front goes on
 pub goes_on_of : (count : ℕ) (old new : Front) → HasJudged count old new → GoesOn old new

@@ -12,7 +12,7 @@ use Rattle.tmw_defs.specs.declared.verdict.Verdict.{Verdict}
 use Rattle.tmw_defs.specs.declared.verdict.Verdict.TheVariants.{OpaqueSoFar}
 use Rattle.tmw_events.specs.declared.event.Event.{Event}
 use Rattle.tmw_bench.proofs.Between.{up-then, down-then}
-use Rattle.tmw_bench.proofs.Keeps.{goes_on_of, kept-none, kept-then}
+use Rattle.tmw_bench.proofs.Keeps.{goes_on_of, kept-none, kept-then, GoesOn}
 use Rattle.tmw_bench.specs.Keeping.{HasGoneOn}
 use Rattle.tmw_bench.specs.declared.judge.Judge.{Judge}
 use Rattle.tmw_bench.specs.Leading.{AreNewLines, HasHeard, HasLedTo, HasToldStop, HaveHeardUpTo, HaveToldUpTo, SomeToldStop}
@@ -20,7 +20,6 @@ use Rattle.tmw_bench.specs.declared.ended.Ended.{Ended}
 use Rattle.tmw_bench.specs.declared.line.Line.{Line}
 use Rattle.tmw_monitor.specs.Fitting.{Fits}
 use Rattle.tmw_pump.specs.declared.front.Front.{Front}
-use Rattle.tmw_recorded.specs.Pumping.{GoesOn}
 use Rattle.tmw_ring.specs.declared.refused.Refused.{Refused}
 
 -- The judge goes on.

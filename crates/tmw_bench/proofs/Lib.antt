@@ -18,6 +18,7 @@ pub mod RepeatedRuns
 pub mod Returns
 pub mod RoundsOver
 pub mod Starts
+pub mod Tries
 pub mod Whole
 pub mod WholeRounds
 mod Works

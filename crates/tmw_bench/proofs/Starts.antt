@@ -4,7 +4,7 @@ use Rattle.std.proofs.Math.ListN.{get_or-append}
 use Rattle.std.proofs.Math.Seq.{get_or-append_seam}
 use Rattle.std.proofs.lemmas.Bool.{cases_lt}
 use Rattle.std.proofs.lemmas.List.{get_or-map, get_or-set_other, length-map}
-use Rattle.tmw_recorded.proofs.Returns.{shorter}
+use Rattle.tmw_ring.proofs.InOrder.{shorter}
 use Rattle.tmw_bench.specs.Lines.{ArePairs, IsClosed, IsOpened, IsPairOf}
 use Rattle.tmw_bench.specs.declared.line.Line.{Line}
 use Rattle.tmw_ring.specs.Ends.{WriterIs}

@@ -10,6 +10,7 @@ pub mod Leading
 pub mod Lines
 pub mod Meeting
 pub mod Playing
+pub mod Recording
 pub mod Rounds
 pub mod Running
 pub mod Workers

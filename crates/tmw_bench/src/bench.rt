@@ -23,7 +23,7 @@ use std::thread::Threads;
 use tmw_drive::{Ending, Outcome};
 use tmw_monitor::Monitor;
 use tmw_pump::{ForgettingPump, ForgettingRest};
-use tmw_recorded::Signals;
+use crate::signals::Signals;
 use tmw_ring::{RingFault, ring};
 use tmw_tm::Tm;
 use tmw_workloads::Workload;

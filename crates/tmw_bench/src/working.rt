@@ -10,7 +10,8 @@ ghost use Rattle.tmw_bench.specs.Working.{HasWorked};
 
 use tmw_drive::{Player, ends};
 use tmw_events::Kind;
-use tmw_recorded::{Signals, record_soon};
+use crate::record::record_soon;
+use crate::signals::Signals;
 use tmw_ring::{Refused, Ring, Writer};
 use tmw_tm::Tm;
 

@@ -10,29 +10,15 @@ use Rattle.tmw_defs.specs.Verdict.{IsFirst, IsMalformed}
 use Rattle.tmw_events.specs.declared.event.Event.{Event}
 use Rattle.tmw_events.specs.declared.event.Kind.{Kind}
 use Rattle.tmw_events.specs.declared.event.Kind.TheVariants.{T}
+use Rattle.tmw_ring.proofs.KindsMade.{kinds_made-made_from}
 use Rattle.tmw_ring.specs.Ends.{WriterIs}
-use Rattle.tmw_ring.specs.Parts.{made_from}
-use Rattle.tmw_ring.specs.declared.part.Made.{Made}
+use Rattle.tmw_ring.specs.Parts.{kinds_made}
 use Rattle.tmw_turns.proofs.Completing.{formed_by_turns}
 use Rattle.tmw_turns.specs.Turning.{IsByTurns}
 use Rattle.tmw_watch.specs.Closing.{HasEnded, writers_of}
 use Rattle.tmw_watch.specs.Shown.{writer_of}
 use Rattle.tmw_watch.specs.declared.recorder.Recorder.{Recorder}
 use Rattle.tmw_watch.specs.declared.watch.Watch.{Watch}
-
--- the kinds of the events for which these places were claimed
-abbrev kinds_made : List Made → List Kind
-kinds_made made = map (λ it. it.event.kind) made
-
--- of a writer's places in a log they are those of its thread's events there
-kinds-made_from : (writer place : ℕ) (log : List Event) → kinds_made (made_from writer place log) ≡ kinds_of writer log
-kinds-made_from writer place [] = refl
-kinds-made_from writer place (event ∷ log) =
-    let rest = kinds-made_from writer (place + 1) log in
-    elim (cases_Bool (event.thread.number == writer)) [
-      | inl own ↦ rw own (ap (λ (l : List Kind). event.kind ∷ l) rest)
-      | inr other ↦ rw other rest
-    ]
 
 -- no thread beyond the writers has events
 no_kinds : (count thread : ℕ) (log : List Event) → All (λ event. event.thread.number < count) log → count ≤ thread → kinds_of thread log ≡ []
@@ -74,7 +60,7 @@ by_turns registers watch recorders log ended turns thread =
       | inl low ↦
           let writer : WriterIs = get_or ended.writers thread (first_of ended.writers thread low) in
           let kinds : kinds_made writer.made ≡ kinds_of thread log
-          = ap kinds_made (settled.made thread (first_of ended.writers thread low) low) ∙ kinds-made_from thread 0 settled.log ∙ ap (kinds_of thread) same
+          = ap kinds_made (settled.made thread (first_of ended.writers thread low) low) ∙ kinds_made-made_from thread 0 settled.log ∙ ap (kinds_of thread) same
           in
           subst (IsByTurns registers) kinds
           (of_writer registers watch recorders log ended turns thread (first_of ended.writers thread low) low)

@@ -1,5 +1,5 @@
 -- That at most one kind is asked for, and that what is recorded by turns is never malformed.
-use Rattle.std.specs.Prelude.{◌≡◌, ◌≢◌, ℕ, List, All, map}
+use Rattle.std.specs.Prelude.{◌≡◌, ◌≢◌, ℕ, List, All}
 use Rattle.tmw_c.specs.Kinds.{AsksFor}
 use Rattle.tmw_defs.specs.Verdict.{Rules}
 use Rattle.tmw_defs.specs.declared.verdict.Verdict.{Verdict}
@@ -7,6 +7,7 @@ use Rattle.tmw_defs.specs.declared.verdict.Verdict.TheVariants.{Malformed}
 use Rattle.tmw_events.specs.declared.event.Event.{Event}
 use Rattle.tmw_events.specs.declared.event.Kind.{Kind}
 use Rattle.tmw_pump.specs.Headline.{Headline}
+use Rattle.tmw_ring.specs.Parts.{kinds_made}
 use Rattle.tmw_turns.specs.Turning.{IsByTurns}
 use Rattle.tmw_watch.specs.Closing.{HasEnded, writers_of}
 use Rattle.tmw_watch.specs.Shown.{writer_of}
@@ -20,7 +21,7 @@ OneKindLaw = (registers letter register value : ℕ) (one other : Kind) → Asks
 
 -- the kinds of all events that a recorder has recorded, in their order
 abbrev pub kinds_recorded : Recorder → List Kind
-kinds_recorded recorder = map (λ made. made.event.kind) (writer_of recorder).made
+kinds_recorded recorder = kinds_made (writer_of recorder).made
 
 -- A watch's ring has ended, of which each recorder has recorded by turns alone. Then no headline on the whole log, whichever call
 -- tells it, has the verdict malformed.

@@ -18,5 +18,4 @@ mod walk;
 pub use end_states::EndStates;
 pub use ends::{layer, outcomes, possible, replace_by_outcomes};
 pub use nexts::{is_next, may_hold};
-pub use tmw_plain_check::{Whole, WholeFault, judge_whole, judge_whole_for, judge_whole_from};
 pub use walk::{Step, find_order};

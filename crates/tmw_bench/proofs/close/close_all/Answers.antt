@@ -5,7 +5,7 @@ use Rattle.tmw_bench.proofs.Starts.{Back, closed-next, rest-next, behind, worker
 use Rattle.tmw_bench.specs.Lines.{IsClosed}
 use Rattle.tmw_bench.specs.declared.line.Line.{Line}
 use Rattle.tmw_bench.specs.declared.worker.Worker.{Worker}
-use Rattle.tmw_recorded.proofs.Returns.{shorter}
+use Rattle.tmw_ring.proofs.InOrder.{shorter}
 use Rattle.tmw_ring.specs.Ends.{WriterIs}
 use Rattle.tmw_ring.specs.declared.refused.Refused.{Refused}
 use Rattle.tmw_bench.proofs.close.close_all.Goals as goal

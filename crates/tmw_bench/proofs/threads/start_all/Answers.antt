@@ -6,7 +6,7 @@ use Rattle.tmw_bench.specs.Lines.{IsPromised, IsNewWorker}
 use Rattle.tmw_drive.specs.Driving.{script_at}
 use Rattle.tmw_drive.specs.Playing.{calls_of}
 use Rattle.tmw_events.specs.declared.event.Kind.{Kind}
-use Rattle.tmw_recorded.proofs.Returns.{shorter}
+use Rattle.tmw_ring.proofs.InOrder.{shorter}
 use Rattle.tmw_bench.specs.declared.worker.Worker.{Worker}
 use Rattle.tmw_bench.proofs.Starts.{Handle}
 use Rattle.tmw_runs.specs.Scripts.{are_transactions, script_of, scripts_of}

@@ -1,7 +1,7 @@
 -- So far the writer has recorded nothing.
-use Rattle.tmw_recorded.specs.Recording.{HasWaited}
+use Rattle.tmw_bench.specs.Recording.{HasWaited}
 use Rattle.tmw_ring.specs.Ends.{WriterOf}
-use Rattle.tmw_recorded.proofs.record.record_soon.Given as goal
+use Rattle.tmw_bench.proofs.record.record_soon.Given as goal
 
 abbrev pub invariant-loop : goal.invariant-loop
 invariant-loop l = WriterOf l.ring l.writer × HasWaited l.fn.writer l.writer

@@ -1,5 +1,5 @@
-use Rattle.tmw_recorded.proofs.Tries.{tried}
-use Rattle.tmw_recorded.proofs.record.record_soon.Goals as goal
+use Rattle.tmw_bench.proofs.Tries.{tried}
+use Rattle.tmw_bench.proofs.record.record_soon.Goals as goal
 
 pub returns-in_default-clause-tried : goal.returns-in_default-clause-tried
 returns-in_default-clause-tried c =

@@ -1,3 +1,0 @@
-pub mod Pumping
-pub mod Recorded
-pub mod Recording
