@@ -62,7 +62,7 @@ typedef struct tmwatch_memory {
     bool (*begin)(void *memory, void *tx);
     bool (*read)(void *memory, void *tx, unsigned reg, uint64_t *value);
     bool (*write)(void *memory, void *tx, unsigned reg, uint64_t value);
-    bool (*add)(void *memory, void *tx, unsigned reg, uint64_t addend, uint64_t *before); /* or null */
+    bool (*add)(void *memory, void *tx, unsigned reg, uint64_t addend, uint64_t *before); /* or null; an addend is never 2^64 - 1 */
     bool (*commit)(void *memory, void *tx);
     void (*abort)(void *memory, void *tx);
     bool (*run)(void *memory, void *tx, tmwatch_attempt *attempt); /* or null */
@@ -90,7 +90,7 @@ typedef struct tmwatch_plan {
     uint64_t seconds;   /* after this time no round begins, and by permits no attempt; 0: the rounds alone count */
     uint64_t schedule;  /* a tmwatch_schedule */
     uint64_t start[8];  /* what the registers hold at first */
-    FILE *trace;        /* or null: here the run's end is written as a trace */
+    FILE *trace;        /* or null: here the run's end is written as a trace, maybe of no event */
 } tmwatch_plan;
 
 #define TMWATCH_PLAN {100000, 1, 4, 3, 3, 0, 50, 20, 12, 100, 0, TMWATCH_ROUNDS, {0, 0, 0, 0, 0, 0, 0, 0}, NULL}

@@ -4,9 +4,10 @@
 //! is opaque so far, or the watch names its first prefix that is not. [`bench()`] runs random transactions on a [`Memory`] and records
 //! them; [`bench_retrying`] does so on a [`RetryingMemory`], which itself attempts them again.
 //!
-//! The types keep the duties that include/tmwatch.h numbers, except two. Events are recorded at the right moments (duty 8): otherwise the
-//! verdict is on another run. And no call is made in a signal handler, or in a forked child of a process that has threads (duty 6): only
-//! unsafe code gets there. What moves a [`Recorder`] from thread to thread in safe code serves for duty 2.
+//! The types keep the duties that include/tmwatch.h numbers, except four. Events are recorded at the right moments (duty 8): otherwise the
+//! verdict is on another run. C's malloc, realloc and free are one allocator's (duty 5), and the stack has room for a call (duty 7). And no
+//! call is made in a signal handler, or in a forked child of a process that has threads (duty 6): only unsafe code gets there. What moves a
+//! [`Recorder`] from thread to thread in safe code serves for duty 2.
 #![deny(unsafe_op_in_unsafe_fn)]
 #![warn(missing_docs)]
 

@@ -29,7 +29,8 @@ pub record HoldsNone (kept : Open) : Type 0 where
   pub states : members kept.states ≡ []
   pub transactions : views kept.window ≡ []
 
--- The monitor keeps of the history only its open window and the outcomes before it, and neither after a final verdict.
+-- The states and the window of the monitor are those of the open window alone, and hold nothing after a final verdict. That it keeps no
+-- event is seen in the fields of its types.
 pub record KeepsOnlyOpen (rules : Rules) (history : List Event) (monitor : Monitor) : Type 0 where
   pub holds : IsOpen monitor → HoldsOpen rules history (kept_of monitor)
   pub ended : (IsOpen monitor → ⊥) → HoldsNone (kept_of monitor)

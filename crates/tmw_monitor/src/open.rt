@@ -18,7 +18,7 @@ pub struct Open {
 impl Open {
     ghost use Rattle.tmw_monitor.specs.Fitting.{KeepsNothing};
 
-    /// Forgets the history, and frees what was kept of it.
+    /// Forgets the history, and frees what was kept of it. Tracker and witness, which have a fixed size, stay.
     #[cold]
     #[inline(never)]
     pub fn forget(&mut self, alloc: Global)

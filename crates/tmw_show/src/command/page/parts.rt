@@ -203,7 +203,7 @@ const heading = (tx, word) => `${tx.name} \u00b7 ${word}`;
 
 // The verdict in words.
 const strict = criterion === 'strict';
-const order = strict ? 'serial order of committed transactions' : 'serial order';
+const order = strict ? 'serial order of transactions taken as committed' : 'serial order';
 const words = {
   'opaque so far': () => `Opaque so far: every prefix of these ${plural(report.events, 'event')} has a serial order that explains it`,
   'strict so far': () => `Strict so far: every prefix of these ${plural(report.events, 'event')} has a ${order} that explains it`,
