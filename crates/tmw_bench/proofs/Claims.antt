@@ -4,9 +4,9 @@ use Rattle.std.proofs.lemmas.List.{append-nil}
 use Rattle.std.proofs.lemmas.List.Elements.{All-append, All-cons, All-nil}
 use Rattle.tmw_defs.specs.History.{answers}
 use Rattle.tmw_events.specs.declared.event.Kind.{Kind}
-use Rattle.tmw_ring.proofs.KindsMade.{kinds_made-append}
+use Rattle.tmw_pump.proofs.KindsMade.{kinds_made-append}
 use Rattle.tmw_bench.proofs.Tries.{has_looked-refused, was_refused-tried}
-use Rattle.tmw_ring.specs.Parts.{kinds_made}
+use Rattle.tmw_pump.specs.Kinds.{kinds_made}
 use Rattle.tmw_bench.specs.Recording.{HasTried}
 use Rattle.tmw_ring.specs.Ends.{RingIs, WriterIs, WriterOf}
 use Rattle.tmw_ring.specs.Recording.{made_at}

@@ -7,8 +7,8 @@ use Rattle.std.proofs.lemmas.List.Elements.{All-head, All-tail}
 use Rattle.tmw_bench.proofs.MadeFrom.{earlier_made, later_made, made_from-append}
 use Rattle.tmw_defs.specs.Texts.{kinds_of}
 use Rattle.tmw_events.specs.declared.event.Event.{Event}
-use Rattle.tmw_ring.proofs.KindsMade.{kinds_made-made_from}
-use Rattle.tmw_ring.specs.Parts.{kinds_made}
+use Rattle.tmw_pump.proofs.KindsMade.{kinds_made-made_from}
+use Rattle.tmw_pump.specs.Kinds.{kinds_made}
 use Rattle.tmw_ring.specs.Parts.{made_from}
 use Rattle.tmw_ring.specs.declared.part.Made.{Made}
 

@@ -4,7 +4,7 @@ use Rattle.std.specs.Prelude.{All}
 use Rattle.std.proofs.lemmas.List.Elements.{All-append, All-nil}
 use Rattle.tmw_bench.specs.Rounds.{last_bound, HasPlayed, HasPlayedLast, IsReady}
 use Rattle.tmw_events.specs.declared.event.Kind.{Kind}
-use Rattle.tmw_ring.specs.Parts.{kinds_made}
+use Rattle.tmw_pump.specs.Kinds.{kinds_made}
 use Rattle.tmw_ring.specs.Ends.{WriterIs}
 use Rattle.tmw_ring.specs.declared.part.Made.{Made}
 use Rattle.tmw_ring.specs.declared.refused.Refused.{Refused}

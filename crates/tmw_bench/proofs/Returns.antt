@@ -5,7 +5,7 @@ use Rattle.tmw_runs.proofs.StandingSteps.{all_stand-more}
 use Rattle.tmw_bench.specs.Playing.{GivesWithin}
 use Rattle.tmw_events.specs.declared.event.Kind.{Kind}
 use Rattle.tmw_ring.proofs.InOrder.{one_more}
-use Rattle.tmw_ring.specs.Parts.{kinds_made}
+use Rattle.tmw_pump.specs.Kinds.{kinds_made}
 use Rattle.tmw_ring.specs.Ends.{WriterIs}
 use Rattle.tmw_ring.specs.declared.refused.Refused.{Refused}
 use Rattle.tmw_tm.specs.Answers.{Call, Answer}

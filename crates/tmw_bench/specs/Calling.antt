@@ -4,7 +4,7 @@ use Rattle.tmw_defs.specs.History.{answers}
 use Rattle.tmw_drive.specs.Playing.{GoesOn, Plays}
 use Rattle.tmw_drive.specs.declared.player.Player.{Player}
 use Rattle.tmw_events.specs.declared.event.Kind.{Kind}
-use Rattle.tmw_ring.specs.Parts.{kinds_made}
+use Rattle.tmw_pump.specs.Kinds.{kinds_made}
 use Rattle.tmw_bench.specs.Recording.{WasRefused}
 use Rattle.tmw_ring.specs.Ends.{WriterIs}
 use Rattle.tmw_ring.specs.declared.part.Made.{Made}

@@ -7,7 +7,7 @@ use Rattle.tmw_drive.specs.declared.ending.Ending.{Ending}
 use Rattle.tmw_drive.specs.declared.ending.Ending.TheVariants.{Done, Stopped}
 use Rattle.tmw_events.specs.declared.event.Event.{Event}
 use Rattle.tmw_events.specs.declared.event.Kind.{Kind}
-use Rattle.tmw_ring.specs.Parts.{kinds_made}
+use Rattle.tmw_pump.specs.Kinds.{kinds_made}
 use Rattle.tmw_ring.specs.Ends.{WriterIs}
 use Rattle.tmw_ring.specs.Parts.{made_from}
 use Rattle.tmw_ring.specs.declared.part.Made.{Made}

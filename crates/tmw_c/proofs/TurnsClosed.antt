@@ -10,9 +10,9 @@ use Rattle.tmw_defs.specs.Verdict.{IsFirst, IsMalformed}
 use Rattle.tmw_events.specs.declared.event.Event.{Event}
 use Rattle.tmw_events.specs.declared.event.Kind.{Kind}
 use Rattle.tmw_events.specs.declared.event.Kind.TheVariants.{T}
-use Rattle.tmw_ring.proofs.KindsMade.{kinds_made-made_from}
+use Rattle.tmw_pump.proofs.KindsMade.{kinds_made-made_from}
 use Rattle.tmw_ring.specs.Ends.{WriterIs}
-use Rattle.tmw_ring.specs.Parts.{kinds_made}
+use Rattle.tmw_pump.specs.Kinds.{kinds_made}
 use Rattle.tmw_turns.proofs.Completing.{formed_by_turns}
 use Rattle.tmw_turns.specs.Turning.{IsByTurns}
 use Rattle.tmw_watch.specs.Closing.{HasEnded, writers_of}

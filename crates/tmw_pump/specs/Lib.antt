@@ -1,5 +1,6 @@
 pub mod Fronts
 pub mod Headline
 pub mod Held
+pub mod Kinds
 pub mod Pumping
 pub mod Resting

@@ -2,7 +2,6 @@
 use Rattle.std.specs.Prelude.{◌==◌, ◌+◌, ℕ, zero, suc, List, [], ◌∷◌, if◌then◌else◌}
 use Rattle.tmw_events.specs.Unpacking.{ix_of}
 use Rattle.tmw_events.specs.declared.event.Event.{Event}
-use Rattle.tmw_events.specs.declared.event.Kind.{Kind}
 use Rattle.tmw_ring_defs.specs.declared.ring_phase.ReaderPhase.TheVariants.{Waiting}
 use Rattle.tmw_ring_defs.specs.declared.ring_phase.WriterPhase.TheVariants.{Idle}
 use Rattle.tmw_ring_defs.specs.Runs.{reader_actor, writer_actor}
@@ -39,11 +38,6 @@ made_from writer place (event ∷ events) =
     if event.thread.number == writer
     then record { place = place; event = event } ∷ made_from writer (place + 1) events
     else made_from writer (place + 1) events
-
--- the kinds of the events for which these places were claimed
-abbrev pub kinds_made : List Made → List Kind
-kinds_made [] = []
-kinds_made (made ∷ more) = made.event.kind ∷ kinds_made more
 
 -- At the start a writer is idle, and knows nothing.
 abbrev pub new_writer : RingSize → ℕ → WriterPart

@@ -4,7 +4,8 @@ use Rattle.std.proofs.lemmas.Bool.{cases_Bool}
 use Rattle.tmw_defs.specs.Texts.{kinds_of}
 use Rattle.tmw_events.specs.declared.event.Event.{Event}
 use Rattle.tmw_events.specs.declared.event.Kind.{Kind}
-use Rattle.tmw_ring.specs.Parts.{kinds_made, made_from}
+use Rattle.tmw_pump.specs.Kinds.{kinds_made}
+use Rattle.tmw_ring.specs.Parts.{made_from}
 use Rattle.tmw_ring.specs.declared.part.Made.{Made}
 
 pub kinds_made-append : (old fresh : List Made) → kinds_made (old ++ fresh) ≡ kinds_made old ++ kinds_made fresh
