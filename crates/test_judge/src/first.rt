@@ -1,6 +1,6 @@
 //! `judge --first` asks for no byte after the line of the event that makes all verdicts final.
 use tmw_defs::Asked;
-use tmw_judge::run_first;
+use tmw_judge::{Options, run_judge_with};
 use tmw_monitor::Bounds;
 use tmw_streams::{MemorySink, MemorySource};
 
@@ -51,7 +51,14 @@ fn nothing_is_asked_for_behind_the_final_verdict(rt: HostRuntime) {
         let fails_at = Some(text.len() as u64 + 1);
         let mut source = MemorySource::limited(text.as_bytes(), 1, fails_at);
         let mut sink = MemorySink::new(rt.alloc());
-        let answered = run_first(rt.alloc(), &mut source, &mut sink, BOUNDS, asked);
+        let mut errors = MemorySink::new(rt.alloc());
+        let options = Options {
+            bounds: BOUNDS,
+            asked,
+            first: true,
+            summary: false,
+        };
+        let answered = run_judge_with(rt.alloc(), &mut source, &mut sink, &mut errors, options);
         assert_eq!(rt; sink.bytes(), lines.as_bytes());
         assert_eq!(rt; answered, status, "of {lines}");
     }

@@ -1,21 +1,18 @@
 -- What a run of the command line does: from its words and the bytes that its source tells to what its two sinks take and the
 -- exit status. The second sink is for errors.
-use Rattle.std.specs.Prelude.{◌≡◌, ℕ, Bool, true, false, List, Result, Ok, Err, string_bytes}
+use Rattle.std.specs.Prelude.{◌≡◌, ℕ, true, false, List, Result, Ok, Err, string_bytes}
 use Rattle.clap.specs.Words.{Text}
 use Rattle.tmw_report.specs.Lines.{fault_line}
 use Rattle.tmw_report.specs.Putting.{IsPut, IsSent}
 use Rattle.tmw_streams.specs.Streams.{FromSource, ToSink}
 use Rattle.tmw_report.specs.declared.fault.Fault.{Fault}
 use Rattle.tmw_report.specs.declared.fault.Fault.TheVariants.{Memory as WantsMemory, Usage as IsUsage}
-use Rattle.tmw_judge.specs.First.{JudgesFirst, SumsFirst}
-use Rattle.tmw_judge.specs.Judging.{JudgesBytes}
-use Rattle.tmw_judge.specs.Summing.{SumsBytes}
+use Rattle.tmw_judge.specs.Answering.{Judges}
 use Rattle.tmw_bench.specs.Running.{BenchesBytes}
 use Rattle.tmw_drive.specs.Running.{DrivesBytes}
 use Rattle.tmw_show.specs.Page.{PagesBytes}
 use Rattle.tmw_show.specs.Running.{ShowsBytes}
 use Rattle.tmw_steps.specs.Running.{RunsSteps}
-use Rattle.tmw_defs.specs.declared.criterion.Asked.{Asked}
 use Rattle.tmw_defs.specs.declared.criterion.Criterion.{Criterion}
 use Rattle.tmw_monitor.specs.declared.bounds.Bounds.{Bounds}
 use Rattle.tmw_tm.specs.Memory.{MemoryIs}
@@ -40,16 +37,6 @@ MemoriesAre = Which → MemoryIs
 abbrev pub by_name : {M : Type 0} → (M → MemoryIs) → Memories M → MemoriesAre
 by_name is memories name = is (memory_named memories name)
 
--- What a run of `judge` does that counts nothing, with `--first` or without.
-abbrev pub Judges : {S K : Type 0} → FromSource S → ToSink K → Bounds → Asked → Bool → S → S → K → K → ℕ → Type 0
-Judges From To bounds asked false = JudgesBytes From To bounds asked
-Judges From To bounds asked true = JudgesFirst From To bounds asked
-
--- And one that counts, by `--summary`.
-abbrev pub Sums : {S K E : Type 0} → FromSource S → ToSink K → ToSink E → Bounds → Asked → Bool → S → S → K → K → E → E → ℕ → Type 0
-Sums From To Errors bounds asked false = SumsBytes From To Errors bounds asked
-Sums From To Errors bounds asked true = SumsFirst From To Errors bounds asked
-
 -- What a run of `show` does: it draws the last window, or writes it as traces or as a page.
 abbrev pub Shows : {S K : Type 0} → FromSource S → ToSink K → Criterion → Form → Bounds → S → S → K → K → ℕ → Type 0
 Shows From To criterion Drawing bounds = ShowsBytes From To criterion false bounds
@@ -64,8 +51,8 @@ Silently Does source source_after sink sink_after errors errors_after status =
 -- What the order's command does. Only `judge --summary` and `bench` may send something to the sink for errors: what a bench tells of
 -- how far it has come goes elsewhere, and is in no clause.
 abbrev pub RunsOrder : {S K E : Type 0} → FromSource S → ToSink K → ToSink E → MemoriesAre → Order → S → S → K → K → E → E → ℕ → Type 0
-RunsOrder From To Errors memories (Judge bounds asked true first) = Sums From To Errors bounds asked first
-RunsOrder From To Errors memories (Judge bounds asked false first) = Silently (Judges From To bounds asked first)
+RunsOrder From To Errors memories (Judge bounds asked summary first) =
+    Judges From To Errors (record { bounds = bounds; asked = asked; first = first; summary = summary })
 RunsOrder From To Errors memories (Show criterion form bounds) = Silently (Shows From To criterion form bounds)
 RunsOrder From To Errors memories (Drive memory written bounds) = Silently (DrivesBytes From To (memories memory) (written_of written) bounds)
 RunsOrder From To Errors memories (Bench memory written options) =

@@ -1,7 +1,7 @@
 ghost use Rattle.std.specs.Prelude.{◌≡◌, MatchBool, None, Some, map, string_bytes};
 ghost use Rattle.std.specs.Result.{result_map_both};
 ghost use Rattle.tmw_report.specs.Putting.{IsPut, IsSent};
-ghost use Rattle.tmw_command.specs.Running.{AnswersRefusal, Judges, RunsCommand, RunsOrder, RunsWords, Shows, Sums, by_name};
+ghost use Rattle.tmw_command.specs.Running.{AnswersRefusal, RunsCommand, RunsOrder, RunsWords, Shows, by_name};
 ghost use Rattle.tmw_tm.specs.Memory.{memory_is};
 
 use crate::memories::Memories;
@@ -11,9 +11,9 @@ use std::convert::AsStr;
 use std::sync::Wait;
 use std::thread::Threads;
 use tmw_bench::{Plan, Progress, run_bench_cmd};
-use tmw_defs::{Asked, Criterion};
+use tmw_defs::Criterion;
 use tmw_drive::run_drive;
-use tmw_judge::{run_first, run_first_summary, run_judge, run_summary};
+use tmw_judge::{Options, run_judge_with};
 use tmw_monitor::Bounds;
 use tmw_report::{FAULT_STATUS, Fault, answer_fault};
 use tmw_show::{run_page, run_show};
@@ -114,11 +114,13 @@ fn run_order<S: Source, K: Sink, E: Sink, R: AllocGlobal + Threads + Wait + Sync
             summary,
             first,
         } => {
-            if summary {
-                sum(alloc, source, sink, errors, bounds, asked, first)
-            } else {
-                judge(alloc, source, sink, bounds, asked, first)
-            }
+            let options = Options {
+                bounds,
+                asked,
+                first,
+                summary,
+            };
+            run_judge_with(alloc, source, sink, errors, options)
         }
         Order::Show {
             criterion,
@@ -155,44 +157,6 @@ fn run_order<S: Source, K: Sink, E: Sink, R: AllocGlobal + Threads + Wait + Sync
             )
         }
         Order::Steps => run_steps(alloc, source, sink),
-    }
-}
-
-/// Judges a trace and counts nothing: by `first` up to the event at which its verdicts are final.
-fn judge<S: Source, K: Sink>(
-    alloc: Global,
-    source: &mut S,
-    sink: &mut K,
-    bounds: Bounds,
-    asked: Asked,
-    first: bool,
-) -> u8
-    ensures { Judges S.from K.to bounds asked first source.old source.new sink.old sink.new result }
-{
-    if first {
-        run_first(alloc, source, sink, bounds, asked)
-    } else {
-        run_judge(alloc, source, sink, bounds, asked)
-    }
-}
-
-/// Judges a trace and counts: by `first` up to the event at which its verdicts are final.
-fn sum<S: Source, K: Sink, E: Sink>(
-    alloc: Global,
-    source: &mut S,
-    sink: &mut K,
-    errors: &mut E,
-    bounds: Bounds,
-    asked: Asked,
-    first: bool,
-) -> u8
-    ensures { Sums S.from K.to E.to bounds asked first
-        source.old source.new sink.old sink.new errors.old errors.new result }
-{
-    if first {
-        run_first_summary(alloc, source, sink, errors, bounds, asked)
-    } else {
-        run_summary(alloc, source, sink, errors, bounds, asked)
     }
 }
 

@@ -18,7 +18,7 @@ use Rattle.tmw_monitor.specs.declared.monitor.Monitor.{Monitor}
 use Rattle.tmw_judge.specs.Counted.{any_open, AreJudged, counted_of, counted_part, CountsFor, verdicts_of}
 use Rattle.tmw_judge.specs.declared.judges.Judges.{Judges}
 use Rattle.tmw_judge.specs.Judging.{AreFed, AreReports, trace_rules}
-use Rattle.tmw_judge.specs.Summing.{told_verdicts}
+use Rattle.tmw_judge.specs.Answering.{told_verdicts}
 use Rattle.tmw_judge.specs.declared.report.Report.{Report}
 use Rattle.tmw_judge.specs.declared.by_criterion.ByCriterion.{ByCriterion}
 use Rattle.tmw_judge.specs.declared.by_criterion.ByCriterion.TheVariants.{Opacity, Strict, Both}

@@ -18,7 +18,7 @@ use Rattle.tmw_monitor.specs.declared.bounds.Bounds.{Bounds}
 use Rattle.tmw_judge.specs.Counted.{any_open, AreJudged, CountsFor, verdicts_of}
 use Rattle.tmw_judge.specs.Feeding.{AreFedAllRead, AreFedSoMany, TakeEvents}
 use Rattle.tmw_judge.specs.FeedingFirst.{AreReadFirst, FeedsFirst}
-use Rattle.tmw_judge.specs.First.{AreOpen, AreOpenBefore}
+use Rattle.tmw_judge.specs.Answering.{AreOpen, AreOpenBefore}
 use Rattle.tmw_judge.specs.declared.judges.Judges.{Judges}
 use Rattle.tmw_judge.proofs.FedEvents.{fed-so_many}
 use Rattle.tmw_judge.proofs.FirstOpen.{AreOpenBefore-push, open-fed}

@@ -17,9 +17,8 @@ use Rattle.tmw_monitor.specs.declared.bounds.Bounds.{Bounds}
 use Rattle.tmw_monitor.specs.declared.monitor.Monitor.{Monitor}
 use Rattle.tmw_monitor.specs.Monitor.{verdict_of}
 use Rattle.tmw_judge.specs.Counted.{any_open, verdicts_of}
-use Rattle.tmw_judge.specs.First.{AreOpen, AreOpenBefore}
+use Rattle.tmw_judge.specs.Answering.{told_verdicts, AreOpen, AreOpenBefore}
 use Rattle.tmw_judge.specs.Judging.{AreFed, AreReports, trace_rules}
-use Rattle.tmw_judge.specs.Summing.{told_verdicts}
 use Rattle.tmw_judge.specs.declared.by_criterion.ByCriterion.{ByCriterion}
 use Rattle.tmw_judge.specs.declared.by_criterion.ByCriterion.TheVariants.{Opacity, Strict, Both}
 use Rattle.tmw_judge.specs.declared.report.Report.{Report}

@@ -1,5 +1,5 @@
 -- Judging up to the first final verdict: the first line is read, then events are fed, and what was told is what was read.
-use Rattle.std.proofs.Common.{◌≡◌, ℕ, List, [], ◌∷◌, ◌++◌, Ok, Err, inl, inr}
+use Rattle.std.proofs.Common.{◌≡◌, ℕ, true, List, [], ◌∷◌, ◌++◌, Ok, Err, inl, inr}
 use Rattle.tmw_lines.specs.ItemsRead.{FailsBehind}
 use Rattle.tmw_lines.specs.Lines.{HasRead, unread_bytes}
 use Rattle.tmw_lines.specs.declared.lines.Lines.{Lines}
@@ -17,8 +17,8 @@ use Rattle.tmw_monitor.specs.declared.bounds.Bounds.{Bounds}
 use Rattle.tmw_report.specs.declared.fault.Fault.{Fault}
 use Rattle.tmw_report.specs.Putting.{fault_of}
 use Rattle.tmw_judge.specs.Feeding.{IsBeginning, ReadsBeginning}
-use Rattle.tmw_judge.specs.FeedingFirst.{AnswersFirstFed, AreReadFirst, FeedsFirst}
-use Rattle.tmw_judge.specs.First.{AreOpen, AreOpenBefore, EndsSoonBehindOpen, HasFaultInTime}
+use Rattle.tmw_judge.specs.Answering.{AnswersFed, AreOpen, AreOpenBefore, EndsSoonBehindOpen, HasFaultInTime}
+use Rattle.tmw_judge.specs.FeedingFirst.{AreReadFirst, FeedsFirst}
 use Rattle.tmw_judge.specs.Counted.{CountsFor}
 use Rattle.tmw_judge.specs.declared.judges.Judges.{Judges}
 use Rattle.tmw_judge.proofs.FirstOpen.{AreOpenBefore-none}
@@ -88,7 +88,7 @@ module _ {C : Type 0} (Counts : CountsFor C) where
   pub first-unbegun : {S : Type 0} (From : FromSource S) (Ended : Type 0) (a b : S)
       (lines : Lines Version) (bounds : Bounds) (asked : Asked) (told : TextFault) (fault : Fault)
       → ReadsBeginning From Counts Ended a b lines bounds asked (Err told) → fault ≡ fault_of told
-      → (bytes : List ℕ) × Tells From a bytes b × AnswersFirstFed Counts bounds asked Ended bytes (Err fault)
+      → (bytes : List ℕ) × Tells From a bytes b × AnswersFed true Counts bounds asked Ended bytes (Err fault)
   first-unbegun From Ended a b lines bounds asked told fault reads is =
       (reads.bytes, reads.told, (told, is, first-in-time Ended lines bounds asked reads.bytes told reads.is))
 
@@ -98,32 +98,24 @@ module _ {S C : Type 0} (From : FromSource S) (Counts : CountsFor C) (First Ende
   -- all verdicts became final, or all events up to the end were fed
   pub first-done : {Done : Type 0} (done : Done)
       → FeedsFirst From Counts Ended b c lines after judges fed (Ok done)
-      → (all : List ℕ) × Tells From a all c × AnswersFirstFed Counts bounds asked Ended all (Ok fed)
+      → (all : List ℕ) × Tells From a all c × AnswersFed true Counts bounds asked Ended all (Ok fed)
   first-done done feeds = (
     begins.bytes ++ feeds.bytes,
     Tells-more From a b c begins.bytes feeds.bytes begins.told feeds.told,
     elim (feeds.fed begins.is.0 bounds asked [] begins.bytes begins.is.1 begins.is.2 (AreOpenBefore-none begins.is.0 bounds asked)) [
-      | inl first ↦ inl record {
+      | inl first ↦ record {
         header = begins.is.0;
         history = feeds.events;
         are_events = first.read.are_lines;
-        rest = unread_bytes after;
-        text = first.read.text;
-        few = first.read.few;
+        read = inl record { rest = unread_bytes after; text = first.read.text; few = first.read.few; final = first.final; before = first.before };
         judged = first.judged;
-        final = first.final;
-        before = first.before;
       }
-      | inr all ↦ inr record {
-        ended = all.read.ended;
-        whole = record {
-          header = begins.is.0;
-          history = feeds.events;
-          are_events = all.read.are_lines;
-          text = all.read.text;
-          judged = all.judged;
-        };
-        open_one = all.open_one;
+      | inr all ↦ record {
+        header = begins.is.0;
+        history = feeds.events;
+        are_events = all.read.are_lines;
+        read = inr (record { ended = all.read.ended; text = all.read.text }, all.open_one);
+        judged = all.judged;
       }
     ],
   )
@@ -131,7 +123,7 @@ module _ {S C : Type 0} (From : FromSource S) (Counts : CountsFor C) (First Ende
   -- and then came a fault
   pub first-fault : (Done : Type 0) (told : TextFault) (fault : Fault)
       → FeedsFirst {Done = Done} From Counts Ended b c lines after judges fed (Err told) → fault ≡ fault_of told
-      → (all : List ℕ) × Tells From a all c × AnswersFirstFed Counts bounds asked Ended all (Err fault)
+      → (all : List ℕ) × Tells From a all c × AnswersFed true Counts bounds asked Ended all (Err fault)
   first-fault Done told fault feeds is = (
     begins.bytes ++ feeds.bytes,
     Tells-more From a b c begins.bytes feeds.bytes begins.told feeds.told,

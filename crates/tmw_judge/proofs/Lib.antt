@@ -1,10 +1,11 @@
+mod Answered
 mod CountedParts
 mod Each
 mod FedEvents
-mod FirstAnswers
+mod FedFor
 mod FirstFed
 mod FirstOpen
-mod FirstReports
 mod FirstTaken
+mod Plain
 mod Taken
 mod Taking

@@ -1,5 +1,5 @@
 -- Judging a trace: its first line is read, then its events are fed, and what was told is what was read.
-use Rattle.std.proofs.Common.{◌≡◌, ℕ, List, [], ◌++◌, Ok, Err, refl}
+use Rattle.std.proofs.Common.{◌≡◌, ℕ, false, List, [], ◌++◌, Ok, Err, refl}
 use Rattle.tmw_lines.specs.ItemsRead.{AreReadFor}
 use Rattle.tmw_lines.specs.TextFault.{HasTextFault, failures_after}
 use Rattle.tmw_lines.specs.declared.lines.Lines.{Lines}
@@ -21,7 +21,7 @@ use Rattle.tmw_report.specs.CommandRun.{failures_after_answer}
 use Rattle.tmw_judge.specs.Feeding.{IsBeginning, ReadsBeginning, AreFedAllRead, AreReadAndFed, FeedsEvents}
 use Rattle.tmw_judge.specs.Counted.{CountsFor}
 use Rattle.tmw_judge.specs.declared.judges.Judges.{Judges}
-use Rattle.tmw_judge.specs.Summing.{AnswersFed}
+use Rattle.tmw_judge.specs.Answering.{AnswersFed}
 
 module _ {C : Type 0} (Counts : CountsFor C) where
   -- the fault of the first line, or want of memory behind it, is the text's
@@ -50,7 +50,7 @@ module _ {C : Type 0} (Counts : CountsFor C) where
   pub answers-first : {S : Type 0} (From : FromSource S) (Ended : Type 0) (a b : S)
       (lines : Lines Version) (bounds : Bounds) (asked : Asked) (told : TextFault) (fault : Fault)
       → ReadsBeginning From Counts Ended a b lines bounds asked (Err told) → fault ≡ fault_of told
-      → (bytes : List ℕ) × Tells From a bytes b × AnswersFed Counts bounds asked Ended bytes (Err fault)
+      → (bytes : List ℕ) × Tells From a bytes b × AnswersFed false Counts bounds asked Ended bytes (Err fault)
   answers-first From Ended a b lines bounds asked told fault reads is =
       (reads.bytes, reads.told, (told, is, first-fault Ended lines bounds asked reads.bytes told reads.is))
 
@@ -74,27 +74,24 @@ module _ {S C : Type 0} (From : FromSource S) (Counts : CountsFor C) (First Ende
   -- and all its events were fed
   pub answers-end : {Done : Type 0} (done : Done)
       → FeedsEvents From Counts Ended b c lines after judges fed (Ok done)
-      → (all : List ℕ) × Tells From a all c × AnswersFed Counts bounds asked Ended all (Ok fed)
+      → (all : List ℕ) × Tells From a all c × AnswersFed false Counts bounds asked Ended all (Ok fed)
   answers-end done feeds =
       let end = feeds.fed begins.is.0 bounds asked [] begins.bytes begins.is.1 begins.is.2 in (
         begins.bytes ++ feeds.bytes,
         Tells-more From a b c begins.bytes feeds.bytes begins.told feeds.told,
-        (
-          end.0.ended,
-          record {
-            header = begins.is.0;
-            history = feeds.events;
-            are_events = end.0.are_lines;
-            text = end.0.text;
-            judged = end.1;
-          },
-        ),
+        record {
+          header = begins.is.0;
+          history = feeds.events;
+          are_events = end.0.are_lines;
+          read = record { ended = end.0.ended; text = end.0.text };
+          judged = end.1;
+        },
       )
 
   -- and then came a fault
   pub answers-fault : (Done : Type 0) (told : TextFault) (fault : Fault)
       → FeedsEvents {Done = Done} From Counts Ended b c lines after judges fed (Err told) → fault ≡ fault_of told
-      → (all : List ℕ) × Tells From a all c × AnswersFed Counts bounds asked Ended all (Err fault)
+      → (all : List ℕ) × Tells From a all c × AnswersFed false Counts bounds asked Ended all (Err fault)
   answers-fault Done told fault feeds is =
       let stop = feeds.fed begins.is.0 bounds asked [] begins.bytes begins.is.1 begins.is.2 in (
         begins.bytes ++ feeds.bytes,

@@ -1,6 +1,6 @@
 -- Which events of a trace are counted beside their verdict: those up to the verdict's event, before it where the history is malformed,
 -- or all. With two verdicts the larger number of them is counted.
-use Rattle.std.specs.Prelude.{ℕ, Bool, ◌&&◌, ◌||◌, List, length, max, take}
+use Rattle.std.specs.Prelude.{ℕ, Bool, true, false, ◌&&◌, ◌||◌, List, length, max, take, Option, Some, None}
 use Rattle.tmw_events.specs.declared.event.Event.{Event}
 use Rattle.tmw_trace.specs.declared.header.Header.{Header}
 use Rattle.tmw_defs.specs.declared.criterion.Asked.{Asked}
@@ -13,6 +13,8 @@ use Rattle.tmw_judge.specs.declared.by_criterion.ByCriterion.{ByCriterion}
 use Rattle.tmw_judge.specs.declared.by_criterion.ByCriterion.TheVariants.{Opacity, Strict, Both}
 use Rattle.tmw_judge.specs.declared.judges.Judges.{Judges}
 use Rattle.tmw_judge.specs.Judging.{AreFed}
+use Rattle.tmw_counts.specs.Summaries.{IsSummary}
+use Rattle.tmw_counts.specs.declared.summary.Summary.{Summary}
 
 -- How many of so many events are counted.
 abbrev pub counted_of : ℕ → ByCriterion Verdict → ℕ
@@ -50,3 +52,10 @@ abbrev pub all_open : ByCriterion Verdict → Bool
 all_open (Opacity verdict) = is_open verdict
 all_open (Strict verdict) = is_open verdict
 all_open (Both opacity strict) = is_open opacity && is_open strict
+
+-- What this history has shown is told if it is counted, and else nothing.
+abbrev pub HasSummary : Bool → List Event → Option Summary → Type 0
+HasSummary true history (Some summary) = IsSummary history summary
+HasSummary true history None = ⊥
+HasSummary false history (Some summary) = ⊥
+HasSummary false history None = Unit {0}

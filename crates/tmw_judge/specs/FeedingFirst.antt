@@ -1,5 +1,5 @@
 -- What is read where the events of a trace are fed to its judges up to the one at which all verdicts are final.
-use Rattle.std.specs.Prelude.{◌≡◌, ◌⊎◌, ◌++◌, ◌≤◌, ℕ, true, false, Result, Ok, Err, List, [], ◌∷◌, length}
+use Rattle.std.specs.Prelude.{◌≡◌, ◌⊎◌, ◌++◌, ℕ, Bool, true, false, Result, Ok, Err, List, [], ◌∷◌}
 use Rattle.tmw_lines.specs.ItemsRead.{EndsBehind, FailsBehind, StopsBehind}
 use Rattle.tmw_lines.specs.Lines.{HasRead}
 use Rattle.tmw_lines.specs.declared.lines.Lines.{Lines}
@@ -8,16 +8,14 @@ use Rattle.tmw_lines.specs.declared.text_fault.TextFault.TheVariants.{Memory}
 use Rattle.tmw_streams.specs.Streams.{FromSource}
 use Rattle.tmw_streams.specs.Told.{Tells}
 use Rattle.tmw_events.specs.declared.event.Event.{Event}
-use Rattle.tmw_trace.specs.Text.{trace_grammar, trace_text, AreEvents}
+use Rattle.tmw_trace.specs.Text.{trace_grammar}
 use Rattle.tmw_trace.specs.declared.header.Header.{Header}
 use Rattle.tmw_trace.specs.declared.version.Version.{Version}
 use Rattle.tmw_defs.specs.declared.criterion.Asked.{Asked}
 use Rattle.tmw_monitor.specs.declared.bounds.Bounds.{Bounds}
-use Rattle.tmw_report.specs.declared.fault.Fault.{Fault}
-use Rattle.tmw_report.specs.CommandRun.{AnswersTextFault}
 use Rattle.tmw_judge.specs.Counted.{any_open, AreJudged, CountsFor, verdicts_of}
-use Rattle.tmw_judge.specs.First.{AreOpen, AreOpenBefore, HasFaultInTime}
-use Rattle.tmw_judge.specs.Summing.{AreJudgesOf}
+use Rattle.tmw_judge.specs.Answering.{AreOpen, AreOpenBefore}
+use Rattle.tmw_judge.specs.Feeding.{FeedsEvents}
 use Rattle.tmw_judge.specs.declared.judges.Judges.{Judges}
 
 -- The judges have been fed this history, which is all that was read but for what the reader holds. All their verdicts are final. On no
@@ -58,29 +56,8 @@ pub record FeedsFirst {S C Done : Type 0} (From : FromSource S) (Counts : Counts
       → AreOpenBefore header bounds asked given
       → AreReadFirst Counts Ended lines_after header bounds asked (given ++ events) (before ++ bytes) judges_after result
 
--- The bytes are the text of a trace, and at most 4,096 more. The judges have been fed its history, and all their verdicts are final. On
--- no shorter prefix are all verdicts final.
-pub record AreFirstJudges {C : Type 0} (Counts : CountsFor C) (bounds : Bounds) (asked : Asked) (bytes : List ℕ) (judges : Judges C) : Type 0 where
-  pub header : Header
-  pub history : List Event
-  pub are_events : AreEvents header history
-  pub rest : List ℕ
-  pub text : bytes ≡ trace_text header history ++ rest
-  pub few : length rest ≤ 4096
-  pub judged : AreJudged Counts header bounds asked history judges
-  pub final : any_open (verdicts_of judges.monitors) ≡ false
-  pub before : AreOpenBefore header bounds asked history
-
--- The source has ended, and the judges have been fed the history of the trace of which its bytes are the text. Not all their verdicts
--- are final.
-pub record AreOpenJudges {C : Type 0} (Counts : CountsFor C) (bounds : Bounds) (asked : Asked) (Ended : Type 0) (bytes : List ℕ)
-    (judges : Judges C) : Type 0 where
-  pub ended : Ended
-  pub whole : AreJudgesOf Counts bounds asked bytes judges
-  pub open_one : any_open (verdicts_of judges.monitors) ≡ true
-
--- This answers the bytes that a source told, by the judges that are to report on them, or by their fault.
-abbrev pub AnswersFirstFed : {C : Type 0} → CountsFor C → Bounds → Asked → Type 0 → List ℕ → Result (Judges C) Fault → Type 0
-AnswersFirstFed Counts bounds asked Ended bytes (Ok judges) =
-    AreFirstJudges Counts bounds asked bytes judges ⊎ AreOpenJudges Counts bounds asked Ended bytes judges
-AnswersFirstFed Counts bounds asked Ended bytes (Err fault) = AnswersTextFault (HasFaultInTime bounds asked Ended bytes) fault
+-- The same by `--first`, and else up to the end.
+abbrev pub FeedsFor : {S C Done : Type 0} → Bool → FromSource S → CountsFor C → Type 0 → S → S → Lines Version → Lines Version → Judges C
+    → Judges C → Result Done TextFault → Type 0
+FeedsFor false = FeedsEvents
+FeedsFor true = FeedsFirst

@@ -2,18 +2,18 @@ ghost use Rattle.std.specs.Prelude.{◌≡◌, ℕ, List, IfErr, OnOk};
 ghost use Rattle.tmw_streams.specs.Told.{Tells};
 ghost use Rattle.tmw_lines.specs.Lines.{IsNew};
 ghost use Rattle.tmw_lines.specs.TextFault.{failures_after};
-ghost use Rattle.tmw_judge.specs.Feeding.{ReadsBeginning};
-ghost use Rattle.tmw_judge.specs.Judging.{AnswersTrace};
-ghost use Rattle.tmw_judge.specs.Summing.{AnswersFed, AnswersSummed};
+ghost use Rattle.tmw_judge.specs.Answering.{Answers, AnswersBy, AnswersFed};
+ghost use Rattle.tmw_judge.specs.Feeding.{AreFedAllRead, ReadsBeginning};
+ghost use Rattle.tmw_judge.specs.FeedingFirst.{FeedsFor};
 ghost use Rattle.tmw_report.specs.CommandRun.{failures_after_answer};
 
-use crate::by_criterion::ByCriterion;
+use crate::answer::Answer;
 use crate::counting::{Counting, Uncounted};
 use crate::feeding::feed_events;
+use crate::feeding_first::feed_first;
 use crate::judges::Judges;
 use crate::monitors::{monitors_for, reports_of};
-use crate::report::Report;
-use crate::summed::Summed;
+use crate::options::Options;
 use std::alloc::Global;
 use tmw_counts::Counter;
 use tmw_defs::Asked;
@@ -23,54 +23,52 @@ use tmw_report::{Fault, fault_of};
 use tmw_streams::Source;
 use tmw_trace::TraceLines;
 
-/// Reads a trace up to the source's end, and judges each event as its line is read, by each requested criterion. No
-/// event is kept, so the memory depends on the transactions since the last cut and not on the trace's length. After a
-/// failed allocation nothing more is read.
-pub fn judge<S: Source>(
-    alloc: Global,
-    source: &mut S,
-    bounds: Bounds,
-    asked: Asked,
-) -> Result<ByCriterion<Report>, Fault>
+/// Reads a trace up to the source's end, or by `first` up to the event at which all verdicts are final, and judges each
+/// event as its line is read, by each requested criterion. No event is kept, so the memory depends on the transactions
+/// since the last cut and not on the trace's length. After a failed allocation nothing more is read.
+pub fn judge<S: Source>(alloc: Global, source: &mut S, options: Options) -> Result<Answer, Fault>
     ensures right { (bytes : List ℕ) × Tells S.from source.old bytes source.new
-        × AnswersTrace bounds asked (S.from.ended source.new) bytes result }
+        × Answers options (S.from.ended source.new) bytes result }
     ensures failures { S.from.failures source.new ≡ failures_after_answer result
         (S.from.failures source.old) }
 {
-    let judges = judge_counting::<S, Uncounted>(alloc, source, bounds, asked)?;
-    Ok(reports_of(&judges.monitors))
+    if options.summary {
+        judge_by::<S, Counter>(alloc, source, options.bounds, options.asked, options.first)
+    } else {
+        judge_by::<S, Uncounted>(alloc, source, options.bounds, options.asked, options.first)
+    }
 }
 
-/// Judges a trace as `judge` does, and counts what its history has shown: up to the event that the verdict names, before
-/// it where that event is malformed, or all. With two verdicts it is the longer of the two parts.
-pub fn judge_summed<S: Source>(
+/// Judges a trace, and counts by `C` the events of the longest part that a verdict covers.
+fn judge_by<S: Source, C: Counting>(
     alloc: Global,
     source: &mut S,
     bounds: Bounds,
     asked: Asked,
-) -> Result<Summed, Fault>
+    first: bool,
+) -> Result<Answer, Fault>
     ensures right { (bytes : List ℕ) × Tells S.from source.old bytes source.new
-        × AnswersSummed bounds asked (S.from.ended source.new) bytes result }
+        × AnswersBy first C.counted bounds asked (S.from.ended source.new) bytes result }
     ensures failures { S.from.failures source.new ≡ failures_after_answer result
         (S.from.failures source.old) }
 {
-    let judges = judge_counting::<S, Counter>(alloc, source, bounds, asked)?;
-    Ok(Summed {
+    let judges = feed_judges::<S, C>(alloc, source, bounds, asked, first)?;
+    Ok(Answer {
         reports: reports_of(&judges.monitors),
         summary: judges.counting.summary(),
     })
 }
 
-/// Reads a trace up to the source's end, judges each event as its line is read, and counts those of the longest part
-/// that a verdict covers.
-fn judge_counting<S: Source, C: Counting>(
+/// Reads a trace, and feeds its events to the judges that are made for it.
+fn feed_judges<S: Source, C: Counting>(
     alloc: Global,
     source: &mut S,
     bounds: Bounds,
     asked: Asked,
+    first: bool,
 ) -> Result<Judges<C>, Fault>
     ensures right { (bytes : List ℕ) × Tells S.from source.old bytes source.new
-        × AnswersFed C.counts bounds asked (S.from.ended source.new) bytes result }
+        × AnswersFed first C.counts bounds asked (S.from.ended source.new) bytes result }
     ensures failures { S.from.failures source.new ≡ failures_after_answer result
         (S.from.failures source.old) }
 {
@@ -79,15 +77,36 @@ fn judge_counting<S: Source, C: Counting>(
         Ok(judges) => judges,
         Err(fault) => return Err(fault_of(fault)),
     };
-    match feed_events(&mut lines, source, &mut judges) {
+    match feed_for(&mut lines, source, &mut judges, first) {
         Ok(()) => Ok(judges),
         Err(fault) => Err(fault_of(fault)),
     }
 }
 
+/// Reads on, by `first` up to the event at which all verdicts are final, and else to the end.
+fn feed_for<S: Source, C: Counting>(
+    lines: &mut TraceLines,
+    source: &mut S,
+    judges: &mut Judges<C>,
+    first: bool,
+) -> Result<(), TextFault>
+    requires { AreFedAllRead C.counts lines.old judges.old }
+    ensures feeds { FeedsFor first S.from C.counts (S.from.ended source.new) source.old source.new
+        lines.old lines.new judges.old judges.new result }
+    ensures well { OnOk result (S.from.failures source.new ≡ S.from.failures source.old) }
+    ensures failed { IfErr result
+        (λ fault. S.from.failures source.new ≡ failures_after fault (S.from.failures source.old)) }
+{
+    if first {
+        feed_first(lines, source, judges)
+    } else {
+        feed_events(lines, source, judges)
+    }
+}
+
 /// Reads a trace's first line, and makes the judges for its history. `Memory` follows a failed allocation for them:
 /// nothing was read after that line.
-pub fn begin<S: Source, C: Counting>(
+fn begin<S: Source, C: Counting>(
     alloc: Global,
     lines: &mut TraceLines,
     source: &mut S,

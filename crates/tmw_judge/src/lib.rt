@@ -2,21 +2,20 @@
 //! writes a report line for each.
 #![tactic(auto)]
 
+mod answer;
 mod by_criterion;
 mod counting;
 mod feeding;
 mod feeding_first;
-mod first;
 mod judges;
 mod judging;
-mod judging_first;
 mod lines;
 mod monitors;
+mod options;
 mod report;
 mod run;
-mod summed;
 
 pub use by_criterion::ByCriterion;
-pub use first::{run_first, run_first_summary};
+pub use options::Options;
 pub use report::Report;
-pub use run::{run_judge, run_summary};
+pub use run::{run_judge, run_judge_with};

@@ -2,11 +2,11 @@ ghost use Rattle.std.specs.Prelude.{◌≡◌, IfOk, string_bytes};
 ghost use Rattle.tmw_judge.specs.ByCriterion.{Each};
 ghost use Rattle.tmw_judge.specs.Judging.{IsOwnVerdict, report_lines, report_status};
 ghost use Rattle.tmw_judge.specs.Counted.{all_open};
-ghost use Rattle.tmw_judge.specs.Summing.{summed_lines, told_verdicts};
+ghost use Rattle.tmw_judge.specs.Answering.{judged_lines, shows_nothing, told_verdicts};
 
+use crate::answer::Answer;
 use crate::by_criterion::ByCriterion;
 use crate::report::Report;
-use crate::summed::Summed;
 use std::alloc::{AllocError, Global};
 use tmw_counts::is_open;
 use tmw_report::{both_status, report_strict, report_text, status_of, summary_text};
@@ -28,14 +28,16 @@ pub fn report_lines(alloc: Global, reports: &ByCriterion<Report>) -> Result<Stri
     }
 }
 
-/// Makes the reports' lines, and behind them that of the counts.
-pub fn summed_lines(alloc: Global, summed: &Summed) -> Result<String, AllocError>
-    requires { Each IsOwnVerdict summed.now.reports }
-    ensures { IfOk result (λ lines. string_bytes lines ≡ summed_lines summed.now) }
+/// Makes the reports' lines, and behind them that of the counts, if there are counts.
+pub fn judged_lines(alloc: Global, answer: &Answer) -> Result<String, AllocError>
+    requires { Each IsOwnVerdict answer.now.reports }
+    ensures { IfOk result (λ lines. string_bytes lines ≡ judged_lines answer.now) }
 {
-    let mut lines = report_lines(alloc, &summed.reports)?;
-    let last = summary_text(alloc, &summed.summary.counts)?;
-    lines.push_str(last.as_str())?;
+    let mut lines = report_lines(alloc, &answer.reports)?;
+    if let Some(summary) = &answer.summary {
+        let last = summary_text(alloc, &summary.counts)?;
+        lines.push_str(last.as_str())?;
+    }
     Ok(lines)
 }
 
@@ -49,8 +51,18 @@ pub const fn status_of_reports(reports: &ByCriterion<Report>) -> u8
     }
 }
 
+/// Returns whether nothing is wrong by any criterion, and the counts tell that no two transactions overlapped.
+pub const fn shows_nothing(answer: &Answer) -> bool
+    ensures { result ≡ shows_nothing answer.now }
+{
+    match &answer.summary {
+        Some(summary) => all_open(&answer.reports) && summary.none_overlapped,
+        None => false,
+    }
+}
+
 /// Returns whether nothing is wrong by any criterion.
-pub const fn all_open(reports: &ByCriterion<Report>) -> bool
+const fn all_open(reports: &ByCriterion<Report>) -> bool
     ensures { result ≡ all_open (told_verdicts reports.now) }
 {
     match reports {

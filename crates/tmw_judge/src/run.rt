@@ -4,19 +4,18 @@ ghost use Rattle.tmw_report.specs.Lines.{fault_line};
 ghost use Rattle.tmw_report.specs.Putting.{IsPut};
 ghost use Rattle.tmw_report.specs.Remark.{Remarks};
 ghost use Rattle.tmw_judge.specs.ByCriterion.{Each};
-ghost use Rattle.tmw_judge.specs.Judging.{IsOwnVerdict, JudgesBytes, report_lines, report_status};
-ghost use Rattle.tmw_judge.specs.Summing.{SumsBytes, summed_lines, summed_shows_nothing, summed_status};
+ghost use Rattle.tmw_judge.specs.Answering.{judged_lines, judged_status, shows_nothing, Judges};
+ghost use Rattle.tmw_judge.specs.Judging.{IsOwnVerdict, JudgesBytes};
 
-use crate::by_criterion::ByCriterion;
-use crate::judging::{judge, judge_summed};
-use crate::lines::{all_open, report_lines, status_of_reports, summed_lines};
-use crate::report::Report;
-use crate::summed::Summed;
+use crate::answer::Answer;
+use crate::judging::judge;
+use crate::lines::{judged_lines, shows_nothing, status_of_reports};
+use crate::options::Options;
 use std::alloc::Global;
 use tmw_defs::Asked;
 use tmw_monitor::Bounds;
 use tmw_report::{FAULT_STATUS, Fault, answer_fault, send_remark};
-use tmw_streams::{Sink, Source, put_all};
+use tmw_streams::{BoundedSink, Sink, Source, put_all};
 
 /// Judges the trace that the source has, within these bounds and by the requested criteria. It reads the trace once
 /// and writes a report line for each criterion, opacity's first, or one fault line. Returns the exit status: 0 for
@@ -32,71 +31,51 @@ pub fn run_judge<S: Source, K: Sink>(
     ensures { JudgesBytes S.from K.to bounds asked
         source.old source.new sink.old sink.new result }
 {
-    match judge(alloc, source, bounds, asked) {
-        Ok(reports) => answer_reports(alloc, sink, reports),
-        Err(fault) => answer_fault(sink, fault),
-    }
+    let options = Options {
+        bounds,
+        asked,
+        first: false,
+        summary: false,
+    };
+    run_judge_with(alloc, source, sink, &mut BoundedSink::new(), options)
 }
 
-/// Judges a trace as `run_judge` does, and writes behind the report's line, or both, one that counts what the history has
-/// shown: up to the event that the verdict names, before it where that event is malformed, or all. With two verdicts it is
-/// the longer of the two parts. Of a run that shows nothing the sink for errors is told.
-pub fn run_summary<S: Source, K: Sink, E: Sink>(
+/// Judges a trace as `run_judge` does, with these options. With `first` it ends at the event at which each requested verdict
+/// is final: the reports count the events up to that one, at most 4,096 bytes are read behind it, and none of these is
+/// parsed. With `summary` a line of counts follows the reports: of the events up to the one that the verdict names, before
+/// it if that event is malformed, or all; of two verdicts the longer part counts. Of a run that shows nothing the sink for
+/// errors is told then.
+pub fn run_judge_with<S: Source, K: Sink, E: Sink>(
     alloc: Global,
     source: &mut S,
     sink: &mut K,
     errors: &mut E,
-    bounds: Bounds,
-    asked: Asked,
+    options: Options,
 ) -> u8
-    ensures { SumsBytes S.from K.to E.to bounds asked
+    ensures { Judges S.from K.to E.to options
         source.old source.new sink.old sink.new errors.old errors.new result }
 {
-    match judge_summed(alloc, source, bounds, asked) {
-        Ok(summed) => answer_summed(alloc, sink, errors, summed),
+    match judge(alloc, source, options) {
+        Ok(answer) => write_answer(alloc, sink, errors, answer),
         Err(fault) => answer_fault(sink, fault),
     }
 }
 
-/// Writes the reports' lines and returns their exit status. The lines are made before any goes out: after a failed
-/// allocation for one, that fault's line is written instead.
-pub fn answer_reports<K: Sink>(alloc: Global, sink: &mut K, reports: ByCriterion<Report>) -> u8
-    requires { Each IsOwnVerdict reports }
-    ensures { IsPut K.to sink.old sink.new (report_lines reports) (report_status reports) result
-        ⊎ IsPut K.to sink.old sink.new (fault_line Memory) 4 result }
-{
-    let Ok(lines) = report_lines(alloc, &reports) else {
-        return answer_fault(sink, Fault::Memory);
-    };
-    match put_all(sink, lines.as_bytes()) {
-        Ok(()) => status_of_reports(&reports),
-        Err(_) => FAULT_STATUS,
-    }
-}
-
-/// Writes the reports' lines and that of the counts, and returns the reports' exit status. If memory for a line is
-/// lacking, that fault stands in the place of all. Of a run that shows nothing the sink for errors is told.
-pub fn answer_summed<K: Sink, E: Sink>(
-    alloc: Global,
-    sink: &mut K,
-    errors: &mut E,
-    summed: Summed,
-) -> u8
-    requires { Each IsOwnVerdict summed.reports }
-    ensures { (IsPut K.to sink.old sink.new (summed_lines summed) (summed_status summed) result
-        × Remarks E.to (summed_shows_nothing summed) errors.old errors.new)
+/// Writes the answer's lines and returns its exit status. The lines are made before any goes out: after a failed
+/// allocation for one, that fault's line is written instead. Of a run that shows nothing the sink for errors is told.
+fn write_answer<K: Sink, E: Sink>(alloc: Global, sink: &mut K, errors: &mut E, answer: Answer) -> u8
+    requires { Each IsOwnVerdict answer.reports }
+    ensures { (IsPut K.to sink.old sink.new (judged_lines answer) (judged_status answer) result
+        × Remarks E.to (shows_nothing answer) errors.old errors.new)
         ⊎ (IsPut K.to sink.old sink.new (fault_line Memory) 4 result
         × (errors.new ≡ errors.old)) }
 {
-    let Ok(lines) = summed_lines(alloc, &summed) else {
+    let Ok(lines) = judged_lines(alloc, &answer) else {
         return answer_fault(sink, Fault::Memory);
     };
-    send_remark(
-        errors,
-        all_open(&summed.reports) && summed.summary.none_overlapped,
-    );
+    send_remark(errors, shows_nothing(&answer));
     match put_all(sink, lines.as_bytes()) {
-        Ok(()) => status_of_reports(&summed.reports),
+        Ok(()) => status_of_reports(&answer.reports),
         Err(_) => FAULT_STATUS,
     }
 }

@@ -2,11 +2,8 @@
 use Rattle.std.proofs.Common.{refl}
 use Rattle.tmw_command.proofs.run.run_order.Goals as goal
 
-pub returns-then-summary : goal.returns-then-summary
-returns-then-summary g c = rw (c.in-Judge.is, c.if-summary.true) c.sum.ensures
-
-pub returns-else-summary : goal.returns-else-summary
-returns-else-summary g c = rw (c.in-Judge.is, c.if-summary.false) (c.judge.ensures, refl)
+pub returns-in-Judge : goal.returns-in-Judge
+returns-in-Judge g c = rw c.in-Judge.is c.run_judge_with.ensures
 
 pub returns-in-Show : goal.returns-in-Show
 returns-in-Show g c = rw c.in-Show.is (c.show.ensures, refl)

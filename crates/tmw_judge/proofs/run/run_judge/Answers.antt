@@ -1,41 +1,8 @@
--- Reports whose lines found no memory are answered by that fault: what was told is a trace's text.
-use Rattle.std.proofs.Common.{ℕ, List, [], Ok, Err, inl, inr, refl, sym, append-nil, ◌∙◌, arith}
-use Rattle.tmw_lines.specs.TextFault.{EndsSoon}
-use Rattle.tmw_lines.specs.declared.text_fault.TextFault.TheVariants.{Memory as WantsMemory}
-use Rattle.tmw_trace.specs.Text.{trace_grammar}
-use Rattle.tmw_defs.specs.declared.criterion.Asked.{Asked}
-use Rattle.tmw_monitor.specs.declared.bounds.Bounds.{Bounds}
-use Rattle.tmw_report.specs.declared.fault.Fault.TheVariants.{Memory}
-use Rattle.tmw_judge.specs.Judging.{AreReportsOf, IsOwnVerdict, IsReportOn, trace_rules}
-use Rattle.tmw_judge.specs.declared.by_criterion.ByCriterion.{ByCriterion}
-use Rattle.tmw_judge.specs.declared.report.Report.{Report}
-use Rattle.tmw_judge.proofs.Each.{each-weaker, own_verdict}
+-- It is a run with no option.
+use Rattle.tmw_judge.proofs.Plain.{plain}
 use Rattle.tmw_judge.proofs.run.run_judge.Goals as goal
 
-soon : (bounds : Bounds) (asked : Asked) (bytes : List ℕ) (reports : ByCriterion Report) → AreReportsOf bounds asked bytes reports
-    → EndsSoon trace_grammar bytes
-soon bounds asked bytes reports t = record {
-  begun = record { header = t.header; items = t.history; are_lines = t.are_events; rest = []; split = t.text ∙ sym (append-nil _) };
-  soon = omega arith;
-}
-
-pub answer_reports-requires : goal.answer_reports-requires
-answer_reports-requires g c =
-    let t = c.in-Ok.ensures.right.2.1 in
-    each-weaker (λ criterion. IsReportOn (trace_rules t.header c.args.bounds criterion) t.history) IsOwnVerdict c.in-Ok.reports
-    (own_verdict t.header c.args.bounds t.history) t.tell.each
-
-pub returns-in-Ok : goal.returns-in-Ok
-returns-in-Ok g c =
-    let told = c.in-Ok.ensures.right in
-    elim c.answer_reports.ensures [
-      | inl put ↦ record { bytes = told.0; answer = Ok c.in-Ok.reports; told = told.1; right = told.2; failures = c.in-Ok.ensures.failures; put = put }
-      | inr put ↦ record {
-        bytes = told.0;
-        answer = Err Memory;
-        told = told.1;
-        right = (WantsMemory, refl, soon c.args.bounds c.args.asked told.0 c.in-Ok.reports told.2.1);
-        failures = c.in-Ok.ensures.failures;
-        put = put;
-      }
-    ]
+pub returns : goal.returns
+returns g c =
+    plain g.S.Source.from g.K.Sink.to _ c.args.bounds c.args.asked c.args.source.now c.run_judge_with.new.source c.args.sink.now
+    c.run_judge_with.new.sink _ _ c.run_judge_with.result c.run_judge_with.ensures

@@ -1,21 +1,21 @@
--- What was found is written, or the want of memory for its lines.
+-- The answer is written, or, where its lines found no memory, that fault.
 use Rattle.std.proofs.Common.{Ok, Err, inl, inr, refl}
 use Rattle.tmw_lines.specs.declared.text_fault.TextFault.TheVariants.{Memory as WantsMemory}
 use Rattle.tmw_report.specs.declared.fault.Fault.TheVariants.{Memory}
-use Rattle.tmw_judge.proofs.FirstAnswers.{memory-first-summed, own-first-summed}
-use Rattle.tmw_judge.proofs.first.run_first_summary.Goals as goal
+use Rattle.tmw_judge.proofs.Answered.{memory-fault, own_verdicts}
+use Rattle.tmw_judge.proofs.run.run_judge_with.Goals as goal
 
-pub answer_summed-requires : goal.answer_summed-requires
-answer_summed-requires g c =
+pub write_answer-requires : goal.write_answer-requires
+write_answer-requires g c =
     let told = c.in-Ok.ensures.right in
-    own-first-summed c.args.bounds c.args.asked _ told.0 c.in-Ok.summed told.2
+    own_verdicts c.args.options.summary c.args.options.bounds c.args.options.asked _ told.0 c.in-Ok.answer c.args.options.first told.2
 
 pub returns-in-Ok : goal.returns-in-Ok
 returns-in-Ok g c =
     let told = c.in-Ok.ensures.right in
-    elim c.answer_summed.ensures [
+    elim c.write_answer.ensures [
       | inl done ↦ record {
-        run = record { bytes = told.0; answer = Ok c.in-Ok.summed; told = told.1; right = told.2; failures = c.in-Ok.ensures.failures; put = done.0 };
+        run = record { bytes = told.0; answer = Ok c.in-Ok.answer; told = told.1; right = told.2; failures = c.in-Ok.ensures.failures; put = done.0 };
         remarked = done.1;
       }
       | inr done ↦ record {
@@ -23,7 +23,11 @@ returns-in-Ok g c =
           bytes = told.0;
           answer = Err Memory;
           told = told.1;
-          right = (WantsMemory, refl, memory-first-summed c.args.bounds c.args.asked _ told.0 c.in-Ok.summed told.2);
+          right = (
+            WantsMemory,
+            refl,
+            memory-fault c.args.options.summary c.args.options.bounds c.args.options.asked _ told.0 c.in-Ok.answer c.args.options.first told.2,
+          );
           failures = c.in-Ok.ensures.failures;
           put = done.0;
         };

@@ -1,8 +1,0 @@
--- Each way does what its own contract says.
-use Rattle.tmw_command.proofs.run.judge.Goals as goal
-
-pub returns-then-first : goal.returns-then-first
-returns-then-first g c = rw c.if-first.true c.run_first.ensures
-
-pub returns-else-first : goal.returns-else-first
-returns-else-first g c = rw c.if-first.false c.run_judge.ensures

@@ -1,0 +1,73 @@
+-- What is answered where the judges have been fed what is read of a trace, and where its lines find no memory.
+use Rattle.std.proofs.Common.{◌≡◌, ◌×◌, ℕ, Bool, true, false, List, [], Option, inl, inr, ap, sym, subst, append-nil, ◌∙◌, arith}
+use Rattle.tmw_lines.specs.declared.text_fault.TextFault.TheVariants.{Memory}
+use Rattle.tmw_events.specs.declared.event.Event.{Event}
+use Rattle.tmw_trace.specs.declared.header.Header.{Header}
+use Rattle.tmw_counts.specs.declared.summary.Summary.{Summary}
+use Rattle.tmw_defs.specs.declared.criterion.Asked.{Asked}
+use Rattle.tmw_defs.specs.declared.verdict.Verdict.{Verdict}
+use Rattle.tmw_monitor.specs.declared.bounds.Bounds.{Bounds}
+use Rattle.tmw_judge.specs.Answering.{told_verdicts, AreJudgesOf, HasFaultFor, IsAnswer, IsReadFor}
+use Rattle.tmw_judge.specs.ByCriterion.{Each}
+use Rattle.tmw_judge.specs.Counted.{counted_part, CountsFor, HasSummary, verdicts_of}
+use Rattle.tmw_judge.specs.Judging.{AreFed, AreReports, IsOwnVerdict, IsReportOn, trace_rules}
+use Rattle.tmw_judge.specs.declared.answer.Answer.{Answer}
+use Rattle.tmw_judge.specs.declared.by_criterion.ByCriterion.{ByCriterion}
+use Rattle.tmw_judge.specs.declared.judges.Judges.{Judges}
+use Rattle.tmw_judge.specs.declared.report.Report.{Report}
+use Rattle.tmw_judge.proofs.CountedParts.{told-same}
+use Rattle.tmw_judge.proofs.Each.{each-weaker, own_verdict}
+use Rattle.tmw_judge.proofs.FirstOpen.{AreOpenBefore-open, open-told}
+
+-- The reports are those of the monitors, and the counts those of the counter.
+pub answer-fed : {C : Type 0} (Counts : CountsFor C) (first counted : Bool) (bounds : Bounds) (asked : Asked) (Ended : Type 0) (bytes : List ℕ)
+    (judges : Judges C) (reports : ByCriterion Report) (summary : Option Summary)
+    → ((header : Header) (bounds : Bounds) (asked : Asked) (history : List Event) → AreFed header bounds asked history judges.monitors
+    → AreReports header bounds asked history reports)
+    → ((registers : ℕ) (history : List Event) → Counts registers history judges.counting → HasSummary counted history summary)
+    → AreJudgesOf first Counts bounds asked Ended bytes judges
+    → IsAnswer first counted bounds asked Ended bytes (record { reports = reports; summary = summary })
+answer-fed Counts first counted bounds asked Ended bytes judges reports summary tells sums fed =
+    let tell = tells fed.header bounds asked fed.history fed.judged.fed in
+    let same : verdicts_of judges.monitors ≡ told_verdicts reports
+    = told-same fed.header bounds asked fed.history judges.monitors reports fed.judged.fed tell in
+    record {
+      header = fed.header;
+      history = fed.history;
+      are_events = fed.are_events;
+      read = subst (λ (vs : ByCriterion Verdict). IsReadFor first bounds asked Ended bytes fed.header fed.history vs) same fed.read;
+      tell = tell;
+      counts = subst (λ (vs : ByCriterion Verdict). HasSummary counted (counted_part vs fed.history) summary) same
+          (sums fed.header.registers.number (counted_part (verdicts_of judges.monitors) fed.history) fed.judged.counted);
+    }
+
+module _ (summary : Bool) (bounds : Bounds) (asked : Asked) (Ended : Type 0) (bytes : List ℕ) (answer : Answer) where
+  -- where nothing is wrong, each report says so by its own criterion
+  pub own_verdicts : (first : Bool) → IsAnswer first summary bounds asked Ended bytes answer → Each IsOwnVerdict answer.reports
+  own_verdicts first is =
+      each-weaker (λ criterion. IsReportOn (trace_rules is.header bounds criterion) is.history) IsOwnVerdict answer.reports
+      (own_verdict is.header bounds is.history) is.tell.each
+
+  -- what was read ends soon behind whole lines, and no verdict was final before the last of them
+  pub memory-fault : (first : Bool) → IsAnswer first summary bounds asked Ended bytes answer → HasFaultFor first bounds asked Ended bytes Memory
+  memory-fault false is = record {
+    begun = record { header = is.header; items = is.history; are_lines = is.are_events; rest = []; split = is.read.text ∙ sym (append-nil _) };
+    soon = omega arith;
+  }
+  memory-fault true is = elim is.read [
+    | inl part ↦ record {
+      soon = record {
+        begun = record { header = is.header; items = is.history; are_lines = is.are_events; rest = part.rest; split = part.text };
+        soon = part.few;
+      };
+      before = part.before;
+    }
+    | inr whole ↦ record {
+      soon = record {
+        begun = record { header = is.header; items = is.history; are_lines = is.are_events; rest = []; split = whole.0.text ∙ sym (append-nil _) };
+        soon = omega arith;
+      };
+      before = AreOpenBefore-open is.header bounds asked is.history
+          (open-told is.header bounds is.history asked answer.reports is.tell whole.1);
+    }
+  ]

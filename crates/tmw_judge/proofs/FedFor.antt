@@ -1,0 +1,43 @@
+-- Judging a trace, by `--first` or to its end: its first line is read, then its events are fed, and what was told is what was read.
+use Rattle.std.proofs.Common.{◌≡◌, ℕ, Bool, true, false, List, Ok, Err}
+use Rattle.tmw_lines.specs.declared.lines.Lines.{Lines}
+use Rattle.tmw_lines.specs.declared.text_fault.TextFault.{TextFault}
+use Rattle.tmw_streams.specs.Streams.{FromSource}
+use Rattle.tmw_streams.specs.Told.{Tells}
+use Rattle.tmw_trace.specs.declared.version.Version.{Version}
+use Rattle.tmw_defs.specs.declared.criterion.Asked.{Asked}
+use Rattle.tmw_monitor.specs.declared.bounds.Bounds.{Bounds}
+use Rattle.tmw_report.specs.declared.fault.Fault.{Fault}
+use Rattle.tmw_report.specs.Putting.{fault_of}
+use Rattle.tmw_judge.specs.Answering.{AnswersFed}
+use Rattle.tmw_judge.specs.Counted.{CountsFor}
+use Rattle.tmw_judge.specs.Feeding.{ReadsBeginning}
+use Rattle.tmw_judge.specs.FeedingFirst.{FeedsFor}
+use Rattle.tmw_judge.specs.declared.judges.Judges.{Judges}
+use Rattle.tmw_judge.proofs.FirstTaken.{first-done, first-fault, first-unbegun}
+use Rattle.tmw_judge.proofs.Taken.{answers-end, answers-fault, answers-first}
+
+-- no trace was begun
+pub fed-unbegun : {S C : Type 0} (Counts : CountsFor C) (From : FromSource S) (Ended : Type 0) (a b : S) (lines : Lines Version)
+    (bounds : Bounds) (asked : Asked) (told : TextFault) (fault : Fault) (first : Bool)
+    → ReadsBeginning From Counts Ended a b lines bounds asked (Err told) → fault ≡ fault_of told
+    → (bytes : List ℕ) × Tells From a bytes b × AnswersFed first Counts bounds asked Ended bytes (Err fault)
+fed-unbegun Counts From Ended a b lines bounds asked told fault false = answers-first Counts From Ended a b lines bounds asked told fault
+fed-unbegun Counts From Ended a b lines bounds asked told fault true = first-unbegun Counts From Ended a b lines bounds asked told fault
+
+module _ {S C : Type 0} (From : FromSource S) (Counts : CountsFor C) (First Ended : Type 0) (a b c : S)
+    (lines after : Lines Version) (bounds : Bounds) (asked : Asked) (judges fed : Judges C)
+    (begins : ReadsBeginning From Counts First a b lines bounds asked (Ok judges)) where
+  -- its events were fed
+  pub fed-done : {Done : Type 0} (done : Done) (first : Bool)
+      → FeedsFor first From Counts Ended b c lines after judges fed (Ok done)
+      → (all : List ℕ) × Tells From a all c × AnswersFed first Counts bounds asked Ended all (Ok fed)
+  fed-done done false = answers-end From Counts First Ended a b c lines after bounds asked judges fed begins done
+  fed-done done true = first-done From Counts First Ended a b c lines after bounds asked judges fed begins done
+
+  -- and then came a fault
+  pub fed-fault : (Done : Type 0) (told : TextFault) (fault : Fault) (first : Bool)
+      → FeedsFor {Done = Done} first From Counts Ended b c lines after judges fed (Err told) → fault ≡ fault_of told
+      → (all : List ℕ) × Tells From a all c × AnswersFed first Counts bounds asked Ended all (Err fault)
+  fed-fault Done told fault false = answers-fault From Counts First Ended a b c lines after bounds asked judges fed begins Done told fault
+  fed-fault Done told fault true = first-fault From Counts First Ended a b c lines after bounds asked judges fed begins Done told fault

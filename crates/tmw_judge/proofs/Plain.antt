@@ -1,0 +1,65 @@
+-- A run of `judge` that ends at no verdict and counts nothing answers by its reports alone.
+use Rattle.std.proofs.Common.{◌≡◌, ◌++◌, ℕ, false, List, Option, Some, None, Result, Ok, Err, append-nil, refl, sym, subst, ◌∙◌}
+use Rattle.tmw_counts.specs.declared.summary.Summary.{Summary}
+use Rattle.tmw_defs.specs.declared.criterion.Asked.{Asked}
+use Rattle.tmw_events.specs.declared.event.Event.{Event}
+use Rattle.tmw_monitor.specs.declared.bounds.Bounds.{Bounds}
+use Rattle.tmw_report.specs.CommandRun.{answer_status, answer_text, failures_after_answer}
+use Rattle.tmw_report.specs.Putting.{IsPut}
+use Rattle.tmw_report.specs.declared.fault.Fault.{Fault}
+use Rattle.tmw_streams.specs.Streams.{FromSource, ToSink}
+use Rattle.tmw_judge.specs.Answering.{judged_lines, judged_status, summary_lines, AnswersBy, Judges}
+use Rattle.tmw_judge.specs.Counted.{HasSummary}
+use Rattle.tmw_judge.specs.Judging.{report_lines, report_status, AnswersTrace, JudgesBytes}
+use Rattle.tmw_judge.specs.declared.answer.Answer.{Answer}
+use Rattle.tmw_judge.specs.declared.by_criterion.ByCriterion.{ByCriterion}
+use Rattle.tmw_judge.specs.declared.options.Options.{Options}
+use Rattle.tmw_judge.specs.declared.report.Report.{Report}
+
+reports_in : Result Answer Fault → Result (ByCriterion Report) Fault
+reports_in (Ok answer) = Ok answer.reports
+reports_in (Err fault) = Err fault
+
+no_counts : (part : List Event) (summary : Option Summary) (lines : List ℕ) → HasSummary false part summary
+    → lines ++ summary_lines summary ≡ lines
+no_counts part None lines is = append-nil lines
+no_counts part (Some summary) lines is = absurd is
+
+same_failures : (answer : Result Answer Fault) (count : ℕ) → failures_after_answer answer count ≡ failures_after_answer (reports_in answer) count
+same_failures (Ok answer) count = refl
+same_failures (Err fault) count = refl
+
+same_status : (answer : Result Answer Fault) → answer_status judged_status answer ≡ answer_status report_status (reports_in answer)
+same_status (Ok answer) = refl
+same_status (Err fault) = refl
+
+module _ (bounds : Bounds) (asked : Asked) (Ended : Type 0) (bytes : List ℕ) where
+  right : (answer : Result Answer Fault) → AnswersBy false false bounds asked Ended bytes answer
+      → AnswersTrace bounds asked Ended bytes (reports_in answer)
+  right (Ok answer) is = (
+    is.read.ended,
+    record { header = is.header; history = is.history; are_events = is.are_events; text = is.read.text; tell = is.tell },
+  )
+  right (Err fault) is = is
+
+  same_text : (answer : Result Answer Fault) → AnswersBy false false bounds asked Ended bytes answer
+      → answer_text judged_lines answer ≡ answer_text report_lines (reports_in answer)
+  same_text (Ok answer) is = no_counts _ answer.summary (report_lines answer.reports) is.counts
+  same_text (Err fault) is = refl
+
+pub plain : {S K E : Type 0} (From : FromSource S) (To : ToSink K) (Errors : ToSink E) (bounds : Bounds) (asked : Asked)
+    (source source_after : S) (sink sink_after : K) (errors errors_after : E) (status : ℕ)
+    → (let options : Options = record { bounds = bounds; asked = asked; first = false; summary = false } in
+    Judges From To Errors options source source_after sink sink_after errors errors_after status)
+    → JudgesBytes From To bounds asked source source_after sink sink_after status
+plain From To Errors bounds asked source source_after sink sink_after errors errors_after status judged =
+    let run = judged.run in record {
+      bytes = run.bytes;
+      answer = reports_in run.answer;
+      told = run.told;
+      right = right bounds asked (From.ended source_after) run.bytes run.answer run.right;
+      failures = run.failures ∙ same_failures run.answer (From.failures source);
+      put = subst (λ (wanted : ℕ). IsPut To sink sink_after (answer_text report_lines (reports_in run.answer)) wanted status) (same_status run.answer)
+          (subst (λ (text : List ℕ). IsPut To sink sink_after text (answer_status judged_status run.answer) status)
+          (same_text bounds asked (From.ended source_after) run.bytes run.answer run.right) run.put);
+    }

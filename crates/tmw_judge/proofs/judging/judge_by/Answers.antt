@@ -1,0 +1,12 @@
+-- Each monitor reports on the history that it was fed, and the counter on the part that is counted.
+use Rattle.tmw_judge.proofs.Answered.{answer-fed}
+use Rattle.tmw_judge.proofs.judging.judge_by.Goals as goal
+
+pub returns-clause-right : goal.returns-clause-right
+returns-clause-right g c =
+    let told = c.in_ok-judges.ensures.right in (
+      told.0,
+      told.1,
+      answer-fed g.C.Counting.counts c.args.first g.C.Counting.counted c.args.bounds c.args.asked _ told.0 c.in_ok-judges.judges
+          c.reports_of.result c.summary.result c.reports_of.ensures c.summary.ensures told.2,
+    )
