@@ -8,15 +8,15 @@ use Rattle.tmw_report.specs.CommandRun.{answer_status, answer_text, failures_aft
 use Rattle.tmw_report.specs.Putting.{IsPut}
 use Rattle.tmw_report.specs.declared.fault.Fault.{Fault}
 use Rattle.tmw_streams.specs.Streams.{FromSource, ToSink}
-use Rattle.tmw_judge.specs.Answering.{judged_lines, judged_status, summary_lines, AnswersBy, Judges}
-use Rattle.tmw_judge.specs.Counted.{HasSummary}
+use Rattle.tmw_judge.specs.Answering.{judged_lines, judged_status, summary_lines, told_verdicts, AnswersBy, Judges}
+use Rattle.tmw_judge.specs.Counted.{counted_part, HasSummary}
 use Rattle.tmw_judge.specs.Judging.{report_lines, report_status, AnswersTrace, JudgesBytes}
 use Rattle.tmw_judge.specs.declared.answer.Answer.{Answer}
 use Rattle.tmw_judge.specs.declared.by_criterion.ByCriterion.{ByCriterion}
 use Rattle.tmw_judge.specs.declared.options.Options.{Options}
 use Rattle.tmw_judge.specs.declared.report.Report.{Report}
 
-reports_in : Result Answer Fault → Result (ByCriterion Report) Fault
+abbrev reports_in : Result Answer Fault → Result (ByCriterion Report) Fault
 reports_in (Ok answer) = Ok answer.reports
 reports_in (Err fault) = Err fault
 
@@ -44,7 +44,7 @@ module _ (bounds : Bounds) (asked : Asked) (Ended : Type 0) (bytes : List ℕ) w
 
   same_text : (answer : Result Answer Fault) → AnswersBy false false bounds asked Ended bytes answer
       → answer_text judged_lines answer ≡ answer_text report_lines (reports_in answer)
-  same_text (Ok answer) is = no_counts _ answer.summary (report_lines answer.reports) is.counts
+  same_text (Ok answer) is = no_counts (counted_part (told_verdicts answer.reports) is.history) answer.summary (report_lines answer.reports) is.counts
   same_text (Err fault) is = refl
 
 pub plain : {S K E : Type 0} (From : FromSource S) (To : ToSink K) (Errors : ToSink E) (bounds : Bounds) (asked : Asked)
