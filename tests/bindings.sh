@@ -21,21 +21,6 @@ library=$(cd "$built/lib" && pwd)
 export CARGO_TARGET_DIR=$folder/target RUSTFLAGS=-Dwarnings RUSTDOCFLAGS=-Dwarnings
 cd "$top/bindings/rust"
 
-# Runs these words, which have to end with this status.
-ends() {
-    local name=$1 wanted=$2 status=0
-    shift 2
-    "$@" >"$folder/output" 2>&1 || status=$?
-    if [ "$status" -eq "$wanted" ]; then
-        passed=$((passed + 1))
-        echo "$name: passed"
-    else
-        failed=$((failed + 1))
-        echo "$name: FAILED, status $status"
-        tail -n 40 "$folder/output"
-    fi
-}
-
 ends 'a library that is not there' 101 env TMWATCH_LIB="$folder/none" "$cargo" build --offline --locked
 cp "$folder/output" "$folder/told"
 ends 'a library that is not there: what is told' 0 grep -q 'set TMWATCH_LIB to FOLDER/lib' "$folder/told"

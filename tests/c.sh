@@ -11,7 +11,7 @@
 set -eu
 # shellcheck source=tests/common.sh
 . "$(dirname "${BASH_SOURCE[0]}")/common.sh"
-cc=${CC:-cc} cxx=${CXX:-c++}
+cc=${CC:-cc} cxx=${CXX:-c++} last=true
 if ! command -v "$cc" >/dev/null; then
     echo 'tests/c.sh: skipped, since there is no C compiler: nothing of the library for C was tested'
     exit 0
@@ -24,21 +24,6 @@ strict=(-Wall -Wextra -pedantic -Werror -g -O2 -pthread "-I$built/include" "${fl
 wrapped=('-Wl,--wrap=malloc' '-Wl,--wrap=calloc' '-Wl,--wrap=realloc' '-Wl,--wrap=free')
 static=("$built/lib/libtmwatch.a")
 shared=("-L$built/lib" -ltmwatch "-Wl,-rpath,$(cd "$built/lib" && pwd)")
-
-# Runs these words, which have to end with this status.
-ends() {
-    local name=$1 wanted=$2 status=0
-    shift 2
-    "$@" >"$folder/output" 2>&1 || status=$?
-    if [ "$status" -eq "$wanted" ]; then
-        passed=$((passed + 1))
-        echo "$name: $(tail -n 1 "$folder/output" | grep . || echo passed)"
-    else
-        failed=$((failed + 1))
-        echo "$name: FAILED, status $status"
-        tail -n 20 "$folder/output"
-    fi
-}
 
 # A program of C, compiled without a warning and then run: its name, its file, its exit status, its words, and how it is linked.
 program() {

@@ -25,21 +25,6 @@ fi
 export BUILT
 [ ! -x "$BUILT/bin/tmwatch" ] || program=$BUILT/bin/tmwatch
 
-# Runs these words, which have to end with this status.
-ends() {
-    local name=$1 wanted=$2 status=0
-    shift 2
-    "$@" >"$folder/output" 2>&1 || status=$?
-    if [ "$status" -eq "$wanted" ]; then
-        passed=$((passed + 1))
-        echo "$name: passed"
-    else
-        failed=$((failed + 1))
-        echo "$name: FAILED, status $status"
-        tail -n 20 "$folder/output"
-    fi
-}
-
 # Runs these words, which have to write this text and nothing else, with this status.
 tells() {
     local name=$1 text=$2 wanted=$3
