@@ -136,35 +136,34 @@ fn pump_all(ring: &Ring, pump: &mut Pump)
     }
 }
 
-/// Lets two threads record four transactions each while they are judged, and tells whether the verdict is that of `judge`, if there are
-/// threads and memory.
-fn is_judged<R: Threads + Wait>(rt: &R, alloc: Global) -> Option<bool> {
-    let (ring, writers, reader) = ring(alloc, 3, 2, 100).ok()?;
-    let mut pump = new_pump(alloc, reader).ok()?;
-    let (shared, pumping) = (&ring, &mut pump);
-    thread::scope(
+/// Lets two threads record four transactions each while they are judged, and tells whether the verdict is that of `judge`.
+fn is_judged<R: Threads + Wait>(rt: &R, alloc: Global) -> Result<bool, Fail> {
+    let (ring, writers, reader) = ring(alloc, 3, 2, 100)?;
+    let mut pump = new_pump(alloc, reader)?;
+    let shared = &ring;
+    let back = thread::scope(
         thread::scope_env(),
         rt,
-        move |scope| -> Option<()>
+        move |scope| -> Option<Pump>
             requires writers { All (WriterOf shared.now) writers.items }
-            requires reader { ReaderOf shared.now (reader_of (pump_in pumping.now)) }
+            requires reader { ReaderOf shared.now (reader_of (pump_in pump)) }
         {
             start_both(scope, shared, writers, 16)?;
-            pump_all(shared, pumping);
-            Some(())
+            pump_all(shared, &mut pump);
+            Some(pump)
         },
-    )?;
+    );
+    let Some(pump) = back else {
+        return Ok(false);
+    };
     let events = pump.judged();
-    if events.len() != 32 {
-        return Some(false);
-    }
-    let verdict = judge(alloc, ONE, WIDEST, events).ok()?;
-    Some(pump.verdict() == verdict)
+    Ok(events.len() == 32 && judge(alloc, ONE, WIDEST, events)? == pump.verdict())
 }
 
 #[test]
-fn what_two_threads_record_is_judged(rt: HostRuntime) {
+fn what_two_threads_record_is_judged(rt: HostRuntime) -> Result<(), Fail> {
     for _ in 0..100 {
-        assert_eq!(rt; is_judged(&rt, rt.alloc()), Some(true));
+        assert!(rt; is_judged(&rt, rt.alloc())?);
     }
+    Ok(())
 }
