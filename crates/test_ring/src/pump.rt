@@ -83,28 +83,25 @@ fn a_dirty_read_is_judged_as_it_comes(rt: HostRuntime) -> Result<(), Fail> {
 fn judge_and_meet(
     ring: &Ring,
     pump: &mut Pump,
-    first: &mut Writer,
-    second: &mut Writer,
-) -> (Result<Pumped, AllocError>, Result<u64, Refused>)
+    mut writers: Vec<Writer>,
+) -> Option<(Result<Pumped, AllocError>, Result<u64, Refused>)>
     requires reader { ReaderOf ring.now (reader_of (pump_in pump.old)) }
-    requires first { WriterOf ring.now first.old }
-    requires second { WriterOf ring.now second.old }
+    requires writers { All (WriterOf ring.now) writers.items }
 {
-    let _ = ring.record(second, Kind::R(FIRST));
+    let mut second = writers.pop()?;
+    let mut first = writers.pop()?;
+    let _ = ring.record(&mut second, Kind::R(FIRST));
     let pumped = pump.pump(ring, 1);
-    pump.meet(ring, first);
-    (pumped, ring.record(first, Kind::R(FIRST)))
+    pump.meet(ring, &mut first);
+    Some((pumped, ring.record(&mut first, Kind::R(FIRST))))
 }
 
 #[test]
 fn a_meeting_tells_a_writer_what_was_judged(rt: HostRuntime) -> Result<(), Fail> {
-    let (ring, mut writers, reader) = ring(rt.alloc(), 8, 2, 100)?;
+    let (ring, writers, reader) = ring(rt.alloc(), 8, 2, 100)?;
     let mut pump = new_pump(rt.alloc(), reader)?;
-    let (Some(mut second), Some(mut first)) = (writers.pop(), writers.pop()) else {
-        panic!(rt; "fewer than two writers");
-    };
-    let met = judge_and_meet(&ring, &mut pump, &mut first, &mut second);
-    assert_eq!(rt; met, (done(1, Verdict::OpaqueSoFar), Ok(1)));
+    let met = judge_and_meet(&ring, &mut pump, writers);
+    assert_eq!(rt; met, Some((done(1, Verdict::OpaqueSoFar), Ok(1))));
     Ok(())
 }
 

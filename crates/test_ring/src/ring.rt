@@ -28,12 +28,11 @@ pub fn record_two(
 
 /// Takes four times from a settled ring.
 fn take_four(settled: &mut Settled) -> [Option<Event>; 4] {
-    [
-        settled.take(),
-        settled.take(),
-        settled.take(),
-        settled.take(),
-    ]
+    let mut taken = [None; 4];
+    for event in &mut taken {
+        *event = settled.take();
+    }
+    taken
 }
 
 #[test]
@@ -70,27 +69,26 @@ fn a_ring_whose_places_are_spent(rt: HostRuntime) -> Result<(), Fail> {
     Ok(())
 }
 
-/// Records an event by each writer, lets them meet, and records one more by the first.
-fn record_and_meet(
-    ring: &Ring,
-    first: &mut Writer,
-    second: &mut Writer,
-) -> [Result<u64, Refused>; 3]
-    requires first { WriterOf ring.now first.old }
-    requires second { WriterOf ring.now second.old }
+/// Records an event by each of two writers, lets them meet, and records one more by the first.
+fn record_and_meet(ring: &Ring, mut writers: Vec<Writer>) -> Option<[Result<u64, Refused>; 3]>
+    requires { All (WriterOf ring.now) writers.items }
 {
-    let before = [ring.record(first, Kind::T), ring.record(second, Kind::X)];
-    ring.meet_writers(first, second);
-    [before[0], before[1], ring.record(first, Kind::T)]
+    let mut second = writers.pop()?;
+    let mut first = writers.pop()?;
+    let before = [
+        ring.record(&mut first, Kind::T),
+        ring.record(&mut second, Kind::X),
+    ];
+    ring.meet_writers(&mut first, &mut second);
+    Some([before[0], before[1], ring.record(&mut first, Kind::T)])
 }
 
 #[test]
 fn writers_that_have_met(rt: HostRuntime) -> Result<(), Fail> {
-    let (ring, mut writers, _reader) = ring(rt.alloc(), 8, 2, 100)?;
-    let (Some(mut second), Some(mut first)) = (writers.pop(), writers.pop()) else {
-        panic!(rt; "fewer than two writers");
-    };
-    let recorded = record_and_meet(&ring, &mut first, &mut second);
-    assert_eq!(rt; recorded, [Ok(0), Ok(1), Ok(2)]);
+    let (ring, writers, _reader) = ring(rt.alloc(), 8, 2, 100)?;
+    assert_eq!(rt;
+        record_and_meet(&ring, writers),
+        Some([Ok(0), Ok(1), Ok(2)])
+    );
     Ok(())
 }

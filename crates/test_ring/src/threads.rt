@@ -20,14 +20,17 @@ const TRIES: u64 = 1_000_000_000;
 
 /// The event of a writer that has recorded so many before it: the first one writes numbers, and the second reads them.
 fn nth(writer: Ix, count: u64) -> Kind {
-    match (count % 4, writer == FIRST) {
-        (0, true) => Kind::W(FIRST, count.wrapping_add(1)),
-        (0, false) => Kind::R(FIRST),
-        (1, true) => Kind::K,
-        (1, false) => Kind::V(count),
-        (2, _) => Kind::T,
-        _ => Kind::C,
-    }
+    let kinds = if writer == FIRST {
+        [
+            Kind::W(FIRST, count.wrapping_add(1)),
+            Kind::K,
+            Kind::T,
+            Kind::C,
+        ]
+    } else {
+        [Kind::R(FIRST), Kind::V(count), Kind::T, Kind::C]
+    };
+    kinds[(count % 4) as usize]
 }
 
 /// Records an event as soon as there is room.
