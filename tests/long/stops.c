@@ -1,11 +1,11 @@
 /*
 Writers that stop wherever they are: amid a transaction, at a full ring, and where its places are spent. A watch judges what they record,
-meanwhile and to the end, and is called again where memory was refused. All that was recorded has to be judged, each writer's events in
-their order, and a second watch, to which the log is then given, has to tell the same.
+meanwhile and to the end, and each call that was refused memory is made again. All that was recorded has to be judged, each writer's
+events in their order, and a second watch, to which the log is then given, has to tell the same.
 
-    stops RUNS UNMADE
+    stops RUNS
 
-At most UNMADE of the runs may lack the memory that a watch is opened with. The last line tells what came of the runs.
+The last line tells what came of the runs.
 */
 #define _POSIX_C_SOURCE 200809L
 #include "../c/check.h"
@@ -41,7 +41,7 @@ static unsigned recorded[WRITERS];
 static uint32_t stopped[WRITERS];
 
 /* What came of all runs. */
-static unsigned long unmade, dropped, full, spent, amid, judged_all, refused, opaque, violated, undecided;
+static unsigned long dropped, full, spent, amid, judged_all, refused, opaque, violated, undecided;
 
 /* Numbers that seem drawn by chance, and are the same each time: below so many. */
 static unsigned draw(unsigned below)
@@ -146,12 +146,12 @@ static tmwatch_told close_soon(size_t count)
     return told;
 }
 
-/* Opens a watch, if there is memory. */
-static bool has_opened(size_t count, const tmwatch_settings *settings)
+static void open_soon(size_t count, const tmwatch_settings *settings)
 {
-    uint32_t status = tmwatch_open(&watch, recorders, count, settings);
-    CHECK(status == TMWATCH_DONE || status == TMWATCH_MEMORY);
-    return status == TMWATCH_DONE;
+    uint32_t status = TMWATCH_MEMORY;
+    for (int tries = 0; tries < SOON && status == TMWATCH_MEMORY; tries++)
+        status = tmwatch_open(&watch, recorders, count, settings);
+    CHECK(status == TMWATCH_DONE);
 }
 
 /* Lets the writers record while events are judged, and has the rest judged: what is told at the end. A writer whose thread can not be
@@ -188,22 +188,20 @@ static bool are_all(uint64_t count)
     return count <= run.settings.limit && memcmp(counts, recorded, sizeof counts) == 0;
 }
 
-/* Whether a watch that is given the log tells the same, if there is memory. */
-static bool is_made(tmwatch_told told)
+/* Whether a watch that is given the log tells the same. */
+static bool is_told_again(tmwatch_told told)
 {
     tmwatch_settings settings = run.settings;
     settings.cells = CELLS;
     settings.limit = CELLS;
-    if (!has_opened(WRITERS, &settings))
-        return false;
+    open_soon(WRITERS, &settings);
     for (uint64_t place = 0; place < told.events; place++) {
         const struct event *event = &events[place];
         uint64_t again;
         CHECK(tmwatch_record(&recorders[event->thread], (uint32_t)event->letter, event->reg, event->value, &again) == TMWATCH_DONE);
     }
     tmwatch_told same = close_soon(WRITERS);
-    CHECK(tells(same, told.events, told.verdict, told.at, told.why));
-    return true;
+    return tells(same, told.events, told.verdict, told.at, told.why);
 }
 
 static void add(tmwatch_told told)
@@ -221,32 +219,27 @@ static void add(tmwatch_told told)
     CHECK(told.verdict != TMWATCH_MALFORMED);
 }
 
-/* Makes a run, and looks whether all came of it that had to: whether there was memory for that. */
-static bool has_run(void)
+/* Makes a run, of which has to come what was promised. */
+static void make_run(void)
 {
     memset(recorded, 0, sizeof recorded);
     memset(stopped, 0, sizeof stopped);
-    if (!has_opened(run.writers, &run.settings))
-        return false;
+    open_soon(run.writers, &run.settings);
     tmwatch_told told = run_threads();
-    CHECK(are_all(told.events));
-    if (!is_made(told))
-        return false;
+    CHECK(are_all(told.events) && is_told_again(told));
     add(told);
-    return true;
 }
 
 int main(int count, char **words)
 {
-    CHECK(count == 3);
+    CHECK(count == 2);
     for (unsigned long runs = strtoul(words[1], NULL, 10); runs > 0; runs--) {
         draw_run();
-        unmade += !has_run();
+        make_run();
     }
-    printf("%lu unmade, %lu dropped; writers: %lu at a full ring, %lu at spent places, %lu amid a transaction; %lu events, %lu pumps refused; "
+    printf("%lu dropped; writers: %lu at a full ring, %lu at spent places, %lu amid a transaction; %lu events, %lu pumps refused; "
            "%lu opaque so far, %lu violated, %lu undecided\n",
-           unmade, dropped, full, spent, amid, judged_all, refused, opaque, violated, undecided);
-    CHECK(unmade <= strtoul(words[2], NULL, 10));
+           dropped, full, spent, amid, judged_all, refused, opaque, violated, undecided);
     CHECK(dropped && full && spent && amid && opaque && violated && undecided);
     return 0;
 }
