@@ -354,6 +354,6 @@ for crate in "${crates[@]}"; do
     for test in $("$tests" --list | sed -n 's/^\(.*refused_growth.*\): test$/\1/p'); do test_row "$crate" "$test" allows; done
 done
 tests_of test_ring
-test_row test_ring pump::calls::a_dirty_read_is_judged_as_it_comes strict
+test_row test_ring pump::a_dirty_read_is_judged_as_it_comes strict
 
 end_rows

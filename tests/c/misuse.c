@@ -279,6 +279,24 @@ static void what_passes_a_bound_is_undecided(void)
     CHECK(tells(close_all(2), 8, TMWATCH_UNDECIDED, 8, TMWATCH_STATES));
 }
 
+/* A recorder is discarded amid a transaction, so that all of the other's begin in the same window: the ninth transaction is one too many. */
+static void a_transaction_that_was_left_keeps_its_window_open(void)
+{
+    tmwatch_told told = untold;
+    uint64_t judged = 9;
+    open_small(2, 32, 1000);
+    CHECK(tmwatch_read(&recorders[0], 0) == TMWATCH_DONE);
+    tmwatch_discard_recorder(&recorders[0]);
+    for (int i = 0; i < 7; i++)
+        CHECK(tmwatch_commit(&recorders[1]) == TMWATCH_DONE && tmwatch_committed(&recorders[1]) == TMWATCH_DONE);
+    CHECK(tmwatch_commit(&recorders[1]) == TMWATCH_DONE);
+    CHECK(tmwatch_pump(&watch, 100, &judged) == TMWATCH_DONE && judged == 16);
+    CHECK(tmwatch_report(&watch, &told) == TMWATCH_DONE && tells(told, 16, TMWATCH_UNDECIDED, 16, TMWATCH_TRANSACTIONS));
+    tmwatch_discard(&watch);
+    tmwatch_discard_recorder(&recorders[1]);
+    CHECK(is_empty(&watch) && are_empty(recorders, 9));
+}
+
 static void registers_begin_as_the_settings_say(void)
 {
     for (uint64_t value = 6; value < 8; value++) {
@@ -304,6 +322,7 @@ int main(void)
     a_ring_that_is_full_refuses_until_it_is_pumped();
     room_for_several_events_is_told();
     what_passes_a_bound_is_undecided();
+    a_transaction_that_was_left_keeps_its_window_open();
     registers_begin_as_the_settings_say();
     return 0;
 }

@@ -105,9 +105,9 @@ fn expect(
 ) -> Result<(), AllocError> {
     for (values, cap, want) in cases {
         let ends = ends_of(rt.alloc(), values, events, *cap)?;
-        assert_eq!(rt; ends.as_deref(), *want, "from {values:?} of {events:?}");
         let found = is_possible(rt.alloc(), values, events)?;
-        assert_eq!(rt; found, *want != Some(&[]), "from {values:?} of {events:?}");
+        let right = ends.as_deref() == *want && found == (*want != Some(&[]));
+        assert!(rt; right, "from {values:?} of {events:?}: {ends:?}, {found}");
     }
     Ok(())
 }

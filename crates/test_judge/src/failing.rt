@@ -88,19 +88,21 @@ const NARROW: Bounds = Bounds {
     states: 1,
 };
 
+/// Judges a text. The sink takes a byte a call, and fails after so many.
+fn judge_until(rt: &(impl Abort + AllocGlobal), text: &str, sent: usize, line: &[u8]) -> u8 {
+    let mut source = MemorySource::new(text.as_bytes());
+    let mut sink = MemorySink::limited(rt.alloc(), 1, Some((sent as u64).saturating_add(1)));
+    let answered = run_judge(rt.alloc(), &mut source, &mut sink, NARROW, Asked::Opacity);
+    assert_eq!(rt; sink.bytes(), line, "after {sent}");
+    answered
+}
+
 #[test]
 fn writes_that_fail(rt: HostRuntime) {
     for (text, line, status) in ANSWERED {
         // The last of these calls is never made.
         for sent in 0..line.len() + 1 {
-            let mut source = MemorySource::new(text.as_bytes());
-            let mut sink = MemorySink::limited(rt.alloc(), 1, Some(sent as u64 + 1));
-            let answered = run_judge(rt.alloc(), &mut source, &mut sink, NARROW, Asked::Opacity);
-            assert_eq!(rt;
-                sink.bytes(),
-                &line.as_bytes()[..sent],
-                "of {line} after {sent}"
-            );
+            let answered = judge_until(&rt, text, sent, &line.as_bytes()[..sent]);
             let want = if sent == line.len() { status } else { FAULT };
             assert_eq!(rt; answered, want, "of {line} after {sent}");
         }

@@ -4,8 +4,6 @@ pub const FIRST: Ix = Ix { number: 0 };
 
 pub const SECOND: Ix = Ix { number: 1 };
 
-pub const THIRD: Ix = Ix { number: 2 };
-
 /// Makes an event of the first thread.
 pub const fn one(kind: Kind) -> Event {
     Event {

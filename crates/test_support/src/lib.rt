@@ -3,8 +3,6 @@
 
 mod events;
 mod seed;
-mod sizes;
 
-pub use events::{FIRST, SECOND, THIRD, dirty_read, one, other};
+pub use events::{FIRST, SECOND, dirty_read, one, other};
 pub use seed::Seed;
-pub use sizes::{LIMITS_OUT_OF_RANGE, SIZES_IN_RANGE, SIZES_OUT_OF_RANGE};

@@ -1,5 +1,0 @@
-use Rattle.tmw_ring.specs.Ends.{ReaderOf}
-use Rattle.test_ring.proofs.pump.forgetting.pump_all.Given as goal
-
-abbrev pub invariant-loop : goal.invariant-loop
-invariant-loop l = ReaderOf l.ring l.pump.reader

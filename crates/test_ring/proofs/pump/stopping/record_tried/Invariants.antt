@@ -1,6 +1,0 @@
-use Rattle.std.proofs.Common.{◌≡◌}
-use Rattle.tmw_ring.specs.Ends.{WriterOf}
-use Rattle.test_ring.proofs.pump.stopping.record_tried.Given as goal
-
-abbrev pub invariant-loop : goal.invariant-loop
-invariant-loop l = WriterOf l.ring l.writer × (l.writer.number ≡ l.fn.writer.number)

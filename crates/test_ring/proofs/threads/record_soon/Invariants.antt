@@ -1,0 +1,5 @@
+use Rattle.tmw_ring.specs.Ends.{WriterOf}
+use Rattle.test_ring.proofs.threads.record_soon.Given as goal
+
+abbrev pub invariant-loop : goal.invariant-loop
+invariant-loop l = WriterOf l.ring l.writer
