@@ -7,7 +7,7 @@ use Rattle.tmw_report.specs.Putting.{IsPut, IsSent}
 use Rattle.tmw_streams.specs.Streams.{FromSource, ToSink}
 use Rattle.tmw_report.specs.declared.fault.Fault.{Fault}
 use Rattle.tmw_report.specs.declared.fault.Fault.TheVariants.{Memory as WantsMemory, Usage as IsUsage}
-use Rattle.tmw_judge.specs.Answering.{Judges}
+use Rattle.tmw_judge.specs.Answering.{JudgesWith}
 use Rattle.tmw_bench.specs.Running.{BenchesBytes}
 use Rattle.tmw_drive.specs.Running.{DrivesBytes}
 use Rattle.tmw_show.specs.Page.{PagesBytes}
@@ -52,7 +52,7 @@ Silently Does source source_after sink sink_after errors errors_after status =
 -- how far it has come goes elsewhere, and is in no clause.
 abbrev pub RunsOrder : {S K E : Type 0} → FromSource S → ToSink K → ToSink E → MemoriesAre → Order → S → S → K → K → E → E → ℕ → Type 0
 RunsOrder From To Errors memories (Judge bounds asked summary first) =
-    Judges From To Errors (record { bounds = bounds; asked = asked; first = first; summary = summary })
+    JudgesWith From To Errors (record { bounds = bounds; asked = asked; first = first; summary = summary })
 RunsOrder From To Errors memories (Show criterion form bounds) = Silently (Shows From To criterion form bounds)
 RunsOrder From To Errors memories (Drive memory written bounds) = Silently (DrivesBytes From To (memories memory) (written_of written) bounds)
 RunsOrder From To Errors memories (Bench memory written options) =

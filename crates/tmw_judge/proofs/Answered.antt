@@ -7,9 +7,10 @@ use Rattle.tmw_counts.specs.declared.summary.Summary.{Summary}
 use Rattle.tmw_defs.specs.declared.criterion.Asked.{Asked}
 use Rattle.tmw_defs.specs.declared.verdict.Verdict.{Verdict}
 use Rattle.tmw_monitor.specs.declared.bounds.Bounds.{Bounds}
-use Rattle.tmw_judge.specs.Answering.{told_verdicts, AreJudgesOf, HasFaultFor, IsAnswer, IsReadFor}
+use Rattle.tmw_judge.specs.Answering.{told_verdicts, HasFaultFor, IsAnswer, IsReadFor}
 use Rattle.tmw_judge.specs.ByCriterion.{Each}
 use Rattle.tmw_judge.specs.Counted.{counted_part, CountsFor, HasSummary, verdicts_of}
+use Rattle.tmw_judge.specs.FeedingFirst.{AreJudgesOf}
 use Rattle.tmw_judge.specs.Judging.{AreFed, AreReports, IsOwnVerdict, IsReportOn, trace_rules}
 use Rattle.tmw_judge.specs.declared.answer.Answer.{Answer}
 use Rattle.tmw_judge.specs.declared.by_criterion.ByCriterion.{ByCriterion}

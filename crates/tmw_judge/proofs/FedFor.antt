@@ -9,10 +9,9 @@ use Rattle.tmw_defs.specs.declared.criterion.Asked.{Asked}
 use Rattle.tmw_monitor.specs.declared.bounds.Bounds.{Bounds}
 use Rattle.tmw_report.specs.declared.fault.Fault.{Fault}
 use Rattle.tmw_report.specs.Putting.{fault_of}
-use Rattle.tmw_judge.specs.Answering.{AnswersFed}
 use Rattle.tmw_judge.specs.Counted.{CountsFor}
 use Rattle.tmw_judge.specs.Feeding.{ReadsBeginning}
-use Rattle.tmw_judge.specs.FeedingFirst.{FeedsFor}
+use Rattle.tmw_judge.specs.FeedingFirst.{AnswersFed, FeedsFor}
 use Rattle.tmw_judge.specs.declared.judges.Judges.{Judges}
 use Rattle.tmw_judge.proofs.FirstTaken.{first-done, first-fault, first-unbegun}
 use Rattle.tmw_judge.proofs.Taken.{answers-end, answers-fault, answers-first}

@@ -17,8 +17,8 @@ use Rattle.tmw_monitor.specs.declared.bounds.Bounds.{Bounds}
 use Rattle.tmw_report.specs.declared.fault.Fault.{Fault}
 use Rattle.tmw_report.specs.Putting.{fault_of}
 use Rattle.tmw_judge.specs.Feeding.{IsBeginning, ReadsBeginning}
-use Rattle.tmw_judge.specs.Answering.{AnswersFed, AreOpen, AreOpenBefore, EndsSoonBehindOpen, HasFaultInTime}
-use Rattle.tmw_judge.specs.FeedingFirst.{AreReadFirst, FeedsFirst}
+use Rattle.tmw_judge.specs.Answering.{AreOpen, AreOpenBefore, EndsSoonBehindOpen, HasFaultInTime}
+use Rattle.tmw_judge.specs.FeedingFirst.{AnswersFed, AreReadFirst, FeedsFirst}
 use Rattle.tmw_judge.specs.Counted.{CountsFor}
 use Rattle.tmw_judge.specs.declared.judges.Judges.{Judges}
 use Rattle.tmw_judge.proofs.FirstOpen.{AreOpenBefore-none}

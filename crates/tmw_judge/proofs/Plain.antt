@@ -8,7 +8,7 @@ use Rattle.tmw_report.specs.CommandRun.{answer_status, answer_text, failures_aft
 use Rattle.tmw_report.specs.Putting.{IsPut}
 use Rattle.tmw_report.specs.declared.fault.Fault.{Fault}
 use Rattle.tmw_streams.specs.Streams.{FromSource, ToSink}
-use Rattle.tmw_judge.specs.Answering.{judged_lines, judged_status, summary_lines, told_verdicts, AnswersBy, Judges}
+use Rattle.tmw_judge.specs.Answering.{judged_lines, judged_status, summary_lines, told_verdicts, AnswersBy, JudgesWith}
 use Rattle.tmw_judge.specs.Counted.{counted_part, HasSummary}
 use Rattle.tmw_judge.specs.Judging.{report_lines, report_status, AnswersTrace, JudgesBytes}
 use Rattle.tmw_judge.specs.declared.answer.Answer.{Answer}
@@ -50,7 +50,7 @@ module _ (bounds : Bounds) (asked : Asked) (Ended : Type 0) (bytes : List ℕ) w
 pub plain : {S K E : Type 0} (From : FromSource S) (To : ToSink K) (Errors : ToSink E) (bounds : Bounds) (asked : Asked)
     (source source_after : S) (sink sink_after : K) (errors errors_after : E) (status : ℕ)
     → (let options : Options = record { bounds = bounds; asked = asked; first = false; summary = false } in
-    Judges From To Errors options source source_after sink sink_after errors errors_after status)
+    JudgesWith From To Errors options source source_after sink sink_after errors errors_after status)
     → JudgesBytes From To bounds asked source source_after sink sink_after status
 plain From To Errors bounds asked source source_after sink sink_after errors errors_after status judged =
     let run = judged.run in record {

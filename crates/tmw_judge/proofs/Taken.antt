@@ -21,7 +21,7 @@ use Rattle.tmw_report.specs.CommandRun.{failures_after_answer}
 use Rattle.tmw_judge.specs.Feeding.{IsBeginning, ReadsBeginning, AreFedAllRead, AreReadAndFed, FeedsEvents}
 use Rattle.tmw_judge.specs.Counted.{CountsFor}
 use Rattle.tmw_judge.specs.declared.judges.Judges.{Judges}
-use Rattle.tmw_judge.specs.Answering.{AnswersFed}
+use Rattle.tmw_judge.specs.FeedingFirst.{AnswersFed}
 
 module _ {C : Type 0} (Counts : CountsFor C) where
   -- the fault of the first line, or want of memory behind it, is the text's

@@ -23,10 +23,9 @@ use Rattle.tmw_report.specs.SummaryLine.{summary_text}
 use Rattle.tmw_judge.specs.declared.answer.Answer.{Answer}
 use Rattle.tmw_judge.specs.declared.by_criterion.ByCriterion.{ByCriterion}
 use Rattle.tmw_judge.specs.declared.by_criterion.ByCriterion.TheVariants.{Opacity, Strict, Both}
-use Rattle.tmw_judge.specs.declared.judges.Judges.{Judges as JudgesOf}
 use Rattle.tmw_judge.specs.declared.options.Options.{Options}
 use Rattle.tmw_judge.specs.declared.report.Report.{Report}
-use Rattle.tmw_judge.specs.Counted.{all_open, any_open, AreJudged, CountsFor, counted_part, HasSummary, verdicts_of}
+use Rattle.tmw_judge.specs.Counted.{all_open, any_open, counted_part, HasSummary}
 use Rattle.tmw_judge.specs.Judging.{AreReports, report_lines, report_status, trace_rules}
 
 abbrev pub told_verdicts : ByCriterion Report → ByCriterion Verdict
@@ -60,8 +59,8 @@ pub record IsFirstText (bounds : Bounds) (asked : Asked) (bytes : List ℕ) (hea
   pub final : any_open verdicts ≡ false
   pub before : AreOpenBefore header bounds asked history
 
--- What is read of a trace with these verdicts: the whole text; by `--first` the text up to the event at which the last verdict became
--- final, or the whole where none comes.
+-- The history that is judged, with these verdicts: that of the whole text; by `--first` the one up to the event at which the last verdict
+-- became final, or that of the whole text where none comes.
 abbrev pub IsReadFor : Bool → Bounds → Asked → Type 0 → List ℕ → Header → List Event → ByCriterion Verdict → Type 0
 IsReadFor false bounds asked Ended bytes header history verdicts = IsWholeText Ended bytes header history
 IsReadFor true bounds asked Ended bytes header history verdicts =
@@ -86,12 +85,12 @@ HasFaultInTime bounds asked Ended bytes Memory = EndsSoonBehindOpen bounds asked
 HasFaultInTime bounds asked Ended bytes fault =
     HasFirstLineFault trace_grammar Ended bytes fault ⊎ FailsWhereOpen bounds asked Ended bytes fault
 
--- The fault that is answered: the text's first; by `--first` one that comes before the last verdict became final.
+-- The fault that is answered: the text's first; by `--first` one that comes no later than the event at which the last verdict became final.
 abbrev pub HasFaultFor : Bool → Bounds → Asked → Type 0 → List ℕ → TextFault → Type 0
 HasFaultFor false bounds asked = HasTextFault trace_grammar
 HasFaultFor true bounds asked = HasFaultInTime bounds asked
 
--- These are the reports on what is read of a trace, and, if that is counted, the counts of the prefix that its verdicts cover.
+-- These are the reports on the history that is judged, and, if that is asked for, the counts of its prefix that the verdicts cover.
 pub record IsAnswer (first summary : Bool) (bounds : Bounds) (asked : Asked) (Ended : Type 0) (bytes : List ℕ) (answer : Answer) : Type 0 where
   pub header : Header
   pub history : List Event
@@ -113,14 +112,14 @@ abbrev pub summary_lines : Option Summary → List ℕ
 summary_lines None = []
 summary_lines (Some summary) = summary_text summary.counts
 
--- The lines of the reports, and behind them that of the counts. The status is the reports'.
+-- The lines of the reports, and behind them that of the counts, if there are counts. The status is the reports'.
 abbrev pub judged_lines : Answer → List ℕ
 judged_lines answer = report_lines answer.reports ++ summary_lines answer.summary
 
 abbrev pub judged_status : Answer → ℕ
 judged_status answer = report_status answer.reports
 
--- No two transactions overlapped, although there are two threads or more.
+-- There are counts, which tell that no two transactions overlapped although there are two threads or more.
 abbrev pub none_overlapped : Option Summary → Bool
 none_overlapped None = false
 none_overlapped (Some summary) = summary.none_overlapped
@@ -130,18 +129,5 @@ abbrev pub shows_nothing : Answer → Bool
 shows_nothing answer = all_open (told_verdicts answer.reports) && none_overlapped answer.summary
 
 -- What a run of `judge` does. The sink for errors is told where the run shows nothing.
-abbrev pub Judges : {S K E : Type 0} → FromSource S → ToSink K → ToSink E → Options → S → S → K → K → E → E → ℕ → Type 0
-Judges From To Errors options = IsRemarkedRun From To Errors (Answers options) judged_lines judged_status shows_nothing
-
--- On the way there: the judges have been fed what is read of a trace.
-pub record AreJudgesOf {C : Type 0} (first : Bool) (Counts : CountsFor C) (bounds : Bounds) (asked : Asked) (Ended : Type 0) (bytes : List ℕ)
-    (judges : JudgesOf C) : Type 0 where
-  pub header : Header
-  pub history : List Event
-  pub are_events : AreEvents header history
-  pub read : IsReadFor first bounds asked Ended bytes header history (verdicts_of judges.monitors)
-  pub judged : AreJudged Counts header bounds asked history judges
-
-abbrev pub AnswersFed : {C : Type 0} → Bool → CountsFor C → Bounds → Asked → Type 0 → List ℕ → Result (JudgesOf C) Fault → Type 0
-AnswersFed first Counts bounds asked Ended bytes (Ok judges) = AreJudgesOf first Counts bounds asked Ended bytes judges
-AnswersFed first Counts bounds asked Ended bytes (Err fault) = AnswersTextFault (HasFaultFor first bounds asked Ended bytes) fault
+abbrev pub JudgesWith : {S K E : Type 0} → FromSource S → ToSink K → ToSink E → Options → S → S → K → K → E → E → ℕ → Type 0
+JudgesWith From To Errors options = IsRemarkedRun From To Errors (Answers options) judged_lines judged_status shows_nothing

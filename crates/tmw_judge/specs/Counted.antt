@@ -6,6 +6,8 @@ use Rattle.tmw_trace.specs.declared.header.Header.{Header}
 use Rattle.tmw_defs.specs.declared.criterion.Asked.{Asked}
 use Rattle.tmw_defs.specs.declared.verdict.Verdict.{Verdict}
 use Rattle.tmw_counts.specs.Parts.{counted_by, is_open}
+use Rattle.tmw_counts.specs.Summaries.{IsSummary}
+use Rattle.tmw_counts.specs.declared.summary.Summary.{Summary}
 use Rattle.tmw_monitor.specs.declared.bounds.Bounds.{Bounds}
 use Rattle.tmw_monitor.specs.declared.monitor.Monitor.{Monitor}
 use Rattle.tmw_monitor.specs.Monitor.{verdict_of}
@@ -13,8 +15,6 @@ use Rattle.tmw_judge.specs.declared.by_criterion.ByCriterion.{ByCriterion}
 use Rattle.tmw_judge.specs.declared.by_criterion.ByCriterion.TheVariants.{Opacity, Strict, Both}
 use Rattle.tmw_judge.specs.declared.judges.Judges.{Judges}
 use Rattle.tmw_judge.specs.Judging.{AreFed}
-use Rattle.tmw_counts.specs.Summaries.{IsSummary}
-use Rattle.tmw_counts.specs.declared.summary.Summary.{Summary}
 
 -- How many of so many events are counted.
 abbrev pub counted_of : ℕ → ByCriterion Verdict → ℕ

@@ -8,13 +8,15 @@ use Rattle.tmw_lines.specs.declared.text_fault.TextFault.TheVariants.{Memory}
 use Rattle.tmw_streams.specs.Streams.{FromSource}
 use Rattle.tmw_streams.specs.Told.{Tells}
 use Rattle.tmw_events.specs.declared.event.Event.{Event}
-use Rattle.tmw_trace.specs.Text.{trace_grammar}
+use Rattle.tmw_trace.specs.Text.{trace_grammar, AreEvents}
 use Rattle.tmw_trace.specs.declared.header.Header.{Header}
 use Rattle.tmw_trace.specs.declared.version.Version.{Version}
 use Rattle.tmw_defs.specs.declared.criterion.Asked.{Asked}
 use Rattle.tmw_monitor.specs.declared.bounds.Bounds.{Bounds}
+use Rattle.tmw_report.specs.CommandRun.{AnswersTextFault}
+use Rattle.tmw_report.specs.declared.fault.Fault.{Fault}
 use Rattle.tmw_judge.specs.Counted.{any_open, AreJudged, CountsFor, verdicts_of}
-use Rattle.tmw_judge.specs.Answering.{AreOpen, AreOpenBefore}
+use Rattle.tmw_judge.specs.Answering.{AreOpen, AreOpenBefore, HasFaultFor, IsReadFor}
 use Rattle.tmw_judge.specs.Feeding.{FeedsEvents}
 use Rattle.tmw_judge.specs.declared.judges.Judges.{Judges}
 
@@ -56,8 +58,21 @@ pub record FeedsFirst {S C Done : Type 0} (From : FromSource S) (Counts : Counts
       → AreOpenBefore header bounds asked given
       → AreReadFirst Counts Ended lines_after header bounds asked (given ++ events) (before ++ bytes) judges_after result
 
--- The same by `--first`, and else up to the end.
+-- By `--first` events are fed up to the one at which all verdicts are final, and else to the end.
 abbrev pub FeedsFor : {S C Done : Type 0} → Bool → FromSource S → CountsFor C → Type 0 → S → S → Lines Version → Lines Version → Judges C
     → Judges C → Result Done TextFault → Type 0
 FeedsFor false = FeedsEvents
 FeedsFor true = FeedsFirst
+
+-- The judges have been fed the history that is judged.
+pub record AreJudgesOf {C : Type 0} (first : Bool) (Counts : CountsFor C) (bounds : Bounds) (asked : Asked) (Ended : Type 0) (bytes : List ℕ)
+    (judges : Judges C) : Type 0 where
+  pub header : Header
+  pub history : List Event
+  pub are_events : AreEvents header history
+  pub read : IsReadFor first bounds asked Ended bytes header history (verdicts_of judges.monitors)
+  pub judged : AreJudged Counts header bounds asked history judges
+
+abbrev pub AnswersFed : {C : Type 0} → Bool → CountsFor C → Bounds → Asked → Type 0 → List ℕ → Result (Judges C) Fault → Type 0
+AnswersFed first Counts bounds asked Ended bytes (Ok judges) = AreJudgesOf first Counts bounds asked Ended bytes judges
+AnswersFed first Counts bounds asked Ended bytes (Err fault) = AnswersTextFault (HasFaultFor first bounds asked Ended bytes) fault

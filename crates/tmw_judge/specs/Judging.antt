@@ -1,4 +1,4 @@
--- What `judge` promises: from the bytes that its source tells to the lines that its sink takes and the exit status.
+-- What `judge` without options promises: from the bytes that its source tells to the lines that its sink takes and the exit status.
 use Rattle.std.specs.Prelude.{◌≡◌, ◌≢◌, ◌++◌, ℕ, List, length, Result, Ok, Err}
 use Rattle.tmw_lines.specs.TextFault.{HasTextFault}
 use Rattle.tmw_trace.specs.Text.{trace_grammar, trace_text, AreEvents}
@@ -60,7 +60,7 @@ report_status (Opacity report) = verdict_status report.verdict
 report_status (Strict report) = verdict_status report.verdict
 report_status (Both opacity strict) = both_status opacity.verdict strict.verdict
 
--- What a run of `judge` does: an answer to the bytes that its source tells in it, and the answer's lines to its sink.
+-- What a run of `judge` without options does: an answer to the bytes that its source tells in it, and the answer's lines to its sink.
 abbrev pub JudgesBytes : {S K : Type 0} → FromSource S → ToSink K → Bounds → Asked → S → S → K → K → ℕ → Type 0
 JudgesBytes From To bounds asked = IsCommandRun From To (AnswersTrace bounds asked) report_lines report_status
 

@@ -4,11 +4,10 @@ use tmw_events::{Event, Registers};
 
 /// Counts the events of a history, one after another.
 pub trait Counting: Drop {
-    ghost use Rattle.std.specs.Prelude.{◌<◌, ◌-◌, ◌^◌, ℕ, List, [], ◌∷◌, ◌++◌, length, IsTrue, IsFalse};
+    ghost use Rattle.std.specs.Prelude.{◌<◌, ◌-◌, ◌^◌, ℕ, Bool, List, [], ◌∷◌, ◌++◌, length, IsTrue, IsFalse};
     ghost use Rattle.tmw_defs.specs.History.{is_well_formed};
     ghost use Rattle.tmw_events.specs.declared.event.Event.{Event};
     ghost use Rattle.tmw_judge.specs.Counted.{HasSummary};
-    ghost use Rattle.std.specs.Prelude.{Bool};
 
     /// Whether it counts.
     ghost counted: { Bool };

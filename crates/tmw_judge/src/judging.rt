@@ -2,9 +2,9 @@ ghost use Rattle.std.specs.Prelude.{◌≡◌, ℕ, List, IfErr, OnOk};
 ghost use Rattle.tmw_streams.specs.Told.{Tells};
 ghost use Rattle.tmw_lines.specs.Lines.{IsNew};
 ghost use Rattle.tmw_lines.specs.TextFault.{failures_after};
-ghost use Rattle.tmw_judge.specs.Answering.{Answers, AnswersBy, AnswersFed};
+ghost use Rattle.tmw_judge.specs.Answering.{Answers, AnswersBy};
 ghost use Rattle.tmw_judge.specs.Feeding.{AreFedAllRead, ReadsBeginning};
-ghost use Rattle.tmw_judge.specs.FeedingFirst.{FeedsFor};
+ghost use Rattle.tmw_judge.specs.FeedingFirst.{AnswersFed, FeedsFor};
 ghost use Rattle.tmw_report.specs.CommandRun.{failures_after_answer};
 
 use crate::answer::Answer;

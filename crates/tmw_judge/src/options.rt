@@ -6,8 +6,8 @@ use tmw_monitor::Bounds;
 pub struct Options {
     pub bounds: Bounds,
     pub asked: Asked,
-    /// It ends at the event at which all verdicts are final.
+    /// It ends at the first event at which all verdicts are final, if one comes.
     pub first: bool,
-    /// It counts the events that the verdicts cover.
+    /// It counts the transactions, overlaps and cuts of what the verdicts cover.
     pub summary: bool,
 }

@@ -4,7 +4,7 @@ ghost use Rattle.tmw_report.specs.Lines.{fault_line};
 ghost use Rattle.tmw_report.specs.Putting.{IsPut};
 ghost use Rattle.tmw_report.specs.Remark.{Remarks};
 ghost use Rattle.tmw_judge.specs.ByCriterion.{Each};
-ghost use Rattle.tmw_judge.specs.Answering.{judged_lines, judged_status, shows_nothing, Judges};
+ghost use Rattle.tmw_judge.specs.Answering.{judged_lines, judged_status, shows_nothing, JudgesWith};
 ghost use Rattle.tmw_judge.specs.Judging.{IsOwnVerdict, JudgesBytes};
 
 use crate::answer::Answer;
@@ -43,8 +43,8 @@ pub fn run_judge<S: Source, K: Sink>(
 /// Judges a trace as `run_judge` does, with these options. With `first` it ends at the event at which each requested verdict
 /// is final: the reports count the events up to that one, at most 4,096 bytes are read behind it, and none of these is
 /// parsed. With `summary` a line of counts follows the reports: of the events up to the one that the verdict names, before
-/// it if that event is malformed, or all; of two verdicts the longer part counts. Of a run that shows nothing the sink for
-/// errors is told then.
+/// it if that event is malformed, or all; of two verdicts the longer part is counted. If the counts show that no two
+/// transactions overlapped and nothing is wrong, the sink for errors is told.
 pub fn run_judge_with<S: Source, K: Sink, E: Sink>(
     alloc: Global,
     source: &mut S,
@@ -52,7 +52,7 @@ pub fn run_judge_with<S: Source, K: Sink, E: Sink>(
     errors: &mut E,
     options: Options,
 ) -> u8
-    ensures { Judges S.from K.to E.to options
+    ensures { JudgesWith S.from K.to E.to options
         source.old source.new sink.old sink.new errors.old errors.new result }
 {
     match judge(alloc, source, options) {
