@@ -50,12 +50,12 @@ const fn settings(cells: u64, limit: u64, patience: u64, rounds: u64) -> Setting
 const COMMITTED: [Kind; 4] = [Kind::W(FIRST, 5), Kind::K, Kind::T, Kind::C];
 
 /// The log of a thread that writes and then asks for an abort.
-const ABORTED: [Kind; 3] = [Kind::W(FIRST, 5), Kind::K, Kind::X];
+const ABORTED: [Kind; 4] = [Kind::W(FIRST, 5), Kind::K, Kind::X, Kind::A];
 
-const WRITES_AND_ABORTS: &str = r#"{"order": [], "registers": 1, "scripts": [[["W 0 5", "X"]]]}"#;
+const ABORTS: &str = r#"{"order": [], "registers": 1, "scripts": [[["W 0 5", "X"]]]}"#;
 
-const WRITES_AND_READS: &str =
-    r#"{"order": [], "registers": 1, "scripts": [[["W 0 5", "T"], ["R 0", "T"]]]}"#;
+const TWO_WRITE: &str =
+    r#"{"order": [], "registers": 1, "scripts": [[["W 0 5", "T"], ["W 0 5", "T"]]]}"#;
 
 /// Runs this workload over the memory.
 fn run(
@@ -68,73 +68,32 @@ fn run(
     Ok(run_bench(rt, rt.alloc(), memory, &workload, settings)?)
 }
 
-/// The ring has as many places as the log has events. A transaction is aborted in which the thread was stopped, and no other: none that
-/// the memory has ended, and none that has not begun.
+/// Returns the end of a thread that finds all of so many places claimed.
+const fn spent(places: u64) -> Ending {
+    Ending::Stopped(Refused::Spent { tail: places })
+}
+
+/// A transaction is aborted in which the thread was stopped, and no other: none that the memory has ended, and none that has not begun.
 #[test]
 fn a_thread_stops_where_the_places_are_spent(rt: HostRuntime) -> Result<(), Fail> {
-    let spent = "{\"ends\":[\"spent\"]}\n";
-    for (text, at_commit, log, ends, counts) in [
-        (
-            WRITES,
-            Did::Done,
-            &COMMITTED[..1],
-            spent,
-            [1, 0, 1, 0, 0, 1],
-        ),
-        (
-            WRITES,
-            Did::Done,
-            &COMMITTED[..2],
-            spent,
-            [1, 0, 1, 0, 0, 1],
-        ),
-        (
-            WRITES,
-            Did::Done,
-            &COMMITTED[..3],
-            spent,
-            [1, 0, 1, 0, 1, 0],
-        ),
-        (
-            WRITES,
-            Did::Done,
-            &COMMITTED[..4],
-            "{\"ends\":[\"done\"]}\n",
-            [1, 0, 1, 0, 1, 0],
-        ),
-        (
-            WRITES,
-            Did::Abort,
-            &COMMITTED[..3],
-            spent,
-            [1, 0, 1, 0, 1, 0],
-        ),
-        (
-            WRITES_AND_READS,
-            Did::Done,
-            &COMMITTED[..4],
-            spent,
-            [1, 0, 1, 0, 1, 0],
-        ),
-        (
-            WRITES_AND_ABORTS,
-            Did::Done,
-            &ABORTED[..3],
-            spent,
-            [1, 0, 1, 0, 0, 1],
-        ),
+    for (text, at_commit, log, limit, end, [commits, aborts]) in [
+        (WRITES, Did::Done, COMMITTED, 1, spent(1), [0, 1]),
+        (WRITES, Did::Done, COMMITTED, 2, spent(2), [0, 1]),
+        (WRITES, Did::Done, COMMITTED, 3, spent(3), [1, 0]),
+        (WRITES, Did::Done, COMMITTED, 4, Ending::Done, [1, 0]),
+        (WRITES, Did::Abort, COMMITTED, 3, spent(3), [1, 0]),
+        (TWO_WRITE, Did::Done, COMMITTED, 4, spent(4), [1, 0]),
+        (ABORTS, Did::Done, ABORTED, 3, spent(3), [0, 1]),
     ] {
         let memory = Counting::new(Did::Done, at_commit, 7);
-        let settings = settings(4, log.len() as u64, 1_000_000, 1);
-        let outcome = run(&rt, &memory, text, settings)?.outcome;
-        assert!(rt; has_recorded(outcome.log.as_slice(), log));
+        let outcome = run(&rt, &memory, text, settings(4, limit, 1_000_000, 1))?.outcome;
+        assert!(rt; has_recorded(outcome.log.as_slice(), &log[..limit as usize]));
         assert_eq!(rt; outcome.verdict, Verdict::OpaqueSoFar);
-        assert_eq!(rt;
-            ends_text(rt.alloc(), outcome.ends.as_slice())?.as_str(),
-            ends
-        );
-        assert_eq!(rt; memory.counts(), counts);
+        assert_eq!(rt; outcome.ends.as_slice(), [end].as_slice());
+        assert_eq!(rt; memory.counts(), [1, 0, 1, 0, commits, aborts]);
     }
+    let line = ends_text(rt.alloc(), &[spent(2)])?;
+    assert_eq!(rt; line.as_str(), "{\"ends\":[\"spent\"]}\n");
     Ok(())
 }
 

@@ -44,7 +44,7 @@ impl Progress for Remembering {
 }
 
 /// In each round two commits are aborted, and another transaction asks for its abort.
-const ABORTS: &str =
+const UNASKED: &str =
     r#"{"order": [], "registers": 1, "scripts": [[["T"], ["T"], ["W 0 5", "X"]]]}"#;
 
 /// What is told of a bench of so many rounds and places, each time after so many rounds.
@@ -57,7 +57,7 @@ fn tell_of(
     requires some { 1 ≤ rounds }
     requires few { rounds ≤ 1000000000 }
 {
-    let workload = told(rt.alloc(), ABORTS)?;
+    let workload = told(rt.alloc(), UNASKED)?;
     let memory = Counting::new(Did::Done, Did::Abort, 7);
     let progress = Remembering::new(every);
     let settings = settings(64, limit, PATIENT, rounds);
