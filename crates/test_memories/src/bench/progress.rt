@@ -1,4 +1,6 @@
 //! How far a bench has come, as it tells it.
+ghost use Rattle.std.specs.Prelude.{◌≤◌};
+
 use super::*;
 use std::array;
 use std::sync::atomic::{AtomicU64, Ordering};
@@ -22,7 +24,13 @@ impl Remembering {
     /// The sums of the rounds, of the events and of the unasked aborts that it was told, how often it was told, and how often that it
     /// is over.
     fn remembered(&self) -> [u64; 5] {
-        array::from_fn(|at| self.sums[at].load(Ordering::SeqCst))
+        [
+            self.sums[0].load(Ordering::SeqCst),
+            self.sums[1].load(Ordering::SeqCst),
+            self.sums[2].load(Ordering::SeqCst),
+            self.sums[3].load(Ordering::SeqCst),
+            self.sums[4].load(Ordering::SeqCst),
+        ]
     }
 }
 
