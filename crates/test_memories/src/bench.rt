@@ -73,25 +73,42 @@ const fn spent(places: u64) -> Ending {
     Ending::Stopped(Refused::Spent { tail: places })
 }
 
+/// Whether a thread of this workload, with so many places of this log, ends so, after so many commits and aborts.
+fn stops(
+    rt: &(impl Threads + Wait + Sync + AllocGlobal),
+    text: &str,
+    at_commit: Did,
+    log: [Kind; 4],
+    places: u64,
+    end: Ending,
+    ended: [u64; 2],
+) -> Result<bool, Fail>
+    requires { places ≤ 4 }
+{
+    let [commits, aborts] = ended;
+    let memory = Counting::new(Did::Done, at_commit, 7);
+    let outcome = run(rt, &memory, text, settings(4, places, 1_000_000, 1))?.outcome;
+    Ok(
+        has_recorded(outcome.log.as_slice(), &log[..places as usize])
+            && outcome.verdict == Verdict::OpaqueSoFar
+            && outcome.ends.as_slice() == [end].as_slice()
+            && memory.counts() == [1, 0, 1, 0, commits, aborts],
+    )
+}
+
 /// A transaction is aborted in which the thread was stopped, and no other: none that the memory has ended, and none that has not begun.
 #[test]
 fn a_thread_stops_where_the_places_are_spent(rt: HostRuntime) -> Result<(), Fail> {
-    for (text, at_commit, log, limit, end, [commits, aborts]) in [
-        (WRITES, Did::Done, COMMITTED, 1, spent(1), [0, 1]),
-        (WRITES, Did::Done, COMMITTED, 2, spent(2), [0, 1]),
-        (WRITES, Did::Done, COMMITTED, 3, spent(3), [1, 0]),
-        (WRITES, Did::Done, COMMITTED, 4, Ending::Done, [1, 0]),
-        (WRITES, Did::Abort, COMMITTED, 3, spent(3), [1, 0]),
-        (TWO_WRITE, Did::Done, COMMITTED, 4, spent(4), [1, 0]),
-        (ABORTS, Did::Done, ABORTED, 3, spent(3), [0, 1]),
-    ] {
-        let memory = Counting::new(Did::Done, at_commit, 7);
-        let outcome = run(&rt, &memory, text, settings(4, limit, 1_000_000, 1))?.outcome;
-        assert!(rt; has_recorded(outcome.log.as_slice(), &log[..limit as usize]));
-        assert_eq!(rt; outcome.verdict, Verdict::OpaqueSoFar);
-        assert_eq!(rt; outcome.ends.as_slice(), [end].as_slice());
-        assert_eq!(rt; memory.counts(), [1, 0, 1, 0, commits, aborts]);
-    }
+    let right = [
+        stops(&rt, WRITES, Did::Done, COMMITTED, 1, spent(1), [0, 1])?,
+        stops(&rt, WRITES, Did::Done, COMMITTED, 2, spent(2), [0, 1])?,
+        stops(&rt, WRITES, Did::Done, COMMITTED, 3, spent(3), [1, 0])?,
+        stops(&rt, WRITES, Did::Done, COMMITTED, 4, Ending::Done, [1, 0])?,
+        stops(&rt, WRITES, Did::Abort, COMMITTED, 3, spent(3), [1, 0])?,
+        stops(&rt, TWO_WRITE, Did::Done, COMMITTED, 4, spent(4), [1, 0])?,
+        stops(&rt, ABORTS, Did::Done, ABORTED, 3, spent(3), [0, 1])?,
+    ];
+    assert_eq!(rt; right, [true; 7]);
     let line = ends_text(rt.alloc(), &[spent(2)])?;
     assert_eq!(rt; line.as_str(), "{\"ends\":[\"spent\"]}\n");
     Ok(())

@@ -40,41 +40,61 @@ fn each_call_is_made_once(rt: HostRuntime) -> Result<(), Fail> {
     Ok(())
 }
 
-/// An order that runs out leaves a transaction open, no call is made in one that did not begin, and a request reaches the memory.
+/// Whether this workload is driven so, over a memory that begins transactions or not and gets so many calls.
+fn is_driven(
+    alloc: Global,
+    text: &str,
+    at_begin: Did,
+    log: &[Kind],
+    end: Ending,
+    counts: [u64; 6],
+) -> Result<bool, Fail> {
+    let memory = Counting::new(at_begin, Did::Done, 0);
+    let outcome = driven(alloc, &memory, text)?;
+    Ok(
+        has_recorded(outcome.log.as_slice(), log)
+            && outcome.ends.as_slice() == [end].as_slice()
+            && memory.counts() == counts,
+    )
+}
+
+/// An order that runs out leaves a transaction open.
 #[test]
-fn each_call_of_a_begun_transaction_is_made(rt: HostRuntime) -> Result<(), Fail> {
-    for (at_begin, text, log, end, counts) in [
-        (
-            Did::Done,
-            r#"{"order": [0], "registers": 1, "scripts": [[["R 0", "T"]]]}"#,
-            [Kind::R(FIRST), Kind::V(0)].as_slice(),
-            Ending::Left,
-            [1, 1, 0, 0, 0, 0],
-        ),
-        (
+fn an_open_transaction_is_left(rt: HostRuntime) -> Result<(), Fail> {
+    let text = r#"{"order": [0], "registers": 1, "scripts": [[["R 0", "T"]]]}"#;
+    let log = [Kind::R(FIRST), Kind::V(0)];
+    let counts = [1, 1, 0, 0, 0, 0];
+    let right = is_driven(rt.alloc(), text, Did::Done, &log, Ending::Left, counts)?;
+    assert!(rt; right);
+    Ok(())
+}
+
+/// No call is made in a transaction that did not begin, and an abort request reaches one that did.
+#[test]
+fn requests_reach_what_has_begun(rt: HostRuntime) -> Result<(), Fail> {
+    let text = r#"{"order": [0, 0, 0, 0], "registers": 1, "scripts": [[["N 0 1", "X"], ["X"]]]}"#;
+    let begun = [
+        Kind::N(FIRST, 1),
+        Kind::V(0),
+        Kind::X,
+        Kind::A,
+        Kind::X,
+        Kind::A,
+    ];
+    let counts = [2, 0, 0, 1, 0, 2];
+    let refused = [Kind::N(FIRST, 1), Kind::A, Kind::X, Kind::A];
+    let right = [
+        is_driven(rt.alloc(), text, Did::Done, &begun, Ending::Done, counts)?,
+        is_driven(
+            rt.alloc(),
+            text,
             Did::Abort,
-            r#"{"order": [0, 0, 0], "registers": 1, "scripts": [[["R 0", "T"], ["X"]]]}"#,
-            [Kind::R(FIRST), Kind::A, Kind::X, Kind::A].as_slice(),
+            &refused,
             Ending::Done,
             [2, 0, 0, 0, 0, 0],
-        ),
-        (
-            Did::Done,
-            r#"{"order": [0, 0], "registers": 1, "scripts": [[["N 0 1", "X"]]]}"#,
-            [Kind::N(FIRST, 1), Kind::V(0), Kind::X, Kind::A].as_slice(),
-            Ending::Done,
-            [1, 0, 0, 1, 0, 1],
-        ),
-    ] {
-        let memory = Counting::new(at_begin, Did::Done, 0);
-        let outcome = driven(rt.alloc(), &memory, text)?;
-        assert!(rt; has_recorded(outcome.log.as_slice(), log), "of {text}");
-        assert_eq!(rt;
-            (outcome.ends.as_slice(), memory.counts()),
-            ([end].as_slice(), counts),
-            "of {text}"
-        );
-    }
+        )?,
+    ];
+    assert_eq!(rt; right, [true; 2]);
     Ok(())
 }
 

@@ -17,7 +17,7 @@ fn stop_of(
     signals: &Signals,
 ) -> Result<Option<Refused>, Fail> {
     let (ring, mut writers, _reader) = ring(alloc, 1, 1, 100)?;
-    let script = vec![in alloc; vec![in alloc; Kind::W(FIRST, 5), Kind::T]?]?;
+    let script = [vec![in alloc; Kind::W(FIRST, 5), Kind::T]?];
     Ok(work(memory, &ring, &mut writers[0], &script, patience, signals))
 }
 
