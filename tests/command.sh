@@ -258,6 +258,8 @@ for memory in norec lock torn; do
     expect_of "$write" 0 "$(printf '%s\n' '{"events":400,"verdict":"opaque so far"}' '{"ends":["done"]}')" bench --memory "$memory" --rounds 100
 done
 expect_of "$write" 0 "$(printf '%s\n' '{"events":4,"verdict":"opaque so far"}' '{"ends":["done"]}')" bench --ring=1 --patience 1000000000
+expect_of "{\"registers\":1,\"scripts\":[[$(yes '["W 0 1","T"],' | head -n 99 | tr -d '\n')[\"W 0 1\",\"T\"]]],\"order\":[]}" 0 \
+    "$(printf '%s\n' '{"events":400,"verdict":"opaque so far"}' '{"ends":["done"]}')" bench --ring 8 --patience 1000000000
 expect_of '{"registers":1,"scripts":[[],[]],"order":[]}' 0 "$(printf '%s\n' '{"events":0,"verdict":"opaque so far"}' '{"ends":["done","done"]}')" bench
 expect_of '{"registers":1,"scripts":[[],[]],"order":[]}' 4 '{"fault":"ring"}' bench --ring 1
 # on a terminal, and there alone, a bench tells after each 100,000 rounds how far it has come, and clears that at the end

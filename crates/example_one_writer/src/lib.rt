@@ -2,7 +2,5 @@
 #![tactic(auto)]
 
 mod one_writer;
-#[cfg(test)]
-mod tests;
 
 pub use one_writer::OneWriter;

@@ -1,38 +1,30 @@
 //! What the contract leaves open: that there are memory and threads, which calls the memory gets, that threads work at once and are
 //! judged meanwhile, and that a thread stops only where its ring lacks room.
-ghost use Rattle.std.specs.Prelude.{◌≡◌, ◌≤◌};
+ghost use Rattle.std.specs.Prelude.{◌≤◌};
 
-use std::alloc::Global;
+use std::sync::Wait;
 use std::test::Fail;
-use test_support::{FIRST, one};
-use tmw_bench::{BenchFault, Settings, run_bench};
+use std::thread::Threads;
+use test_support::FIRST;
+use tmw_bench::{BenchFault, Benched, Settings, ends_text, run_bench};
 use tmw_defs::Verdict;
 use tmw_drive::Ending;
-use tmw_events::{Event, Kind, Registers};
+use tmw_events::{Event, Kind};
 use tmw_monitor::Bounds;
 use tmw_ring::{Refused, RingFault};
-use tmw_tm::Did;
-use tmw_workloads::Workload;
+use tmw_tm::{Did, Tm};
 
 mod at_once;
-mod hunting;
 mod memories;
-mod plain;
 mod progress;
-mod rounds;
 
-use crate::counting::Counting;
-use crate::told::told;
-use memories::{Holding, Overlapping, Overtaken, Waiting};
-
-const ONE: Registers = Registers { number: 1 };
+use crate::counting::{Counting, TWO_SEVENS};
+use crate::told::{has_recorded, told};
 
 /// How often a record is tried if no thread is to stop.
 const PATIENT: u64 = 1_000_000_000;
 
 const WRITES: &str = r#"{"order": [], "registers": 1, "scripts": [[["W 0 5", "T"]]]}"#;
-
-const READS: &str = r#"{"order": [], "registers": 1, "scripts": [[["R 0", "R 0", "T"]]]}"#;
 
 const TWO_READ: &str =
     r#"{"order": [], "registers": 2, "scripts": [[["R 0", "T"]], [["R 1", "T"]]]}"#;
@@ -40,8 +32,7 @@ const TWO_READ: &str =
 /// Settings for short runs.
 const fn settings(cells: u64, limit: u64, patience: u64, rounds: u64) -> Settings
     requires some { 1 ≤ rounds }
-    requires few { rounds ≤ 1000000 }
-    ensures { result.rounds ≡ rounds }
+    requires few { rounds ≤ 1000000000 }
 {
     Settings {
         cells,
@@ -55,105 +46,124 @@ const fn settings(cells: u64, limit: u64, patience: u64, rounds: u64) -> Setting
     }
 }
 
-/// One thread makes this transaction so many times.
-fn often(alloc: Global, transaction: &str, times: u64) -> Result<Workload, Fail> {
-    let mut text = String::new(alloc);
-    text.push_str(r#"{"order": [], "registers": 1, "scripts": [["#)?;
-    for at in 0..times {
-        if at > 0 {
-            text.push(',')?;
-        }
-        text.push_str(transaction)?;
-    }
-    text.push_str("]]}")?;
-    told(alloc, &text)
+/// The log of a thread that writes and then commits.
+const COMMITTED: [Kind; 4] = [Kind::W(FIRST, 5), Kind::K, Kind::T, Kind::C];
+
+/// The log of a thread that writes and then asks for an abort.
+const ABORTED: [Kind; 4] = [Kind::W(FIRST, 5), Kind::K, Kind::X, Kind::A];
+
+const ABORTS: &str = r#"{"order": [], "registers": 1, "scripts": [[["W 0 5", "X"]]]}"#;
+
+const TWO_WRITE: &str =
+    r#"{"order": [], "registers": 1, "scripts": [[["W 0 5", "T"], ["W 0 5", "T"]]]}"#;
+
+/// Runs this workload over the memory.
+fn run(
+    rt: &(impl Threads + Wait + Sync + AllocGlobal),
+    memory: &(dyn Tm + Sync),
+    text: &str,
+    settings: Settings,
+) -> Result<Benched, Fail> {
+    let workload = told(rt.alloc(), text)?;
+    Ok(run_bench(rt, rt.alloc(), memory, &workload, settings)?)
 }
 
+/// Returns the end of a thread that finds all of so many places claimed.
+const fn spent(places: u64) -> Ending {
+    Ending::Stopped(Refused::Spent { tail: places })
+}
+
+/// Whether a thread of this workload, with so many places of this log, ends so, after so many commits and aborts.
+fn stops(
+    rt: &(impl Threads + Wait + Sync + AllocGlobal),
+    text: &str,
+    at_commit: Did,
+    log: [Kind; 4],
+    places: u64,
+    end: Ending,
+    ended: [u64; 2],
+) -> Result<bool, Fail>
+    requires { places ≤ 4 }
+{
+    let [commits, aborts] = ended;
+    let memory = Counting::new(Did::Done, at_commit, 7);
+    let outcome = run(rt, &memory, text, settings(4, places, 1_000_000, 1))?.outcome;
+    Ok(
+        has_recorded(outcome.log.as_slice(), &log[..places as usize])
+            && outcome.verdict == Verdict::OpaqueSoFar
+            && outcome.ends.as_slice() == [end].as_slice()
+            && memory.counts() == [1, 0, 1, 0, commits, aborts],
+    )
+}
+
+/// A transaction is aborted in which the thread was stopped, and no other: none that the memory has ended, and none that has not begun.
 #[test]
 fn a_thread_stops_where_the_places_are_spent(rt: HostRuntime) -> Result<(), Fail> {
-    let workload = told(rt.alloc(), WRITES)?;
-    let log = [
-        one(Kind::W(FIRST, 5)),
-        one(Kind::K),
-        one(Kind::T),
-        one(Kind::C),
+    let right = [
+        stops(&rt, WRITES, Did::Done, COMMITTED, 1, spent(1), [0, 1])?,
+        stops(&rt, WRITES, Did::Done, COMMITTED, 2, spent(2), [0, 1])?,
+        stops(&rt, WRITES, Did::Done, COMMITTED, 3, spent(3), [1, 0])?,
+        stops(&rt, WRITES, Did::Done, COMMITTED, 4, Ending::Done, [1, 0])?,
+        stops(&rt, WRITES, Did::Abort, COMMITTED, 3, spent(3), [1, 0])?,
+        stops(&rt, TWO_WRITE, Did::Done, COMMITTED, 4, spent(4), [1, 0])?,
+        stops(&rt, ABORTS, Did::Done, ABORTED, 3, spent(3), [0, 1])?,
     ];
-    for (limit, ending, commits, aborts) in [
-        (1, Ending::Stopped(Refused::Spent { tail: 1 }), 0, 1),
-        (2, Ending::Stopped(Refused::Spent { tail: 2 }), 0, 1),
-        (3, Ending::Stopped(Refused::Spent { tail: 3 }), 1, 0),
-        (4, Ending::Done, 1, 0),
+    assert_eq!(rt; right, [true; 7]);
+    let line = ends_text(rt.alloc(), &[spent(2)])?;
+    assert_eq!(rt; line.as_str(), "{\"ends\":[\"spent\"]}\n");
+    Ok(())
+}
+
+#[test]
+fn no_call_is_made_without_places_or_registers(rt: HostRuntime) -> Result<(), Fail> {
+    for (text, limit, fault) in [
+        (WRITES, 0, BenchFault::Ring(RingFault::BadLimit)),
+        (TWO_READ, 1_000, BenchFault::Registers),
     ] {
-        let memory = Counting::new(ONE, Did::Done, 7);
-        let settings = settings(4, limit, 1_000_000, 1);
-        let benched = run_bench(&rt, rt.alloc(), &memory, &workload, settings)?;
-        assert_eq!(rt; benched.outcome.log.as_slice(), &log[..limit as usize]);
-        assert_eq!(rt; benched.outcome.verdict, Verdict::OpaqueSoFar);
-        assert_eq!(rt; benched.outcome.ends.as_slice(), [ending].as_slice());
-        assert_eq!(rt; benched.rounds, 1);
-        assert_eq!(rt; memory.counts(), [1, 0, 1, 0, commits, aborts]);
+        let workload = told(rt.alloc(), text)?;
+        let memory = Counting::new(Did::Done, Did::Done, 7);
+        let settings = settings(8, limit, PATIENT, 1);
+        let benched = run_bench(&rt, rt.alloc(), &memory, &workload, settings);
+        assert_eq!(rt; (benched.err(), memory.counts()), (Some(fault), [0; 6]));
     }
     Ok(())
 }
 
 #[test]
-fn no_ring_has_no_place(rt: HostRuntime) -> Result<(), Fail> {
-    let workload = told(rt.alloc(), WRITES)?;
-    let memory = Counting::new(ONE, Did::Done, 7);
-    let settings = settings(8, 0, PATIENT, 1);
-    let fault = run_bench(&rt, rt.alloc(), &memory, &workload, settings).err();
-    assert_eq!(rt; fault, Some(BenchFault::Ring(RingFault::BadLimit)));
-    assert_eq!(rt; memory.counts(), [0, 0, 0, 0, 0, 0]);
+fn each_call_is_made_once(rt: HostRuntime) -> Result<(), Fail> {
+    let text = r#"{"order": [], "registers": 1, "scripts": [[["R 0", "R 0", "T"]]]}"#;
+    let memory = Counting::new(Did::Done, Did::Done, 7);
+    let outcome = run(&rt, &memory, text, settings(16, 1 << 40, 1_000_000, 1))?.outcome;
+    assert!(rt; has_recorded(outcome.log.as_slice(), &TWO_SEVENS));
+    assert_eq!(rt; outcome.verdict, Verdict::Violated(2));
+    assert_eq!(rt; memory.counts(), [1, 2, 0, 0, 1, 0]);
     Ok(())
 }
 
-#[test]
-fn a_memory_has_the_registers_of_the_workload(rt: HostRuntime) -> Result<(), Fail> {
-    let workload = told(rt.alloc(), TWO_READ)?;
-    let memory = Counting::new(ONE, Did::Done, 7);
-    let settings = settings(8, 0, PATIENT, 1);
-    let fault = run_bench(&rt, rt.alloc(), &memory, &workload, settings).err();
-    assert_eq!(rt; fault, Some(BenchFault::Registers));
-    assert_eq!(rt; memory.counts(), [0, 0, 0, 0, 0, 0]);
-    Ok(())
+/// How many events a thread has recorded that writes and commits over one cell and tries each record once, and where it was stopped.
+fn try_once(
+    rt: &(impl Threads + Wait + Sync + AllocGlobal),
+) -> Result<(usize, Option<Ending>), Fail> {
+    let memory = Counting::new(Did::Done, Did::Done, 7);
+    let outcome = run(rt, &memory, WRITES, settings(1, 1_000, 1, 1))?.outcome;
+    Ok((outcome.log.len(), outcome.ends.first().copied()))
 }
 
-#[test]
-fn a_small_ring_carries_a_long_log(rt: HostRuntime) -> Result<(), Fail> {
-    // 6,000 events are more than any ring holds at once.
-    for (transaction, times, writes, events) in [
-        (r#"["W 0 1", "T"]"#, 100, 100, 400),
-        (r#"["W 0 1", "W 0 1", "T"]"#, 1_000, 2_000, 6_000),
-    ] {
-        let workload = often(rt.alloc(), transaction, times)?;
-        let memory = Counting::new(ONE, Did::Done, 7);
-        let settings = settings(8, 10_000, PATIENT, 1);
-        let benched = run_bench(&rt, rt.alloc(), &memory, &workload, settings)?;
-        assert_eq!(rt; benched.outcome.log.len(), events);
-        assert_eq!(rt; benched.outcome.verdict, Verdict::OpaqueSoFar);
-        assert_eq!(rt; benched.outcome.ends.as_slice(), [Ending::Done].as_slice());
-        assert_eq!(rt; memory.counts(), [times, 0, writes, 0, times, 0]);
-    }
-    Ok(())
-}
-
+/// A ring of one cell is full, in some run at least, before what is in it was judged.
 #[test]
 fn a_thread_of_a_small_ring_is_done_or_stopped(rt: HostRuntime) -> Result<(), Fail> {
-    let workload = told(rt.alloc(), WRITES)?;
-    let settings = settings(1, 1_000, 1, 1);
+    let mut stopped = 0u64;
     for _ in 0..1_000 {
-        let memory = Counting::new(ONE, Did::Done, 7);
-        let benched = run_bench(&rt, rt.alloc(), &memory, &workload, settings)?;
-        let events = benched.outcome.log.len();
-        assert_eq!(rt; benched.outcome.ends.len(), 1);
-        match benched.outcome.ends[0] {
-            Ending::Done => assert_eq!(rt; events, 4),
-            Ending::Stopped(Refused::Full { front, tail }) => {
-                assert!(rt; front < tail);
-                assert!(rt; events < 4);
+        let (events, is_right) = match try_once(&rt)? {
+            (events, Some(Ending::Done)) => (events, events == 4),
+            (events, Some(Ending::Stopped(Refused::Full { front, tail }))) => {
+                stopped = stopped.wrapping_add(1);
+                (events, front < tail && events < 4)
             }
-            _ => panic!(rt; "neither done nor stopped by a full ring"),
-        }
+            (events, _) => (events, false),
+        };
+        assert!(rt; is_right, "{events} events");
     }
+    assert!(rt; stopped > 0);
     Ok(())
 }

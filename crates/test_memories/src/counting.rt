@@ -1,16 +1,28 @@
 //! A memory whose calls are counted.
+ghost use Rattle.std.proofs.Common.{rules};
+ghost use Rattle.std.proofs.lemmas.Grind.{common_steps};
 ghost use Rattle.std.specs.Prelude.{◌≡◌, ℕ};
 ghost use Rattle.tmw_tm.specs.Answers.Answer.{Value};
 
 use std::sync::atomic::{AtomicU64, Ordering};
-use tmw_events::{Ix, Registers};
+use test_support::FIRST;
+use tmw_events::{Ix, Kind, Registers};
 use tmw_tm::{Did, Got, Tm, Tx};
 
-/// A memory that answers one value to each read and each add, carries out all else, and counts its calls. It begins transactions, or
-/// aborts them, and commits them, or aborts them at their commits, as it was made to do.
+/// What a thread records of two reads and a commit request, where a memory answers 7.
+pub const TWO_SEVENS: [Kind; 6] = [
+    Kind::R(FIRST),
+    Kind::V(7),
+    Kind::R(FIRST),
+    Kind::V(7),
+    Kind::T,
+    Kind::C,
+];
+
+/// A memory of one register that answers one value to each read and each add, carries out each write, and counts its calls. It
+/// begins transactions, or aborts them, and commits them, or aborts them at their commits, as it was made to do.
 #[derive(Drop)]
 pub struct Counting {
-    registers: Registers,
     at_begin: Did,
     at_commit: Did,
     value: u64,
@@ -23,19 +35,9 @@ pub struct Counting {
 }
 
 impl Counting {
-    /// Makes a memory that commits each transaction that it begins.
-    pub fn new(registers: Registers, at_begin: Did, value: u64) -> Counting {
-        Counting::ending(registers, at_begin, Did::Done, value)
-    }
-
-    /// Makes a memory that aborts each transaction at its commit.
-    pub fn aborting(registers: Registers) -> Counting {
-        Counting::ending(registers, Did::Done, Did::Abort, 7)
-    }
-
-    fn ending(registers: Registers, at_begin: Did, at_commit: Did, value: u64) -> Counting {
+    /// Makes a memory that answers so to a begin, to a commit, and to reads and adds.
+    pub fn new(at_begin: Did, at_commit: Did, value: u64) -> Counting {
         Counting {
-            registers,
             at_begin,
             at_commit,
             value,
@@ -64,12 +66,12 @@ impl Counting {
 impl Tm for Counting {
     ghost gives = { λ memory call answer. (value : ℕ) → answer ≡ Value value → value ≡ memory.value };
 
-    ghost has = { λ memory. memory.registers.number };
+    ghost has = { λ memory. 1 };
 
-    ghost has_few = { λ memory. (memory.registers.some, memory.registers.most) };
+    ghost has_few = { λ memory. (Prim.search (rules, common_steps), Prim.search (rules, common_steps)) };
 
     fn registers(&self) -> Registers {
-        self.registers
+        Registers { number: 1 }
     }
 
     fn begin(&self, _tx: &mut Tx) -> Did {

@@ -4,13 +4,13 @@
 #[cfg(test)]
 mod bench;
 #[cfg(test)]
-mod commands;
-#[cfg(test)]
 mod counting;
 #[cfg(test)]
 mod drive;
 #[cfg(test)]
 mod memories;
+#[cfg(test)]
+mod one_writer;
 #[cfg(test)]
 mod refused;
 #[cfg(test)]

@@ -68,8 +68,8 @@ pub fn run_bench<R: Threads + Wait + Sync>(
 }
 
 /// Runs and judges as `run_bench` does, and keeps only the events of the last window. So its memory does not grow with
-/// the number of rounds. After each 100,000 rounds that another follows it tells how far it has come, and at last that
-/// it is over.
+/// the number of rounds. Each time `progress.every()` rounds have ended and another follows, it tells how far it has
+/// come, and at last that it is over.
 pub fn hunt<R: Threads + Wait + Sync, P: Progress>(
     rt: &R,
     alloc: Global,

@@ -7,9 +7,6 @@ use tmw_events::Event;
 use tmw_monitor::Monitor;
 use tmw_show::{KeptWindow, NextShown};
 
-/// After so many rounds it is told, each time, how far the bench has come.
-const EVERY: u64 = 100_000;
-
 /// The last window. Somebody is told now and then how far the bench has come.
 #[derive(Drop)]
 pub struct Hunting<'a, P> {
@@ -42,7 +39,7 @@ impl<'a, P: Progress> Keep for Hunting<'a, P> {
     }
 
     fn tell(&self, rounds: u64, events: u64, unasked: u64) {
-        if rounds % EVERY == 0 {
+        if rounds % self.progress.every().max(1) == 0 {
             self.progress.tell(rounds, events, unasked);
         }
     }

@@ -6,6 +6,9 @@ use tmw_streams::{BoundedSink, IoFault, StdSink, put_all, put_with_number};
 /// Clears the terminal's line, and goes back to its start.
 const CLEAR: &[u8] = b"\r\x1b[K";
 
+/// After so many rounds, each time, the line is written anew: so seldom that it slows no bench down.
+const EVERY: u64 = 100_000;
+
 /// A progress on a terminal: one line, which is written over each time and cleared at the end.
 #[derive(Drop)]
 pub struct Terminal<W> {
@@ -15,6 +18,10 @@ pub struct Terminal<W> {
 }
 
 impl<W: Write + Copy> Progress for Terminal<W> {
+    fn every(&self) -> u64 {
+        EVERY
+    }
+
     fn tell(&self, rounds: u64, events: u64, unasked: u64) {
         let mut line = BoundedSink::new();
         if put_line(&mut line, rounds, events, unasked).is_ok() {

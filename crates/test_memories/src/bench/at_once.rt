@@ -1,99 +1,62 @@
 //! Threads work at once, and record each call before they make it, and its answer behind it.
+use super::memories::{Overtaken, Waiting};
 use super::*;
-
-const BOTH_READ: &str =
-    r#"{"order": [], "registers": 1, "scripts": [[["R 0", "R 0", "R 0", "T"]], [["R 0", "R 0", "R 0", "T"]]]}"#;
-
-const ROUNDS: u64 = 100;
-
-/// So many of the rounds are to overlap, in one bench of several. Where the workers wait for one another nearly all do on processors
-/// that are free.
-const OVERLAPS: u64 = 90;
-
-/// On a busy machine so many benches are tried.
-const BENCHES: u64 = 50;
-
-/// Two threads make this transaction twice each.
-fn twice_by_two(alloc: Global, transaction: &str) -> Result<Workload, Fail> {
-    let script = format!(in alloc; "[{transaction},{transaction}]")?;
-    let text = format!(in alloc; r#"{{"order":[],"registers":1,"scripts":[{script},{script}]}}"#)?;
-    told(alloc, &text)
-}
-
-/// The kind of the event at this place, if there is one.
-fn kind_at(log: &[Event], place: usize) -> Option<Kind> {
-    log.get(place).map(|event| event.kind)
-}
 
 #[test]
 fn threads_work_at_once(rt: HostRuntime) -> Result<(), Fail> {
-    let workload = told(rt.alloc(), TWO_READ)?;
-    let memory = Waiting::new();
-    let benched = run_bench(
+    let outcome = run(
         &rt,
-        rt.alloc(),
-        &memory,
-        &workload,
+        &Waiting::new(),
+        TWO_READ,
         settings(8, 1_000, PATIENT, 1),
-    )?;
-    let done = [Ending::Done, Ending::Done];
-    assert_eq!(rt; benched.outcome.ends.as_slice(), done.as_slice());
-    assert_eq!(rt; benched.outcome.log.len(), 8);
-    for event in benched.outcome.log.as_slice() {
-        assert!(rt; event.kind != Kind::A);
-    }
+    )?
+    .outcome;
+    assert_eq!(rt;
+        outcome.ends.as_slice(),
+        [Ending::Done, Ending::Done].as_slice()
+    );
+    assert_eq!(rt; outcome.log.len(), 8);
+    assert!(rt; outcome.log.iter().all(|event| event.kind != Kind::A));
     Ok(())
+}
+
+/// Whether two threads that make this transaction twice each begin their log so, and record so many events.
+fn begins(
+    rt: &(impl Threads + Wait + Sync + AllocGlobal),
+    transaction: &str,
+    holds_begin: bool,
+    kinds: [Kind; 4],
+    events: usize,
+) -> Result<bool, Fail> {
+    let script = format!(in rt.alloc(); "[{transaction},{transaction}]")?;
+    let text = format!(in rt.alloc();
+        r#"{{"order":[],"registers":1,"scripts":[{script},{script}]}}"#
+    )?;
+    let memory = Overtaken::new(holds_begin);
+    let log = run(rt, &memory, &text, settings(8, 1_000, PATIENT, 1))?
+        .outcome
+        .log;
+    let mut begin = log.iter().zip(kinds);
+    Ok(log.len() == events && begin.all(|(event, kind)| event.kind == kind))
 }
 
 /// One thread's first call is held in the memory until the other thread has made two. So the log begins with the first calls of
 /// both, and goes on with the other thread's answer and its next call.
 #[test]
 fn the_log_has_the_order_of_calls_and_answers(rt: HostRuntime) -> Result<(), Fail> {
-    let read = Kind::R(FIRST);
-    let write = Kind::W(FIRST, 0);
-    let add = Kind::N(FIRST, 0);
-    for (transaction, holds_begin, call, answer, next, events) in [
-        (r#"["R 0","T"]"#, true, read, Kind::V(0), Kind::T, 16),
-        (r#"["R 0","T"]"#, false, read, Kind::V(0), Kind::T, 16),
-        (r#"["W 0 0","T"]"#, false, write, Kind::K, Kind::T, 16),
-        (r#"["N 0 0","T"]"#, false, add, Kind::V(0), Kind::T, 16),
-        (r#"["T"]"#, false, Kind::T, Kind::C, Kind::T, 8),
-        (r#"["X"]"#, false, Kind::X, Kind::A, Kind::X, 8),
-    ] {
-        let workload = twice_by_two(rt.alloc(), transaction)?;
-        let memory = Overtaken::new(holds_begin);
-        let settings = settings(8, 1_000, PATIENT, 1);
-        let benched = run_bench(&rt, rt.alloc(), &memory, &workload, settings)?;
-        let log = benched.outcome.log.as_slice();
-        let begun = [
-            kind_at(log, 0),
-            kind_at(log, 1),
-            kind_at(log, 2),
-            kind_at(log, 3),
-        ];
-        let wanted = [Some(call), Some(call), Some(answer), Some(next)];
-        assert_eq!(rt;
-            (log.len(), begun),
-            (events, wanted),
-            "of {transaction}, where begins are held: {holds_begin}"
-        );
-    }
-    Ok(())
-}
-
-#[test]
-fn the_workers_of_a_round_begin_together(rt: HostRuntime) -> Result<(), Fail> {
-    let workload = told(rt.alloc(), BOTH_READ)?;
-    let mut most = 0;
-    for _ in 0..BENCHES {
-        let memory = Overlapping::new();
-        let settings = settings(8, 10_000, PATIENT, ROUNDS);
-        run_bench(&rt, rt.alloc(), &memory, &workload, settings)?;
-        most = most.max(memory.overlaps());
-        if most >= OVERLAPS {
-            break;
-        }
-    }
-    assert!(rt; most >= OVERLAPS, "at most {most} of {ROUNDS} rounds");
+    let read = [Kind::R(FIRST), Kind::R(FIRST), Kind::V(0), Kind::T];
+    let write = [Kind::W(FIRST, 0), Kind::W(FIRST, 0), Kind::K, Kind::T];
+    let add = [Kind::N(FIRST, 0), Kind::N(FIRST, 0), Kind::V(0), Kind::T];
+    let commit = [Kind::T, Kind::T, Kind::C, Kind::T];
+    let abort = [Kind::X, Kind::X, Kind::A, Kind::X];
+    let right = [
+        begins(&rt, r#"["R 0","T"]"#, true, read, 16)?,
+        begins(&rt, r#"["R 0","T"]"#, false, read, 16)?,
+        begins(&rt, r#"["W 0 0","T"]"#, false, write, 16)?,
+        begins(&rt, r#"["N 0 0","T"]"#, false, add, 16)?,
+        begins(&rt, r#"["T"]"#, false, commit, 8)?,
+        begins(&rt, r#"["X"]"#, false, abort, 8)?,
+    ];
+    assert_eq!(rt; right, [true; 6]);
     Ok(())
 }

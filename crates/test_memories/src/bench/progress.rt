@@ -1,26 +1,23 @@
 //! How far a bench has come, as it tells it.
+ghost use Rattle.std.specs.Prelude.{◌≤◌};
+
 use super::*;
+use std::array;
 use std::sync::atomic::{AtomicU64, Ordering};
 use tmw_bench::{Progress, hunt};
 
-/// Adds up what it is told, and counts how often it is told something, and how often that it is over.
+/// Adds up what it is told.
 #[derive(Drop)]
 struct Remembering {
-    rounds: AtomicU64,
-    events: AtomicU64,
-    unasked: AtomicU64,
-    times: AtomicU64,
-    ends: AtomicU64,
+    every: u64,
+    sums: [AtomicU64; 5],
 }
 
 impl Remembering {
-    fn new() -> Remembering {
+    fn new(every: u64) -> Remembering {
         Remembering {
-            rounds: AtomicU64::new(0),
-            events: AtomicU64::new(0),
-            unasked: AtomicU64::new(0),
-            times: AtomicU64::new(0),
-            ends: AtomicU64::new(0),
+            every,
+            sums: array::from_fn(|_| AtomicU64::new(0)),
         }
     }
 
@@ -28,60 +25,65 @@ impl Remembering {
     /// is over.
     fn remembered(&self) -> [u64; 5] {
         [
-            self.rounds.load(Ordering::SeqCst),
-            self.events.load(Ordering::SeqCst),
-            self.unasked.load(Ordering::SeqCst),
-            self.times.load(Ordering::SeqCst),
-            self.ends.load(Ordering::SeqCst),
+            self.sums[0].load(Ordering::SeqCst),
+            self.sums[1].load(Ordering::SeqCst),
+            self.sums[2].load(Ordering::SeqCst),
+            self.sums[3].load(Ordering::SeqCst),
+            self.sums[4].load(Ordering::SeqCst),
         ]
     }
 }
 
 impl Progress for Remembering {
+    fn every(&self) -> u64 {
+        self.every
+    }
+
     fn tell(&self, rounds: u64, events: u64, unasked: u64) {
-        self.rounds.fetch_add(rounds, Ordering::SeqCst);
-        self.events.fetch_add(events, Ordering::SeqCst);
-        self.unasked.fetch_add(unasked, Ordering::SeqCst);
-        self.times.fetch_add(1, Ordering::SeqCst);
+        self.sums[0].fetch_add(rounds, Ordering::SeqCst);
+        self.sums[1].fetch_add(events, Ordering::SeqCst);
+        self.sums[2].fetch_add(unasked, Ordering::SeqCst);
+        self.sums[3].fetch_add(1, Ordering::SeqCst);
     }
 
     fn end(&self) {
-        self.ends.fetch_add(1, Ordering::SeqCst);
+        self.sums[4].fetch_add(1, Ordering::SeqCst);
     }
 }
 
 /// In each round two commits are aborted, and another transaction asks for its abort.
-const ABORTS: &str =
+const UNASKED: &str =
     r#"{"order": [], "registers": 1, "scripts": [[["T"], ["T"], ["W 0 5", "X"]]]}"#;
 
-#[test]
-fn it_is_told_how_far_a_bench_has_come(rt: HostRuntime) -> Result<(), Fail> {
-    let workload = told(rt.alloc(), ABORTS)?;
-    for (rounds, remembered) in [
-        (100_000, [0, 0, 0, 0, 1]),
-        (200_001, [300_000, 2_400_000, 600_000, 2, 1]),
-    ] {
-        let memory = Counting::aborting(ONE);
-        let progress = Remembering::new();
-        let settings = settings(64, 10_000_000, PATIENT, rounds);
-        let hunted = hunt(&rt, rt.alloc(), &memory, &workload, settings, &progress)?;
-        assert_eq!(rt;
-            (hunted.showing.verdict, hunted.rounds),
-            (Verdict::OpaqueSoFar, rounds)
-        );
-        assert_eq!(rt; progress.remembered(), remembered);
-    }
-    Ok(())
+/// What is told of a bench of so many rounds and places, each time after so many rounds.
+fn tell_of(
+    rt: &(impl Threads + Wait + Sync + AllocGlobal),
+    every: u64,
+    rounds: u64,
+    limit: u64,
+) -> Result<[u64; 5], Fail>
+    requires some { 1 ≤ rounds }
+    requires few { rounds ≤ 1000000000 }
+{
+    let workload = told(rt.alloc(), UNASKED)?;
+    let memory = Counting::new(Did::Done, Did::Abort, 7);
+    let progress = Remembering::new(every);
+    let settings = settings(64, limit, PATIENT, rounds);
+    let _hunted = hunt(rt, rt.alloc(), &memory, &workload, settings, &progress);
+    Ok(progress.remembered())
 }
 
 #[test]
-fn it_is_told_that_a_bench_is_over_that_was_refused(rt: HostRuntime) -> Result<(), Fail> {
-    let workload = told(rt.alloc(), WRITES)?;
-    let memory = Counting::new(ONE, Did::Done, 7);
-    let progress = Remembering::new();
-    let settings = settings(0, 10_000, PATIENT, 1);
-    let fault = hunt(&rt, rt.alloc(), &memory, &workload, settings, &progress).err();
-    assert_eq!(rt; fault, Some(BenchFault::Ring(RingFault::BadSize)));
-    assert_eq!(rt; progress.remembered(), [0, 0, 0, 0, 1]);
+fn it_is_told_how_far_a_bench_has_come(rt: HostRuntime) -> Result<(), Fail> {
+    let told = [
+        tell_of(&rt, 3, 3, 1_000)?,
+        tell_of(&rt, 3, 7, 1_000)?,
+        tell_of(&rt, 0, 3, 1_000)?,
+        tell_of(&rt, 1, 3, 0)?,
+    ];
+    assert_eq!(rt; told[0], [0, 0, 0, 0, 1]);
+    assert_eq!(rt; told[1], [9, 72, 18, 2, 1]);
+    assert_eq!(rt; told[2], [3, 24, 6, 2, 1]);
+    assert_eq!(rt; told[3], [0, 0, 0, 0, 1], "of a ring without places");
     Ok(())
 }
