@@ -1,6 +1,6 @@
 use crate::orders::Orders;
-use tmw_events::Kind;
 use crate::signals::Signals;
+use tmw_events::Kind;
 use tmw_ring::Ring;
 
 /// What the threads of one bench share, beside the memory.

@@ -8,10 +8,10 @@ ghost use Rattle.tmw_runs.specs.Scripts.{are_transactions};
 ghost use Rattle.tmw_bench.specs.Calling.{HasCalled, StopsAt};
 ghost use Rattle.tmw_bench.specs.Working.{HasWorked};
 
-use tmw_drive::{Player, ends};
-use tmw_events::Kind;
 use crate::record::record_soon;
 use crate::signals::Signals;
+use tmw_drive::{Player, ends};
+use tmw_events::Kind;
 use tmw_ring::{Refused, Ring, Writer};
 use tmw_tm::Tm;
 
