@@ -6,10 +6,10 @@ use std::sync::Wait;
 use std::test::Fail;
 use std::thread::Threads;
 use test_support::FIRST;
-use tmw_bench::{BenchFault, Benched, Settings, ends_text, run_bench};
+use tmw_bench::{BenchFault, Settings, ends_text, run_bench};
 use tmw_defs::Verdict;
-use tmw_drive::Ending;
-use tmw_events::{Event, Kind};
+use tmw_drive::{Ending, Outcome};
+use tmw_events::Kind;
 use tmw_monitor::Bounds;
 use tmw_ring::{Refused, RingFault};
 use tmw_tm::{Did, Tm};
@@ -18,7 +18,7 @@ mod at_once;
 mod memories;
 mod progress;
 
-use crate::counting::{Counting, TWO_SEVENS};
+use crate::counting::{Counting, is_two_sevens};
 use crate::told::{has_recorded, told};
 
 /// How often a record is tried if no thread is to stop.
@@ -57,15 +57,16 @@ const ABORTS: &str = r#"{"order": [], "registers": 1, "scripts": [[["W 0 5", "X"
 const TWO_WRITE: &str =
     r#"{"order": [], "registers": 1, "scripts": [[["W 0 5", "T"], ["W 0 5", "T"]]]}"#;
 
-/// Runs this workload over the memory.
+/// What comes of this workload over the memory, unless there is no memory or thread.
 fn run(
     rt: &(impl Threads + Wait + Sync + AllocGlobal),
     memory: &(dyn Tm + Sync),
     text: &str,
     settings: Settings,
-) -> Result<Benched, Fail> {
+) -> Option<Outcome> {
     let workload = told(rt.alloc(), text)?;
-    Ok(run_bench(rt, rt.alloc(), memory, &workload, settings)?)
+    let benched = run_bench(rt, rt.alloc(), memory, &workload, settings).ok()?;
+    Some(benched.outcome)
 }
 
 /// Returns the end of a thread that finds all of so many places claimed.
@@ -82,88 +83,96 @@ fn stops(
     places: u64,
     end: Ending,
     ended: [u64; 2],
-) -> Result<bool, Fail>
+) -> bool
     requires { places ≤ 4 }
 {
-    let [commits, aborts] = ended;
     let memory = Counting::new(Did::Done, at_commit, 7);
-    let outcome = run(rt, &memory, text, settings(4, places, 1_000_000, 1))?.outcome;
-    Ok(
-        has_recorded(outcome.log.as_slice(), &log[..places as usize])
-            && outcome.verdict == Verdict::OpaqueSoFar
-            && outcome.ends.as_slice() == [end].as_slice()
-            && memory.counts() == [1, 0, 1, 0, commits, aborts],
-    )
+    let Some(outcome) = run(rt, &memory, text, settings(4, places, 1_000_000, 1)) else {
+        return false;
+    };
+    has_recorded(outcome.log.as_slice(), &log[..places as usize])
+        && outcome.verdict == Verdict::OpaqueSoFar
+        && outcome.ends.as_slice() == [end].as_slice()
+        && memory.counts() == [1, 0, 1, 0, ended[0], ended[1]]
 }
 
 /// A transaction is aborted in which the thread was stopped, and no other: none that the memory has ended, and none that has not begun.
 #[test]
-fn a_thread_stops_where_the_places_are_spent(rt: HostRuntime) -> Result<(), Fail> {
+fn a_thread_stops_where_the_places_are_spent(rt: HostRuntime) {
     let right = [
-        stops(&rt, WRITES, Did::Done, COMMITTED, 1, spent(1), [0, 1])?,
-        stops(&rt, WRITES, Did::Done, COMMITTED, 2, spent(2), [0, 1])?,
-        stops(&rt, WRITES, Did::Done, COMMITTED, 3, spent(3), [1, 0])?,
-        stops(&rt, WRITES, Did::Done, COMMITTED, 4, Ending::Done, [1, 0])?,
-        stops(&rt, WRITES, Did::Abort, COMMITTED, 3, spent(3), [1, 0])?,
-        stops(&rt, TWO_WRITE, Did::Done, COMMITTED, 4, spent(4), [1, 0])?,
-        stops(&rt, ABORTS, Did::Done, ABORTED, 3, spent(3), [0, 1])?,
+        stops(&rt, WRITES, Did::Done, COMMITTED, 1, spent(1), [0, 1]),
+        stops(&rt, WRITES, Did::Done, COMMITTED, 2, spent(2), [0, 1]),
+        stops(&rt, WRITES, Did::Done, COMMITTED, 3, spent(3), [1, 0]),
+        stops(&rt, WRITES, Did::Done, COMMITTED, 4, Ending::Done, [1, 0]),
+        stops(&rt, WRITES, Did::Abort, COMMITTED, 3, spent(3), [1, 0]),
+        stops(&rt, TWO_WRITE, Did::Done, COMMITTED, 4, spent(4), [1, 0]),
+        stops(&rt, ABORTS, Did::Done, ABORTED, 3, spent(3), [0, 1]),
     ];
     assert_eq!(rt; right, [true; 7]);
+}
+
+#[test]
+fn a_spent_end_has_its_word(rt: HostRuntime) -> Result<(), Fail> {
     let line = ends_text(rt.alloc(), &[spent(2)])?;
     assert_eq!(rt; line.as_str(), "{\"ends\":[\"spent\"]}\n");
     Ok(())
 }
 
-#[test]
-fn no_call_is_made_without_places_or_registers(rt: HostRuntime) -> Result<(), Fail> {
-    for (text, limit, fault) in [
-        (WRITES, 0, BenchFault::Ring(RingFault::BadLimit)),
-        (TWO_READ, 1_000, BenchFault::Registers),
-    ] {
-        let workload = told(rt.alloc(), text)?;
-        let memory = Counting::new(Did::Done, Did::Done, 7);
-        let settings = settings(8, limit, PATIENT, 1);
-        let benched = run_bench(&rt, rt.alloc(), &memory, &workload, settings);
-        assert_eq!(rt; (benched.err(), memory.counts()), (Some(fault), [0; 6]));
-    }
-    Ok(())
+/// Whether a bench of this workload with so many places has this fault, and has made no call.
+fn is_refused(
+    rt: &(impl Threads + Wait + Sync + AllocGlobal),
+    text: &str,
+    places: u64,
+    fault: BenchFault,
+) -> bool {
+    let memory = Counting::new(Did::Done, Did::Done, 7);
+    let Some(workload) = told(rt.alloc(), text) else {
+        return false;
+    };
+    let settings = settings(8, places, PATIENT, 1);
+    let benched = run_bench(rt, rt.alloc(), &memory, &workload, settings);
+    benched.err() == Some(fault) && memory.counts() == [0; 6]
 }
 
 #[test]
-fn each_call_is_made_once(rt: HostRuntime) -> Result<(), Fail> {
+fn no_call_is_made_without_places_or_registers(rt: HostRuntime) {
+    let bad_limit = BenchFault::Ring(RingFault::BadLimit);
+    assert!(rt; is_refused(&rt, WRITES, 0, bad_limit));
+    assert!(rt; is_refused(&rt, TWO_READ, 1_000, BenchFault::Registers));
+}
+
+#[test]
+fn each_call_is_made_once(rt: HostRuntime) {
     let text = r#"{"order": [], "registers": 1, "scripts": [[["R 0", "R 0", "T"]]]}"#;
     let memory = Counting::new(Did::Done, Did::Done, 7);
-    let outcome = run(&rt, &memory, text, settings(16, 1 << 40, 1_000_000, 1))?.outcome;
-    assert!(rt; has_recorded(outcome.log.as_slice(), &TWO_SEVENS));
-    assert_eq!(rt; outcome.verdict, Verdict::Violated(2));
+    let outcome = run(&rt, &memory, text, settings(16, 1 << 40, 1_000_000, 1));
+    assert!(rt; outcome.is_some_and(|it| is_two_sevens(&it)));
     assert_eq!(rt; memory.counts(), [1, 2, 0, 0, 1, 0]);
-    Ok(())
 }
 
-/// How many events a thread has recorded that writes and commits over one cell and tries each record once, and where it was stopped.
-fn try_once(
-    rt: &(impl Threads + Wait + Sync + AllocGlobal),
-) -> Result<(usize, Option<Ending>), Fail> {
+/// Whether a thread that writes and commits over one cell and tries each record once is done; nothing if it is neither that nor stopped
+/// before its end by a full ring.
+fn try_once(rt: &(impl Threads + Wait + Sync + AllocGlobal)) -> Option<bool> {
     let memory = Counting::new(Did::Done, Did::Done, 7);
-    let outcome = run(rt, &memory, WRITES, settings(1, 1_000, 1, 1))?.outcome;
-    Ok((outcome.log.len(), outcome.ends.first().copied()))
+    let outcome = run(rt, &memory, WRITES, settings(1, 1_000, 1, 1))?;
+    match outcome.ends.first()? {
+        Ending::Done => (outcome.log.len() == 4).then_some(true),
+        Ending::Stopped(Refused::Full { front, tail }) => {
+            (front < tail && outcome.log.len() < 4).then_some(false)
+        }
+        _ => None,
+    }
 }
 
 /// A ring of one cell is full, in some run at least, before what is in it was judged.
 #[test]
-fn a_thread_of_a_small_ring_is_done_or_stopped(rt: HostRuntime) -> Result<(), Fail> {
-    let mut stopped = 0u64;
+fn a_thread_of_a_small_ring_is_done_or_stopped(rt: HostRuntime) {
+    let mut is_full = false;
     for _ in 0..1_000 {
-        let (events, is_right) = match try_once(&rt)? {
-            (events, Some(Ending::Done)) => (events, events == 4),
-            (events, Some(Ending::Stopped(Refused::Full { front, tail }))) => {
-                stopped = stopped.wrapping_add(1);
-                (events, front < tail && events < 4)
-            }
-            (events, _) => (events, false),
-        };
-        assert!(rt; is_right, "{events} events");
+        match try_once(&rt) {
+            Some(done) => is_full = is_full || !done,
+            None => panic!(rt; "neither done nor stopped by a full ring"),
+        }
     }
-    assert!(rt; stopped > 0);
-    Ok(())
+    assert!(rt; is_full);
 }

@@ -4,20 +4,26 @@ ghost use Rattle.std.proofs.lemmas.Grind.{common_steps};
 ghost use Rattle.std.specs.Prelude.{◌≡◌, ℕ};
 ghost use Rattle.tmw_tm.specs.Answers.Answer.{Value};
 
+use crate::told::has_recorded;
 use std::sync::atomic::{AtomicU64, Ordering};
 use test_support::FIRST;
+use tmw_defs::Verdict;
+use tmw_drive::Outcome;
 use tmw_events::{Ix, Kind, Registers};
 use tmw_tm::{Did, Got, Tm, Tx};
 
-/// What a thread records of two reads and a commit request, where a memory answers 7.
-pub const TWO_SEVENS: [Kind; 6] = [
-    Kind::R(FIRST),
-    Kind::V(7),
-    Kind::R(FIRST),
-    Kind::V(7),
-    Kind::T,
-    Kind::C,
-];
+/// Whether a memory has answered 7 to two reads of a transaction, and has committed it.
+pub fn is_two_sevens(outcome: &Outcome) -> bool {
+    let log = [
+        Kind::R(FIRST),
+        Kind::V(7),
+        Kind::R(FIRST),
+        Kind::V(7),
+        Kind::T,
+        Kind::C,
+    ];
+    has_recorded(outcome.log.as_slice(), &log) && outcome.verdict == Verdict::Violated(2)
+}
 
 /// A memory of one register that answers one value to each read and each add, carries out each write, and counts its calls. It
 /// begins transactions, or aborts them, and commits them, or aborts them at their commits, as it was made to do.

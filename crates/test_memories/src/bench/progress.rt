@@ -61,29 +61,27 @@ fn tell_of(
     every: u64,
     rounds: u64,
     limit: u64,
-) -> Result<[u64; 5], Fail>
+) -> [u64; 5]
     requires some { 1 ≤ rounds }
     requires few { rounds ≤ 1000000000 }
 {
-    let workload = told(rt.alloc(), UNASKED)?;
-    let memory = Counting::new(Did::Done, Did::Abort, 7);
     let progress = Remembering::new(every);
-    let settings = settings(64, limit, PATIENT, rounds);
-    let _hunted = hunt(rt, rt.alloc(), &memory, &workload, settings, &progress);
-    Ok(progress.remembered())
+    let memory = Counting::new(Did::Done, Did::Abort, 7);
+    if let Some(workload) = told(rt.alloc(), UNASKED) {
+        let settings = settings(64, limit, PATIENT, rounds);
+        let _ = hunt(rt, rt.alloc(), &memory, &workload, settings, &progress);
+    }
+    progress.remembered()
 }
 
 #[test]
-fn it_is_told_how_far_a_bench_has_come(rt: HostRuntime) -> Result<(), Fail> {
-    let told = [
-        tell_of(&rt, 3, 3, 1_000)?,
-        tell_of(&rt, 3, 7, 1_000)?,
-        tell_of(&rt, 0, 3, 1_000)?,
-        tell_of(&rt, 1, 3, 0)?,
-    ];
-    assert_eq!(rt; told[0], [0, 0, 0, 0, 1]);
-    assert_eq!(rt; told[1], [9, 72, 18, 2, 1]);
-    assert_eq!(rt; told[2], [3, 24, 6, 2, 1]);
-    assert_eq!(rt; told[3], [0, 0, 0, 0, 1], "of a ring without places");
-    Ok(())
+fn it_is_told_how_far_a_bench_has_come(rt: HostRuntime) {
+    assert_eq!(rt; tell_of(&rt, 3, 3, 1_000), [0, 0, 0, 0, 1]);
+    assert_eq!(rt; tell_of(&rt, 3, 7, 1_000), [9, 72, 18, 2, 1]);
+    assert_eq!(rt; tell_of(&rt, 0, 3, 1_000), [3, 24, 6, 2, 1]);
+    assert_eq!(rt;
+        tell_of(&rt, 1, 3, 0),
+        [0, 0, 0, 0, 1],
+        "of a ring without places"
+    );
 }
