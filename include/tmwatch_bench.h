@@ -21,7 +21,7 @@ permits (tmwatch_permits.h), and a transaction is attempted as often as it takes
 
 A call is recorded before the memory is asked, and its answer after it has answered; a transaction's first call, before the memory begins
 it. Each is recorded by turns (tmwatch_next, tmwatch_answered), so that no record is malformed. No two writes have the same value, a
-register is read before it is written, and what is added is any number of 64 bits. Each 64th round and at the end, one thread reads all
+register is read before it is written, and an addend is any number below 2^64 - 1. Each 64th round and at the end, one thread reads all
 registers while the others wait; by permits, some time after each 512 attempts, and at the end.
 
 What the program owes beside the duties of tmwatch.h. Nothing of it is tested:
@@ -62,7 +62,7 @@ typedef struct tmwatch_memory {
     bool (*begin)(void *memory, void *tx);
     bool (*read)(void *memory, void *tx, unsigned reg, uint64_t *value);
     bool (*write)(void *memory, void *tx, unsigned reg, uint64_t value);
-    bool (*add)(void *memory, void *tx, unsigned reg, uint64_t addend, uint64_t *before); /* or null; an addend is never 2^64 - 1 */
+    bool (*add)(void *memory, void *tx, unsigned reg, uint64_t addend, uint64_t *before); /* or null */
     bool (*commit)(void *memory, void *tx);
     void (*abort)(void *memory, void *tx);
     bool (*run)(void *memory, void *tx, tmwatch_attempt *attempt); /* or null */

@@ -6,7 +6,7 @@
 #
 # Three workers carry examples/hunt.json out. One, two and four carry scripts of its kind out, of two transactions over two registers,
 # and eight the eight transactions of the four, one each, so that a round has eight transactions at most. For each number of workers
-# there is a line of each program, `barriers` and `tmwatch`. It tells
+# there is a line of each program, `barriers` and `tmwatch`. It has
 # - the rounds and the seconds of one run, the fastest of RUNS. Rounds are doubled, from 100 on, until a run takes LEAST seconds;
 # - its rounds, events, unasked aborts and changes of thread a second. An unasked abort is an `A` that answers another call than `X`,
 #   and a change of thread an event whose thread is another than that of the event before;
@@ -14,10 +14,10 @@
 #   it makes of either a second is the product of these and of what the fastest run, which writes no trace, makes a second;
 # - of `tmwatch`, its rounds a second over those of `barriers`.
 #
-# The exit status is 0 where each run of `tmwatch` was opaque so far with all workers done, and `judge` says so of TRACED rounds of
+# The exit status is 0 if each run of `tmwatch` was opaque so far with all workers done, and `judge` says so of TRACED rounds of
 # measure/rounds.c on each workload, each time; else 1.
-# Environment: RUNS (3), LEAST (1), ROUNDS (1000000), the most rounds of a run, TRACED (20000), the most of one with a trace,
-# BUSY (4), how many busy loops run at once, WORKERS (1 2 3 4 8), CC (cc).
+# Environment: RUNS (3), LEAST (1), ROUNDS (1000000, the most rounds of a run), TRACED (20000, the most of one with a trace), BUSY (4, how
+# many busy loops run at once), WORKERS (1 2 3 4 8), CC (cc).
 set -eu
 # shellcheck source=tests/common.sh
 . "$(dirname "${BASH_SOURCE[0]}")/../tests/common.sh"

@@ -1,12 +1,11 @@
 #!/usr/bin/env bash
-# Times `tmwatch judge` on five kinds of run, beside `cat` and `wc -l` of the same trace, and beside another program of the same bytes
-# where there is one, whose lines and statuses are compared with ours.
+# Times `tmwatch judge` on five kinds of run, beside `cat` and `wc -l` of the same trace.
 #
-#   [PEER=PROGRAM] measure/judge.sh [EVENTS]
+#   measure/judge.sh [EVENTS]
 #
-# The traces are made by measure/traces.c, whatever stands beside. PEER is a program that is called like ours. A line a profile comes out:
-# its events, the seconds of each program (the best of RUNS runs), our events a second, the ratio of our seconds to those of each, the
-# peak memory in KiB, and whether PEER's line and status are ours. The exit status is 1 where they differ.
+# measure/traces.c makes the traces. A line a profile has: its events, the seconds of each program (the best of RUNS runs), our events a
+# second, the ratio of our seconds to those of each, and the peak memory in KiB. If PEER is set to another program of the same bytes, it
+# runs too, and the line says whether its line and status are ours. The exit status is 1 if they differ.
 # Environment: PEER, PROFILES, SEED (1), RUNS (3), CC (cc), TRACES (a program that is called as measure/traces.c says, in its place).
 set -eu
 # shellcheck source=tests/common.sh

@@ -3,27 +3,22 @@
 #
 #   tests/bindings.sh
 #
-# The last line is 'N passed, M failed', and the exit status is 1 where M is above 0. Where there is no cargo, that is said, and the status
-# is 0.
-# Environment: CARGO (cargo), BUILT (a folder that ./tmwatch-c has filled; it is made where there is none).
+# A line for each row. The last one is 'N passed, M failed', and the exit status is 1 if a row failed. Without cargo nothing is tested: a
+# line says so, and the status is 0.
+# Environment: CARGO (cargo), BUILT (tests/common.sh).
 set -eu
 # shellcheck source=tests/common.sh
 . "$(dirname "${BASH_SOURCE[0]}")/common.sh"
 cargo=${CARGO:-cargo}
-if ! command -v "$cargo" >/dev/null; then
-    echo 'tests/bindings.sh: skipped, since there is no cargo: nothing of the bindings was tested'
-    exit 0
-fi
-built=${BUILT:-$folder/built}
-[ -n "${BUILT:-}" ] || "$top/tmwatch-c" "$built"
+has "$cargo" tests/bindings.sh || exit 0
+use_library
 library=$(cd "$built/lib" && pwd)
 # Nothing is written into the repository's folder.
 export CARGO_TARGET_DIR=$folder/target RUSTFLAGS=-Dwarnings RUSTDOCFLAGS=-Dwarnings
 cd "$top/bindings/rust"
 
 ends 'a library that is not there' 101 env TMWATCH_LIB="$folder/none" "$cargo" build --offline --locked
-cp "$folder/output" "$folder/told"
-ends 'a library that is not there: what is told' 0 grep -q 'set TMWATCH_LIB to FOLDER/lib' "$folder/told"
+has_told 'a library that is not there: what is told' 'set TMWATCH_LIB to FOLDER/lib'
 ends 'the tests' 0 env TMWATCH_LIB="$library" "$cargo" test --offline --locked
 grep '^test ' "$folder/output" || true
 ends 'the tests, optimized' 0 env TMWATCH_LIB="$library" "$cargo" test --offline --locked --release

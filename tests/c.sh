@@ -1,23 +1,19 @@
 #!/usr/bin/env bash
-# Builds the library for programs in C, compiles the tests in tests/c and the examples in examples/c without a warning, and runs them; then
-# tests/bindings.sh over the same library.
+# Compiles the programs of tests/c and examples/c over the library for C, without a warning, and runs them; then runs tests/bindings.sh over
+# the same library.
 #
 #   tests/c.sh
 #
-# The last line is 'N passed, M failed', and the exit status is 1 where M is above 0. Where there is no C compiler, that is said, and the
-# status is 0.
-# Environment: CC (cc), CXX (c++), BUILT (a folder that ./tmwatch-c has filled; it is made where there is none), FLAGS (further flags of the
-# compiler), RUN (a command that runs each program), ROUNDS (2000, of the examples).
+# A line for each row. The last one is 'N passed, M failed', and the exit status is 1 if a row failed. Without a C compiler nothing is
+# tested: a line says so, and the status is 0.
+# Environment: CC (cc), CXX (c++), BUILT (tests/common.sh), FLAGS (further flags of the compiler), RUN (a command that runs each program),
+# ROUNDS (2000, of the examples).
 set -eu
 # shellcheck source=tests/common.sh
 . "$(dirname "${BASH_SOURCE[0]}")/common.sh"
 cc=${CC:-cc} cxx=${CXX:-c++} last=true
-if ! command -v "$cc" >/dev/null; then
-    echo 'tests/c.sh: skipped, since there is no C compiler: nothing of the library for C was tested'
-    exit 0
-fi
-built=${BUILT:-$folder/built}
-[ -n "${BUILT:-}" ] || "$top/tmwatch-c" "$built"
+has "$cc" tests/c.sh || exit 0
+use_library
 read -r -a flags <<<"${FLAGS:-}"
 read -r -a run <<<"${RUN:-}"
 strict=(-Wall -Wextra -pedantic -Werror -g -O2 -pthread "-I$built/include" "${flags[@]}")
@@ -35,11 +31,9 @@ program() {
 }
 
 ends 'the header as C11' 0 "$cc" -std=c11 "${strict[@]}" -c -o "$folder/layout.o" "$top/tests/c/layout.c"
-if command -v "$cxx" >/dev/null; then
+if has "$cxx" 'programs in C++'; then
     ends 'the header as C++17' 0 "$cxx" -std=c++17 "${strict[@]}" -o "$folder/layout" "$top/tests/c/layout.cpp" "${static[@]}"
     ends 'a program in C++' 0 "${run[@]}" "$folder/layout"
-else
-    echo 'a program in C++: skipped, since there is no C++ compiler'
 fi
 program misuse "$top/tests/c/misuse.c" 0 '' "${static[@]}"
 program misuse_shared "$top/tests/c/misuse.c" 0 '' "${shared[@]}"
@@ -58,12 +52,12 @@ wrong_permits() {
 
 wrong_permits 'are taken all while others are active' 's/% (UINT64_C(1) << 32) != 1/== 0/'
 program kept "$top/tests/c/kept.c" 0 '' "${static[@]}"
-[ ! -x "$folder/kept" ] || "$folder/kept" >"$folder/traces"
+[ ! -x "$folder/kept" ] || "$folder/kept" >"$folder/traces" || true
 ends 'what was kept' 0 diff "$folder/traces" "$top/tests/c/kept.traces"
 if command -v "$cxx" >/dev/null; then
     ends 'kept compiles, in C++17' 0 "$cxx" -std=c++17 "${strict[@]}" -o "$folder/kept_cxx" -x c++ "$top/tests/c/kept.c" -x none \
         "${static[@]}"
-    [ ! -x "$folder/kept_cxx" ] || "$folder/kept_cxx" >"$folder/traces"
+    [ ! -x "$folder/kept_cxx" ] || "$folder/kept_cxx" >"$folder/traces" || true
     ends 'what was kept, in C++17' 0 diff "$folder/traces" "$top/tests/c/kept.traces"
 fi
 program counted "$top/tests/c/counted.c" 0 '' "${static[@]}"
@@ -71,7 +65,7 @@ if [ ! -x "$program" ]; then
     echo 'what judge counts: skipped, since the program is not built'
 elif [ -x "$folder/counted" ]; then
     for number in 0 1 2 3 4 5 6; do
-        "$folder/counted" "$number" >"$folder/run"
+        "$folder/counted" "$number" >"$folder/run" || true
         head -n -1 "$folder/run" | "$program" judge --summary >"$folder/lines" || true
         ends "what judge counts of run $number" 0 diff <(tail -n 1 "$folder/lines") <(tail -n 1 "$folder/run")
     done
@@ -126,10 +120,9 @@ on_bench() {
         row="$name${schedule:+ by $schedule}, seed $seed"
         ends "$row" "$wanted" "${run[@]}" "$folder/$name" --rounds "$rounds" --seed "$seed" --trace "$folder/trace" \
             --schedule "${schedule:-rounds}" "${words[@]}"
-        cp "$folder/output" "$folder/benched"
-        ends "$row, has met" 0 grep -q '"overlapping":[1-9]' "$folder/benched"
+        has_told "$row, has met" '"overlapping":[1-9]'
         "$folder/bench_replay" <"$folder/trace" >"$folder/replayed" || true
-        ends "$row, by the library" 0 is_same_report "$folder/benched" "$folder/replayed"
+        ends "$row, by the library" 0 is_same_report "$folder/told" "$folder/replayed"
         if [ -x "$program" ]; then
             "$program" judge --summary <"$folder/trace" >"$folder/judged" || true
             ends "$row, by the program" 0 diff <(sed 2d "$folder/replayed") "$folder/judged"
@@ -137,34 +130,39 @@ on_bench() {
     done
 }
 
-ends 'the bench compiles' 0 "$cc" -std=c11 "${strict[@]}" -c -o "$folder/bench.o" "$top/c/tmwatch_bench.c"
+ends 'the bench compiles' 0 "$cc" -std=c11 "${strict[@]}" -c -o "$folder/bench.o" "$top/bench-c/tmwatch_bench.c"
 ends 'a replay compiles' 0 "$cc" -std=c11 "${strict[@]}" -o "$folder/bench_replay" "$top/tests/c/bench_replay.c" "${bench[@]}"
 program bench_plans "$top/tests/c/bench_plans.c" 0 '' "${bench[@]}"
-[ ! -x "$folder/bench_plans" ] || "$folder/bench_plans" print >"$folder/lines" 2>&1
+[ ! -x "$folder/bench_plans" ] || "$folder/bench_plans" print >"$folder/lines" 2>&1 || true
 ends 'what a bench prints' 0 diff "$folder/lines" "$top/tests/c/bench_plans.lines"
 program bank "$top/examples/c/bank.c" 0 "$rounds" "${bench[@]}"
-cp "$folder/output" "$folder/benched"
-ends 'bank: has met' 0 grep -q '"overlapping":[1-9]' "$folder/benched"
+has_told 'bank: has met' '"overlapping":[1-9]'
 program bank_broken "$top/examples/c/bank.c" 1 "$rounds broken" "${bench[@]}"
 ends 'bank: output that can not be written' 4 sh -c '"$@" >/dev/full' sh "${run[@]}" "$folder/bank" 9
 program bench_memory "$top/tests/c/bench_memory.c" 0 '' "${bench[@]}" "${wrapped[@]}" -Wl,--wrap=pthread_create
+# The same in rounds and by permits.
+on_both() {
+    on_bench "$@"
+    schedule=permits on_bench "$@"
+}
+
+# Compiles a memory: its name, its file and its fault, or NONE.
+compile_memory() {
+    ends "$1_$3 compiles" 0 "$cc" -std=c11 "${strict[@]}" "-DFAULT=$3" -o "$folder/$1_$3" "$top/$2" "${bench[@]}"
+}
+
 for fault in NONE READS COMMIT PLACE; do
-    ends "norec_$fault compiles" 0 "$cc" -std=c11 "${strict[@]}" "-DFAULT=$fault" -o "$folder/norec_$fault" \
-        "$top/examples/c/norec.c" "${bench[@]}"
-    on_bench "norec_$fault" "$([ "$fault" = NONE ] && echo 0 || echo 1)" "$rounds" 1 2 3
-    schedule=permits on_bench "norec_$fault" "$([ "$fault" = NONE ] && echo 0 || echo 1)" "$rounds" 1 2 3
+    compile_memory norec examples/c/norec.c "$fault"
+    on_both "norec_$fault" "$([ "$fault" = NONE ] && echo 0 || echo 1)" "$rounds" 1 2 3
 done
 for fault in NONE READS; do
-    ends "jumping_$fault compiles" 0 "$cc" -std=c11 "${strict[@]}" "-DFAULT=$fault" -o "$folder/jumping_$fault" \
-        "$top/tests/c/bench_jumping.c" "${bench[@]}"
-    on_bench "jumping_$fault" "$([ "$fault" = NONE ] && echo 0 || echo 1)" "$rounds" 1 2 3
-    schedule=permits on_bench "jumping_$fault" "$([ "$fault" = NONE ] && echo 0 || echo 1)" "$rounds" 1 2 3
+    compile_memory jumping tests/c/bench_jumping.c "$fault"
+    on_both "jumping_$fault" "$([ "$fault" = NONE ] && echo 0 || echo 1)" "$rounds" 1 2 3
 done
-# A memory of tests/c: its name, its fault or NONE, and its exit status. A broken one is run until it is violated.
+# A memory of tests/c: its name, its fault or NONE, and its exit status. A broken one is run until it is violated, in rounds alone.
 on_memory() {
-    ends "$1_$2 compiles" 0 "$cc" -std=c11 "${strict[@]}" "-DFAULT=$2" -o "$folder/$1_$2" "$top/tests/c/bench_$1.c" "${bench[@]}"
-    on_bench "$1_$2" "$3" "$([ "$3" -eq 0 ] && echo "$rounds" || echo 100000)" 1 2 3
-    [ "$3" -ne 0 ] || schedule=permits on_bench "$1_$2" "$3" "$rounds" 1 2 3
+    compile_memory "$1" "tests/c/bench_$1.c" "$2"
+    if [ "$3" -eq 0 ]; then on_both "$1_$2" 0 "$rounds" 1 2 3; else on_bench "$1_$2" "$3" 100000 1 2 3; fi
 }
 on_memory tl2 NONE 0
 on_memory tl2 BEFORE 1
@@ -178,8 +176,7 @@ on_memory locks NONE 0
 on_memory locks EARLY 1
 if command -v "$cxx" >/dev/null; then
     ends 'a lock compiles, in C++17' 0 "$cxx" -std=c++17 "${strict[@]}" -o "$folder/lock" "$top/tests/c/bench_lock.cpp" "${bench[@]}"
-    on_bench lock 0 "$rounds" 1 2 3
-    schedule=permits on_bench lock 0 "$rounds" 1 2 3
+    on_both lock 0 "$rounds" 1 2 3
     # Of this run not all events are kept for the trace.
     on_bench lock 0 $((3 * rounds)) 4
 fi
@@ -191,8 +188,7 @@ on_class() {
         on_bench "class_$1" "$2" "$rounds" 1 2 3
     else
         ends "class_$1" "$2" "${run[@]}" "$folder/class_$1"
-        cp "$folder/output" "$folder/told"
-        ends "class_$1: what is told" 0 grep -q "the memory's \`read\` has thrown: no" "$folder/told"
+        has_told "class_$1: what is told" "the memory's \`read\` has thrown: no"
     fi
 }
 if command -v "$cxx" >/dev/null; then
@@ -204,7 +200,7 @@ if command -v "$cxx" >/dev/null; then
 fi
 # A bench that is wrong, over a memory that is right: what is wrong, the change of its source, and the exit status.
 wrong_bench() {
-    sed "$2" "$top/c/tmwatch_bench.c" >"$folder/wrong.c"
+    sed "$2" "$top/bench-c/tmwatch_bench.c" >"$folder/wrong.c"
     ends "a bench that $1 compiles" 0 "$cc" -std=c11 "${strict[@]}" -o "$folder/wrong" \
         "$top/examples/c/norec.c" "$folder/wrong.c" "${static[@]}"
     ends "a bench that $1" "$3" "${run[@]}" "$folder/wrong" --rounds "$rounds" --schedule "${schedule:-rounds}"
@@ -220,8 +216,7 @@ schedule=permits wrong_bench 'takes no permit and gives none' 's/tmwatch_permits
 for words in --rounds '--rounds x' '--threads 9' '--registers 0' '--calls 17' '--writes 101' '--seed 18446744073709551616' '--none 1' '--schedule x' 3; do
     read -r -a given <<<"$words"
     ends "wrong words, $words" 4 "${run[@]}" "$folder/norec_NONE" "${given[@]}"
-    cp "$folder/output" "$folder/told"
-    ends "wrong words, $words: what is told" 0 grep -qx '{"fault":"usage"}' "$folder/told"
+    has_told "wrong words, $words: what is told" -x '{"fault":"usage"}'
     case $words in
     --threads* | --registers* | --calls* | --writes*) reason='a number is out of its range' ;;
     --none*) reason='wrong, or without its value: --none' ;;
@@ -235,13 +230,11 @@ sed 's/begin, read, write, add, commit, cancel/begin, read, write, add, NULL, ca
 ends 'a memory without a function compiles' 0 "$cc" -std=c11 -O2 -pthread "-I$built/include" "-I$top/examples/c" "${flags[@]}" \
     -o "$folder/lacking" "$folder/lacking.c" "${bench[@]}"
 ends 'a memory without a function' 4 "${run[@]}" "$folder/lacking"
-cp "$folder/output" "$folder/told"
-ends 'a memory without a function: which' 0 grep -qx "the memory's function \`commit\` is null" "$folder/told"
+has_told 'a memory without a function: which' -x "the memory's function \`commit\` is null"
 ends 'all words' 0 "${run[@]}" "$folder/norec_NONE" --rounds 9 --seed 3 --threads 2 --registers 2 --calls 2 \
     --writes 90 --adds 0 --aborts 0 --pause 9 --seconds 9 --schedule permits
 ends 'a trace that can not be opened' 4 "${run[@]}" "$folder/norec_NONE" --rounds 9 --trace "$folder/none/trace"
-cp "$folder/output" "$folder/told"
-ends 'a trace that can not be opened: which' 0 grep -q "none/trace\$" "$folder/told"
+has_told 'a trace that can not be opened: which' "none/trace\$"
 ends 'a trace that can not be written' 4 "${run[@]}" "$folder/norec_NONE" --rounds 9 --trace /dev/full
 ends 'output that can not be written' 4 sh -c '"$@" >/dev/full' sh "${run[@]}" "$folder/norec_NONE" --rounds 9
 ends 'no pause compiles' 0 "$cc" -std=c11 "${strict[@]}" -c -o "$folder/plain.o" "$top/examples/c/norec.c"
@@ -253,5 +246,5 @@ if command -v pkg-config >/dev/null; then
     ends 'a memory by the package' 0 "${run[@]}" "$folder/package" --rounds 100
     ends 'the package' 0 env PKG_CONFIG_PATH="$built/lib/pkgconfig" sh -c "$cc -std=c11 ${FLAGS:-} -o '$folder/package' '$top/tests/c/misuse.c' \$(pkg-config --cflags --libs tmwatch)"
 fi
-ends 'the bindings' 0 env BUILT="$built" "$top/tests/bindings.sh"
+ends 'the bindings' 0 "$top/tests/bindings.sh"
 end_rows

@@ -3,21 +3,22 @@
 #
 #   tests/command.sh [FILE.rows..]
 #
-# Each command line that fails is told. The last line is 'N passed, M failed', and the exit status is 1 where one failed.
-# A row is a command line, what it reads, and what it has to do; a line of it is one of these:
+# Each command line that fails is printed. The last line is 'N passed, M failed'. The exit status is 1 if one failed.
+# A row is a command line, what it reads, and what it has to do. Its lines:
 #
-#   tmwatch judge --window 3     the command line, whose words spaces part; behind a last '<' stands a file of standard input
-#   < opacity-trace 1 1 | 0 T    lines of standard input, parted by ' | ', each with its line feed
-#   <- 0 T                       the same, and the last of them has no line feed
-#   > {"fault":"usage"}          lines of standard output; where there are none it has to be empty
-#   ~ Usage: tmwatch             what standard output has in it somewhere; then the rest of it may be anything
-#   ! error: unexpected          what standard error begins with; where there is none it has to be empty
+#   tmwatch judge --window 3     the command line, in words separated by spaces; after a last '<' a file of standard input
+#   < opacity-trace 1 1 | 0 T    lines of standard input, separated by ' | ', each with its line feed
+#   <- 0 T                       the same, but the last of them has no line feed
+#   > {"fault":"usage"}          lines of standard output; without one it has to be empty
+#   ~ Usage: tmwatch             a part of standard output, whose rest may be anything
+#   ! error: unexpected          the beginning of standard error; without one it has to be empty
 #   ? no two transactions        a line that standard error may be, or else empty
-#   = 4                          the exit status, by which the row ends
+#   = 4                          the exit status, the row's last line
 #
-# In what is read and written, \\, \r, \t and \xHH stand for bytes, as for printf. Empty lines and lines of '#' are comments.
-# Environment: CASES, a folder, for tests/quick.sh: rows are not run, but written there as cases of `rt try --cases`; when the answers
-# to these are there, rows are compared with them.
+# In what is read and written, \\, \r, \t and \xHH stand for bytes, as for printf, and @VERSION@ for the program's version. Empty lines
+# and lines of '#' are comments.
+# Environment: CASES, a folder, for tests/quick.sh: rows are not run, but written there as cases of `rt try --cases`. Once their answers
+# are there, rows are compared with them.
 set -eu
 # shellcheck source=tests/common.sh
 . "$(dirname "${BASH_SOURCE[0]}")/common.sh"
@@ -25,12 +26,7 @@ set -eu
 
 # Counts a command line by whether what it did is what was wanted.
 count() {
-    if [ "$2" = "$3" ]; then
-        passed=$((passed + 1))
-    else
-        failed=$((failed + 1))
-        printf '%s: %s, and not %s\n' "$1" "$3" "$2"
-    fi
+    counts [ "$2" = "$3" ] || printf '%s: %s, and not %s\n' "$1" "$3" "$2"
 }
 
 # Runs the program with these words on standard input, and keeps what it writes and its exit status.
@@ -78,7 +74,8 @@ begin_row() {
 
 # The lines of a text, parted by ' | ', each with its line feed.
 lines_of() {
-    printf '%b\n' "${1// | /\\n}"
+    local text=${1//@VERSION@/$version}
+    printf '%b\n' "${text// | /\\n}"
 }
 
 # Runs the row, and counts it by its status, its output and what standard error begins with.
@@ -122,8 +119,8 @@ if [ $# -gt 0 ]; then
     for rows in "$@"; do
         run_rows "$rows"
     done
-    echo "$passed passed, $failed failed"
-    exit $((failed > 0))
+    end_rows
+    exit
 fi
 for rows in "$top"/tests/rows/*.rows; do
     run_rows "$rows"
@@ -313,9 +310,6 @@ for words in '' judge show drive bench steps; do
     count "$words --help in 40 lines of 80 columns" '0 1 0' \
         "$status $(($(wc -l <"$folder/output") <= 40)) $(awk 'length > 80' "$folder/output" | wc -l)"
 done
-version='tmwatch 0.1.0, by opacity (Guerraoui and Kapalka 2008) and by strict serializability'
-expect_help "$version" --version
-expect_help "$version" -V
 
 expect_usage "error: 'tmwatch' requires a subcommand but one was not provided"
 expect_usage "error: unrecognized subcommand 'replay'" replay

@@ -1,13 +1,15 @@
-# shellcheck shell=bash disable=SC2034
-# What the scripts of tests/, tests/long/ and measure/ begin with: they read it.
+# shellcheck shell=bash disable=SC2034,SC2154
+# What the scripts of tests/, tests/long/ and measure/ share. They read this file first.
 #
-# It sets top, the repository's folder; folder, one of the script's own, which goes when the script ends; program, the built program;
-# and passed and failed, how many of the script's rows did. `ends` runs a row; `end_rows` tells both as the last line, with exit status 1
-# where one failed.
+# It sets top, the repository's folder; folder, one of the script's own, which is removed when the script ends; program, the built
+# program; version, the program's version; and passed and failed, how many of the script's rows did. `end_rows` prints both as the last
+# line. Its exit status is 1 if a row has failed.
+# Environment: BUILT, a folder that ./tmwatch-c has filled, for scripts that need the library for C. Without it, they fill one.
 top=$(cd "$(dirname "${BASH_SOURCE[0]}")/.." && pwd)
 folder=$(mktemp -d)
 trap 'rm -rf "$folder"' EXIT
 program=$top/crates/tmwatch/out/tmwatch
+version=$(sed -n 's/.*"tmwatch \([0-9.]*\), .*/\1/p' "$top/crates/tmw_command/specs/Version.antt")
 passed=0 failed=0
 
 end_rows() {
@@ -15,17 +17,76 @@ end_rows() {
     [ "$failed" -eq 0 ]
 }
 
-# Runs these words, which have to end with this status. Where `last` is set, it tells the last line that they wrote.
-ends() {
-    local name=$1 wanted=$2 status=0
-    shift 2
-    "$@" >"$folder/output" 2>&1 || status=$?
-    if [ "$status" -eq "$wanted" ]; then
+# Counts a row, which passes if these words are true, and returns whether they are.
+counts() {
+    if "$@"; then
         passed=$((passed + 1))
-        echo "$name: $({ [ -z "${last:-}" ] || tail -n 1 "$folder/output"; } | grep . || echo passed)"
     else
         failed=$((failed + 1))
+        return 1
+    fi
+}
+
+# Runs a row: its name, the exit status that it has to have, and its words. If they are a function, that ends where a step fails. What
+# they write stays in $folder/output; if `last` is set, the last line is printed.
+ends() {
+    local name=$1 wanted=$2 status
+    shift 2
+    set +e
+    (set -e && "$@") >"$folder/output" 2>&1
+    status=$?
+    set -e
+    if counts [ "$status" -eq "$wanted" ]; then
+        echo "$name: $({ [ -z "${last:-}" ] || tail -n 1 "$folder/output"; } | grep . || echo passed)"
+    else
         echo "$name: FAILED, status $status"
         tail -n 40 "$folder/output"
     fi
+}
+
+# Runs a row on what the row before it has written: its name, and the words by which grep has to find a line there.
+has_told() {
+    local name=$1
+    shift
+    mv "$folder/output" "$folder/told"
+    ends "$name" 0 grep -q "$@" "$folder/told"
+}
+
+# Whether a tool is there. If not, a line says what is skipped.
+has() {
+    command -v "$1" >/dev/null && return
+    echo "$2: skipped, since there is no $1"
+    return 1
+}
+
+# Whether a compiler of C builds transactions. If not, a line says what is skipped, and why.
+has_transactions() {
+    echo 'int main(void) { __transaction_atomic { } }' | "$1" -fgnu-tm -x c -o "$folder/try" - 2>"$folder/told" && return
+    echo "$2: skipped, since $1 builds no transactions: $(tail -n 1 "$folder/told")"
+    return 1
+}
+
+# Compiles examples/libitm by the words in `compile`: $folder/libitm, and for each fault the little memory in its place. These words link
+# them.
+build_libitm() {
+    local source=$top/examples/libitm fault
+    "${compile[@]}" -fgnu-tm -c -o "$folder/transaction.o" "$source/transaction.c"
+    "${compile[@]}" -c -o "$folder/run.o" "$source/run.c"
+    "${compile[@]}" -o "$folder/libitm" "$folder/run.o" "$folder/transaction.o" -litm "$@"
+    for fault in NONE READS COMMIT PLACE; do
+        "${compile[@]}" -DFAULT=$fault -c -o "$folder/memory.o" "$source/memory.c"
+        "${compile[@]}" -o "$folder/$fault" "$folder/run.o" "$folder/transaction.o" "$folder/memory.o" "$@"
+    done
+}
+
+# The seconds since a time of $EPOCHREALTIME.
+since() {
+    echo "$1 $EPOCHREALTIME" | tr , . | awk '{ printf "%.2f", $2 - $1 }'
+}
+
+# Sets built, the folder with the library for C: BUILT, or one that is filled now and becomes BUILT for what the script calls.
+use_library() {
+    built=${BUILT:-$folder/built}
+    [ -n "${BUILT:-}" ] || "$top/tmwatch-c" "$built"
+    export BUILT=$built
 }

@@ -1,13 +1,12 @@
 #!/usr/bin/env bash
-# Judges each trace of examples/ by each criterion and compares the lines and the exit status with its row in examples/verdicts.txt.
-# Then it draws each trace that docs/GALLERY.md shows, with these lines, and compares that with what stands in the page; and looks for
-# the lines of the window that `show` draws of it among them.
+# Judges each trace of examples/ by each criterion, and compares the lines and the exit status with its row in examples/verdicts.txt. Then
+# it draws each trace that docs/GALLERY.md shows, and compares that with the page; and compares the window that `show` draws with both.
 #
 #   tests/gallery.sh
 #   tests/gallery.sh draw NAME
 #
-# `draw` writes one trace as the page shows it, and compares nothing.
-# Each row that fails is told. The last line is 'N passed, M failed', and the exit status is 1 where one failed.
+# `draw` writes one trace as the page shows it, and compares nothing. Each row that fails is printed. The last line is 'N passed, M failed'.
+# The exit status is 1 if a row failed.
 set -eu
 # shellcheck source=tests/common.sh
 . "$(dirname "${BASH_SOURCE[0]}")/common.sh"
@@ -21,12 +20,7 @@ judge() {
 
 # Counts a row by the words that say how it ended.
 count() {
-    if [ "$2" = right ]; then
-        passed=$((passed + 1))
-    else
-        failed=$((failed + 1))
-        printf '%s: %s\n' "$1" "$2"
-    fi
+    counts [ "$2" = right ] || printf '%s: %s\n' "$1" "$2"
 }
 
 # The length at which a report line is settled, or nothing.

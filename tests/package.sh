@@ -4,26 +4,21 @@
 #
 #   tests/package.sh
 #
-# The last line is 'N passed, M failed', and the exit status is 1 where M is above 0. Where a tool is missing, that is said, and its part
-# skipped; without a C compiler nothing is packaged, and the status is 0.
-# Environment: CC (cc), BUILT (a folder that ./tmwatch-c has filled, beside the built program; both are made where there is none), ROUNDS
-# (500, of the examples).
-# (What stands in single quotes is for awk and other shells.)
-# shellcheck disable=SC2016
+# A line for each row. The last one is 'N passed, M failed', and the exit status is 1 if a row failed. What needs a missing tool is skipped,
+# and a line says so. Without a C compiler that is all, and the status is 0.
+# Environment: CC (cc), BUILT (tests/common.sh; without it the program is built too), ROUNDS (500, of the examples).
+# shellcheck disable=SC2016 # (what stands in single quotes is for awk and other shells)
 set -eu
 # shellcheck source=tests/common.sh
 . "$(dirname "${BASH_SOURCE[0]}")/common.sh"
 cc=${CC:-cc}
-if ! command -v "$cc" >/dev/null; then
-    echo 'tests/package.sh: skipped, since there is no C compiler: nothing was packaged'
-    exit 0
-fi
+has "$cc" tests/package.sh || exit 0
 if [ -z "${BUILT:-}" ]; then
-    "$top/build" --install "$folder/built"
     BUILT=$folder/built
+    "$top/build" --install "$BUILT"
 fi
-export BUILT
-[ ! -x "$BUILT/bin/tmwatch" ] || program=$BUILT/bin/tmwatch
+use_library
+[ ! -x "$built/bin/tmwatch" ] || program=$built/bin/tmwatch
 
 # Runs these words, which have to write this text and nothing else, with this status.
 tells() {
@@ -34,14 +29,6 @@ tells() {
     ends "$name" 0 diff <(printf '%s' "${text:+$text$'\n'}") "$folder/told"
 }
 
-# Whether a tool is there; what is skipped without it is said.
-has() {
-    command -v "$1" >/dev/null && return
-    echo "$2: skipped, since there is no $1"
-    return 1
-}
-
-version=$(sed -n 's/.*\.version("\(.*\)").*/\1/p' "$top/crates/tmw_words/src/program.rt")
 name=tmwatch_${version}_amd64
 
 # The packages, twice: in folders of other names, by other settings of the user.
@@ -55,11 +42,10 @@ tar --utc --full-time -tvzf "$folder/early/$name.tar.gz" >"$folder/listed"
 tells 'that time alone' '2001-09-09 01:46:40 root/root' 0 awk '!seen[$4 $5 $2]++ { print $4, $5, $2 }' "$folder/listed"
 ends 'a folder that was not built' 1 env BUILT="$folder/none" "$top/package" "$folder/none"
 ends 'no folder' 2 "$top/package"
-mkdir -p "$folder/other/bin" && cp -R "$BUILT/lib" "$BUILT/include" "$folder/other"
+mkdir -p "$folder/other/bin" && cp -R "$built/lib" "$built/include" "$folder/other"
 printf '%s\n' '#!/bin/sh' 'echo tmwatch 0.0.9, by opacity' >"$folder/other/bin/tmwatch" && chmod +x "$folder/other/bin/tmwatch"
 ends 'a program of another version' 1 env BUILT="$folder/other" "$top/package" "$folder/none"
-cp "$folder/output" "$folder/told"
-ends 'a program of another version: what is told' 0 grep -q "is not of version $version: tmwatch 0.0.9, by opacity" "$folder/told"
+has_told 'a program of another version: what is told' "is not of version $version: tmwatch 0.0.9, by opacity"
 
 # A root of its own, whose only package is the C library of this machine: tmwatch depends on it.
 root=$folder/root prefix=$folder/prefix

@@ -4,11 +4,10 @@
 #   tests/page.sh
 #   tests/page.sh write
 #
-# The constants of the program are to be the files of crates/tmw_show/page; `write` writes them anew from these. Then tests/page.py opens
-# the page of each trace in a headless Chromium, and compares what it draws with the trace. Without a browser only the constants are
-# compared, and a line says so.
-# Each row that fails is told. The last line is 'N passed, M failed', and the exit status is 1 where one failed.
-# Environment: BROWSER, the browser's command.
+# The constants of the program have to be the files of crates/tmw_show/page; `write` writes them anew from these. Then tests/page.py opens
+# the page of each trace in a headless Chromium, and compares what it draws with the trace. Without a browser that is skipped, and a line
+# says so. Each row that fails is printed. The last line is 'N passed, M failed'. The exit status is 1 if a row failed.
+# Environment: BROWSER (chromium).
 set -eu
 # shellcheck source=tests/common.sh
 . "$(dirname "${BASH_SOURCE[0]}")/common.sh"
@@ -27,16 +26,9 @@ if [ "${1:-}" = write ]; then
     exit
 fi
 
-if write_constants | cmp -s - "$constants"; then
-    passed=1
-else
-    failed=1
-    echo "$constants is not as 'tests/page.sh write' writes it"
-fi
-
-browser=$(command -v "${BROWSER:-chromium}" || true)
-if [ -z "$browser" ]; then
-    echo 'no chromium: no page was opened'
+counts cmp -s <(write_constants) "$constants" || echo "$constants is not as 'tests/page.sh write' writes it"
+browser=${BROWSER:-chromium}
+if ! has "$browser" 'the pages of traces'; then
     end_rows
     exit
 fi

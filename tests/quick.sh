@@ -1,11 +1,11 @@
 #!/usr/bin/env bash
-# Runs all tests, and the rows of tests/rows, by the kit's unproved run. Nothing is proved or built for good.
+# Runs all tests, and the rows of tests/rows, by the kit's unproved run. Nothing is proved, and no program is left.
 #
 #   tests/quick.sh
 #
-# Each test and each row that fails is told. The last lines are 'N passed, M failed' and that nothing was proved; the exit status is 1
-# when one failed.
-# Environment: SECONDS_EACH (300), the seconds that a test or a row may take.
+# Each test and each row that fails is printed. The last lines are 'N passed, M failed', and that nothing was proved. The exit status is 1
+# if one failed.
+# Environment: SECONDS_EACH (300, that a test or a row may take).
 set -eu
 # shellcheck source=tests/common.sh
 . "$(dirname "${BASH_SOURCE[0]}")/common.sh"

@@ -1,26 +1,26 @@
 #!/usr/bin/env bash
-# Refuses each growth of memory in turn, and fails each read, each write and each start of a thread, of the built program; and
-# refuses each growth of the tests that allow it.
+# Refuses each growth of memory in turn, and fails each read, each write and each start of a thread, of the built program. Refuses each
+# growth of the tests that allow it.
 #
 #   tests/refused.sh
 #
-# tests/refused.c is loaded with the program, and refuses the call of one number: the first, then the second, up to a run that has
-# no such call. Reads and writes move few bytes each, so that there are many. (`rt try --fail-alloc` refuses the same growths, but
-# builds the program anew for each run.) Of a command line
-# - a run that was refused a growth, that one alone or all from it on, has to write the line of the fault `memory` alone, with
-#   status 4: of `spawn`, where the growth was for the start of a thread, or where the start failed;
-# - a run with a failed read has to write the line of the fault `io` alone, with status 4;
-# - a run with a failed write has to leave a beginning of what the plain run writes, and not all of it, with status 4;
-# - a run with an interrupted read or write, or with no call refused, has to write what the plain run writes, with its status;
-# - nothing may be read after a call that was refused or failed.
-# Of long texts, long windows and long logs not each call is refused: of a text of a million bytes and more those behind the first
-# million, of growths there and of a log of 2,400 events those of many bytes. What their plain runs write is known, and compared.
-# Of the tests of all crates those whose name has `refused_growth` have to pass, or to answer that there is no memory for what they
-# begin with, and to pass at some growth at least; a test that allows no refusal has to fail at each.
+# tests/refused.c is loaded with the program, and refuses the call of one number: the first, then the second, up to a run that has no such
+# call. Reads and writes move few bytes each, so that there are many. (`rt try --fail-alloc` refuses the same growths, but builds the
+# program anew for each run.) What a command line has to do:
+# - If a growth is refused, that one alone or all from it on, it writes the line of the fault `memory` alone, with status 4. The fault is
+#   `spawn` if the growth was for the start of a thread, or if the start failed.
+# - If a read fails, it writes the line of the fault `io` alone, with status 4.
+# - If a write fails, it has written a beginning of what the plain run writes, and not all of it, with status 4.
+# - If a read or write is interrupted, or no call refused, it writes what the plain run writes, with its status.
+# - It reads nothing after a call that was refused or failed.
+# Not each call of long texts, long windows and long logs is refused: only those after a text's first million bytes; and of growths there,
+# and of a log of 2,400 events, those of many bytes. What their plain runs write is known, and compared. A test whose name has
+# `refused_growth` has to pass, or to answer that it lacks the memory to begin with, and to pass at one growth at least. A test that allows
+# no refusal has to fail at each.
 #
-# A line for each row tells how many calls of each kind were refused. The last line is `N passed, M failed`, of all runs, and the
-# exit status is 1 where M is above 0. A row that was refused nothing has failed.
-# Environment: CC (cc), LIMIT (20), the seconds that a run may take.
+# A row says how many calls of each kind were refused; one with none has failed. The last line is 'N passed, M failed', of all runs. The
+# exit status is 1 if a run failed.
+# Environment: CC (cc), LIMIT (20, the seconds that a run may take).
 set -eu
 ulimit -c 0
 # shellcheck source=tests/common.sh
@@ -32,12 +32,8 @@ after=0 least=0
 
 # Counts a run, and tells what it did where that isn't what it has to do.
 count() {
-    if [ "$1" -eq 0 ]; then
-        passed=$((passed + 1))
-    else
-        failed=$((failed + 1))
+    counts [ "$1" -eq 0 ] ||
         echo "$name: $2: status $status, told '${told[*]}', wrote '$(head -qc 150 "$folder/output" "$folder/errors" | tr '\n' ' ')'"
-    fi
 }
 
 # Runs these words with the call of this kind and number refused.

@@ -1,13 +1,13 @@
 #!/usr/bin/env bash
-# Tries the wrong bodies of edits/: the prover must refuse each. By hand, before a release and when a contract changes; the gate tries
-# those of crates/*/must-fail.
+# Tries the wrong bodies of edits/: the prover must refuse each. Run it before a release, and when a contract changes. The gate tries those
+# of crates/*/must-fail.
 #
 #   tests/long/edits.sh [CRATE..]
 #
-# Without words all crates that have some: some four hours of processor time. The gate, `rt ci`, proves the crates in a copy, with those
-# that they stand on, and these edits take the place of its own there. A line for each edit that is not refused, or refused only because
-# a name is gone or a limit of the prover's is met; what the prover said of each stands in edits/log. The last line is 'N refused, M by
-# a name or limit alone, K not refused'; the exit status is 1 when K is above 0.
+# Without words it tries those of all crates: some four hours of processor time. The gate, `rt ci`, proves the crates in a copy, with those
+# that they stand on, where these edits take the place of its own. An edit has a line if it is not refused, or refused only because a name
+# is gone or the prover's limit is met. What the prover said of each is in edits/log. The last line is 'N refused, M by a name or limit
+# alone, K not refused'. The exit status is 1 if K is above 0.
 set -eu
 # shellcheck source=tests/common.sh
 . "$(dirname "${BASH_SOURCE[0]}")/../common.sh"

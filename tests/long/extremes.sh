@@ -1,14 +1,13 @@
 #!/usr/bin/env bash
-# Runs the built program on input at the ends of what there is: long lines, traces and transactions, many outcomes, slow windows,
-# little memory, closed streams, hostile workloads. Each row has a line and an exit status that have to come out, and a bound of its
-# memory.
+# Runs the built program on extreme input: long lines, traces and transactions, many outcomes, slow windows, little memory, closed streams,
+# hostile workloads. A row has the output and the exit status that have to come, and a bound of the memory.
 #
 #   tests/long/extremes.sh [lines] [length] [reads] [cuts] [aborts] [slow] [limits] [streams] [workloads]
 #
-# Without words all groups run. A row tells its seconds, its peak memory in KiB and its answer. The last line is
-# 'N passed, M failed', and the exit status is 1 where a row failed.
-# Environment: BYTES of a line (1000000000), EVENTS of a trace (2^24; 2147483648 takes minutes), READS of a transaction (10000000),
-# CUTS (10000; 1000000 takes minutes), SLOW reads and windows that are slow (5), LIMIT in seconds of a run (3600; of a slow one 20).
+# Without words all groups run. A row prints its seconds, its peak memory in KiB and its answer. The last line is 'N passed, M failed'. The
+# exit status is 1 if a row failed.
+# Environment: BYTES of a line (1000000000), EVENTS of a trace (2^24; 2147483648 takes minutes), READS of a transaction (10000000), CUTS
+# (10000; 1000000 takes minutes), SLOW reads and windows that are slow (5), LIMIT in seconds of a run (3600; of a slow one 20).
 set -eu
 # shellcheck source=tests/common.sh
 . "$(dirname "${BASH_SOURCE[0]}")/../common.sh"
@@ -20,12 +19,7 @@ little=4000
 count() {
     local name=$1 most=$2 wanted=$3 answer=$4 told=ok
     read -r seconds kib <"$folder/time"
-    if [ "$answer" = "$wanted" ] && [ "$kib" -le "$most" ]; then
-        passed=$((passed + 1))
-    else
-        failed=$((failed + 1))
-        told="FAILED, wanted at most $most KiB and: $wanted; came:"
-    fi
+    counts [ "$answer $((kib <= most))" = "$wanted 1" ] || told="FAILED, wanted at most $most KiB and: $wanted; came:"
     printf '%-58s %8s s %8s KiB  %s  %s\n' "$name" "$seconds" "$kib" "$told" "${answer%%$'\n'*}"
 }
 

@@ -1,12 +1,12 @@
 #!/usr/bin/env bash
-# Hunts for violations: `tmwatch bench` runs examples/hunt.json on each of the three memories, so many rounds a run.
+# Hunts for violations: `tmwatch bench` runs examples/hunt.json on each of the three memories.
 #
 #   tests/long/hunt.sh
 #
-# A line for each memory comes out: how many of its runs were violated, opaque so far, or anything else, the least and the most
-# events up to a violation, and the seconds of all runs. The exit status is 0 where `torn` was violated in each run, and `norec` and
-# `lock` were opaque so far in each; else 1.
-# Environment: RUNS (20), ROUNDS (100000), WORKLOAD (examples/hunt.json).
+# A line for each memory says how many of its runs were violated, opaque so far, or anything else; the least and the most events up to a
+# violation; and the seconds of all runs. The exit status is 0 if each run of `torn` was violated, and each of `norec` and `lock` opaque so
+# far; else 1.
+# Environment: RUNS (20), ROUNDS (100000, of a run), WORKLOAD (examples/hunt.json).
 set -eu
 # shellcheck source=tests/common.sh
 . "$(dirname "${BASH_SOURCE[0]}")/../common.sh"
@@ -17,7 +17,7 @@ failed=0
 printf '%-8s %5s %9s %7s %6s %10s %10s %8s\n' memory runs violated opaque other least most seconds
 for memory in torn norec lock; do
     violated=0 opaque=0 other=0 least=0 most=0
-    began=$(date +%s.%N)
+    began=$EPOCHREALTIME
     for _ in $(seq "$runs"); do
         line=$("$program" bench --memory "$memory" --rounds "${ROUNDS:-100000}" <"$workload" | head -n 1)
         case $line in
@@ -31,8 +31,7 @@ for memory in torn norec lock; do
         *) other=$((other + 1)) && echo "hunt.sh: $memory: $line" >&2 ;;
         esac
     done
-    seconds=$(echo "$began $(date +%s.%N)" | awk '{ printf "%.1f", $2 - $1 }')
-    printf '%-8s %5d %9d %7d %6d %10d %10d %8s\n' "$memory" "$runs" "$violated" "$opaque" "$other" "$least" "$most" "$seconds"
+    printf '%-8s %5d %9d %7d %6d %10d %10d %8s\n' "$memory" "$runs" "$violated" "$opaque" "$other" "$least" "$most" "$(since "$began")"
     if [ "$memory" = torn ]; then [ "$violated" -eq "$runs" ] || failed=1; else [ "$opaque" -eq "$runs" ] || failed=1; fi
 done
 exit $failed

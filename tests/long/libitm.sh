@@ -4,30 +4,19 @@
 #
 #   tests/long/libitm.sh
 #
-# Rows as of tests/long/recorders.sh, and after each method's how many attempts were rolled back. The last line is 'N passed, M failed', and
-# the exit status is 1 where one failed, 2 where there is no gcc that compiles and links transactions.
+# Rows as of tests/long/recorders.sh, and after each method's how many attempts were rolled back. The last line is 'N passed, M failed'. The
+# exit status is 1 if a row failed, and 2 if gcc builds no transactions.
 # Environment: RUNS (5), ROUNDS (1000), CC (gcc). The little memory needs x86-64.
 set -eu
 # shellcheck source=tests/common.sh
 . "$(dirname "${BASH_SOURCE[0]}")/../common.sh"
 runs=${RUNS:-5} rounds=${ROUNDS:-1000}
+has_transactions "${CC:-gcc}" libitm.sh || exit 2
 . "$top/tests/long/recorded.sh"
-source=$top/examples/libitm
 compile=("${CC:-gcc}" -std=gnu11 -O2 -Wall -Wextra -pthread)
-
-if ! echo 'int main(void) { __transaction_atomic { } }' | "${CC:-gcc}" -fgnu-tm -x c -o "$folder/try" - -litm 2>"$folder/told"; then
-    echo "libitm.sh: ${CC:-gcc} builds no transactions: $(tail -n 1 "$folder/told")" >&2
-    exit 2
-fi
-"${compile[@]}" -fgnu-tm -c -o "$folder/transaction.o" "$source/transaction.c"
-"${compile[@]}" -c -o "$folder/run.o" "$source/run.c"
-"${compile[@]}" -DATTEMPTS=1000 -c -o "$folder/unbounded.o" "$source/run.c"
-"${compile[@]}" -o "$folder/libitm" "$folder/run.o" "$folder/transaction.o" -litm
+build_libitm
+"${compile[@]}" -DATTEMPTS=1000 -c -o "$folder/unbounded.o" "$top/examples/libitm/run.c"
 "${compile[@]}" -o "$folder/unbounded" "$folder/unbounded.o" "$folder/transaction.o" -litm
-for fault in NONE READS COMMIT PLACE; do
-    "${compile[@]}" -DFAULT=$fault -c -o "$folder/memory.o" "$source/memory.c"
-    "${compile[@]}" -o "$folder/$fault" "$folder/run.o" "$folder/transaction.o" "$folder/memory.o"
-done
 
 # A row of one of libitm's methods: the method, the program, and where it records.
 method_row() {

@@ -4,29 +4,17 @@
 #
 #   tests/long/libitm_watched.sh
 #
-# A row tells how often each verdict and exit status came, of RUNS runs. The last line is 'N passed, M failed', and the exit status is 1
-# where a row's weren't those that are wanted, 2 where there is no gcc that compiles and links transactions.
-# Environment: RUNS (5), ROUNDS (1000), CC (gcc), BUILT (a folder that ./tmwatch-c has filled). The little memory needs x86-64.
+# A row says how often each verdict and exit status came, of RUNS runs. The last line is 'N passed, M failed'. The exit status is 1 if a row
+# had others than it has to have, and 2 if gcc builds no transactions.
+# Environment: RUNS (5), ROUNDS (1000), CC (gcc), BUILT (tests/common.sh). The little memory needs x86-64.
 set -eu
 # shellcheck source=tests/common.sh
 . "$(dirname "${BASH_SOURCE[0]}")/../common.sh"
 runs=${RUNS:-5} rounds=${ROUNDS:-1000}
-built=${BUILT:-$folder/built}
-[ -n "${BUILT:-}" ] || "$top/tmwatch-c" "$built"
-source=$top/examples/libitm
+has_transactions "${CC:-gcc}" libitm_watched.sh || exit 2
+use_library
 compile=("${CC:-gcc}" -std=gnu11 -O2 -Wall -Wextra -pthread "-I$built/include" -include "$top/examples/c/recorder.h")
-
-if ! echo 'int main(void) { __transaction_atomic { } }' | "${CC:-gcc}" -fgnu-tm -x c -o "$folder/try" - -litm 2>"$folder/told"; then
-    echo "libitm_watched.sh: ${CC:-gcc} builds no transactions: $(tail -n 1 "$folder/told")" >&2
-    exit 2
-fi
-"${compile[@]}" -fgnu-tm -c -o "$folder/transaction.o" "$source/transaction.c"
-"${compile[@]}" -c -o "$folder/run.o" "$source/run.c"
-"${compile[@]}" -o "$folder/libitm" "$folder/run.o" "$folder/transaction.o" -litm "$built/lib/libtmwatch.a"
-for fault in NONE READS COMMIT PLACE; do
-    "${compile[@]}" -DFAULT=$fault -c -o "$folder/memory.o" "$source/memory.c"
-    "${compile[@]}" -o "$folder/$fault" "$folder/run.o" "$folder/transaction.o" "$folder/memory.o" "$built/lib/libtmwatch.a"
-done
+build_libitm "$built/lib/libtmwatch.a"
 
 declare -A statuses=(['opaque so far']=0 [violated]=1 [undecided]=2 [malformed]=3)
 
@@ -39,11 +27,7 @@ row() {
         ITM_DEFAULT_METHOD=$method timeout 120 "$folder/$program" "$placing" "$rounds" "$seed" >"$folder/output" 2>/dev/null || status=$?
         echo "$(tail -n 1 "$folder/output"), status $status" >>"$folder/verdicts"
     done
-    if [ "$(grep -c "^$wanted at .*, status ${statuses[$wanted]}\$" "$folder/verdicts")" -eq "$runs" ]; then
-        passed=$((passed + 1))
-    else
-        failed=$((failed + 1))
-    fi
+    counts [ "$(grep -c "^$wanted at .*, status ${statuses[$wanted]}\$" "$folder/verdicts")" -eq "$runs" ] || true
     printf '%-32s %s\n' "$name" "$(sed 's/ at .*,/,/' "$folder/verdicts" | sort | uniq -c | tr -s ' \n' ' ')"
 }
 

@@ -71,7 +71,7 @@ def compare(expected, folder, summary, repeated):
         right = False
         print(f"no verdict of {run}")
     again = len(whole) - len(dict(whole))
-    print(f"    {len(wanted)} runs, {again} lines repeated, {cut} cut")
+    print(f"{len(wanted)} runs, {again} lines repeated, {cut} cut")
     right = right and again <= int(repeated)
     return same_summary(folder, summary, dict(whole), wanted) and right
 
@@ -87,7 +87,7 @@ def cuts(lines, summary, folder):
     (folder / "a.jsonl").write_bytes(b"\n".join(pieces))
     (folder / "b.jsonl").write_bytes(first)
     (folder / "c.jsonl").write_bytes(b"\n".join(piece + first for piece in pieces))
-    print(f"    {len(pieces)} cuts of {len(lines) - 1} lines")
+    print(f"{len(pieces)} cuts of {len(lines) - 1} lines")
     return same_summary(folder, summary, {runs[0]: lines[0]}, runs)
 
 

@@ -3,27 +3,26 @@
 #
 #   tests/long/memories.sh
 #
-# It prints a row for each memory and schedule: how many seeds came out opaque so far, violated, undecided, malformed and other; the least
-# and the most `at` of those that are violated; the seconds of all. A run is other if it ends without a verdict, if it takes 300 seconds, or
+# A row for each memory and schedule says how many seeds came out opaque so far, violated, undecided, malformed and other; the least and the
+# most `at` of the violated ones; and the seconds of all. A run is other if it ends without a verdict, if it takes 300 seconds, or
 # if it is opaque so far and shows little: not all rounds were run, or no two transactions overlapped.
 # A right memory passes if all its seeds are opaque so far. A broken one passes if nine seeds in ten are violated, and the others opaque so
 # far. Standard error has a line for each seed that came out otherwise.
-# What can't be built here is skipped, and a line says so. The last line is 'N passed, M failed', and the exit status is 1 where one failed.
-# Environment: BUILT (a folder that ./tmwatch-c has filled; it is made where there is none), SEEDS (10), ROUNDS (100000, at most, of a
-# broken memory), RIGHT_ROUNDS (20000; libitm: a tenth), CC (cc), CXX (c++), CARGO (cargo).
+# What can't be built here is skipped, and a line says so. The last line is 'N passed, M failed', and the exit status is 1 if one failed.
+# Environment: BUILT (tests/common.sh), SEEDS (10), ROUNDS (100000, at most, of a broken memory), RIGHT_ROUNDS (20000; libitm: a tenth),
+# CC (cc), CXX (c++), CARGO (cargo).
 set -eu
 # shellcheck source=tests/common.sh
 . "$(dirname "${BASH_SOURCE[0]}")/../common.sh"
 seeds=${SEEDS:-10} broken_rounds=${ROUNDS:-100000} right_rounds=${RIGHT_ROUNDS:-20000}
 cc=${CC:-cc} cxx=${CXX:-c++} cargo=${CARGO:-cargo}
-built=${BUILT:-$folder/built}
-[ -n "${BUILT:-}" ] || "$top/tmwatch-c" "$built"
+use_library
 flags=(-O2 -Wall -Wextra -pthread -DTMWATCH_PAUSES "-I$top/include")
 
 # The bench is compiled here, so that it is the one of this folder.
 mkdir "$folder/lib"
 cp "$built/lib/libtmwatch.a" "$folder/lib"
-"$cc" -std=c11 "${flags[@]}" -c -o "$folder/bench.o" "$top/c/tmwatch_bench.c"
+"$cc" -std=c11 "${flags[@]}" -c -o "$folder/bench.o" "$top/bench-c/tmwatch_bench.c"
 ar rcs "$folder/lib/libtmwatch_bench.a" "$folder/bench.o"
 link=("$folder/lib/libtmwatch_bench.a" "$folder/lib/libtmwatch.a")
 
@@ -77,7 +76,7 @@ is_wanted() {
 
 # A row: its name, whether the memory is right or broken, the schedule, and how a run is made.
 row() {
-    local name=$1 kind=$2 schedule=$3 least='' most='' counts=(0 0 0 0 0) passes=passed began=$EPOCHREALTIME seed status found
+    local name=$1 kind=$2 schedule=$3 least='' most='' of_each=(0 0 0 0 0) passes=passed began=$EPOCHREALTIME seed status found
     local rounds=$broken_rounds usual=1
     [ "$kind" = broken ] || rounds=$right_rounds usual=0
     shift 3
@@ -85,17 +84,16 @@ row() {
         status=0
         "$@" >"$folder/output" 2>"$folder/told" || status=$?
         found=$(outcome $status)
-        counts[found]=$((counts[found] + 1))
+        of_each[found]=$((of_each[found] + 1))
         [ "$found" -eq "$usual" ] || echo "$name by $schedule, seed $seed: status $status, $(head -n 1 "$folder/output")" >&2
         [ "$found" -eq 1 ] || continue
         found=$(sed -n '1s/^{"at":\([0-9]*\),.*/\1/p' "$folder/output")
         [ -n "$least" ] && [ "$least" -le "$found" ] || least=$found
         [ -n "$most" ] && [ "$most" -ge "$found" ] || most=$found
     done
-    is_wanted "$kind" "${counts[@]}" || passes=FAILED
-    [ $passes = passed ] && passed=$((passed + 1)) || failed=$((failed + 1))
-    printf '%-36s %-8s %6d %8d %9d %9d %5d %8s %8s %7s  %s\n' "$name" "$schedule" "${counts[@]}" "${least:--}" "${most:--}" \
-        "$(echo "$began $EPOCHREALTIME" | awk '{ printf "%.1f", $2 - $1 }')" $passes
+    counts is_wanted "$kind" "${of_each[@]}" || passes=FAILED
+    printf '%-36s %-8s %6d %8d %9d %9d %5d %8s %8s %7s  %s\n' "$name" "$schedule" "${of_each[@]}" "${least:--}" "${most:--}" \
+        "$(since "$began")" $passes
 }
 
 # The rows of a memory: its name, whether it is right or broken, and how a run is made.
@@ -129,15 +127,13 @@ rows 'versions' right bench versions_NONE
 rows 'undo log' right bench undo_NONE
 rows 'a lock for each register' right bench locks_NONE
 rows 'NOrec that restarts by longjmp' right bench jumping
-if command -v "$cxx" >/dev/null; then
+if has "$cxx" 'memories in C++'; then
     in_cpp lock tests/c/bench_lock.cpp NONE
     in_cpp class tests/c/bench_class.cpp NONE
     rows 'C++, one lock' right bench lock
     rows 'C++, TL2 as a class' right bench class
-else
-    echo 'memories in C++: skipped, since there is no C++ compiler'
 fi
-if echo 'int main(void) { __transaction_atomic { } }' | "$cc" -fgnu-tm -x c -o "$folder/try" - 2>"$folder/told"; then
+if has_transactions "$cc" libitm; then
     in_c libitm tests/c/bench_libitm.c NONE -fgnu-tm
     # It spins while another thread has its lock. On a busy machine that takes long.
     all_rounds=$right_rounds
@@ -146,15 +142,11 @@ if echo 'int main(void) { __transaction_atomic { } }' | "$cc" -fgnu-tm -x c -o "
         rows "libitm, $method" right libitm $method
     done
     right_rounds=$all_rounds
-else
-    echo "libitm: skipped, since $cc builds no transactions: $(tail -n 1 "$folder/told")"
 fi
-if command -v "$cargo" >/dev/null; then
+if has "$cargo" 'a memory in Rust'; then
     (cd "$top/bindings/rust" && CARGO_TARGET_DIR=$folder/target TMWATCH_LIB=$folder/lib "$cargo" build -q --offline --locked --release \
         --example lock)
     rows 'Rust, a lock for each register' right rust
-else
-    echo 'a memory in Rust: skipped, since there is no cargo'
 fi
 
 # The last but one shows only if another transaction writes and is rolled back within one read. So most of them ask to abort here.

@@ -1,19 +1,18 @@
 #!/usr/bin/env bash
-# Plants mistakes into the bench for memories in C, and runs memories on it that are right: so the bench is tested itself.
+# Plants mistakes into the bench for memories in C, and runs right memories on it: so the bench itself is tested.
 #
 #   tests/long/mistakes.sh
 #
-# A row for each mistake and memory comes out: with how many of its seeds the run came out opaque so far, violated, undecided or malformed, or
-# was refused by the library, or did not end within 120 seconds. It says whether the mistake shows: if no more than one seed in ten is opaque
-# so far. Without a mistake each seed has to be opaque so far; each mistake has to show with one memory at least. The last line is
-# 'N passed, M failed', and the exit status is 1 where one failed.
-# Environment: BUILT (a folder that ./tmwatch-c has filled; it is made where there is none), SEEDS (10), ROUNDS (20000), CC (cc), CXX (c++).
+# A row for each mistake and memory says how many of its seeds came out opaque so far, violated, undecided or malformed, or were refused by
+# the library or not done within 120 seconds. It says whether the mistake shows: at most one seed in ten is opaque so far. Without a mistake
+# each seed has to be opaque so far. Each mistake has to show with one memory at least. The last line is 'N passed, M failed'. The exit
+# status is 1 if one failed.
+# Environment: BUILT (tests/common.sh), SEEDS (10), ROUNDS (20000), CC (cc), CXX (c++).
 set -eu
 # shellcheck source=tests/common.sh
 . "$(dirname "${BASH_SOURCE[0]}")/../common.sh"
 seeds=${SEEDS:-10} rounds=${ROUNDS:-20000}
-built=${BUILT:-$folder/built}
-[ -n "${BUILT:-}" ] || "$top/tmwatch-c" "$built"
+use_library
 flags=(-O2 -Wall -Wextra -pthread -DTMWATCH_PAUSES "-I$top/include")
 "${CC:-cc}" -std=c11 "${flags[@]}" -c -o "$folder/norec.o" "$top/examples/c/norec.c"
 "${CC:-cc}" -std=c11 "${flags[@]}" -c -o "$folder/versions.o" "$top/tests/c/bench_versions.c"
@@ -21,15 +20,15 @@ flags=(-O2 -Wall -Wextra -pthread -DTMWATCH_PAUSES "-I$top/include")
 
 # A row: the mistake and the memory, whose program is compiled. It sets opaque, how many seeds were so.
 row() {
-    local seed status counts=(0 0 0 0 0)
+    local seed status of_each=(0 0 0 0 0)
     for seed in $(seq "$seeds"); do
         status=0
         timeout 120 "$folder/$2" --rounds "$rounds" --seed "$seed" --pause 1000 >"$folder/output" 2>"$folder/told" || status=$?
         [ $status -lt 4 ] || status=4
-        counts[status]=$((counts[status] + 1))
+        of_each[status]=$((of_each[status] + 1))
     done
-    opaque=${counts[0]}
-    printf '%-36s %-9s %6d %8d %9d %9d %7d  %s\n' "$1" "$2" "${counts[@]}" "$(shows && echo shows || echo 'does not show')"
+    opaque=${of_each[0]}
+    printf '%-36s %-9s %6d %8d %9d %9d %7d  %s\n' "$1" "$2" "${of_each[@]}" "$(shows && echo shows || echo 'does not show')"
 }
 
 shows() {
@@ -39,7 +38,7 @@ shows() {
 # A mistake: its name, and the change of the bench's source. It is none without a change.
 mistake() {
     local memory is_shown=no is_hidden=yes
-    sed "$2" "$top/c/tmwatch_bench.c" >"$folder/bench.c"
+    sed "$2" "$top/bench-c/tmwatch_bench.c" >"$folder/bench.c"
     "${CC:-cc}" -std=c11 "${flags[@]}" -c -o "$folder/bench.o" "$folder/bench.c"
     for memory in lock norec versions; do
         "${CXX:-c++}" -pthread -o "$folder/$memory" "$folder/$memory.o" "$folder/bench.o" "$built/lib/libtmwatch.a"
@@ -47,8 +46,8 @@ mistake() {
         ! shows || is_shown=yes
         [ "$opaque" -eq "$seeds" ] || is_hidden=no
     done
-    if cmp -s "$folder/bench.c" "$top/c/tmwatch_bench.c"; then is_shown=$is_hidden; fi
-    if [ $is_shown = yes ]; then passed=$((passed + 1)); else failed=$((failed + 1)); fi
+    if cmp -s "$folder/bench.c" "$top/bench-c/tmwatch_bench.c"; then is_shown=$is_hidden; fi
+    counts [ $is_shown = yes ] || true
 }
 
 printf '%-36s %-9s %6s %8s %9s %9s %7s\n' mistake memory opaque violated undecided malformed refused

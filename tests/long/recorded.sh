@@ -10,19 +10,14 @@ write_head() {
     printf '%-30s %-11s %-11s\n' '' 'o v u m' 'o v u m'
 }
 
-# The seconds since a time.
-since() {
-    echo "$1 $(date +%s.%N)" | awk '{ printf "%.2f", $2 - $1 }'
-}
-
 # Counts the verdict of a report's line in the list that is named: opaque or strict so far, violated, undecided, malformed.
 count_verdict() {
-    local -n counts=$1
+    local -n of_each=$1
     case $2 in
-    *'"verdict":"opaque so far"}' | *'"verdict":"strict so far"}') counts[0]=$((counts[0] + 1)) ;;
-    *'"verdict":"violated"}') counts[1]=$((counts[1] + 1)) ;;
-    *'"verdict":"undecided","why":"transactions"}') counts[2]=$((counts[2] + 1)) ;;
-    *'"verdict":"malformed"}') counts[3]=$((counts[3] + 1)) ;;
+    *'"verdict":"opaque so far"}' | *'"verdict":"strict so far"}') of_each[0]=$((of_each[0] + 1)) ;;
+    *'"verdict":"violated"}') of_each[1]=$((of_each[1] + 1)) ;;
+    *'"verdict":"undecided","why":"transactions"}') of_each[2]=$((of_each[2] + 1)) ;;
+    *'"verdict":"malformed"}') of_each[3]=$((of_each[3] + 1)) ;;
     *) echo "$2" >&2 ;;
     esac
 }
@@ -46,10 +41,10 @@ row() {
     shift 3
     for seed in $(seq "$runs"); do
         local began
-        began=$(date +%s.%N)
+        began=$EPOCHREALTIME
         "$@" "$rounds" "$seed" >"$folder/trace" 2>>"$folder/told" || passes=no
         run=$(echo "$run $(since "$began")" | awk '{ printf "%.2f", $1 + $2 }')
-        began=$(date +%s.%N)
+        began=$EPOCHREALTIME
         "$judge" judge --criterion both <"$folder/trace" >"$folder/report" || [ $? -lt 4 ] || passes=no
         judged=$(echo "$judged $(since "$began")" | awk '{ printf "%.2f", $1 + $2 }')
         { read -r line && read -r strict_line; } <"$folder/report" || line='' strict_line=''
@@ -61,7 +56,7 @@ row() {
         [ "$most" -gt "${BASH_REMATCH[1]}" ] || most=${BASH_REMATCH[1]}
     done
     all_are "$wanted" "${opacity[@]}" && all_are "$wanted_strict" "${strict[@]}" || passes=no
-    if [ $passes = yes ]; then passed=$((passed + 1)); else failed=$((failed + 1)); fi
+    counts [ $passes = yes ] || true
     printf '%-30s %-11s %-11s %7d %7d %9d %7s %7s  %s\n' "$name" "${opacity[*]}" "${strict[*]}" \
         "$least" "$most" "$events" "$run" "$judged" $passes
 }

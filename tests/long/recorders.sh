@@ -1,13 +1,13 @@
 #!/usr/bin/env bash
-# Compiles the recorders of examples/recorders and runs them on little memories: correct ones, ones of which a part was left out, and
-# with events recorded in wrong places.
+# Compiles the recorders of examples/recorders and runs them on little memories: right ones, ones without a part, and with events recorded
+# in wrong places.
 #
 #   tests/long/recorders.sh
 #
-# A row for each comes out: how many of its runs were opaque so far, violated, undecided and malformed, and then the same by strict
-# serializability; the least and the most events up to the verdict; all events; the seconds of the runs and of judging them. A row
-# passes where all its runs have the verdict that they have to have, by opacity and, where that is said, by strict serializability.
-# Then what recording an event costs, which is not judged. The last line is 'N passed, M failed', and the exit status is 1 where one failed.
+# A row says how many of its runs were opaque so far, violated, undecided and malformed, then the same by strict serializability; the least
+# and the most events up to the verdict; all events; the seconds of the runs and of judging them. It passes if each run has the wanted
+# verdict by opacity and, if there is one, by strict serializability. Then comes what recording an event costs, which nothing judges. The
+# last line is 'N passed, M failed'. The exit status is 1 if a row failed.
 # Environment: RUNS (10), ROUNDS (5000), CC (gcc), RUSTC (rustc).
 set -eu
 # shellcheck source=tests/common.sh

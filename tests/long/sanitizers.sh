@@ -4,13 +4,12 @@
 #   tests/long/sanitizers.sh
 #
 # The sanitizers see the programs, the bench, and what the library gets of the heap, and not into the library, which they did not compile;
-# valgrind sees all. The exit status is 1 where a run failed. What is not there is said to be skipped.
-# Environment: CC (cc), BUILT (a folder that ./tmwatch-c has filled; it is made where there is none).
+# valgrind sees all. The exit status is 1 if a run failed. A tool that is not there is skipped, and a line says so.
+# Environment: CC (cc), BUILT (tests/common.sh).
 set -eu
 # shellcheck source=tests/common.sh
 . "$(dirname "${BASH_SOURCE[0]}")/../common.sh"
-[ -n "${BUILT:-}" ] || "$top/tmwatch-c" "$folder/built"
-export BUILT=${BUILT:-$folder/built}
+use_library
 status=0
 
 compiles() {
@@ -27,10 +26,8 @@ for flags in '-fsanitize=address,undefined -fno-sanitize-recover=all' -fsanitize
 done
 for tool in 'memcheck --leak-check=full --errors-for-leak-kinds=all' 'helgrind'; do
     echo "== valgrind --tool=$tool"
-    if command -v valgrind >/dev/null; then
+    if has valgrind "$tool"; then
         RUN="valgrind -q --tool=$tool --error-exitcode=99" ROUNDS=300 "$top/tests/c.sh" || status=1
-    else
-        echo 'skipped: there is no valgrind'
     fi
 done
 exit $status

@@ -3,9 +3,9 @@
 #
 #   tests/long/soak.sh [RUNS]
 #
-# Each run has to end within LIMIT seconds, with no fault and no malformed run; its trace has to be judged as its report says, and
-# has to have each thread's whole script where its end is "done": as many calls that begin a transaction as the script has
-# transactions, and as many answers as calls. The last line is `N passed, M failed`, and the exit status is 1 where any failed.
+# Each of RUNS (10000) has to end within LIMIT seconds, without a fault and not malformed. Its trace has to be judged as its report says. If
+# a thread's end is "done", the trace has to have its whole script: as many calls that begin a transaction as the script has transactions,
+# and as many answers as calls. The last line is 'N passed, M failed'. The exit status is 1 if a run failed.
 # Environment: LIMIT (20).
 set -eu
 # shellcheck source=tests/common.sh

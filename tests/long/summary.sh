@@ -3,15 +3,16 @@
 #
 #   tests/long/summary.sh [RUNS]
 #
-# First tests/long/summary.py counts the traces of tests/rows/summary.rows, whose counts were worked out by hand. Then it makes RUNS
-# (2000) random histories: right ones, ones with wrong reads, ones with open transactions, ones with an event that fits no run. Each is
-# judged by a random criterion within random bounds, with --summary and without: what comes with it has to be what comes without it,
-# with the same status, and the line of the counts that it made itself, of the longest part that a verdict covers, and standard error says
-# that nothing overlapped just where it has to. With --first comes what comes of the trace up to the event of the last final verdict. With
-# 0 RUNS nothing is built.
+# First tests/long/summary.py counts the traces of tests/rows/summary.rows, whose counts were worked out by hand. Then it makes RUNS (2000)
+# random histories: right ones, and ones with wrong reads, open transactions or an event that fits no run. Each is judged by a random
+# criterion within random bounds:
+# - With --summary the output and the status are those without it. The counts' line is that of the longest part that a verdict covers, and
+#   standard error says that nothing overlapped exactly if that is so.
+# - With --first the output is that of the trace up to the event of the last final verdict.
+# With 0 RUNS nothing is built.
 #
-# Each row and each history that fails is told, as a row. Then come how many reports had each verdict; one that none had has failed.
-# The last line is 'N passed, M failed', and the exit status is 1 where one failed.
+# Each row and each history that fails is printed. Then come how many reports had each verdict; a verdict that none had has failed. The last
+# line is 'N passed, M failed'. The exit status is 1 if one failed.
 # Environment: SEED (1).
 set -eu
 # shellcheck source=tests/common.sh

@@ -53,10 +53,8 @@ fn nothing_is_asked_for_behind_the_final_verdict(rt: HostRuntime) {
         let mut sink = MemorySink::new(rt.alloc());
         let mut errors = MemorySink::new(rt.alloc());
         let options = Options {
-            bounds: BOUNDS,
-            asked,
             first: true,
-            summary: false,
+            ..Options::plain(BOUNDS, asked)
         };
         let answered = run_judge_with(rt.alloc(), &mut source, &mut sink, &mut errors, options);
         assert_eq!(rt; sink.bytes(), lines.as_bytes());

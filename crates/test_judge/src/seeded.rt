@@ -9,7 +9,7 @@ use tmw_events::{Event, Kind, Registers};
 use tmw_judge::run_judge;
 use tmw_monitor::Bounds;
 use tmw_plain_check::{Whole, WholeFault, judge_whole_for};
-use tmw_report::{report_strict, report_text, status_of};
+use tmw_report::{report_by, status_of};
 use tmw_streams::{MemorySink, MemorySource};
 use tmw_trace::{Header, Version, write_trace};
 use tmw_wellformed::Tracker;
@@ -127,23 +127,6 @@ fn within(verdict: Verdict, events: &[Event], bound: u8) -> Verdict {
     }
 }
 
-/// Makes the report line.
-fn line_of(
-    alloc: Global,
-    criterion: Criterion,
-    count: u64,
-    verdict: &Verdict,
-) -> Result<String, AllocError> {
-    match (criterion, verdict) {
-        (Criterion::Strict, Verdict::OpaqueSoFar) | (Criterion::Opacity, Verdict::StrictSoFar) => {
-            // (The plain check answers by its own criterion; no report is empty.)
-            Ok(String::new(alloc))
-        }
-        (Criterion::Opacity, _) => report_text(alloc, count, verdict),
-        (Criterion::Strict, _) => report_strict(alloc, count, verdict),
-    }
-}
-
 /// Judges a text through reads of each size: each has to give this line and this status.
 fn expect(
     rt: &(impl Abort + AllocGlobal),
@@ -233,7 +216,7 @@ fn seeded_texts_are_judged_as_by_the_plain_check(rt: HostRuntime) -> Result<(), 
         let verdict = within(verdict, &events, bounds.window);
         let mut text = MemorySink::new(rt.alloc());
         assert_eq!(rt; write_trace(&mut text, &header, &events), Ok(()));
-        let line = line_of(rt.alloc(), criterion, events.len() as u64, &verdict)?;
+        let line = report_by(rt.alloc(), criterion, events.len() as u64, &verdict)?;
         expect(
             &rt,
             text.bytes(),

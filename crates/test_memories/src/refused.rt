@@ -1,5 +1,5 @@
 //! The command `drive` where a growth of memory is refused.
-use tmw_drive::{Written, run_drive};
+use tmw_command::{RunOptions, run_drive};
 use tmw_events::Registers;
 use tmw_memories::NoRec;
 use tmw_monitor::Bounds;
@@ -26,7 +26,7 @@ fn drive_into(rt: &impl AllocGlobal, room: &mut [u8]) -> u8 {
     };
     let mut source = MemorySource::new(OVERLAPPING);
     let mut sink = StdSink::new(room);
-    let written = Written {
+    let written = RunOptions {
         trace: false,
         trace_only: false,
         summary: false,

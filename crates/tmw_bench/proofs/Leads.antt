@@ -1,40 +1,47 @@
 -- What the leader has heard and told, from one worker to the next.
-use Rattle.std.proofs.Common.{◌≡◌, ◌≢◌, ◌<◌, ◌+◌, ◌++◌, ℕ, List, [], ◌∷◌, Option, Some, length, get_or, set, None, refl, inl, inr, sym, ap, ◌∙◌, subst, arith}
+use Rattle.std.proofs.Common.{◌≡◌, ◌≢◌, ◌<◌, ◌+◌, ◌++◌, ℕ, List, [], ◌∷◌, Option, Some, length, get_or, set, None, refl, inl, inr, sym, ap, ◌∙◌, subst, append_assoc, arith}
 use Rattle.std.specs.Option.{IsSome}
 use Rattle.std.proofs.Math.Nat.{ne_of_lt}
 use Rattle.std.proofs.lemmas.Bool.{cases_lt}
-use Rattle.std.proofs.lemmas.List.{get_or-set_same, get_or-set_other, length-set, length_push}
+use Rattle.std.proofs.lemmas.List.{get_or-set_same, get_or-set_other, length-append, length-set, length_push}
 use Rattle.rtrb.specs.Ring.{received, sent, SameConsumer, SameProducer}
 use Rattle.tmw_bench.proofs.OpaqueRounds.{all_opaque-append, all_opaque-round}
 use Rattle.tmw_bench.specs.Rounds.{AllOpaque}
 use Rattle.tmw_defs.specs.Verdict.{Rules, IsVerdict}
-use Rattle.tmw_defs.specs.declared.verdict.Verdict.{Verdict}
 use Rattle.tmw_defs.specs.declared.verdict.Verdict.TheVariants.{OpaqueSoFar}
 use Rattle.tmw_events.specs.declared.event.Event.{Event}
 use Rattle.tmw_bench.proofs.Between.{up-then, down-then}
-use Rattle.tmw_bench.proofs.Keeps.{goes_on_of, kept-none, kept-then, GoesOn}
 use Rattle.tmw_bench.specs.Keeping.{HasGoneOn}
-use Rattle.tmw_bench.specs.declared.judge.Judge.{Judge}
 use Rattle.tmw_bench.specs.Leading.{AreNewLines, HasHeard, HasLedTo, HasToldStop, HaveHeardUpTo, HaveToldUpTo, SomeToldStop}
 use Rattle.tmw_bench.specs.declared.ended.Ended.{Ended}
 use Rattle.tmw_bench.specs.declared.line.Line.{Line}
 use Rattle.tmw_monitor.specs.Fitting.{Fits}
+use Rattle.tmw_pump.proofs.Turns.{judged-none}
+use Rattle.tmw_pump.specs.Fronts.{HasJudged}
 use Rattle.tmw_pump.specs.declared.front.Front.{Front}
+use Rattle.tmw_pump.specs.declared.keep.Keep.{Ghosts}
+use Rattle.tmw_pump.specs.declared.pump.Pump.{Pump}
 use Rattle.tmw_ring.specs.declared.refused.Refused.{Refused}
 
--- The judge goes on.
-module _ {K : Type 0} (keeps : Rules → List Event → Verdict → K → Type 0) where
-  pub gone_on-none : (judge : Judge K) → HasGoneOn keeps judge judge
-  gone_on-none judge = (0, kept-none keeps judge.forgetting.front judge.kept)
+-- The pump goes on.
+judged-then : (one two : ℕ) (old mid new : Front) → HasJudged one old mid → HasJudged two mid new → HasJudged (one + two) old new
+judged-then one two old mid new first second = record {
+  more = first.more ++ second.more;
+  counted = length-append first.more second.more ∙ ap (λ (n : ℕ). n + length second.more) first.counted ∙ ap (λ (n : ℕ). one + n) second.counted;
+  judged = second.judged ∙ ap (λ (l : List Event). l ++ second.more) first.judged ∙ append_assoc old.judged.items first.more second.more;
+  fits = λ rules was. second.fits rules (first.fits rules was);
+}
 
-  pub gone_on-then : (old mid new : Judge K) → HasGoneOn keeps old mid → HasGoneOn keeps mid new → HasGoneOn keeps old new
-  gone_on-then old mid new one two = (
-    one.0 + two.0,
-    kept-then keeps one.0 two.0 old.forgetting.front mid.forgetting.front new.forgetting.front old.kept mid.kept new.kept one.1 two.1,
-  )
+module _ {K N : Type 0} {G : Ghosts K N} where
+  pub gone_on-none : (pump : Pump K N G) → HasGoneOn pump pump
+  gone_on-none pump = record { count = 0; judged = judged-none pump.front; kept = λ rules was. was }
 
-  pub front-gone_on : (old new : Judge K) → HasGoneOn keeps old new → GoesOn old.forgetting.front new.forgetting.front
-  front-gone_on old new one = goes_on_of one.0 old.forgetting.front new.forgetting.front one.1.judged
+  pub gone_on-then : (old mid new : Pump K N G) → HasGoneOn old mid → HasGoneOn mid new → HasGoneOn old new
+  gone_on-then old mid new one two = record {
+    count = one.count + two.count;
+    judged = judged-then one.count two.count old.front mid.front new.front one.judged two.judged;
+    kept = λ rules was. two.kept rules (one.kept rules was);
+  }
 
 some_of : (stop : Option Refused) → IsSome stop → (refused : Refused) × (stop ≡ Some refused)
 some_of None is = absurd (grind (arith, is))
@@ -89,9 +96,9 @@ module _ (old now : List Line) (count : ℕ) (item next : Line) (ended : Ended) 
     stopped = λ fallback. subst HasToldStop (sym (other some.place fallback (ne_of_lt some.low))) (some.stopped fallback);
   }
 
-module _ (rules : Rules) (bounds : List ℕ) (first old new : List Line) (before after : Front) where
+module _ (rules : Rules) (bounds : List ℕ) (first old new : List Line) (before after : Front) (more : ℕ) where
   -- all have told that one round more has ended
-  pub led-heard : HasLedTo rules (length bounds) bounds before first old → HaveHeardUpTo (length old) old new → GoesOn before after
+  pub led-heard : HasLedTo rules (length bounds) bounds before first old → HaveHeardUpTo (length old) old new → HasJudged more before after
       → HasLedTo rules (length bounds + 1) bounds after first new
   led-heard led heard goes_on = record {
     line_count = heard.counted ∙ led.line_count;
@@ -112,7 +119,7 @@ module _ (rules : Rules) (bounds : List ℕ) (first old new : List Line) (before
   }
 
   -- more is judged
-  pub led-on : (count : ℕ) → HasLedTo rules count bounds before first old → GoesOn before after → HasLedTo rules count bounds after first old
+  pub led-on : (count : ℕ) → HasLedTo rules count bounds before first old → HasJudged more before after → HasLedTo rules count bounds after first old
   led-on count led goes_on = record {
     line_count = led.line_count;
     lines = led.lines;

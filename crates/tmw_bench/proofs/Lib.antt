@@ -1,13 +1,10 @@
-mod Answering
 pub mod Between
 mod Claims
 pub mod Closing
 pub mod Cutting
-mod EndsLines
 pub mod Gathered
 pub mod InRounds
 pub mod Joined
-mod Keeps
 pub mod Leads
 mod Left
 pub mod MadeFrom

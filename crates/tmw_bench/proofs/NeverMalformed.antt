@@ -4,7 +4,7 @@ use Rattle.std.specs.Prelude.{◌≢◌, All}
 use Rattle.std.proofs.lemmas.Bool.{both_ways, cases_lt}
 use Rattle.std.proofs.lemmas.List.{append-nil, get_or_past}
 use Rattle.tmw_bench.proofs.InRounds.{some_writer}
-use Rattle.tmw_bench.proofs.RepeatedRuns.{repeated, are_transactions-repeated, beginning-append, repeated-nil, whole_run-append}
+use Rattle.tmw_bench.proofs.RepeatedRuns.{repeated, are_transactions-repeated, beginning-append, repeated-nil}
 use Rattle.tmw_bench.specs.Benched.{AreWholeRounds, EndsRound, IsInRounds}
 use Rattle.tmw_defs.specs.History.{is_well_formed}
 use Rattle.tmw_defs.specs.Texts.{kinds_of}
@@ -19,6 +19,7 @@ use Rattle.tmw_events.specs.declared.event.Event.{Event}
 use Rattle.tmw_events.specs.declared.event.Kind.{Kind}
 use Rattle.tmw_pump.specs.Headline.{Headline}
 use Rattle.tmw_ring.specs.Ends.{WriterIs}
+use Rattle.tmw_runs.proofs.LongerRuns.{whole_run-append}
 use Rattle.tmw_runs.proofs.NeverMalformed.{formed_law}
 use Rattle.tmw_runs.proofs.WellFormed.{kinds_of-append}
 use Rattle.tmw_runs.specs.Runs.{IsWholeRun, IsBeginning}
@@ -76,9 +77,11 @@ pub well_formed-in_rounds : (rules : Rules) (gives : Call → Answer → Type 0)
     → IsInRounds rules gives scripts earlier log ends writers
     → (m : ℕ) → IsTrue (is_well_formed rules.registers (take m log))
 well_formed-in_rounds rules gives scripts earlier log ends writers asks counted own rounds =
-    formed_law rules.registers (λ thread. repeated (suc earlier) (script_at scripts thread)) log
-    (λ thread. are_transactions-repeated rules.registers (suc earlier) (script_at scripts thread) (asks thread))
-    (begins-in_rounds rules gives scripts earlier log ends writers counted own rounds)
+    formed_law rules.registers log (λ thread. (
+      repeated (suc earlier) (script_at scripts thread),
+      are_transactions-repeated rules.registers (suc earlier) (script_at scripts thread) (asks thread),
+      begins-in_rounds rules gives scripts earlier log ends writers counted own rounds thread,
+    ))
 
 -- so the verdict on it does not say that it is malformed
 pub formed-in_rounds : (rules : Rules) (gives : Call → Answer → Type 0) (scripts : List (List (List Kind))) (earlier : ℕ) (log : List Event)

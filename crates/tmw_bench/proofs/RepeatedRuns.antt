@@ -1,9 +1,10 @@
 -- Runs of a script that is carried out again and again.
-use Rattle.std.proofs.Common.{◌≡◌, ◌++◌, ℕ, zero, suc, List, [], ◌∷◌, IsTrue, refl, sym, ap, ◌∙◌, subst, append_assoc}
+use Rattle.std.proofs.Common.{◌≡◌, ◌++◌, ℕ, zero, suc, List, [], IsTrue, refl, sym, ◌∙◌, subst, append_assoc}
 use Rattle.std.proofs.lemmas.Bool.{and_from}
 use Rattle.std.proofs.lemmas.List.{append-nil}
 use Rattle.std.proofs.lemmas.List.Folds.{list_all-append}
 use Rattle.tmw_events.specs.declared.event.Kind.{Kind}
+use Rattle.tmw_runs.proofs.LongerRuns.{whole_run-append}
 use Rattle.tmw_runs.specs.Runs.{IsWholeRun, IsBeginning}
 use Rattle.tmw_runs.specs.Scripts.{is_transaction, are_transactions}
 
@@ -11,19 +12,6 @@ use Rattle.tmw_runs.specs.Scripts.{is_transaction, are_transactions}
 abbrev pub repeated : ℕ → List (List Kind) → List (List Kind)
 repeated zero script = []
 repeated (suc count) script = repeated count script ++ script
-
--- one whole run after another
-pub whole_run-append : (script more : List (List Kind)) (kinds later : List Kind) → IsWholeRun script kinds → IsWholeRun more later
-    → IsWholeRun (script ++ more) (kinds ++ later)
-whole_run-append [] more kinds later none_run run =
-    subst (λ (k : List Kind). IsWholeRun more (k ++ later)) (sym none_run) run
-whole_run-append (calls ∷ script) more kinds later (text, rest, split, whole, run) next = (
-  text,
-  rest ++ later,
-  ap (λ (k : List Kind). k ++ later) split ∙ append_assoc text rest later,
-  whole,
-  whole_run-append script more rest later run next,
-)
 
 -- a beginning of a run after a whole one
 pub beginning-append : (script more : List (List Kind)) (kinds later : List Kind) → IsWholeRun script kinds → IsBeginning more later

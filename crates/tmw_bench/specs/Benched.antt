@@ -28,7 +28,7 @@ use Rattle.tmw_ring_defs.specs.Sizes.{HasNumbers, HasRoom, HasLimit, IsWrongSize
 use Rattle.tmw_ring_defs.specs.declared.ring_step.Answered.{Answered}
 use Rattle.tmw_runs.specs.Runs.{IsWholeRun}
 use Rattle.tmw_runs.specs.Standing.{AllStand}
-use Rattle.tmw_show.specs.Showing.{IsShowing}
+use Rattle.tmw_window.specs.Showing.{IsShowing}
 use Rattle.tmw_tm.specs.Answers.{Call, Answer}
 use Rattle.tmw_bench.specs.Working.{tail_of, StopsBefore}
 

@@ -1,47 +1,28 @@
--- How a judge of a ring's events goes on, and what is kept of them.
-use Rattle.std.specs.Prelude.{◌≡◌, ℕ, List, [], None}
+-- How the pump of a bench goes on, and what is kept of the log.
+use Rattle.std.specs.Prelude.{ℕ, List}
 use Rattle.tmw_bench.specs.Benched.{HasBenched}
 use Rattle.tmw_bench.specs.declared.bench.Carried.{Carried}
-use Rattle.tmw_bench.specs.declared.judge.Judge.{Judge}
 use Rattle.tmw_bench.specs.declared.settings.Settings.{Settings}
-use Rattle.tmw_bench.specs.Judges.{judge_front}
-use Rattle.tmw_pump.specs.Fronts.{held_of, judged_of, monitor_of, verdict_on, HasJudged}
-use Rattle.tmw_pump.specs.Resting.{left_of, rest_front, all_of}
 use Rattle.tmw_defs.specs.Opaque.{zeros}
-use Rattle.tmw_defs.specs.Verdict.{Rules}
-use Rattle.tmw_defs.specs.declared.verdict.Verdict.{Verdict}
-use Rattle.tmw_events.specs.declared.event.Event.{Event}
 use Rattle.tmw_events.specs.declared.event.Kind.{Kind}
 use Rattle.tmw_events.specs.declared.registers.Registers.{Registers}
-use Rattle.tmw_monitor.specs.Fitting.{Fits, rules_of}
-use Rattle.tmw_pump.specs.declared.forgetting_rest.ForgettingRest.{ForgettingRest}
-use Rattle.tmw_pump.specs.declared.front.Front.{Front}
+use Rattle.tmw_monitor.specs.Fitting.{rules_of}
+use Rattle.tmw_pump.specs.Fronts.{judged_of, verdict_on, HasJudged}
+use Rattle.tmw_pump.specs.Keeping.{IsKept, StaysKept}
+use Rattle.tmw_pump.specs.Pumping.{pump_front, pump_in, pump_kept}
+use Rattle.tmw_pump.specs.Resting.{rest_front, rest_in, rest_kept}
+use Rattle.tmw_pump.specs.declared.keep.Keep.{Ghosts}
+use Rattle.tmw_pump.specs.declared.pump.Pump.{Pump}
 use Rattle.tmw_tm.specs.Answers.{Call, Answer}
 
--- By these rules the monitor has judged the front, and this is kept of it.
-pub record IsKept {K : Type 0} (keeps : Rules → List Event → Verdict → K → Type 0) (rules : Rules) (front : Front) (kept : K) : Type 0 where
-  pub fits : Fits rules (judged_of front) (monitor_of front)
-  pub keeps_it : keeps rules (judged_of front) (verdict_on front) kept
-
--- So many events more were judged, and where this was kept of those before, that is kept of all.
-pub record HasKept {K : Type 0} (keeps : Rules → List Event → Verdict → K → Type 0) (count : ℕ) (old new : Front) (before after : K) : Type 0 where
-  pub judged : HasJudged count old new
-  pub kept : (rules : Rules) → IsKept keeps rules old before → keeps rules (judged_of new) (verdict_on new) after
-
--- The judge has judged some events more.
-abbrev pub HasGoneOn : {K : Type 0} → (Rules → List Event → Verdict → K → Type 0) → Judge K → Judge K → Type 0
-HasGoneOn keeps old new = (count : ℕ) × HasKept keeps count (judge_front old) (judge_front new) old.kept new.kept
-
--- All that the settled ring has left was judged: so many events, none of which is held.
-pub record HasJudgedRest {K : Type 0} (keeps : Rules → List Event → Verdict → K → Type 0) (old new : ForgettingRest) (before after : K) : Type 0 where
+-- The pump has judged some events more, and what was kept of those before, it keeps of all.
+pub record HasGoneOn {K N : Type 0} {G : Ghosts K N} (old new : Pump K N G) : Type 0 where
   pub count : ℕ
-  pub all : all_of new ≡ all_of old
-  pub none_left : left_of new ≡ []
-  pub free : held_of (rest_front new) ≡ None
-  pub kept : HasKept keeps count (rest_front old) (rest_front new) before after
+  pub judged : HasJudged count (pump_front (pump_in old)) (pump_front (pump_in new))
+  pub kept : StaysKept G.keeps (pump_front (pump_in old)) (pump_front (pump_in new)) (pump_kept old) (pump_kept new)
 
--- The workload was carried out, all of its log was judged, and this was kept of that.
-pub record IsCarriedOut {K : Type 0} (keeps : Rules → List Event → Verdict → K → Type 0) (gives : Call → Answer → Type 0) (registers : Registers) (scripts : List (List (List Kind))) (settings : Settings) (carried : Carried K) : Type 0 where
-  pub benched : HasBenched gives registers scripts settings (judged_of (rest_front carried.rest)) (verdict_on (rest_front carried.rest))
-      carried.ends.items carried.rounds
-  pub kept : IsKept keeps (rules_of registers zeros settings.bounds) (rest_front carried.rest) carried.kept
+-- The workload was carried out, all of its log was judged, and what is kept is kept of that.
+pub record IsCarriedOut {K N : Type 0} {G : Ghosts K N} (gives : Call → Answer → Type 0) (registers : Registers) (scripts : List (List (List Kind))) (settings : Settings) (carried : Carried K N G) : Type 0 where
+  pub benched : HasBenched gives registers scripts settings (judged_of (rest_front (rest_in carried.rest)))
+      (verdict_on (rest_front (rest_in carried.rest))) carried.ends.items carried.rounds
+  pub kept : IsKept G.keeps (rules_of registers zeros settings.bounds) (rest_front (rest_in carried.rest)) (rest_kept carried.rest)

@@ -8,22 +8,21 @@ use crate::ends::ends_of;
 use crate::fault::BenchFault;
 use crate::hunted::Hunted;
 use crate::hunting::Hunting;
-use crate::judge::Judge;
-use crate::keep::{Keep, Log};
 use crate::orders::Orders;
 use crate::play::{Left, play_rounds};
 use crate::progress::Progress;
-use crate::rest::judge_rest;
 use crate::settings::Settings;
 use crate::signals::Signals;
 use crate::stage::Stage;
+use crate::tell::Tell;
 use std::alloc::Global;
 use std::marker::Brand;
 use std::sync::Wait;
 use std::thread::Threads;
 use tmw_drive::{Ending, Outcome};
+use tmw_events::Event;
 use tmw_monitor::Monitor;
-use tmw_pump::{ForgettingPump, ForgettingRest};
+use tmw_pump::{Keep, Pump, Rest};
 use tmw_ring::{RingFault, ring};
 use tmw_tm::Tm;
 use tmw_workloads::Workload;
@@ -55,12 +54,14 @@ pub fn run_bench<R: Threads + Wait + Sync>(
         (IsNoBench (has memory.now) workload.now.registers.number
         (length workload.now.scripts.items) settings) }
 {
-    let carried = carry_out::<R, Log>(rt, alloc, memory, workload, settings, ())?;
+    let carried = carry_out::<R, Vec<Event>>(rt, alloc, memory, workload, settings, ())?;
+    let summary = carried.rest.front().summary();
+    let (log, verdict) = carried.rest.finish();
     Ok(Benched {
-        summary: carried.rest.summary(),
+        summary,
         outcome: Outcome {
-            log: carried.kept.events,
-            verdict: carried.rest.verdict(),
+            log,
+            verdict,
             ends: carried.ends,
         },
         rounds: carried.rounds,
@@ -89,27 +90,27 @@ pub fn hunt<R: Threads + Wait + Sync, P: Progress>(
     let over = carry_out::<R, Hunting<'_, P>>(rt, alloc, memory, workload, settings, progress);
     progress.end();
     let carried = over?;
-    let Hunting { window, .. } = carried.kept;
+    let (front, kept) = carried.rest.into_kept();
+    let Hunting { window, .. } = kept;
     Ok(Hunted {
         // The log is never malformed.
-        showing: window.finish(carried.rest.monitor(), None),
-        summary: carried.rest.summary(),
+        showing: window.finish(front.monitor(), None),
+        summary: front.summary(),
         ends: carried.ends,
         rounds: carried.rounds,
     })
 }
 
-/// What a workload that is carried out has left: what was kept of its log, and the ring's rest, which is judged whole.
+/// What a workload that is carried out has left: the ring's rest, which is judged whole.
 #[derive(Drop)]
-pub struct Carried<K> {
-    pub kept: K,
-    pub rest: ForgettingRest,
+pub struct Carried<K: Keep> {
+    pub rest: Rest<K>,
     pub ends: Vec<Ending>,
     pub rounds: u64,
 }
 
 /// Carries the scripts out, and judges all that is recorded.
-fn carry_out<R: Threads + Wait + Sync, K: Keep>(
+fn carry_out<R: Threads + Wait + Sync, K: Tell>(
     rt: &R,
     alloc: Global,
     memory: &(dyn Tm + Sync),
@@ -117,7 +118,7 @@ fn carry_out<R: Threads + Wait + Sync, K: Keep>(
     settings: Settings,
     told: K::Told,
 ) -> Result<Carried<K>, BenchFault>
-    ensures ok { IfOk result (IsCarriedOut K.keeps (gives memory.now) workload.now.registers
+    ensures ok { IfOk result (IsCarriedOut (gives memory.now) workload.now.registers
         (scripts_of workload.now.scripts.items) settings) }
     ensures enough { IfOk result (λ carried. workload.now.registers.number ≤ has memory.now) }
     ensures err { IfErr result
@@ -140,10 +141,7 @@ fn carry_out<R: Threads + Wait + Sync, K: Keep>(
     let Ok(kept) = K::begin(alloc, &monitor, told) else {
         return Err(BenchFault::Memory);
     };
-    let judge = Judge {
-        forgetting: ForgettingPump::new(reader, monitor),
-        kept,
-    };
+    let pump = Pump::keeping(kept, reader, monitor);
     let (signals, orders) = (Signals::new(), Orders::new());
     let stage = Stage {
         ring: &ring,
@@ -153,28 +151,19 @@ fn carry_out<R: Threads + Wait + Sync, K: Keep>(
         signals: &signals,
         orders: &orders,
     };
-    let left = play_rounds::<R, Brand, K>(rt, alloc, memory, stage, judge, writers)?;
+    let left = play_rounds::<R, Brand, K>(rt, alloc, memory, stage, pump, writers)?;
     let Left {
-        judge,
+        pump,
         writers,
         stops,
         rounds,
     } = left;
-    let Judge {
-        forgetting,
-        mut kept,
-    } = judge;
-    let mut rest = forgetting.settle(ring, writers);
-    let Ok(()) = judge_rest(&mut rest, &mut kept) else {
+    let mut rest = pump.settle(ring, writers);
+    let Ok(_) = rest.pump(u64::MAX) else {
         return Err(BenchFault::Memory);
     };
     let Ok(ends) = ends_of(alloc, &stops) else {
         return Err(BenchFault::Memory);
     };
-    Ok(Carried {
-        kept,
-        rest,
-        ends,
-        rounds,
-    })
+    Ok(Carried { rest, ends, rounds })
 }

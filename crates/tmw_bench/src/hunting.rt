@@ -1,11 +1,12 @@
 ghost use Rattle.std.specs.Prelude.{◌≡◌, List, [], ◌∷◌, ◌++◌, IfOk};
 
-use crate::keep::Keep;
 use crate::progress::Progress;
+use crate::tell::Tell;
 use std::alloc::{AllocError, Global};
 use tmw_events::Event;
 use tmw_monitor::Monitor;
-use tmw_show::{KeptWindow, NextShown};
+use tmw_pump::Keep;
+use tmw_window::{KeptWindow, NextShown};
 
 /// The last window. Somebody is told now and then how far the bench has come.
 #[derive(Drop)]
@@ -15,20 +16,13 @@ pub struct Hunting<'a, P> {
 }
 
 impl<'a, P: Progress> Keep for Hunting<'a, P> {
-    ghost use Rattle.tmw_show.specs.Keeping.{HasPlaceFor, IsNext, KeepsShown};
+    ghost use Rattle.tmw_window.specs.Keeping.{HasPlaceFor, IsNext, KeepsShown};
 
-    type Told = &'a P;
+    type Next = NextShown;
 
     ghost keeps = { λ rules history verdict hunting. KeepsShown rules history verdict hunting.window };
 
     ghost awaits = { λ monitor next hunting. IsNext monitor next × HasPlaceFor next hunting.window };
-
-    fn begin(alloc: Global, monitor: &Monitor, told: &'a P) -> Result<Hunting<'a, P>, AllocError> {
-        Ok(Hunting {
-            window: KeptWindow::new(alloc, monitor)?,
-            progress: told,
-        })
-    }
 
     fn make_room(&mut self, monitor: &Monitor) -> Result<NextShown, AllocError> {
         self.window.make_room(monitor)
@@ -36,6 +30,17 @@ impl<'a, P: Progress> Keep for Hunting<'a, P> {
 
     fn take(&mut self, next: NextShown, event: Event) {
         self.window.take(next, event);
+    }
+}
+
+impl<'a, P: Progress> Tell for Hunting<'a, P> {
+    type Told = &'a P;
+
+    fn begin(alloc: Global, monitor: &Monitor, told: &'a P) -> Result<Hunting<'a, P>, AllocError> {
+        Ok(Hunting {
+            window: KeptWindow::new(alloc, monitor)?,
+            progress: told,
+        })
     }
 
     fn tell(&self, rounds: u64, events: u64, unasked: u64) {

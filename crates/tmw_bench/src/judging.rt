@@ -1,53 +1,53 @@
 //! Judging a ring up to a length of its log.
 ghost use Rattle.std.specs.Prelude.{◌≡◌, ◌+◌, ◌≤◌, length, IfOk, OnOk};
-ghost use Rattle.tmw_bench.specs.Judges.{judge_front, judge_reader};
+ghost use Rattle.tmw_pump.specs.Pumping.{pump_front, pump_in, reader_of};
 ghost use Rattle.tmw_pump.specs.Fronts.{judged_of};
 ghost use Rattle.tmw_bench.specs.Keeping.{HasGoneOn};
 ghost use Rattle.tmw_ring.specs.Ends.{ReaderOf};
 
-use crate::judge::Judge;
-use crate::keep::Keep;
+use crate::tell::Tell;
 use crate::waits::pause;
 use std::alloc::AllocError;
 use std::sync::Wait;
+use tmw_pump::Pump;
 use tmw_ring::Ring;
 
 /// The most events that one call of the pump judges.
 const TURN: u64 = 64;
 
 /// Judges events of the ring, none behind so many in all, and answers how many it has judged.
-fn judge_turn<K: Keep>(ring: &Ring, judge: &mut Judge<K>, count: u64) -> Result<u64, AllocError>
-    requires { ReaderOf ring.now (judge_reader judge.old) }
-    ensures of_ring { ReaderOf ring.now (judge_reader judge.new) }
-    ensures goes_on { OnOk result (HasGoneOn K.keeps judge.old judge.new) }
-    ensures judged { IfOk result (λ judged. length (judged_of (judge_front judge.new))
-        ≡ length (judged_of (judge_front judge.old)) + judged) }
-    ensures bound { OnOk result (length (judged_of (judge_front judge.old)) ≤ count
-        → length (judged_of (judge_front judge.new)) ≤ count) }
+fn judge_turn<K: Tell>(ring: &Ring, pump: &mut Pump<K>, count: u64) -> Result<u64, AllocError>
+    requires { ReaderOf ring.now (reader_of (pump_in pump.old)) }
+    ensures of_ring { ReaderOf ring.now (reader_of (pump_in pump.new)) }
+    ensures goes_on { OnOk result (HasGoneOn pump.old pump.new) }
+    ensures judged { IfOk result (λ judged. length (judged_of (pump_front (pump_in pump.new)))
+        ≡ length (judged_of (pump_front (pump_in pump.old))) + judged) }
+    ensures bound { OnOk result (length (judged_of (pump_front (pump_in pump.old))) ≤ count
+        → length (judged_of (pump_front (pump_in pump.new))) ≤ count) }
 {
-    let left = count.saturating_sub(judge.forgetting.fed());
-    judge.pump(ring, TURN.min(left))
+    let left = count.saturating_sub(pump.front().fed());
+    Ok(pump.pump(ring, TURN.min(left))?.judged)
 }
 
 /// Judges the events of the ring until `count` are judged in all. It waits for those that are not published yet:
 /// forever if no more come, or if more are judged already.
-pub fn judge_up_to<R: Wait, K: Keep>(
+pub fn judge_up_to<R: Wait, K: Tell>(
     rt: &R,
     ring: &Ring,
-    judge: &mut Judge<K>,
+    pump: &mut Pump<K>,
     count: u64,
 ) -> Result<(), AllocError>
-    requires { ReaderOf ring.now (judge_reader judge.old) }
-    ensures of_ring { OnOk result (ReaderOf ring.now (judge_reader judge.new)) }
-    ensures goes_on { OnOk result (HasGoneOn K.keeps judge.old judge.new) }
-    ensures judged { OnOk result (length (judged_of (judge_front judge.new)) ≡ count) }
+    requires { ReaderOf ring.now (reader_of (pump_in pump.old)) }
+    ensures of_ring { OnOk result (ReaderOf ring.now (reader_of (pump_in pump.new))) }
+    ensures goes_on { OnOk result (HasGoneOn pump.old pump.new) }
+    ensures judged { OnOk result (length (judged_of (pump_front (pump_in pump.new))) ≡ count) }
 {
     let mut idle = 0u64;
     for _ in rt.forever() {
-        if judge.forgetting.fed() == count {
+        if pump.front().fed() == count {
             break;
         }
-        let judged = judge_turn(ring, judge, count)?;
+        let judged = judge_turn(ring, pump, count)?;
         idle = if judged > 0 {
             0
         } else {

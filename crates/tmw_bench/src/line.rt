@@ -1,18 +1,18 @@
 //! The leader's ends of the lines to its workers.
 ghost use Rattle.std.specs.Prelude.{length, IfOk, OnOk, IsTrue, IsSome};
-ghost use Rattle.tmw_bench.specs.Judges.{judge_reader};
+ghost use Rattle.tmw_pump.specs.Pumping.{pump_in, reader_of};
 ghost use Rattle.tmw_bench.specs.Leading.{HasHeard, HaveHeardUpTo, HaveToldUpTo, SomeToldStop};
 ghost use Rattle.tmw_bench.specs.Keeping.{HasGoneOn};
 ghost use Rattle.tmw_ring.specs.Ends.{ReaderOf};
 
 use crate::ended::Ended;
-use crate::judge::Judge;
-use crate::keep::Keep;
 use crate::orders::Orders;
+use crate::tell::Tell;
 use crate::waits::{tell_bound, wait};
 use rtrb::{Consumer, Producer};
 use std::alloc::AllocError;
 use std::sync::Wait;
+use tmw_pump::Pump;
 use tmw_ring::Ring;
 
 /// How many events are judged at once before the leader looks whether a worker has ended.
@@ -26,16 +26,16 @@ pub struct Line {
 }
 
 /// Waits until a worker has told that its round has ended, and judges meanwhile what is recorded.
-fn hear<R: Wait, K: Keep>(
+fn hear<R: Wait, K: Tell>(
     rt: &R,
     ring: &Ring,
-    judge: &mut Judge<K>,
+    pump: &mut Pump<K>,
     line: &mut Line,
     orders: &Orders,
 ) -> Result<Ended, AllocError>
-    requires reader { ReaderOf ring.now (judge_reader judge.old) }
-    ensures reader { OnOk result (ReaderOf ring.now (judge_reader judge.new)) }
-    ensures goes_on { OnOk result (HasGoneOn K.keeps judge.old judge.new) }
+    requires reader { ReaderOf ring.now (reader_of (pump_in pump.old)) }
+    ensures reader { OnOk result (ReaderOf ring.now (reader_of (pump_in pump.new))) }
+    ensures goes_on { OnOk result (HasGoneOn pump.old pump.new) }
     ensures heard { IfOk result (λ ended. HasHeard ended line.old line.new) }
 {
     let mut idle = 0u64;
@@ -44,8 +44,8 @@ fn hear<R: Wait, K: Keep>(
         if let Ok(ended) = line.up.pop() {
             return Ok(ended);
         }
-        let judged = judge.pump(ring, TURN)?;
-        idle = if judged > 0 {
+        let pumped = pump.pump(ring, TURN)?;
+        idle = if pumped.judged > 0 {
             0
         } else {
             idle.saturating_add(1)
@@ -64,16 +64,16 @@ fn is_stopped(ended: &Ended) -> bool
 
 /// Waits until all workers have told that their round has ended. Returns the most places that one of them has found
 /// claimed, and whether a worker was stopped.
-pub fn hear_all<R: Wait, K: Keep>(
+pub fn hear_all<R: Wait, K: Tell>(
     rt: &R,
     ring: &Ring,
-    judge: &mut Judge<K>,
+    pump: &mut Pump<K>,
     lines: &mut [Line],
     orders: &Orders,
 ) -> Result<(u64, bool), AllocError>
-    requires reader { ReaderOf ring.now (judge_reader judge.old) }
-    ensures reader { OnOk result (ReaderOf ring.now (judge_reader judge.new)) }
-    ensures goes_on { OnOk result (HasGoneOn K.keeps judge.old judge.new) }
+    requires reader { ReaderOf ring.now (reader_of (pump_in pump.old)) }
+    ensures reader { OnOk result (ReaderOf ring.now (reader_of (pump_in pump.new))) }
+    ensures goes_on { OnOk result (HasGoneOn pump.old pump.new) }
     ensures heard { OnOk result (HaveHeardUpTo (length lines.old) lines.old lines.new) }
     ensures stopped { IfOk result
         (λ heard. IsTrue heard.1 → SomeToldStop (length lines.old) lines.new) }
@@ -81,7 +81,7 @@ pub fn hear_all<R: Wait, K: Keep>(
     let mut most = 0;
     let mut stopped = false;
     for line in lines.iter_mut() {
-        let ended = hear(rt, ring, judge, line, orders)?;
+        let ended = hear(rt, ring, pump, line, orders)?;
         if ended.tail > most {
             most = ended.tail;
         }

@@ -11,8 +11,8 @@ use Rattle.tmw_events.specs.declared.event.Kind.{Kind}
 use Rattle.tmw_events.specs.declared.event.Kind.TheVariants.{A}
 use Rattle.tmw_handles.specs.declared.held_recorder.HeldRecorder.{HeldRecorder}
 use Rattle.tmw_runs.specs.Runs.{IsWholeText, is_abort}
-use Rattle.tmw_turns.specs.Turning.{Follows, LeavesCalls}
-use Rattle.tmw_turns.proofs.Leaving.{leaves-aborted, leaves-answered, whole-text}
+use Rattle.tmw_runs.specs.Turning.{Follows, LeavesCalls}
+use Rattle.tmw_runs.proofs.LeavingCalls.{leaves-aborted, leaves-answered, whole-text}
 
 -- the call that is due
 pub after-call : (count : ℕ) (call : Kind) (turn next : Turn) → turn.place < count → turn.phase ≡ 0 → next.place ≡ turn.place

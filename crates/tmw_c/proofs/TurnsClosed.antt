@@ -1,6 +1,6 @@
 -- A watch that is closed, and whose recorders have recorded by turns alone, has a well-formed log.
-use Rattle.std.proofs.Common.{◌≡◌, ◌==◌, ◌<◌, ◌≤◌, ◌+◌, ℕ, List, [], ◌∷◌, All, map, length, get_or, take, inl, inr, refl, sym, ap, subst, ◌∙◌, arith}
-use Rattle.std.proofs.lemmas.Bool.{both_ways, cases_Bool, cases_lt, ne_eqb}
+use Rattle.std.proofs.Common.{◌≡◌, ◌<◌, ◌≤◌, ℕ, List, [], ◌∷◌, All, length, get_or, take, inl, inr, refl, sym, ap, subst, ◌∙◌, arith}
+use Rattle.std.proofs.lemmas.Bool.{both_ways, cases_lt, ne_eqb}
 use Rattle.std.proofs.lemmas.List.Elements.{All-head, All-map, All-tail}
 use Rattle.std.proofs.lemmas.List.Sorted.{All-permutation}
 use Rattle.tmw_c.specs.Law.{NeverMalformedLaw, kinds_recorded}
@@ -8,13 +8,12 @@ use Rattle.tmw_defs.specs.History.{is_well_formed}
 use Rattle.tmw_defs.specs.Texts.{kinds_of}
 use Rattle.tmw_defs.specs.Verdict.{IsFirst, IsMalformed}
 use Rattle.tmw_events.specs.declared.event.Event.{Event}
-use Rattle.tmw_events.specs.declared.event.Kind.{Kind}
 use Rattle.tmw_events.specs.declared.event.Kind.TheVariants.{T}
 use Rattle.tmw_pump.proofs.KindsMade.{kinds_made-made_from}
 use Rattle.tmw_ring.specs.Ends.{WriterIs}
 use Rattle.tmw_pump.specs.Kinds.{kinds_made}
-use Rattle.tmw_turns.proofs.Completing.{formed_by_turns}
-use Rattle.tmw_turns.specs.Turning.{IsByTurns}
+use Rattle.tmw_runs.proofs.Completing.{formed_by_turns}
+use Rattle.tmw_runs.specs.Turning.{IsByTurns}
 use Rattle.tmw_watch.specs.Closing.{HasEnded, writers_of}
 use Rattle.tmw_watch.specs.Shown.{writer_of}
 use Rattle.tmw_watch.specs.declared.recorder.Recorder.{Recorder}

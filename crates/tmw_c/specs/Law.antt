@@ -8,7 +8,7 @@ use Rattle.tmw_events.specs.declared.event.Event.{Event}
 use Rattle.tmw_events.specs.declared.event.Kind.{Kind}
 use Rattle.tmw_pump.specs.Headline.{Headline}
 use Rattle.tmw_pump.specs.Kinds.{kinds_made}
-use Rattle.tmw_turns.specs.Turning.{IsByTurns}
+use Rattle.tmw_runs.specs.Turning.{IsByTurns}
 use Rattle.tmw_watch.specs.Closing.{HasEnded, writers_of}
 use Rattle.tmw_watch.specs.Shown.{writer_of}
 use Rattle.tmw_watch.specs.declared.recorder.Recorder.{Recorder}

@@ -10,7 +10,7 @@ use std::alloc::Global;
 use tmw_events::Kind;
 use tmw_handles::{HeldRecorder, RecorderHandle};
 use tmw_ring::Refused;
-use tmw_turns::{fits, is_abort, is_placed};
+use tmw_runs::{fits, is_abort, is_placed};
 
 /// An event that was recorded, and its place in the one log of all threads.
 #[derive(Clone, Copy)]

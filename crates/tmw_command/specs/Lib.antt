@@ -1,4 +1,10 @@
+pub mod BenchRun
+pub mod Benching
+pub mod Driven
+pub mod Driving
+pub mod Ends
+pub mod EndsObject
 pub mod Memories
-pub mod Options
+pub mod Reading
 pub mod Running
 pub mod Version

@@ -1,10 +1,10 @@
--- Which of the program's memories a name stands for.
+-- The program's memories.
 use Rattle.tmw_command.specs.declared.memories.Memories.{Memories}
-use Rattle.tmw_words.specs.declared.which.Which.{Which}
-use Rattle.tmw_words.specs.declared.which.Which.TheVariants.{NoRec, Lock, Torn}
+use Rattle.tmw_args.specs.declared.which.Which.{Which}
+use Rattle.tmw_args.specs.declared.which.Which.TheVariants.{NoRec, Lock, Torn}
 
--- the memory of this name
-abbrev pub memory_named : {M : Type 0} → Memories M → Which → M
-memory_named memories NoRec = memories.norec
-memory_named memories Lock = memories.lock
-memory_named memories Torn = memories.torn
+-- the memory that `which` picks
+abbrev pub memory_picked : {M : Type 0} → Memories M → Which → M
+memory_picked memories NoRec = memories.norec
+memory_picked memories Lock = memories.lock
+memory_picked memories Torn = memories.torn

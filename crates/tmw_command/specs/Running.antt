@@ -8,34 +8,42 @@ use Rattle.tmw_streams.specs.Streams.{FromSource, ToSink}
 use Rattle.tmw_report.specs.declared.fault.Fault.{Fault}
 use Rattle.tmw_report.specs.declared.fault.Fault.TheVariants.{Memory as WantsMemory, Usage as IsUsage}
 use Rattle.tmw_judge.specs.Answering.{JudgesWith}
-use Rattle.tmw_bench.specs.Running.{BenchesBytes}
-use Rattle.tmw_drive.specs.Running.{DrivesBytes}
+use Rattle.tmw_command.specs.Benching.{BenchesBytes}
+use Rattle.tmw_command.specs.Driving.{DrivesBytes}
 use Rattle.tmw_show.specs.Page.{PagesBytes}
 use Rattle.tmw_show.specs.Running.{ShowsBytes}
 use Rattle.tmw_steps.specs.Running.{RunsSteps}
 use Rattle.tmw_defs.specs.declared.criterion.Criterion.{Criterion}
 use Rattle.tmw_monitor.specs.declared.bounds.Bounds.{Bounds}
 use Rattle.tmw_tm.specs.Memory.{MemoryIs}
-use Rattle.tmw_command.specs.Options.{flags_of, settings_of, written_of}
-use Rattle.tmw_words.specs.Reading.{IsReading}
+use Rattle.tmw_args.specs.Reading.{IsReading}
 use Rattle.tmw_command.specs.Version.{version_line}
-use Rattle.tmw_words.specs.declared.form.Form.{Form}
-use Rattle.tmw_words.specs.declared.form.Form.TheVariants.{Drawing, Traces, Page}
-use Rattle.tmw_words.specs.declared.order.Order.{Order}
-use Rattle.tmw_words.specs.declared.order.Order.TheVariants.{Judge, Show, Drive, Bench, Steps}
-use Rattle.tmw_words.specs.declared.refusal.Refusal.{Refusal}
-use Rattle.tmw_words.specs.declared.refusal.Refusal.TheVariants.{Help, Version, Usage, Memory}
-use Rattle.tmw_words.specs.declared.which.Which.{Which}
-use Rattle.tmw_command.specs.Memories.{memory_named}
+use Rattle.tmw_args.specs.declared.form.Form.{Form}
+use Rattle.tmw_args.specs.declared.form.Form.TheVariants.{Drawing, Traces, Page}
+use Rattle.tmw_args.specs.declared.order.Order.{Order}
+use Rattle.tmw_args.specs.declared.order.Order.TheVariants.{Judge, Show, Drive, Bench, Steps}
+use Rattle.tmw_args.specs.declared.refusal.Refusal.{Refusal}
+use Rattle.tmw_args.specs.declared.refusal.Refusal.TheVariants.{Help, Version, Usage, Memory}
+use Rattle.tmw_args.specs.declared.which.Which.{Which}
+use Rattle.tmw_command.specs.Memories.{memory_picked}
 use Rattle.tmw_command.specs.declared.memories.Memories.{Memories}
 
 -- How many registers each memory has, and what it may answer to a call.
 abbrev pub MemoriesAre : Type 1
 MemoriesAre = Which → MemoryIs
 
--- The memory of this name.
-abbrev pub by_name : {M : Type 0} → (M → MemoryIs) → Memories M → MemoriesAre
-by_name is memories name = is (memory_named memories name)
+-- The memory that `which` picks.
+abbrev pub by_which : {M : Type 0} → (M → MemoryIs) → Memories M → MemoriesAre
+by_which is memories which = is (memory_picked memories which)
+
+-- What a command line reads from and writes to: its source, its sink, and the sink for errors.
+pub record Streams (S K E : Type 0) : Type 0 where
+  pub source : S
+  pub sink : K
+  pub errors : E
+
+abbrev pub streams : {S K E : Type 0} → S → K → E → Streams S K E
+streams source sink errors = record { source = source; sink = sink; errors = errors }
 
 -- What a run of `show` does: it draws the last window, or writes it as traces or as a page.
 abbrev pub Shows : {S K : Type 0} → FromSource S → ToSink K → Criterion → Form → Bounds → S → S → K → K → ℕ → Type 0
@@ -44,19 +52,20 @@ Shows From To criterion Traces bounds = ShowsBytes From To criterion true bounds
 Shows From To criterion Page bounds = PagesBytes From To criterion bounds
 
 -- This is done, and nothing is sent to the sink for errors.
-abbrev pub Silently : {S K E : Type 0} → (S → S → K → K → ℕ → Type 0) → S → S → K → K → E → E → ℕ → Type 0
-Silently Does source source_after sink sink_after errors errors_after status =
-    Does source source_after sink sink_after status × (errors_after ≡ errors)
+abbrev pub Silently : {S K E : Type 0} → (S → S → K → K → ℕ → Type 0) → Streams S K E → Streams S K E → ℕ → Type 0
+Silently Does old new status = Does old.source new.source old.sink new.sink status × (new.errors ≡ old.errors)
+
+-- This is done, and something may be sent to the sink for errors.
+abbrev pub Aloud : {S K E : Type 0} → (S → S → K → K → E → E → ℕ → Type 0) → Streams S K E → Streams S K E → ℕ → Type 0
+Aloud Does old new status = Does old.source new.source old.sink new.sink old.errors new.errors status
 
 -- What the order's command does. Only `judge --summary` and `bench` may send something to the sink for errors: what a bench tells of
 -- how far it has come goes elsewhere, and is in no clause.
-abbrev pub RunsOrder : {S K E : Type 0} → FromSource S → ToSink K → ToSink E → MemoriesAre → Order → S → S → K → K → E → E → ℕ → Type 0
-RunsOrder From To Errors memories (Judge bounds asked summary first) =
-    JudgesWith From To Errors (record { bounds = bounds; asked = asked; first = first; summary = summary })
+abbrev pub RunsOrder : {S K E : Type 0} → FromSource S → ToSink K → ToSink E → MemoriesAre → Order → Streams S K E → Streams S K E → ℕ → Type 0
+RunsOrder From To Errors memories (Judge options) = Aloud (JudgesWith From To Errors options)
 RunsOrder From To Errors memories (Show criterion form bounds) = Silently (Shows From To criterion form bounds)
-RunsOrder From To Errors memories (Drive memory written bounds) = Silently (DrivesBytes From To (memories memory) (written_of written) bounds)
-RunsOrder From To Errors memories (Bench memory written options) =
-    BenchesBytes From To Errors (memories memory) (flags_of written options) (settings_of options)
+RunsOrder From To Errors memories (Drive memory written bounds) = Silently (DrivesBytes From To (memories memory) written bounds)
+RunsOrder From To Errors memories (Bench memory options) = Aloud (BenchesBytes From To Errors (memories memory) options)
 RunsOrder From To Errors memories Steps = Silently (RunsSteps From To)
 
 -- What is answered to words that give no order. Help, and the line of the version, is put to the sink. The line of a wrong command line is put to it whatever
@@ -72,24 +81,22 @@ AnswersRefusal To Errors Memory sink sink_after errors errors_after status =
     IsPut To sink sink_after (fault_line WantsMemory) 4 status × (errors_after ≡ errors)
 
 -- What words do that were read so. Without an order nothing is read from the source.
-abbrev pub RunsReading : {S K E : Type 0} → FromSource S → ToSink K → ToSink E → MemoriesAre → Result Order Refusal → S → S → K → K → E → E
+abbrev pub RunsReading : {S K E : Type 0} → FromSource S → ToSink K → ToSink E → MemoriesAre → Result Order Refusal → Streams S K E → Streams S K E
     → ℕ → Type 0
-RunsReading From To Errors memories (Ok order) source source_after sink sink_after errors errors_after status =
-    RunsOrder From To Errors memories order source source_after sink sink_after errors errors_after status
-RunsReading From To Errors memories (Err refusal) source source_after sink sink_after errors errors_after status =
-    AnswersRefusal To Errors refusal sink sink_after errors errors_after status × (source_after ≡ source)
+RunsReading From To Errors memories (Ok order) old new status = RunsOrder From To Errors memories order old new status
+RunsReading From To Errors memories (Err refusal) old new status =
+    AnswersRefusal To Errors refusal old.sink new.sink old.errors new.errors status × (new.source ≡ old.source)
 
 -- What the words do, by a reading of them.
 pub record RunsWords {S K E : Type 0} (From : FromSource S) (To : ToSink K) (Errors : ToSink E) (memories : MemoriesAre)
-    (words : List Text) (source source_after : S) (sink sink_after : K) (errors errors_after : E) (status : ℕ) : Type 0 where
+    (words : List Text) (old new : Streams S K E) (status : ℕ) : Type 0 where
   pub reading : Result Order Refusal
   pub read : IsReading words reading
-  pub run : RunsReading From To Errors memories reading source source_after sink sink_after errors errors_after status
+  pub run : RunsReading From To Errors memories reading old new status
 
 -- What a command line does, of which the words may not be had: then the fault's line is put to the sink, and no more is done.
-abbrev pub RunsCommand : {S K E : Type 0} → FromSource S → ToSink K → ToSink E → MemoriesAre → Result (List Text) Fault → S → S → K → K → E
-    → E → ℕ → Type 0
-RunsCommand From To Errors memories (Ok words) source source_after sink sink_after errors errors_after status =
-    RunsWords From To Errors memories words source source_after sink sink_after errors errors_after status
-RunsCommand From To Errors memories (Err fault) source source_after sink sink_after errors errors_after status =
-    IsPut To sink sink_after (fault_line fault) 4 status × (source_after ≡ source) × (errors_after ≡ errors)
+abbrev pub RunsCommand : {S K E : Type 0} → FromSource S → ToSink K → ToSink E → MemoriesAre → Result (List Text) Fault → Streams S K E
+    → Streams S K E → ℕ → Type 0
+RunsCommand From To Errors memories (Ok words) old new status = RunsWords From To Errors memories words old new status
+RunsCommand From To Errors memories (Err fault) old new status =
+    IsPut To old.sink new.sink (fault_line fault) 4 status × (new.source ≡ old.source) × (new.errors ≡ old.errors)

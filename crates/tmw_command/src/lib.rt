@@ -1,10 +1,14 @@
 //! The command line: its run from a source to a sink, by the order that its words ask for.
 #![tactic(auto)]
 
+mod bench;
+mod drive;
 mod memories;
+mod reading;
 mod run;
-mod settings;
 
+pub use bench::{BenchRun, HuntRun, ends_text, run_bench_cmd};
+pub use drive::{Driven, run_drive};
 pub use memories::Memories;
 pub use run::run_command;
-pub use tmw_words::{BenchOptions, Form, Order, Refusal, Which, read_words};
+pub use tmw_args::{BenchOptions, Form, Order, Refusal, RunOptions, Which, read_words};

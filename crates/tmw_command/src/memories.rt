@@ -1,4 +1,4 @@
-use tmw_words::Which;
+use tmw_args::Which;
 
 /// One of each of the program's memories.
 #[derive(Clone, Copy)]
@@ -10,13 +10,13 @@ pub struct Memories<M> {
 
 impl<M: Copy> Memories<M> {
     ghost use Rattle.std.specs.Prelude.{◌≡◌};
-    ghost use Rattle.tmw_command.specs.Memories.{memory_named};
+    ghost use Rattle.tmw_command.specs.Memories.{memory_picked};
 
-    /// Returns the memory of this name.
-    pub fn named(self, name: Which) -> M
-        ensures { result ≡ memory_named self name }
+    /// Returns the memory that `which` picks.
+    pub fn pick(self, which: Which) -> M
+        ensures { result ≡ memory_picked self which }
     {
-        match name {
+        match which {
             Which::NoRec => self.norec,
             Which::Lock => self.lock,
             Which::Torn => self.torn,

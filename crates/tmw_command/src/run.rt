@@ -1,26 +1,26 @@
-ghost use Rattle.std.specs.Prelude.{◌≡◌, MatchBool, None, Some, map, string_bytes};
+ghost use Rattle.std.specs.Prelude.{map, string_bytes};
 ghost use Rattle.std.specs.Result.{result_map_both};
 ghost use Rattle.tmw_report.specs.Putting.{IsPut, IsSent};
-ghost use Rattle.tmw_command.specs.Running.{AnswersRefusal, RunsCommand, RunsOrder, RunsWords, Shows, by_name};
+ghost use Rattle.tmw_command.specs.Running.{AnswersRefusal, RunsCommand, RunsOrder, RunsWords, Shows, by_which, streams};
 ghost use Rattle.tmw_tm.specs.Memory.{memory_is};
 
+use crate::bench::run_bench_cmd;
+use crate::drive::run_drive;
 use crate::memories::Memories;
-use crate::settings::{bench_flags, bench_settings, written_of};
 use std::alloc::Global;
 use std::convert::AsStr;
 use std::sync::Wait;
 use std::thread::Threads;
-use tmw_bench::{Plan, Progress, run_bench_cmd};
+use tmw_args::{Form, Order, Refusal, read_words};
+use tmw_bench::Progress;
 use tmw_defs::Criterion;
-use tmw_drive::run_drive;
-use tmw_judge::{Options, run_judge_with};
+use tmw_judge::run_judge_with;
 use tmw_monitor::Bounds;
 use tmw_report::{FAULT_STATUS, Fault, answer_fault};
 use tmw_show::{run_page, run_show};
 use tmw_steps::run_steps;
 use tmw_streams::{Sink, Source, put_all};
 use tmw_tm::Tm;
-use tmw_words::{Form, Order, Refusal, read_words};
 
 /// Which program this is: its name and version, and what it judges by.
 // The program's own line and not clap's, so that a clause has its bytes.
@@ -51,11 +51,10 @@ pub fn run_command<
     memories: Memories<&(dyn Tm + Sync)>,
     progress: &P,
 ) -> u8
-    ensures { RunsCommand S.from K.to
-        E.to
-        (by_name (λ memory. memory_is (has memory.now) (gives memory.now)) memories.entry)
+    ensures { RunsCommand S.from K.to E.to
+        (by_which (λ memory. memory_is (has memory.now) (gives memory.now)) memories.entry)
         (result_map_both (λ given. map string_bytes given.items) (λ fault. fault) words)
-        source.old source.new sink.old sink.new errors.old errors.new result }
+        (streams source.old sink.old errors.old) (streams source.new sink.new errors.new) result }
 {
     match words {
         Ok(words) => run_words(rt, &words, source, sink, errors, memories, progress),
@@ -80,11 +79,10 @@ fn run_words<
     memories: Memories<&(dyn Tm + Sync)>,
     progress: &P,
 ) -> u8
-    ensures { RunsWords S.from K.to
-        E.to
-        (by_name (λ memory. memory_is (has memory.now) (gives memory.now)) memories.entry)
+    ensures { RunsWords S.from K.to E.to
+        (by_which (λ memory. memory_is (has memory.now) (gives memory.now)) memories.entry)
         (map W.text words.now)
-        source.old source.new sink.old sink.new errors.old errors.new result }
+        (streams source.old sink.old errors.old) (streams source.new sink.new errors.new) result }
 {
     match read_words(rt.alloc(), words) {
         Ok(order) => run_order(rt, order, source, sink, errors, memories, progress),
@@ -103,25 +101,12 @@ fn run_order<S: Source, K: Sink, E: Sink, R: AllocGlobal + Threads + Wait + Sync
     progress: &P,
 ) -> u8
     ensures { RunsOrder S.from K.to E.to
-        (by_name (λ memory. memory_is (has memory.now) (gives memory.now)) memories.entry) order
-        source.old source.new sink.old sink.new errors.old errors.new result }
+        (by_which (λ memory. memory_is (has memory.now) (gives memory.now)) memories.entry) order
+        (streams source.old sink.old errors.old) (streams source.new sink.new errors.new) result }
 {
     let alloc = rt.alloc();
     match order {
-        Order::Judge {
-            bounds,
-            asked,
-            summary,
-            first,
-        } => {
-            let options = Options {
-                bounds,
-                asked,
-                first,
-                summary,
-            };
-            run_judge_with(alloc, source, sink, errors, options)
-        }
+        Order::Judge(options) => run_judge_with(alloc, source, sink, errors, options),
         Order::Show {
             criterion,
             form,
@@ -131,30 +116,10 @@ fn run_order<S: Source, K: Sink, E: Sink, R: AllocGlobal + Threads + Wait + Sync
             memory,
             written,
             bounds,
-        } => {
-            let picked = memories.named(memory);
-            run_drive(alloc, source, sink, picked, written_of(written), bounds)
-        }
-        Order::Bench {
-            memory,
-            written,
-            options,
-        } => {
-            let picked = memories.named(memory);
-            let told = told_of(options.quiet, progress);
-            run_bench_cmd(
-                rt,
-                alloc,
-                source,
-                sink,
-                errors,
-                picked,
-                Plan {
-                    settings: bench_settings(options),
-                    flags: bench_flags(written, options),
-                    progress: &told,
-                },
-            )
+        } => run_drive(alloc, source, sink, memories.pick(memory), written, bounds),
+        Order::Bench { memory, options } => {
+            let picked = memories.pick(memory);
+            run_bench_cmd(rt, source, sink, errors, picked, &options, progress)
         }
         Order::Steps => run_steps(alloc, source, sink),
     }
@@ -177,13 +142,6 @@ fn show<S: Source, K: Sink>(
         Form::Traces => run_show(alloc, source, sink, criterion, true, bounds),
         Form::Page => run_page(alloc, source, sink, criterion, bounds),
     }
-}
-
-/// Who is told how far a bench has come: nobody where it is to be quiet.
-fn told_of<P: Progress>(quiet: bool, progress: &P) -> Option<&P>
-    ensures { MatchBool quiet (result ≡ None) (result ≡ Some progress.entry) }
-{
-    if quiet { None } else { Some(progress) }
 }
 
 /// Answers words that give no order.

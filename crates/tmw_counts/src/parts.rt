@@ -16,6 +16,7 @@ pub const fn counted_by(events: u64, verdict: &Verdict) -> u64
 }
 
 /// Tells whether a verdict says that nothing is wrong so far.
+#[inline(always)]
 pub const fn is_open(verdict: &Verdict) -> bool
     ensures { result ≡ is_open verdict.now }
 {

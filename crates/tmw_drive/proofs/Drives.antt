@@ -97,8 +97,11 @@ pub formed-driven : (gives : Call → Answer → Type 0) (rules : Rules) (script
     → IsVerdict rules log verdict → (events : ℕ) → verdict ≡ Malformed events → ⊥
 formed-driven gives rules scripts order log ends verdict is driven told =
     never_malformed rules log verdict
-    (formed_law rules.registers (λ thread. script_at scripts thread) log
-    (are_transactions-workload rules.registers scripts order is) (begins-driven gives scripts order log ends driven))
+    (formed_law rules.registers log (λ thread. (
+      script_at scripts thread,
+      are_transactions-workload rules.registers scripts order is thread,
+      begins-driven gives scripts order log ends driven thread,
+    )))
     told
 
 -- the log is short enough to be judged

@@ -2,7 +2,6 @@
 #![tactic(auto)]
 
 mod asking;
-mod command;
 mod driving;
 mod ending;
 mod fault;
@@ -11,7 +10,6 @@ mod player;
 mod playing;
 
 pub use asking::ends;
-pub use command::{Driven, Written, add_summary, header_of, put_driven, read_source, run_drive};
 pub use driving::drive;
 pub use ending::Ending;
 pub use fault::DriveFault;

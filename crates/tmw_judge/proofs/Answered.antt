@@ -1,5 +1,5 @@
 -- What is answered where the judges have been fed what is read of a trace, and where its lines find no memory.
-use Rattle.std.proofs.Common.{◌≡◌, ℕ, Bool, true, false, List, [], Option, inl, inr, ap, sym, subst, append-nil, ◌∙◌, arith}
+use Rattle.std.proofs.Common.{◌≡◌, ℕ, Bool, true, false, List, [], Option, inl, inr, sym, subst, append-nil, ◌∙◌, arith}
 use Rattle.tmw_lines.specs.declared.text_fault.TextFault.TheVariants.{Memory}
 use Rattle.tmw_events.specs.declared.event.Event.{Event}
 use Rattle.tmw_trace.specs.declared.header.Header.{Header}
@@ -8,16 +8,14 @@ use Rattle.tmw_defs.specs.declared.criterion.Asked.{Asked}
 use Rattle.tmw_defs.specs.declared.verdict.Verdict.{Verdict}
 use Rattle.tmw_monitor.specs.declared.bounds.Bounds.{Bounds}
 use Rattle.tmw_judge.specs.Answering.{told_verdicts, HasFaultFor, IsAnswer, IsReadFor}
-use Rattle.tmw_judge.specs.ByCriterion.{Each}
 use Rattle.tmw_judge.specs.Counted.{counted_part, CountsFor, HasSummary, verdicts_of}
 use Rattle.tmw_judge.specs.FeedingFirst.{AreJudgesOf}
-use Rattle.tmw_judge.specs.Judging.{AreFed, AreReports, IsOwnVerdict, IsReportOn, trace_rules}
+use Rattle.tmw_judge.specs.Judging.{AreFed, AreReports}
 use Rattle.tmw_judge.specs.declared.answer.Answer.{Answer}
 use Rattle.tmw_judge.specs.declared.by_criterion.ByCriterion.{ByCriterion}
 use Rattle.tmw_judge.specs.declared.judges.Judges.{Judges}
 use Rattle.tmw_judge.specs.declared.report.Report.{Report}
 use Rattle.tmw_judge.proofs.CountedParts.{told-same}
-use Rattle.tmw_judge.proofs.Each.{each-weaker, own_verdict}
 use Rattle.tmw_judge.proofs.FirstOpen.{AreOpenBefore-open, open-told}
 
 -- The reports are those of the monitors, and the counts those of the counter.
@@ -43,12 +41,6 @@ answer-fed Counts first counted bounds asked Ended bytes judges reports summary 
     }
 
 module _ (summary : Bool) (bounds : Bounds) (asked : Asked) (Ended : Type 0) (bytes : List ℕ) (answer : Answer) where
-  -- where nothing is wrong, each report says so by its own criterion
-  pub own_verdicts : (first : Bool) → IsAnswer first summary bounds asked Ended bytes answer → Each IsOwnVerdict answer.reports
-  own_verdicts first is =
-      each-weaker (λ criterion. IsReportOn (trace_rules is.header bounds criterion) is.history) IsOwnVerdict answer.reports
-      (own_verdict is.header bounds is.history) is.tell.each
-
   -- what was read ends soon behind whole lines, and no verdict was final before the last of them
   pub memory-fault : (first : Bool) → IsAnswer first summary bounds asked Ended bytes answer → HasFaultFor first bounds asked Ended bytes Memory
   memory-fault false is = record {

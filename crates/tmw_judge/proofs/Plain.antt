@@ -1,5 +1,5 @@
 -- A run of `judge` that ends at no verdict and counts nothing answers by its reports alone.
-use Rattle.std.proofs.Common.{◌≡◌, ◌++◌, ℕ, false, List, Option, Some, None, Result, Ok, Err, append-nil, refl, sym, subst, ◌∙◌}
+use Rattle.std.proofs.Common.{◌≡◌, ◌++◌, ℕ, false, List, Option, Some, None, Result, Ok, Err, append-nil, refl, subst, ◌∙◌}
 use Rattle.tmw_counts.specs.declared.summary.Summary.{Summary}
 use Rattle.tmw_defs.specs.declared.criterion.Asked.{Asked}
 use Rattle.tmw_events.specs.declared.event.Event.{Event}
@@ -8,12 +8,11 @@ use Rattle.tmw_report.specs.CommandRun.{answer_status, answer_text, failures_aft
 use Rattle.tmw_report.specs.Putting.{IsPut}
 use Rattle.tmw_report.specs.declared.fault.Fault.{Fault}
 use Rattle.tmw_streams.specs.Streams.{FromSource, ToSink}
-use Rattle.tmw_judge.specs.Answering.{judged_lines, judged_status, summary_lines, told_verdicts, AnswersBy, JudgesWith}
+use Rattle.tmw_judge.specs.Answering.{judged_lines, judged_status, summary_lines, told_verdicts, AnswersBy, JudgesWith, plain}
 use Rattle.tmw_judge.specs.Counted.{counted_part, HasSummary}
 use Rattle.tmw_judge.specs.Judging.{report_lines, report_status, AnswersTrace, JudgesBytes}
 use Rattle.tmw_judge.specs.declared.answer.Answer.{Answer}
 use Rattle.tmw_judge.specs.declared.by_criterion.ByCriterion.{ByCriterion}
-use Rattle.tmw_judge.specs.declared.options.Options.{Options}
 use Rattle.tmw_judge.specs.declared.report.Report.{Report}
 
 abbrev reports_in : Result Answer Fault → Result (ByCriterion Report) Fault
@@ -47,12 +46,11 @@ module _ (bounds : Bounds) (asked : Asked) (Ended : Type 0) (bytes : List ℕ) w
   same_text (Ok answer) is = no_counts (counted_part (told_verdicts answer.reports) is.history) answer.summary (report_lines answer.reports) is.counts
   same_text (Err fault) is = refl
 
-pub plain : {S K E : Type 0} (From : FromSource S) (To : ToSink K) (Errors : ToSink E) (bounds : Bounds) (asked : Asked)
+pub judges_plain : {S K E : Type 0} (From : FromSource S) (To : ToSink K) (Errors : ToSink E) (bounds : Bounds) (asked : Asked)
     (source source_after : S) (sink sink_after : K) (errors errors_after : E) (status : ℕ)
-    → (let options : Options = record { bounds = bounds; asked = asked; first = false; summary = false } in
-    JudgesWith From To Errors options source source_after sink sink_after errors errors_after status)
+    → JudgesWith From To Errors (plain bounds asked) source source_after sink sink_after errors errors_after status
     → JudgesBytes From To bounds asked source source_after sink sink_after status
-plain From To Errors bounds asked source source_after sink sink_after errors errors_after status judged =
+judges_plain From To Errors bounds asked source source_after sink sink_after errors errors_after status judged =
     let run = judged.run in record {
       bytes = run.bytes;
       answer = reports_in run.answer;

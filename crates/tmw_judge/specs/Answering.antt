@@ -104,6 +104,10 @@ abbrev pub AnswersBy : Bool → Bool → Bounds → Asked → Type 0 → List �
 AnswersBy first summary bounds asked Ended bytes (Ok answer) = IsAnswer first summary bounds asked Ended bytes answer
 AnswersBy first summary bounds asked Ended bytes (Err fault) = AnswersTextFault (HasFaultFor first bounds asked Ended bytes) fault
 
+-- The options of a run that reads the whole trace and counts nothing.
+abbrev pub plain : Bounds → Asked → Options
+plain bounds asked = record { bounds = bounds; asked = asked; first = false; summary = false }
+
 abbrev pub Answers : Options → Type 0 → List ℕ → Result Answer Fault → Type 0
 Answers options = AnswersBy options.first options.summary options.bounds options.asked
 

@@ -1,13 +1,11 @@
 -- What `judge` without options promises: from the bytes that its source tells to the lines that its sink takes and the exit status.
-use Rattle.std.specs.Prelude.{◌≡◌, ◌≢◌, ◌++◌, ℕ, List, length, Result, Ok, Err}
+use Rattle.std.specs.Prelude.{◌≡◌, ◌++◌, ℕ, List, length, Result, Ok, Err}
 use Rattle.tmw_lines.specs.TextFault.{HasTextFault}
 use Rattle.tmw_trace.specs.Text.{trace_grammar, trace_text, AreEvents}
 use Rattle.tmw_events.specs.declared.event.Event.{Event}
 use Rattle.tmw_trace.specs.declared.header.Header.{Header}
 use Rattle.tmw_defs.specs.declared.criterion.Asked.{Asked}
 use Rattle.tmw_defs.specs.declared.criterion.Criterion.{Criterion}
-use Rattle.tmw_defs.specs.declared.criterion.Criterion.TheVariants as by
-use Rattle.tmw_defs.specs.declared.verdict.Verdict.TheVariants.{OpaqueSoFar, StrictSoFar}
 use Rattle.tmw_defs.specs.Verdict.{Rules, IsVerdict}
 use Rattle.tmw_monitor.specs.declared.bounds.Bounds.{Bounds}
 use Rattle.tmw_monitor.specs.declared.monitor.Monitor.{Monitor}
@@ -67,8 +65,3 @@ JudgesBytes From To bounds asked = IsCommandRun From To (AnswersTrace bounds ask
 -- On the way there: a monitor for each criterion that is asked for has been fed this history.
 abbrev pub AreFed : Header → Bounds → Asked → List Event → ByCriterion Monitor → Type 0
 AreFed header bounds asked history = AreFor asked (λ criterion. Fits (trace_rules header bounds criterion) history)
-
--- The verdict is not what is said by the other criterion where nothing is wrong.
-abbrev pub IsOwnVerdict : Criterion → Report → Type 0
-IsOwnVerdict by.Opacity report = report.verdict ≢ StrictSoFar
-IsOwnVerdict by.Strict report = report.verdict ≢ OpaqueSoFar

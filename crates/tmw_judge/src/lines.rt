@@ -1,6 +1,5 @@
 ghost use Rattle.std.specs.Prelude.{◌≡◌, IfOk, string_bytes};
-ghost use Rattle.tmw_judge.specs.ByCriterion.{Each};
-ghost use Rattle.tmw_judge.specs.Judging.{IsOwnVerdict, report_lines, report_status};
+ghost use Rattle.tmw_judge.specs.Judging.{report_lines, report_status};
 ghost use Rattle.tmw_judge.specs.Counted.{all_open};
 ghost use Rattle.tmw_judge.specs.Answering.{judged_lines, shows_nothing, told_verdicts};
 
@@ -13,7 +12,6 @@ use tmw_report::{both_status, report_strict, report_text, status_of, summary_tex
 
 /// Makes the lines that report what was found, a line for each report, and that by opacity first.
 pub fn report_lines(alloc: Global, reports: &ByCriterion<Report>) -> Result<String, AllocError>
-    requires { Each IsOwnVerdict reports.now }
     ensures { IfOk result (λ lines. string_bytes lines ≡ report_lines reports.now) }
 {
     match reports {
@@ -30,7 +28,6 @@ pub fn report_lines(alloc: Global, reports: &ByCriterion<Report>) -> Result<Stri
 
 /// Makes the reports' lines, and behind them that of the counts, if there are counts.
 pub fn judged_lines(alloc: Global, answer: &Answer) -> Result<String, AllocError>
-    requires { Each IsOwnVerdict answer.now.reports }
     ensures { IfOk result (λ lines. string_bytes lines ≡ judged_lines answer.now) }
 {
     let mut lines = report_lines(alloc, &answer.reports)?;

@@ -4,11 +4,10 @@ ghost use Rattle.tmw_defs.specs.Verdict.{Rules};
 ghost use Rattle.tmw_defs.specs.declared.criterion.Asked.{Asked};
 ghost use Rattle.tmw_events.specs.declared.event.Event.{Event};
 ghost use Rattle.tmw_monitor.specs.Fitting.{Fits};
-ghost use Rattle.tmw_monitor.specs.Monitor.{fed_of, verdict_of};
+ghost use Rattle.tmw_monitor.specs.Monitor.{fed_of};
 ghost use Rattle.tmw_monitor.specs.declared.bounds.Bounds.{Bounds};
 ghost use Rattle.tmw_trace.specs.declared.header.Header.{Header};
 ghost use Rattle.tmw_judge.specs.ByCriterion.{Each};
-ghost use Rattle.tmw_counts.specs.Parts.{is_open};
 ghost use Rattle.tmw_judge.specs.Counted.{any_open, verdicts_of};
 ghost use Rattle.tmw_judge.specs.Feeding.{LackEvent};
 ghost use Rattle.tmw_judge.specs.Judging.{AreFed, AreReports, IsReportOn, trace_rules};
@@ -16,7 +15,8 @@ ghost use Rattle.tmw_judge.specs.Judging.{AreFed, AreReports, IsReportOn, trace_
 use crate::by_criterion::ByCriterion;
 use crate::report::Report;
 use std::alloc::{AllocError, Global};
-use tmw_defs::{Asked, Criterion, Verdict};
+use tmw_counts::is_open;
+use tmw_defs::{Asked, Criterion};
 use tmw_events::Event;
 use tmw_monitor::{Bounds, Monitor};
 use tmw_trace::Header;
@@ -65,18 +65,10 @@ pub fn any_open(monitors: &ByCriterion<Monitor>) -> bool
     ensures { result ≡ any_open (verdicts_of monitors.now) }
 {
     match monitors {
-        ByCriterion::Opacity(monitor) | ByCriterion::Strict(monitor) => is_open(monitor),
-        ByCriterion::Both(opacity, strict) => is_open(opacity) || is_open(strict),
-    }
-}
-
-#[inline(always)]
-fn is_open(monitor: &Monitor) -> bool
-    ensures { result ≡ is_open (verdict_of monitor.now) }
-{
-    match monitor.verdict() {
-        Verdict::OpaqueSoFar | Verdict::StrictSoFar => true,
-        _ => false,
+        ByCriterion::Opacity(monitor) | ByCriterion::Strict(monitor) => is_open(&monitor.verdict()),
+        ByCriterion::Both(opacity, strict) => {
+            is_open(&opacity.verdict()) || is_open(&strict.verdict())
+        }
     }
 }
 

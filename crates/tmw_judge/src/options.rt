@@ -1,8 +1,11 @@
+ghost use Rattle.std.specs.Prelude.{◌≡◌};
+ghost use Rattle.tmw_judge.specs.Answering.{plain};
+
 use tmw_defs::Asked;
 use tmw_monitor::Bounds;
 
 /// What `judge` is to do.
-#[derive(Clone, Copy, Debug)]
+#[derive(Clone, Copy, PartialEq, Eq, Debug)]
 pub struct Options {
     pub bounds: Bounds,
     pub asked: Asked,
@@ -10,4 +13,18 @@ pub struct Options {
     pub first: bool,
     /// It counts the transactions, overlaps and cuts of what the verdicts cover.
     pub summary: bool,
+}
+
+impl Options {
+    /// Returns the options of a run that reads the whole trace and counts nothing.
+    pub const fn plain(bounds: Bounds, asked: Asked) -> Options
+        ensures { result ≡ plain bounds asked }
+    {
+        Options {
+            bounds,
+            asked,
+            first: false,
+            summary: false,
+        }
+    }
 }

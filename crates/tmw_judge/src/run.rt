@@ -3,9 +3,8 @@ ghost use Rattle.tmw_report.specs.declared.fault.Fault.TheVariants.{Memory};
 ghost use Rattle.tmw_report.specs.Lines.{fault_line};
 ghost use Rattle.tmw_report.specs.Putting.{IsPut};
 ghost use Rattle.tmw_report.specs.Remark.{Remarks};
-ghost use Rattle.tmw_judge.specs.ByCriterion.{Each};
 ghost use Rattle.tmw_judge.specs.Answering.{judged_lines, judged_status, shows_nothing, JudgesWith};
-ghost use Rattle.tmw_judge.specs.Judging.{IsOwnVerdict, JudgesBytes};
+ghost use Rattle.tmw_judge.specs.Judging.{JudgesBytes};
 
 use crate::answer::Answer;
 use crate::judging::judge;
@@ -31,12 +30,7 @@ pub fn run_judge<S: Source, K: Sink>(
     ensures { JudgesBytes S.from K.to bounds asked
         source.old source.new sink.old sink.new result }
 {
-    let options = Options {
-        bounds,
-        asked,
-        first: false,
-        summary: false,
-    };
+    let options = Options::plain(bounds, asked);
     run_judge_with(alloc, source, sink, &mut BoundedSink::new(), options)
 }
 
@@ -64,7 +58,6 @@ pub fn run_judge_with<S: Source, K: Sink, E: Sink>(
 /// Writes the answer's lines and returns its exit status. The lines are made before any goes out: after a failed
 /// allocation for one, that fault's line is written instead. Of a run that shows nothing the sink for errors is told.
 fn write_answer<K: Sink, E: Sink>(alloc: Global, sink: &mut K, errors: &mut E, answer: Answer) -> u8
-    requires { Each IsOwnVerdict answer.reports }
     ensures { (IsPut K.to sink.old sink.new (judged_lines answer) (judged_status answer) result
         × Remarks E.to (shows_nothing answer) errors.old errors.new)
         ⊎ (IsPut K.to sink.old sink.new (fault_line Memory) 4 result

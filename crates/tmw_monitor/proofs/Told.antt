@@ -1,5 +1,5 @@
 -- What was found of the open window with an event more is the verdict on the history, and what is then kept is kept of it.
-use Rattle.std.proofs.Common.{◌≡◌, ◌⊎◌, ◌+◌, ◌≤◌, ℕ, Bool, List, [], ◌∷◌, ◌++◌, length, drop, Option, None, IsTrue, IsFalse, sym, subst, ◌∙◌, inl, inr, arith}
+use Rattle.std.proofs.Common.{◌≡◌, ◌⊎◌, ◌+◌, ◌≤◌, ℕ, Bool, List, [], ◌∷◌, ◌++◌, length, drop, None, IsTrue, IsFalse, sym, subst, ◌∙◌, inl, inr, arith}
 use Rattle.std.proofs.lemmas.List.{drop_all, drop-append-le}
 use Rattle.std.specs.List.{Contains}
 use Rattle.tmw_events.specs.declared.event.Event.{Event}
@@ -11,10 +11,7 @@ use Rattle.tmw_defs.specs.Summary.{SumsUp}
 use Rattle.tmw_defs.specs.Verdict.{Rules}
 use Rattle.tmw_defs.proofs.WindowsProof as windows
 use Rattle.tmw_defs.proofs.VerdictProof.{verdict-violated, verdict-many, sums_up-open, sums_up-quiet, sums_up-cut, so_far-fine}
-use Rattle.tmw_wellformed.specs.declared.tracker.Tracker.{Tracker}
 use Rattle.tmw_wellformed.specs.Tracks.{Tracks}
-use Rattle.tmw_cuts.specs.declared.states.States.{States as SetOfStates}
-use Rattle.tmw_cuts.specs.declared.window.Window.{Window}
 use Rattle.tmw_cuts.specs.Members.{members}
 use Rattle.tmw_cuts.specs.Standing.{StandsFor, views_of}
 use Rattle.tmw_witness.specs.Witnessing.{Witnesses}

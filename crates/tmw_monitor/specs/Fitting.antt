@@ -1,5 +1,5 @@
 -- Which history a monitor stands for: the relation by which its calls are described.
-use Rattle.std.specs.Prelude.{◌≡◌, ℕ, List, [], length, drop, Option, Some, None}
+use Rattle.std.specs.Prelude.{◌++◌, ◌∷◌, ◌≡◌, ℕ, List, [], length, drop, Option, Some, None}
 use Rattle.std.specs.List.{Contains}
 use Rattle.tmw_events.specs.declared.event.Event.{Event}
 use Rattle.tmw_events.specs.declared.registers.Registers.{Registers}
@@ -62,3 +62,11 @@ pub record Fits (rules : Rules) (history : List Event) (monitor : Monitor) : Typ
   pub judged : IsVerdict rules history (verdict_of monitor)
   pub keeps : IsOpen monitor → Keeps rules history (kept_of monitor)
   pub forgets : (IsOpen monitor → ⊥) → KeepsNothing (kept_of monitor)
+
+-- What fitted the monitor before fits it still.
+abbrev pub StaysFit : Monitor → Monitor → Type 0
+StaysFit old new = (rules : Rules) (history : List Event) → Fits rules history old → Fits rules history new
+
+-- What fitted it before fits it with this event more.
+abbrev pub FeedsOne : Event → Monitor → Monitor → Type 0
+FeedsOne event old new = (rules : Rules) (history : List Event) → Fits rules history old → Fits rules (history ++ event ∷ []) new

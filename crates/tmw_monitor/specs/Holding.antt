@@ -1,5 +1,5 @@
 -- What a monitor holds of a history, which does not grow with what lies before the last cut.
-use Rattle.std.specs.Prelude.{◌≡◌, ◌↔◌, ◌≤◌, ℕ, List, [], length, take, drop}
+use Rattle.std.specs.Prelude.{◌≡◌, ◌↔◌, ◌≤◌, ◌++◌, ◌∷◌, ℕ, List, [], length, take, drop}
 use Rattle.std.specs.Cmp.Lexicographic.{slice_cmp}
 use Rattle.std.specs.List.{Contains}
 use Rattle.std.specs.List.Sorted.{IsStrictlySortedBy}
@@ -13,6 +13,7 @@ use Rattle.tmw_cuts.specs.Members.{members}
 use Rattle.tmw_cuts.specs.Standing.{views, views_of}
 use Rattle.tmw_monitor.specs.declared.monitor.Monitor.{Monitor}
 use Rattle.tmw_monitor.specs.declared.open.Open.{Open}
+use Rattle.tmw_monitor.specs.Fitting.{Fits}
 use Rattle.tmw_monitor.specs.Monitor.{IsOpen, kept_of}
 
 -- It holds the history's outcomes at its last cut, no more of them than the bound, and the transactions of the open window, which
@@ -34,6 +35,14 @@ pub record HoldsNone (kept : Open) : Type 0 where
 pub record KeepsOnlyOpen (rules : Rules) (history : List Event) (monitor : Monitor) : Type 0 where
   pub holds : IsOpen monitor → HoldsOpen rules history (kept_of monitor)
   pub ended : (IsOpen monitor → ⊥) → HoldsNone (kept_of monitor)
+
+-- The monitor holds only the open window of what fitted it before.
+abbrev pub HoldsStill : Monitor → Monitor → Type 0
+HoldsStill old new = (rules : Rules) (history : List Event) → Fits rules history old → KeepsOnlyOpen rules history new
+
+-- It holds only that of what fitted it before, with this event more.
+abbrev pub HoldsWith : Event → Monitor → Monitor → Type 0
+HoldsWith event old new = (rules : Rules) (history : List Event) → Fits rules history old → KeepsOnlyOpen rules (history ++ event ∷ []) new
 
 -- These states are the history's outcomes at its last cut, in rising order and no more of them than the bound.
 pub record AreLastOutcomes (rules : Rules) (history : List Event) (states : List State) : Type 0 where

@@ -1,5 +1,5 @@
 -- What is found of the events since a history's last cut, from the set of its outcomes there.
-use Rattle.std.specs.Prelude.{◌≡◌, ◌↔◌, ◌⊎◌, ◌≤◌, ℕ, Bool, List, [], length, Option, Some, None, IsTrue, IsFalse}
+use Rattle.std.specs.Prelude.{◌++◌, ◌∷◌, ◌≡◌, ◌↔◌, ◌⊎◌, ◌≤◌, ℕ, Bool, List, [], length, Option, Some, None, IsTrue, IsFalse}
 use Rattle.std.specs.List.{Contains}
 use Rattle.tmw_events.specs.declared.event.Event.{Event}
 use Rattle.tmw_defs.specs.declared.verdict.Verdict.{Verdict}
@@ -13,6 +13,8 @@ use Rattle.tmw_cuts.specs.Members.{members}
 use Rattle.tmw_cuts.specs.Standing.{StandsFor, views_of}
 use Rattle.tmw_search.specs.Ended.{EndsOf, HasMoreThan}
 use Rattle.tmw_witness.specs.Witnessing.{Witnesses}
+use Rattle.tmw_wellformed.specs.Notes.{Notes}
+use Rattle.tmw_wellformed.specs.declared.note.Note.{Note}
 use Rattle.tmw_monitor.specs.declared.open.Open.{Open}
 use Rattle.tmw_monitor.specs.declared.weighed.Weighed.{Weighed}
 use Rattle.tmw_monitor.specs.declared.weighed.Weighed.TheVariants.{Outcome, NoOutcome, TooMany}
@@ -42,6 +44,14 @@ abbrev pub Tells : Criterion → SetOfStates → ℕ → Bool → List Event →
 Tells criterion old cap quiet events kept Outcome = StaysOpen criterion old quiet events kept ⊎ Closes criterion old cap events kept
 Tells criterion old cap quiet events kept NoOutcome = (end : State) → EndsOf criterion old events end → ⊥
 Tells criterion old cap quiet events kept TooMany = IsTrue (is_cut events) × HasMoreThan cap (EndsOf criterion old events)
+
+-- Of the events that stand in the window, and of the next one, where with it they are so: what each finding tells of them all, from
+-- the outcomes before them.
+abbrev pub WeighsNext : Criterion → ℕ → Event → Note → (List Event → Type 0) → (List Event → Bool) → Open → Open → Weighed → Type 0
+WeighsNext criterion cap event note Are quiet old new found =
+    (events : List Event) → StandsFor old.window events → Notes events event note → Are (events ++ event ∷ [])
+    → Witnesses (members old.states) (views_of events) old.witness
+    → Tells criterion old.states cap (quiet events) (events ++ event ∷ []) new found
 
 -- The verdict on a history of this length, where this was found of its last window and something is wrong with it.
 abbrev pub wrong_of : ℕ → Weighed → Option Verdict

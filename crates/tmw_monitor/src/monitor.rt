@@ -32,8 +32,8 @@ pub struct Monitor {
 }
 
 impl Monitor {
-    ghost use Rattle.tmw_monitor.specs.Fitting.{Fits, rules_for, rules_of};
-    ghost use Rattle.tmw_monitor.specs.Holding.{AreLastOutcomes, KeepsOnlyOpen};
+    ghost use Rattle.tmw_monitor.specs.Fitting.{FeedsOne, Fits, StaysFit, rules_for, rules_of};
+    ghost use Rattle.tmw_monitor.specs.Holding.{AreLastOutcomes, HoldsStill, HoldsWith, KeepsOnlyOpen};
     ghost use Rattle.tmw_monitor.specs.Monitor.{IsOpen, criterion_of, fed_of, verdict_of};
 
     /// Makes a monitor that judges by opacity a run whose registers all begin at 0, before its first event.
@@ -102,19 +102,15 @@ impl Monitor {
     #[inline(always)]
     pub fn feed(&mut self, event: Event) -> Result<Verdict, AllocError>
         requires room { fed_of self.old < 2 ^ 40 }
-        ensures ok { IfOk result (λ verdict. (rules : Rules) (history : List Event)
-            → Fits rules history self.old → Fits rules (history ++ event ∷ []) self.new) }
+        ensures ok { OnOk result (FeedsOne event self.old self.new) }
         ensures verdict { IfOk result (λ verdict. verdict ≡ verdict_of self.new) }
-        ensures err { OnErr result ((rules : Rules) (history : List Event)
-            → Fits rules history self.old → Fits rules history self.new) }
+        ensures err { OnErr result (StaysFit self.old self.new) }
         ensures stays { (IsOpen self.old → ⊥) → result ≡ Ok (verdict_of self.old) }
         ensures criterion { criterion_of self.new ≡ criterion_of self.old }
 
         // What is kept, whether the event was taken or not.
-        ensures keeps { IfOk result (λ verdict. (rules : Rules) (history : List Event)
-            → Fits rules history self.old → KeepsOnlyOpen rules (history ++ event ∷ []) self.new) }
-        ensures keeps_err { OnErr result ((rules : Rules) (history : List Event)
-            → Fits rules history self.old → KeepsOnlyOpen rules history self.new) }
+        ensures keeps { OnOk result (HoldsWith event self.old self.new) }
+        ensures keeps_err { OnErr result (HoldsStill self.old self.new) }
     {
         if self.criterion == Criterion::Opacity
             && is_so_far(self.criterion, self.verdict)
@@ -136,17 +132,13 @@ impl Monitor {
     #[inline(never)]
     fn take(&mut self, event: Event) -> Result<(), AllocError>
         requires room { fed_of self.old < 2 ^ 40 }
-        ensures ok { OnOk result ((rules : Rules) (history : List Event)
-            → Fits rules history self.old → Fits rules (history ++ event ∷ []) self.new) }
-        ensures err { OnErr result ((rules : Rules) (history : List Event)
-            → Fits rules history self.old → Fits rules history self.new) }
+        ensures ok { OnOk result (FeedsOne event self.old self.new) }
+        ensures err { OnErr result (StaysFit self.old self.new) }
         ensures stays { (IsOpen self.old → ⊥)
             → IsOk result × (verdict_of self.new ≡ verdict_of self.old) }
         ensures criterion { criterion_of self.new ≡ criterion_of self.old }
-        ensures keeps { OnOk result ((rules : Rules) (history : List Event)
-            → Fits rules history self.old → KeepsOnlyOpen rules (history ++ event ∷ []) self.new) }
-        ensures keeps_err { OnErr result ((rules : Rules) (history : List Event)
-            → Fits rules history self.old → KeepsOnlyOpen rules history self.new) }
+        ensures keeps { OnOk result (HoldsWith event self.old self.new) }
+        ensures keeps_err { OnErr result (HoldsStill self.old self.new) }
     {
         let at = self.count + 1;
         // Each prefix is judged, so a verdict that something is wrong is final. Later events are only counted.

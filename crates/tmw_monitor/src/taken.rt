@@ -8,7 +8,7 @@ ghost use Rattle.tmw_wellformed.specs.Notes.{Notes};
 ghost use Rattle.tmw_cuts.specs.Members.{members};
 ghost use Rattle.tmw_cuts.specs.Standing.{StandsFor, count_of, views_of};
 ghost use Rattle.tmw_witness.specs.Witnessing.{Witnesses};
-ghost use Rattle.tmw_monitor.specs.Weighing.{Tells};
+ghost use Rattle.tmw_monitor.specs.Weighing.{WeighsNext};
 
 use crate::open::Open;
 use crate::weigh::weigh;
@@ -32,12 +32,9 @@ pub fn take_event(
     note: Note,
 ) -> Result<Weighed, AllocError>
     requires room { IsTrue note.begins → count_of kept.old.window < 8 }
-    ensures ok { IfOk result (λ found. (events : List Event) → StandsFor kept.old.window events
-        → Notes events event note → cut ≡ is_cut (events ++ event ∷ [])
-        → Witnesses (members kept.old.states) (views_of events) kept.old.witness
-        → Tells criterion kept.old.states cap
-        (is_quiet_by criterion (transactions events) event.thread.number event.kind)
-        (events ++ event ∷ []) kept.new found) }
+    ensures ok { IfOk result (WeighsNext criterion cap event note (λ events. cut ≡ is_cut events)
+        (λ events. is_quiet_by criterion (transactions events) event.thread.number event.kind)
+        kept.old kept.new) }
     ensures tracker { kept.new.tracker ≡ kept.old.tracker }
     ensures states { OnErr result (members kept.new.states ≡ members kept.old.states) }
     ensures window { OnErr result ((events : List Event) → StandsFor kept.old.window events
@@ -56,11 +53,9 @@ pub fn take_event(
 #[inline(always)]
 fn take_quiet(kept: &mut Open, event: Event, note: Note) -> Result<Weighed, AllocError>
     requires room { IsTrue note.begins → count_of kept.old.window < 8 }
-    ensures ok { IfOk result (λ found. (criterion : Criterion) (cap : ℕ) (events : List Event)
-        → StandsFor kept.old.window events → Notes events event note
-        → IsFalse (is_cut (events ++ event ∷ []))
-        → Witnesses (members kept.old.states) (views_of events) kept.old.witness
-        → Tells criterion kept.old.states cap true (events ++ event ∷ []) kept.new found) }
+    ensures ok { IfOk result (λ found. (criterion : Criterion) (cap : ℕ)
+        → WeighsNext criterion cap event note (λ events. IsFalse (is_cut events)) (λ _. true)
+        kept.old kept.new found) }
     ensures tracker { kept.new.tracker ≡ kept.old.tracker }
     ensures states { OnErr result (members kept.new.states ≡ members kept.old.states) }
     ensures window { OnErr result ((events : List Event) → StandsFor kept.old.window events
@@ -85,11 +80,9 @@ fn take_weighed(
     note: Note,
 ) -> Result<Weighed, AllocError>
     requires room { IsTrue note.begins → count_of kept.old.window < 8 }
-    ensures ok { IfOk result (λ found. (quiet : Bool) (events : List Event)
-        → StandsFor kept.old.window events → Notes events event note
-        → cut ≡ is_cut (events ++ event ∷ [])
-        → Witnesses (members kept.old.states) (views_of events) kept.old.witness
-        → Tells criterion kept.old.states cap quiet (events ++ event ∷ []) kept.new found) }
+    ensures ok { IfOk result (λ found. (quiet : Bool)
+        → WeighsNext criterion cap event note (λ events. cut ≡ is_cut events) (λ _. quiet)
+        kept.old kept.new found) }
     ensures tracker { kept.new.tracker ≡ kept.old.tracker }
     ensures states { OnErr result (members kept.new.states ≡ members kept.old.states) }
     ensures window { OnErr result ((events : List Event) → StandsFor kept.old.window events

@@ -1,7 +1,7 @@
 mod CountingOn
-pub mod Calls
 pub mod Feeding
 pub mod HeadlineProof
+pub mod Keeping
 pub mod KindsMade
 pub mod OneLog
 pub mod Turns

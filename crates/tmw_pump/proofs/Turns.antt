@@ -1,18 +1,16 @@
 -- What a call has done, turn by turn: each turn judges one event more.
-use Rattle.std.proofs.Common.{◌≡◌, ◌+◌, ◌++◌, ℕ, List, [], ◌∷◌, Option, Some, None, IfSome, IfNone, refl, sym, ap, ◌∙◌, subst, append_assoc}
-use Rattle.std.proofs.lemmas.List.{append-nil, length_push}
+use Rattle.std.proofs.Common.{◌≡◌, ◌+◌, ◌++◌, ◌<◌, ◌≤◌, ◌^◌, ℕ, List, [], ◌∷◌, length, Option, Some, None, refl, sym, ap, ◌∙◌, subst, append_assoc, arith}
+use Rattle.std.proofs.lemmas.List.{append-nil, length-append, length_push}
 use Rattle.tmw_events.specs.declared.event.Event.{Event}
 use Rattle.tmw_monitor.specs.Fitting.{Fits}
 use Rattle.tmw_monitor.specs.declared.monitor.Monitor.{Monitor}
 use Rattle.tmw_ring.specs.Ends.{ReaderIs}
-use Rattle.tmw_ring.specs.Takes.{HasFoundNone}
 use Rattle.tmw_pump.specs.Fronts.{came, HasCome, KeepsFit, HasJudged}
 use Rattle.tmw_pump.specs.Held.{listed}
-use Rattle.tmw_pump.specs.Pumping.{HasTakenAll, HasPumped, HasPumpedAll}
+use Rattle.tmw_pump.specs.Pumping.{PumpIs, HasTakenAll, HasPumped}
+use Rattle.tmw_pump.specs.declared.pumped.Pumped.{Pumped}
 use Rattle.tmw_pump.specs.declared.front.Front.{Front}
-use Rattle.tmw_pump.specs.Resting.{all_of, HasRested, HasRestedAll}
-use Rattle.tmw_pump.specs.declared.forgetting_pump.ForgettingPump.{ForgettingPump}
-use Rattle.tmw_pump.specs.declared.forgetting_rest.ForgettingRest.{ForgettingRest}
+use Rattle.tmw_pump.specs.Resting.{RestIs, all_of, HasRested, IsRested}
 
 pub taken-append : (one two three : ReaderIs) (first second : List Event) → HasTakenAll one first two → HasTakenAll two second three
     → HasTakenAll one (first ++ second) three
@@ -64,10 +62,7 @@ judged-more count old mid new event done one keeps = record {
   fits = λ by fits. keeps by (done.fits by fits);
 }
 
-pub pumped-none : (pump : ForgettingPump) → HasPumped 0 pump pump.reader pump.front
-pumped-none pump = record { fresh = []; taken = refl; judged = judged-none pump.front }
-
-pub pumped-came : (count : ℕ) (event : Option Event) (old : ForgettingPump) (reader : ReaderIs) (mid new : Front) → HasPumped count old reader mid
+pub pumped-came : (count : ℕ) (event : Option Event) (old : PumpIs) (reader : ReaderIs) (mid new : Front) → HasPumped count old reader mid
     → HasCome event mid new → HasPumped count old reader new
 pumped-came count event old reader mid new done come = record {
   fresh = done.fresh;
@@ -75,7 +70,7 @@ pumped-came count event old reader mid new done come = record {
   judged = judged-came count event old.front mid new done.judged come;
 }
 
-pub pumped-next : (count : ℕ) (event : Option Event) (old mid next : ForgettingPump) → HasPumped count old mid.reader mid.front
+pub pumped-next : (count : ℕ) (event : Option Event) (old mid next : PumpIs) → HasPumped count old mid.reader mid.front
     → (fresh : List Event) × HasTakenAll mid.reader fresh next.reader → HasCome event mid.front next.front
     → HasPumped count old next.reader next.front
 pumped-next count event old mid next done (fresh, taken) come = record {
@@ -84,81 +79,65 @@ pumped-next count event old mid next done (fresh, taken) come = record {
   judged = judged-came count event old.front mid.front next.front done.judged come;
 }
 
--- A turn to which an event is given has judged nothing yet.
-pub pumped-given : {A : Type 0} (of : A → ForgettingPump) (event : Option Event) (mid next : ForgettingPump) → HasCome event mid.front next.front
-    → IfSome event (λ _. (fresh : List Event) × HasTakenAll mid.reader fresh next.reader)
-    → IfSome event (λ _. (count : ℕ) (first : A) → HasPumped count (of first) mid.reader mid.front → HasPumped count (of first) next.reader next.front)
-pumped-given of None mid next come taken = tt
-pumped-given of (Some event) mid next come taken = λ count first done. pumped-next count (Some event) (of first) mid next done taken come
-
--- A turn that has found none has judged nothing.
-pub pumped-ended : {A : Type 0} (of : A → ForgettingPump) (event : Option Event) (mid next : ForgettingPump) → HasCome event mid.front next.front
-    → IfNone event (HasFoundNone mid.reader next.reader)
-    → IfNone event ((count : ℕ) (first : A) → HasPumped count (of first) mid.reader mid.front → HasPumpedAll count (of first) next)
-pumped-ended of (Some event) mid next come none = tt
-pumped-ended of None mid next come none = λ count first done. record {
-  last = mid.reader;
-  counted = pumped-came count None (of first) mid.reader mid.front next.front done come;
-  none = none;
-}
-
 -- A turn that was refused memory has judged nothing.
-pub pumped-refused : (count : ℕ) (old next new : ForgettingPump) → HasPumped count old next.reader next.front → new.reader ≡ next.reader
-    → new.front.judged.items ≡ next.front.judged.items → KeepsFit next.front new.front → HasPumped count old new.reader new.front
-pumped-refused count old next new done same judged keeps = record {
-  fresh = done.fresh;
-  taken = subst (HasTakenAll old.reader done.fresh) (sym same) done.taken;
-  judged = judged-same count old.front next.front new.front done.judged judged keeps;
-}
+pub pumped-refused : (count : ℕ) (old : PumpIs) (reader : ReaderIs) (mid new : Front) → HasPumped count old reader mid
+    → new.judged.items ≡ mid.judged.items → KeepsFit mid new → HasPumped count old reader new
+pumped-refused count old reader mid new done judged keeps =
+    record { fresh = done.fresh; taken = done.taken; judged = judged-same count old.front mid new done.judged judged keeps }
 
 -- A turn that was not has judged the event.
-pub pumped-more : (count : ℕ) (old next new : ForgettingPump) (event : Event) → HasPumped count old next.reader next.front
-    → new.reader ≡ next.reader → new.front.judged.items ≡ next.front.judged.items ++ event ∷ [] → KeepsFit next.front new.front
-    → HasPumped (count + 1) old new.reader new.front
-pumped-more count old next new event done same judged keeps = record {
-  fresh = done.fresh;
-  taken = subst (HasTakenAll old.reader done.fresh) (sym same) done.taken;
-  judged = judged-more count old.front next.front new.front event done.judged judged keeps;
-}
+pub pumped-more : (count : ℕ) (old : PumpIs) (reader : ReaderIs) (mid new : Front) (event : Event) → HasPumped count old reader mid
+    → new.judged.items ≡ mid.judged.items ++ event ∷ [] → KeepsFit mid new → HasPumped (count + 1) old reader new
+pumped-more count old reader mid new event done judged keeps =
+    record { fresh = done.fresh; taken = done.taken; judged = judged-more count old.front mid new event done.judged judged keeps }
 
-pub rested-none : (rest : ForgettingRest) → HasRested 0 rest rest
-rested-none rest = record { all = refl; judged = judged-none rest.front }
-
-pub rested-next : (count : ℕ) (event : Option Event) (old mid next : ForgettingRest) → HasRested count old mid → all_of next ≡ all_of mid
+pub rested-next : (count : ℕ) (event : Option Event) (old mid next : RestIs) → HasRested count old mid → all_of next ≡ all_of mid
     → HasCome event mid.front next.front → HasRested count old next
 rested-next count event old mid next done all come = record {
   all = all ∙ done.all;
   judged = judged-came count event old.front mid.front next.front done.judged come;
 }
 
--- A turn to which an event is given has judged nothing yet.
-pub rested-given : {A : Type 0} (of : A → ForgettingRest) (event : Option Event) (mid next : ForgettingRest) → all_of next ≡ all_of mid
-    → HasCome event mid.front next.front → IfSome event (λ _. (count : ℕ) (first : A) → HasRested count (of first) mid → HasRested count (of first) next)
-rested-given of None mid next all come = tt
-rested-given of (Some event) mid next all come = λ count first done. rested-next count (Some event) (of first) mid next done all come
-
--- A turn that has found none has judged nothing.
-pub rested-ended : {A : Type 0} (of : A → ForgettingRest) (event : Option Event) (mid next : ForgettingRest) → all_of next ≡ all_of mid
-    → HasCome event mid.front next.front → IfNone event (next.settled ≡ [])
-    → IfNone event ((count : ℕ) (first : A) → HasRested count (of first) mid → HasRestedAll count (of first) next)
-rested-ended of (Some event) mid next all come none = tt
-rested-ended of None mid next all come none = λ count first done.
-    record { counted = rested-next count None (of first) mid next done all come; none_left = none }
-
-pub rested-same : (count : ℕ) (old mid new : ForgettingRest) → HasRested count old mid → new.settled ≡ mid.settled
-    → new.front.judged.items ≡ mid.front.judged.items → new.front.held ≡ mid.front.held → KeepsFit mid.front new.front
-    → HasRested count old new
-rested-same count old mid new done left judged held keeps = record {
-  all = ap (λ (l : List Event). came new.front ++ l) left
-      ∙ ap (λ (l : List Event). l ++ mid.settled) (came-same mid.front new.front judged held) ∙ done.all;
-  judged = judged-same count old.front mid.front new.front done.judged judged keeps;
+pub rested-refused : (count : ℕ) (old : RestIs) (left : List Event) (mid new : Front) → HasRested count old (record { settled = left; front = mid })
+    → new.judged.items ≡ mid.judged.items → came new ≡ came mid → KeepsFit mid new
+    → HasRested count old (record { settled = left; front = new })
+rested-refused count old left mid new done judged all keeps = record {
+  all = ap (λ (l : List Event). l ++ left) all ∙ done.all;
+  judged = judged-same count old.front mid new done.judged judged keeps;
 }
 
-pub rested-more : (count : ℕ) (old mid new : ForgettingRest) (event : Event) → HasRested count old mid → new.settled ≡ mid.settled
-    → mid.front.held ≡ Some event → new.front.judged.items ≡ mid.front.judged.items ++ event ∷ [] → new.front.held ≡ None
-    → KeepsFit mid.front new.front → HasRested (count + 1) old new
-rested-more count old mid new event done left held judged free keeps = record {
-  all = ap (λ (l : List Event). came new.front ++ l) left
-      ∙ ap (λ (l : List Event). l ++ mid.settled) (came-more mid.front new.front event held judged free) ∙ done.all;
-  judged = judged-more count old.front mid.front new.front event done.judged judged keeps;
+pub rested-more : (count : ℕ) (old : RestIs) (left : List Event) (mid new : Front) (event : Event)
+    → HasRested count old (record { settled = left; front = mid }) → new.judged.items ≡ mid.judged.items ++ event ∷ []
+    → came new ≡ came mid → KeepsFit mid new → HasRested (count + 1) old (record { settled = left; front = new })
+rested-more count old left mid new event done judged all keeps = record {
+  all = ap (λ (l : List Event). l ++ left) all ∙ done.all;
+  judged = judged-more count old.front mid new event done.judged judged keeps;
 }
+
+-- What was judged, what is held and what is left have few events in all.
+abbrev pub IsFew : RestIs → Type 0
+IsFew rest = length rest.front.judged.items + length (listed rest.front.held) + length rest.settled ≤ 2 ^ 40
+
+-- They are as many as before where the same has come.
+pub few-came : (left : List Event) (mid new : Front) → came new ≡ came mid → IsFew (record { settled = left; front = mid })
+    → IsFew (record { settled = left; front = new })
+few-came left mid new all few =
+    let before = length-append mid.judged.items (listed mid.held) in
+    let now = length-append new.judged.items (listed new.held) in
+    let same = ap (λ (l : List Event). length l) all in
+    omega (arith, before, now, same, few)
+
+-- A call that was to judge more than a log can have has judged all.
+pub all_judged : (max : ℕ) (pumped : Pumped) (old new : RestIs) → 2 ^ 40 < max → IsFew new → IsRested max pumped old new
+    → new.front.judged.items ≡ all_of old
+all_judged max pumped old new wide few rested =
+    let done = rested.counted.judged in
+    let judged = new.front.judged.items in
+    let counted = done.counted in
+    let long = ap (λ (l : List Event). length l) done.judged ∙ length-append old.front.judged.items done.more in
+    let none = rested.none_left (omega (arith, few, counted, long, wide)) in
+    let free = rested.held (omega (arith, wide)) in
+    let here : all_of new ≡ judged =
+    ap (λ (l : List Event). came new.front ++ l) none ∙ append-nil (came new.front)
+    ∙ ap (λ (h : Option Event). judged ++ listed h) free ∙ append-nil judged in
+    sym here ∙ rested.counted.all

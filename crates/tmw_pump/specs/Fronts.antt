@@ -60,7 +60,7 @@ pub record TellsVerdict (front : Front) (verdict : Verdict) : Type 0 where
   pub shown : verdict ≡ verdict_on front
   pub fits : (rules : Rules) → Fits rules (judged_of front) (monitor_of front) → IsVerdict rules (judged_of front) verdict
 
--- A call has done what it does for so many events, fewer than it was to judge, and holds the next one, for which memory was refused.
+-- A call has done what it does for so many events, fewer than it was to judge, and an event is held.
 pub record WasRefusedMemory (max : ℕ) (HasDone : ℕ → Type 0) (new : Front) : Type 0 where
   pub count : ℕ
   pub fewer : count < max

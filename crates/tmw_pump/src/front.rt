@@ -73,28 +73,28 @@ impl Front {
     }
 
     /// Returns the monitor that judges.
-    pub(crate) fn monitor(&self) -> &Monitor
+    pub fn monitor(&self) -> &Monitor
         ensures { result.now ≡ self.now.monitor }
     {
         &self.monitor
     }
 
     /// Returns how many events were judged.
-    pub(crate) fn fed(&self) -> u64
+    pub fn fed(&self) -> u64
         ensures { result ≡ length self.now.judged.items }
     {
         self.monitor.fed()
     }
 
     /// Returns the held event, if any.
-    pub(crate) fn held(&self) -> Option<Event>
+    pub fn held(&self) -> Option<Event>
         ensures { result ≡ self.now.held }
     {
         self.held
     }
 
     /// Returns the verdict on the events that were judged.
-    pub(crate) fn verdict(&self) -> Verdict
+    pub fn verdict(&self) -> Verdict
         ensures { TellsVerdict self.now result }
     {
         self.monitor.verdict()
@@ -102,7 +102,7 @@ impl Front {
 
     /// Returns what the events that were judged have shown: up to the one that the verdict names, or before it where they
     /// are malformed, or all.
-    pub(crate) fn summary(&self) -> Summary
+    pub fn summary(&self) -> Summary
         ensures { IsSummary (front_part self.now) result }
     {
         self.counter.summary()

@@ -1,50 +1,66 @@
-//! Judging the events of a running ring, and keeping them.
-ghost use Rattle.std.specs.Prelude.{◌≡◌, ◌++◌, List, [], ◌∷◌, length, All, Some, None, IfOk, OnOk, OnErr, IsSome, IsTrue, ◌↔◌};
+//! Judging the events of a running ring.
+ghost use Rattle.std.specs.Prelude.{◌≡◌, ◌++◌, List, [], ◌∷◌, length, All, Some, None, IfOk, OnOk, OnErr, IfSome, IfNone, IsSome, IsTrue, ◌↔◌};
+ghost use Rattle.tmw_defs.specs.Verdict.{Rules};
 ghost use Rattle.tmw_events.specs.declared.event.Event.{Event};
-ghost use Rattle.tmw_pump.specs.Held.{JudgesOpacity, WasFed};
+ghost use Rattle.tmw_monitor.specs.Fitting.{Fits};
+ghost use Rattle.tmw_monitor.specs.Monitor.{verdict_of};
+ghost use Rattle.tmw_pump.specs.Held.{JudgesOpacity, WasFed, listed};
+ghost use Rattle.tmw_pump.specs.Keeping.{IsKept, StaysKept, WasKept};
 ghost use Rattle.tmw_ring.specs.Ends.{ReaderOf, WriterOf};
 ghost use Rattle.tmw_ring.specs.Meeting.{HaveMet};
 ghost use Rattle.tmw_ring.specs.Settling.{AreInOrder, IsSettled};
+ghost use Rattle.tmw_ring.specs.Takes.{HasFoundNone};
 
-use crate::forgetting_pump::ForgettingPump;
+use crate::front::Front;
+use crate::keep::{Keep, judge_held};
 use crate::pumped::Pumped;
 use crate::rest::Rest;
-use crate::turn_by_turn::{Turns, judge_some};
 use std::alloc::{AllocError, Global};
 use tmw_defs::Verdict;
 use tmw_events::Event;
 use tmw_monitor::Monitor;
 use tmw_ring::{Reader, Ring, Writer};
 
-/// A pump that takes events from a running ring, judges them as a `ForgettingPump` does, and keeps those that it has
-/// judged.
+/// A pump that takes events from a running ring and judges them, by the definition of opacity (Guerraoui and Kapalka
+/// 2008, section 5) at each prefix. What it has judged is a beginning of the ring's one log: what its reader has
+/// taken, less the event that is held after a failed allocation, if any. It keeps of that what `K` keeps: a `Pump`
+/// all of it, and a `Pump<()>` nothing, so that its memory is the monitor's, however long the run.
 #[derive(Drop)]
-pub struct Pump {
-    forgetting: ForgettingPump,
-    judged: Vec<Event>,
-    // What is kept is what was judged.
-    pub ghost kept: { judged.items ≡ forgetting.front.judged.items },
+pub struct Pump<K: Keep = Vec<Event>> {
+    reader: Reader,
+    front: Front,
+    kept: K,
+    // The reader has taken what was judged, and after it the held event.
+    pub ghost all: { front.judged.items ++ listed front.held ≡ reader.taken },
+    pub ghost keeps: { ∥ WasKept K.keeps front kept ∥₁ },
 }
 
-impl Pump {
+impl<K: Keep> Pump<K> {
     ghost use Rattle.tmw_pump.specs.Headline.{IsLogOf, GivesHeadline};
-    ghost use Rattle.tmw_pump.specs.Fronts.{KeepsFit, TellsVerdict, WasRefusedMemory, held_of, judged_of, monitor_of, verdict_on};
-    ghost use Rattle.tmw_pump.specs.Pumping.{HasPumped, IsPumped, pump_front, pump_in, reader_of};
-    ghost use Rattle.tmw_pump.specs.Resting.{all_of, left_of, rest_front, rest_in};
+    ghost use Rattle.tmw_pump.specs.Fronts.{HasCome, TellsVerdict, WasRefusedMemory, held_of, judged_of, monitor_of, verdict_on};
+    ghost use Rattle.tmw_pump.specs.Pumping.{HasTakenAll, HasPumped, IsPumped, pump_front, pump_in, pump_kept, reader_of};
+    ghost use Rattle.tmw_pump.specs.Resting.{all_of, left_of, rest_front, rest_in, rest_kept};
 
-    /// Makes a pump of a reader that has taken nothing, and a monitor by opacity that was fed nothing.
-    pub fn new(alloc: Global, reader: Reader, monitor: Monitor) -> Pump
+    /// Makes a pump of a reader that has taken nothing, a monitor by opacity that was fed nothing, and what is kept of
+    /// nothing.
+    pub fn keeping(kept: K, reader: Reader, monitor: Monitor) -> Pump<K>
         requires taken { reader.taken ≡ [] }
         requires opacity { JudgesOpacity monitor }
         requires fed { WasFed [] monitor }
+        requires kept { (rules : Rules) → Fits rules [] monitor
+            → K.keeps rules [] (verdict_of monitor) kept }
         ensures reader { reader_of (pump_in result) ≡ reader }
         ensures judged { judged_of (pump_front (pump_in result)) ≡ [] }
         ensures held { held_of (pump_front (pump_in result)) ≡ None }
         ensures monitor { monitor_of (pump_front (pump_in result)) ≡ monitor }
+        ensures kept { pump_kept result ≡ kept }
+        ensures keeps { (rules : Rules) → Fits rules [] monitor
+            → IsKept K.keeps rules (pump_front (pump_in result)) (pump_kept result) }
     {
         Pump {
-            forgetting: ForgettingPump::new(reader, monitor),
-            judged: Vec::new(alloc),
+            reader,
+            front: Front::new(monitor),
+            kept,
         }
     }
 
@@ -63,30 +79,65 @@ impl Pump {
         ensures headline { GivesHeadline (pump_front (pump_in self.old))
             (reader_of (pump_in self.new)).taken (judged_of (pump_front (pump_in self.new)))
             (verdict_on (pump_front (pump_in self.new))) }
+        ensures kept { StaysKept K.keeps (pump_front (pump_in self.old))
+            (pump_front (pump_in self.new)) (pump_kept self.old) (pump_kept self.new) }
     {
-        let judged = judge_some(self, ring, max)?;
-        Ok(self.forgetting.pumped(judged))
+        for judged in 0..max {
+            let Some(event) = self.next(ring) else {
+                return Ok(self.front.pumped(judged));
+            };
+            judge_held(&mut self.front, &mut self.kept, event)?;
+        }
+        Ok(self.front.pumped(max))
     }
 
-    /// Returns the judged front: the events that were judged, in the order of the log.
-    pub fn judged(&self) -> &[Event]
-        ensures { result.now ≡ judged_of (pump_front (pump_in self.now)) }
+    /// Returns the event to be judged next: the held one, or else the next of the ring, which is held from then on.
+    /// `None` if the next place is not published.
+    fn next(&mut self, ring: &Ring) -> Option<Event>
+        requires { ReaderOf ring.now self.old.reader }
+        ensures of_ring { ReaderOf ring.now self.new.reader }
+        ensures front { HasCome result self.old.front self.new.front }
+        ensures kept { StaysKept K.keeps self.old.front self.new.front self.old.kept self.new.kept }
+        ensures taken { IfSome result (λ _. (fresh : List Event)
+            × HasTakenAll self.old.reader fresh self.new.reader) }
+        ensures none { IfNone result (HasFoundNone self.old.reader self.new.reader) }
     {
-        &self.judged
+        if let Some(event) = self.front.held() {
+            return Some(event);
+        }
+        let Some(event) = ring.take(&mut self.reader) else {
+            return None;
+        };
+        self.front.hold(event);
+        Some(event)
+    }
+
+    /// Returns the judged front.
+    pub fn front(&self) -> &Front
+        ensures { result.now ≡ pump_front (pump_in self.now) }
+    {
+        &self.front
+    }
+
+    /// Returns what is kept of the judged front.
+    pub fn kept(&self) -> &K
+        ensures { result.now ≡ pump_kept self.now }
+    {
+        &self.kept
     }
 
     /// Tells whether an event has come that is not judged yet, after a failed allocation.
     pub fn held(&self) -> bool
         ensures { IsTrue result ↔ IsSome (held_of (pump_front (pump_in self.now))) }
     {
-        self.forgetting.held()
+        self.front.held().is_some()
     }
 
     /// Returns the verdict on the judged front.
     pub fn verdict(&self) -> Verdict
         ensures { TellsVerdict (pump_front (pump_in self.now)) result }
     {
-        self.forgetting.verdict()
+        self.front.verdict()
     }
 
     /// Lets the reader meet a writer: the writer's next event comes after all that both had seen. Nothing is judged,
@@ -97,15 +148,16 @@ impl Pump {
         ensures met { HaveMet writer.old writer.new (reader_of (pump_in self.old))
             (reader_of (pump_in self.new)) }
         ensures same { pump_front (pump_in self.new) ≡ pump_front (pump_in self.old) }
+        ensures kept { pump_kept self.new ≡ pump_kept self.old }
         ensures one_log { (log : List Event)
             × IsLogOf log (writer.new ∷ []) (reader_of (pump_in self.new)).taken }
     {
-        self.forgetting.meet(ring, writer);
+        ring.meet(writer, &mut self.reader);
     }
 
     /// Ends the ring once all its writers have come back, writer i at place i. What was not taken is left to be
     /// judged.
-    pub fn settle(self, ring: Ring, writers: Vec<Writer>) -> Rest
+    pub fn settle(self, ring: Ring, writers: Vec<Writer>) -> Rest<K>
         requires reader { ReaderOf ring (reader_of (pump_in self)) }
         requires writers { All (WriterOf ring) writers.items }
         requires count { length writers.items ≡ ring.size.writers }
@@ -113,35 +165,41 @@ impl Pump {
         ensures settled { IsSettled (reader_of (pump_in self)) writers.items
             (left_of (rest_in result)) }
         ensures front { rest_front (rest_in result) ≡ pump_front (pump_in self) }
+        ensures kept { rest_kept result ≡ pump_kept self }
         ensures one_log { IsLogOf (all_of (rest_in result)) writers.items
             (all_of (rest_in result)) }
     {
-        let Pump { forgetting, judged } = self;
-        Rest::new(forgetting.settle(ring, writers), judged)
+        let Pump {
+            reader,
+            front,
+            kept,
+        } = self;
+        Rest::new(ring.settle(reader, writers), front, kept)
     }
 }
 
-impl Turns<Ring> for Pump {
-    ghost use Rattle.tmw_pump.specs.Pumping.{HasPumped, HasPumpedAll};
-    ghost use Rattle.tmw_ring.specs.Ends.{ReaderOf};
+impl Pump {
+    ghost use Rattle.tmw_pump.specs.Fronts.{held_of, judged_of, monitor_of};
+    ghost use Rattle.tmw_pump.specs.Pumping.{pump_front, pump_in, reader_of};
 
-    ghost takes_from = { λ ring pump. ReaderOf ring pump.forgetting.reader };
-
-    ghost holds = { λ pump. pump.forgetting.front.held };
-
-    ghost has_judged = { λ count old new. HasPumped count old.forgetting new.forgetting.reader new.forgetting.front };
-
-    ghost has_ended = { λ count old new. HasPumpedAll count old.forgetting new.forgetting };
-
-    fn give(&mut self, ring: &Ring) -> Option<Event> {
-        self.forgetting.next(ring)
+    /// Makes a pump of a reader that has taken nothing, and a monitor by opacity that was fed nothing. It keeps what
+    /// it judges.
+    pub fn new(alloc: Global, reader: Reader, monitor: Monitor) -> Pump
+        requires taken { reader.taken ≡ [] }
+        requires opacity { JudgesOpacity monitor }
+        requires fed { WasFed [] monitor }
+        ensures reader { reader_of (pump_in result) ≡ reader }
+        ensures judged { judged_of (pump_front (pump_in result)) ≡ [] }
+        ensures held { held_of (pump_front (pump_in result)) ≡ None }
+        ensures monitor { monitor_of (pump_front (pump_in result)) ≡ monitor }
+    {
+        Pump::keeping(Vec::new(alloc), reader, monitor)
     }
 
-    fn judge_held(&mut self, event: Event) -> Result<(), AllocError> {
-        // Room first: once the event is judged, nothing can fail.
-        self.judged.reserve(1)?;
-        self.forgetting.judge(event)?;
-        self.judged.push_reserved(event);
-        Ok(())
+    /// Returns the judged front: the events that were judged, in the order of the log.
+    pub fn judged(&self) -> &[Event]
+        ensures { result.now ≡ judged_of (pump_front (pump_in self.now)) }
+    {
+        self.kept.as_slice()
     }
 }

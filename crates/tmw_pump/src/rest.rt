@@ -1,33 +1,46 @@
-//! Judging what a settled ring has left, and keeping all of it.
-ghost use Rattle.std.specs.Prelude.{◌≡◌, ◌++◌, [], ◌∷◌, Some, None, IfOk, OnOk, OnErr, IsSome, IsTrue, ◌↔◌};
+//! Judging what a settled ring has left.
+ghost use Rattle.std.specs.Prelude.{◌≡◌, ◌+◌, ◌++◌, [], ◌∷◌, ◌≤◌, ◌^◌, length, Some, None, IfOk, OnOk, OnErr, IfNone, IsSome, IsTrue, ◌↔◌};
+ghost use Rattle.tmw_pump.specs.Held.{listed};
+ghost use Rattle.tmw_pump.specs.Keeping.{StaysKept, WasKept};
 
-use crate::forgetting_rest::ForgettingRest;
+use crate::front::Front;
+use crate::keep::{Keep, judge_held};
 use crate::pumped::Pumped;
-use crate::turn_by_turn::{Turns, judge_some};
 use std::alloc::AllocError;
 use tmw_defs::Verdict;
 use tmw_events::Event;
+use tmw_ring::Settled;
 
-/// What a settled ring has left, to be judged after what a pump has judged of it. Judged events are kept.
+/// What a settled ring has left, to be judged after what a pump has judged of it. What `K` keeps is kept.
 #[derive(Drop)]
-pub struct Rest {
-    forgetting: ForgettingRest,
-    judged: Vec<Event>,
-    // What is kept is what was judged.
-    pub ghost kept: { judged.items ≡ forgetting.front.judged.items },
+pub struct Rest<K: Keep = Vec<Event>> {
+    settled: Settled,
+    front: Front,
+    kept: K,
+    pub ghost few: { length front.judged.items + length (listed front.held) + length settled
+        ≤ 2 ^ 40 },
+    pub ghost keeps: { ∥ WasKept K.keeps front kept ∥₁ },
 }
 
-impl Rest {
+impl<K: Keep> Rest<K> {
     ghost use Rattle.tmw_pump.specs.Headline.{GivesHeadline};
-    ghost use Rattle.tmw_pump.specs.Fronts.{KeepsFit, TellsVerdict, WasRefusedMemory, held_of, judged_of, verdict_on};
-    ghost use Rattle.tmw_pump.specs.Resting.{HasRested, IsRested, all_of, rest_front, rest_in};
+    ghost use Rattle.tmw_pump.specs.Fronts.{HasCome, TellsVerdict, WasRefusedMemory, held_of, judged_of, verdict_on};
+    ghost use Rattle.tmw_pump.specs.Resting.{HasRested, IsRested, all_of, left_of, rest_front, rest_in, rest_kept};
 
-    /// Makes the rest of a pump's settled ring, of what is left and what was judged.
-    pub(crate) fn new(forgetting: ForgettingRest, judged: Vec<Event>) -> Rest
-        requires { judged.items ≡ forgetting.front.judged.items }
-        ensures { result.forgetting ≡ forgetting }
+    /// Makes the rest of a pump's settled ring.
+    pub(crate) fn new(settled: Settled, front: Front, kept: K) -> Rest<K>
+        requires few { length front.judged.items + length (listed front.held) + length settled
+            ≤ 2 ^ 40 }
+        requires keeps { ∥ WasKept K.keeps front kept ∥₁ }
+        ensures settled { result.settled ≡ settled }
+        ensures front { result.front ≡ front }
+        ensures kept { result.kept ≡ kept }
     {
-        Rest { forgetting, judged }
+        Rest {
+            settled,
+            front,
+            kept,
+        }
     }
 
     /// Judges up to `max` events: fewer only if all are judged. After a failed allocation the event to be judged is
@@ -42,30 +55,77 @@ impl Rest {
         ensures headline { GivesHeadline (rest_front (rest_in self.old)) (all_of (rest_in self.new))
             (judged_of (rest_front (rest_in self.new)))
             (verdict_on (rest_front (rest_in self.new))) }
+        ensures kept { StaysKept K.keeps (rest_front (rest_in self.old))
+            (rest_front (rest_in self.new)) (rest_kept self.old) (rest_kept self.new) }
     {
-        let judged = judge_some(self, &(), max)?;
-        Ok(self.forgetting.pumped(judged))
+        for judged in 0..max {
+            let Some(event) = self.next() else {
+                return Ok(self.front.pumped(judged));
+            };
+            judge_held(&mut self.front, &mut self.kept, event)?;
+        }
+        Ok(self.front.pumped(max))
     }
 
-    /// Returns the judged front: the events that were judged, in the order of the log.
-    pub fn judged(&self) -> &[Event]
-        ensures { result.now ≡ judged_of (rest_front (rest_in self.now)) }
+    /// Returns the event to be judged next: the held one, or else the next that is left, which is held from then on.
+    /// `None` if all are judged.
+    fn next(&mut self) -> Option<Event>
+        ensures front { HasCome result self.old.front self.new.front }
+        ensures kept { StaysKept K.keeps self.old.front self.new.front self.old.kept self.new.kept }
+        ensures all { all_of (rest_in self.new) ≡ all_of (rest_in self.old) }
+        ensures none { IfNone result (self.new.settled ≡ []) }
     {
-        &self.judged
+        if let Some(event) = self.front.held() {
+            return Some(event);
+        }
+        let Some(event) = self.settled.take() else {
+            return None;
+        };
+        self.front.hold(event);
+        Some(event)
+    }
+
+    /// Returns the judged front.
+    pub fn front(&self) -> &Front
+        ensures { result.now ≡ rest_front (rest_in self.now) }
+    {
+        &self.front
     }
 
     /// Tells whether an event has come that is not judged yet, after a failed allocation.
     pub fn held(&self) -> bool
         ensures { IsTrue result ↔ IsSome (held_of (rest_front (rest_in self.now))) }
     {
-        self.forgetting.held()
+        self.front.held().is_some()
     }
 
     /// Returns the verdict on the judged front.
     pub fn verdict(&self) -> Verdict
         ensures { TellsVerdict (rest_front (rest_in self.now)) result }
     {
-        self.forgetting.verdict()
+        self.front.verdict()
+    }
+
+    /// Returns the judged front and what is kept of it. Events not judged are given up.
+    pub fn into_kept(self) -> (Front, K)
+        ensures front { result.0 ≡ rest_front (rest_in self) }
+        ensures kept { result.1 ≡ rest_kept self }
+    {
+        let Rest { front, kept, .. } = self;
+        (front, kept)
+    }
+}
+
+impl Rest {
+    ghost use Rattle.tmw_pump.specs.Headline.{GivesHeadline};
+    ghost use Rattle.tmw_pump.specs.Fronts.{judged_of, verdict_on};
+    ghost use Rattle.tmw_pump.specs.Resting.{all_of, rest_front, rest_in};
+
+    /// Returns the judged front: the events that were judged, in the order of the log.
+    pub fn judged(&self) -> &[Event]
+        ensures { result.now ≡ judged_of (rest_front (rest_in self.now)) }
+    {
+        self.kept.as_slice()
     }
 
     /// Returns the judged front and the verdict on it. Events not judged are given up.
@@ -75,31 +135,7 @@ impl Rest {
         ensures headline { GivesHeadline (rest_front (rest_in self)) (all_of (rest_in self))
             result.0.items result.1 }
     {
-        let Rest { forgetting, judged } = self;
-        (judged, forgetting.finish().1)
-    }
-}
-
-impl Turns<()> for Rest {
-    ghost use Rattle.tmw_pump.specs.Resting.{HasRested, HasRestedAll};
-
-    ghost takes_from = { λ _ _. Unit {0} };
-
-    ghost holds = { λ rest. rest.forgetting.front.held };
-
-    ghost has_judged = { λ count old new. HasRested count old.forgetting new.forgetting };
-
-    ghost has_ended = { λ count old new. HasRestedAll count old.forgetting new.forgetting };
-
-    fn give(&mut self, _source: &()) -> Option<Event> {
-        self.forgetting.next()
-    }
-
-    fn judge_held(&mut self, event: Event) -> Result<(), AllocError> {
-        // Room first: once the event is judged, nothing can fail.
-        self.judged.reserve(1)?;
-        self.forgetting.judge(event)?;
-        self.judged.push_reserved(event);
-        Ok(())
+        let verdict = self.verdict();
+        (self.into_kept().1, verdict)
     }
 }

@@ -1,2 +1,1 @@
-mod ReportLines
 mod SummaryLines

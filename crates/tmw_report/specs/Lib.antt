@@ -2,5 +2,4 @@ pub mod CommandRun
 pub mod Lines
 pub mod Putting
 pub mod Remark
-pub mod ReportObject
 pub mod SummaryLine

@@ -2,6 +2,8 @@
 -- in byte order.
 use Rattle.std.specs.Prelude.{ℕ, Bool, true, false, List, [], ◌++◌, ◌||◌, codes, if◌then◌else◌}
 use Rattle.std.specs.Fmt.{decimal}
+use Rattle.tmw_defs.specs.declared.criterion.Criterion.{Criterion}
+use Rattle.tmw_defs.specs.declared.criterion.Criterion.TheVariants.{Opacity, Strict}
 use Rattle.tmw_defs.specs.declared.verdict.Verdict.{Verdict}
 use Rattle.tmw_defs.specs.declared.verdict.Verdict.TheVariants.{OpaqueSoFar, StrictSoFar, Violated, Undecided, Malformed}
 use Rattle.tmw_defs.specs.declared.verdict.Why.{Why}
@@ -14,32 +16,38 @@ abbrev pub reason_text : Why → List ℕ
 reason_text Transactions = codes "transactions"
 reason_text States = codes "states"
 
--- the line of a verdict on a history of so many events, where the criterion is opacity: strict so far is no such verdict, and has none
-abbrev pub report_text : ℕ → Verdict → List ℕ
-report_text events OpaqueSoFar = codes "{\"events\":" ++ (decimal events ++ codes ",\"verdict\":\"opaque so far\"}\n")
-report_text events StrictSoFar = []
-report_text events (Violated at) =
-    codes "{\"at\":" ++ (decimal at ++ (codes ",\"events\":" ++ (decimal events ++ codes ",\"verdict\":\"violated\"}\n")))
-report_text events (Undecided at why) =
-    codes "{\"at\":"
-    ++ (decimal at ++ (codes ",\"events\":" ++ (decimal events ++ (codes ",\"verdict\":\"undecided\",\"why\":\"" ++ (reason_text why ++ codes "\"}\n")))))
-report_text events (Malformed at) =
-    codes "{\"at\":" ++ (decimal at ++ (codes ",\"events\":" ++ (decimal events ++ codes ",\"verdict\":\"malformed\"}\n")))
+-- the member that names the criterion where it is not opacity, with its comma
+abbrev pub criterion_text : Criterion → List ℕ
+criterion_text Opacity = []
+criterion_text Strict = codes "\"criterion\":\"strict\","
 
--- the line where the criterion is strict serializability: it names the criterion, and opaque so far has none
-abbrev pub strict_text : ℕ → Verdict → List ℕ
-strict_text events OpaqueSoFar = []
-strict_text events StrictSoFar =
-    codes "{\"criterion\":\"strict\",\"events\":" ++ (decimal events ++ codes ",\"verdict\":\"strict so far\"}\n")
-strict_text events (Violated at) =
-    codes "{\"at\":" ++ (decimal at ++ (codes ",\"criterion\":\"strict\",\"events\":" ++ (decimal events ++ codes ",\"verdict\":\"violated\"}\n")))
-strict_text events (Undecided at why) =
+-- the line of a verdict by this criterion on a history of so many events
+abbrev pub report_by : Criterion → ℕ → Verdict → List ℕ
+report_by criterion events OpaqueSoFar =
+    codes "{" ++ (criterion_text criterion ++ (codes "\"events\":" ++ (decimal events ++ codes ",\"verdict\":\"opaque so far\"}\n")))
+report_by criterion events StrictSoFar =
+    codes "{" ++ (criterion_text criterion ++ (codes "\"events\":" ++ (decimal events ++ codes ",\"verdict\":\"strict so far\"}\n")))
+report_by criterion events (Violated at) =
+    codes "{\"at\":"
+    ++ (decimal at ++ (codes "," ++ (criterion_text criterion ++ (codes "\"events\":" ++ (decimal events ++ codes ",\"verdict\":\"violated\"}\n")))))
+report_by criterion events (Undecided at why) =
     codes "{\"at\":"
     ++ (decimal at
-    ++ (codes ",\"criterion\":\"strict\",\"events\":"
-    ++ (decimal events ++ (codes ",\"verdict\":\"undecided\",\"why\":\"" ++ (reason_text why ++ codes "\"}\n")))))
-strict_text events (Malformed at) =
-    codes "{\"at\":" ++ (decimal at ++ (codes ",\"criterion\":\"strict\",\"events\":" ++ (decimal events ++ codes ",\"verdict\":\"malformed\"}\n")))
+    ++ (codes ","
+    ++ (criterion_text criterion
+    ++ (codes "\"events\":"
+    ++ (decimal events ++ (codes ",\"verdict\":\"undecided\",\"why\":\"" ++ (reason_text why ++ codes "\"}\n")))))))
+report_by criterion events (Malformed at) =
+    codes "{\"at\":"
+    ++ (decimal at ++ (codes "," ++ (criterion_text criterion ++ (codes "\"events\":" ++ (decimal events ++ codes ",\"verdict\":\"malformed\"}\n")))))
+
+-- the line where the criterion is opacity
+abbrev pub report_text : ℕ → Verdict → List ℕ
+report_text = report_by Opacity
+
+-- the line where the criterion is strict serializability
+abbrev pub strict_text : ℕ → Verdict → List ℕ
+strict_text = report_by Strict
 
 -- the exit status that goes with a verdict
 abbrev pub verdict_status : Verdict → ℕ

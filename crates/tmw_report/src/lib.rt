@@ -7,14 +7,12 @@ mod fault_line;
 mod remark;
 mod report_line;
 mod status;
-mod strict_line;
 mod summary_line;
 
 pub use answer::{answer_fault, fault_of};
 pub use fault::Fault;
 pub use fault_line::write_fault;
 pub use remark::send_remark;
-pub use report_line::report_text;
+pub use report_line::{report_by, report_strict, report_text};
 pub use status::{FAULT_STATUS, both_status, status_of};
-pub use strict_line::report_strict;
 pub use summary_line::summary_text;

@@ -97,5 +97,9 @@ writer_is table part = record {
   run = part.run;
 }
 
+-- what callers see of the writer who has this seat
+abbrev pub writer_at : {S : Type 0} → TableId → Me S Parts → WriterIs
+writer_at table seat = writer_is table (writer_in seat.0)
+
 abbrev pub reader_is : TableId → ReaderPart → ReaderIs
 reader_is table part = record { table = table; size = part.size; taken = part.taken; run = part.run }

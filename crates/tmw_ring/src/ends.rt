@@ -38,9 +38,9 @@ impl Model for Writer {
 
     ghost Value = { WriterIs };
 
-    ghost use Rattle.tmw_ring.specs.Seats.{IsIdleWriter, writer_in, writer_is};
+    ghost use Rattle.tmw_ring.specs.Seats.{IsIdleWriter, writer_at, writer_in};
 
-    ghost view = { λ writer. writer_is writer.seat.table_id (writer_in writer.seat.me.0) };
+    ghost view = { λ writer. writer_at writer.seat.table_id writer.seat.me };
 
     ghost invariant = { λ writer. IsIdleWriter writer.number writer.seat.me };
 }

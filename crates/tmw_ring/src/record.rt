@@ -6,7 +6,7 @@ ghost use Rattle.tmw_events.specs.Packing.{packed_header, kind_value, IsHeader};
 ghost use Rattle.tmw_events.specs.Text.{FitsKind};
 ghost use Rattle.tmw_ring.specs.Ends.{WriterOf};
 ghost use Rattle.tmw_ring.specs.Recording.{HasRecorded, IsRefusal};
-ghost use Rattle.tmw_ring.specs.Seats.{writer_in, writer_is};
+ghost use Rattle.tmw_ring.specs.Seats.{writer_at, writer_in};
 ghost use Rattle.tmw_ring.specs.Words.{stamp_word, value_word};
 ghost use Rattle.tmw_ring.specs.WriterSteps.{IsSeatOf, HasSeenFront, HasSeenTail, HasClaimed, HasFilled, HasPublished};
 
@@ -154,11 +154,10 @@ fn record_as<C: Choice>(
     ensures writer { IsSeatOf ring.now.size Idle seat.new.me }
     ensures number { (writer_in seat.new.me.0).number ≡ (writer_in seat.old.me.0).number }
     ensures ok { IfOk result (λ place. HasRecorded kind place
-        (writer_is seat.old.table_id (writer_in seat.old.me.0))
-        (writer_is seat.new.table_id (writer_in seat.new.me.0))) }
+        (writer_at seat.old.table_id seat.old.me) (writer_at seat.new.table_id seat.new.me)) }
     ensures err { IfErr result (λ refused. IsRefusal kind
-        (writer_is seat.old.table_id (writer_in seat.old.me.0)) refused
-        (writer_is seat.new.table_id (writer_in seat.new.me.0))) }
+        (writer_at seat.old.table_id seat.old.me) refused
+        (writer_at seat.new.table_id seat.new.me)) }
 {
     let (header, value) = pack(Event {
         thread: number,

@@ -1,6 +1,10 @@
 pub mod Calls
+pub mod Completing
+pub mod LeavingCalls
 pub mod LeavingSteps
+pub mod LongerRuns
 pub mod NeverMalformed
+mod Placed
 pub mod StandingSteps
 pub mod TurnsOfRuns
 pub mod WellFormed

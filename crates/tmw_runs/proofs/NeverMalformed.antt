@@ -8,15 +8,16 @@ use Rattle.tmw_defs.specs.History.{is_well_formed}
 use Rattle.tmw_defs.specs.Texts.{kinds_of}
 use Rattle.tmw_defs.specs.Verdict.{Rules, IsVerdict}
 use Rattle.tmw_runs.specs.Law.{FormedLaw}
+use Rattle.tmw_runs.specs.Runs.{BeginsScript}
 use Rattle.tmw_runs.proofs.Calls.{are_calls-transactions}
 use Rattle.tmw_runs.proofs.TurnsOfRuns.{beginning_turns}
 use Rattle.tmw_runs.proofs.WellFormed.{is_well_formed-turns_take}
 
-pub formed_law : FormedLaw
-formed_law registers scripts history asks begin =
+pub formed_law : FormedLaw BeginsScript
+formed_law registers history begins =
     is_well_formed-turns_take registers history (λ thread.
-    beginning_turns registers (scripts thread) (kinds_of thread history)
-    (are_calls-transactions registers (scripts thread) (asks thread)) (begin thread))
+    let (script, asks, begin) = begins thread in
+    beginning_turns registers script (kinds_of thread history) (are_calls-transactions registers script asks) begin)
 
 -- where each prefix is well-formed, the verdict does not say that one is malformed
 pub never_malformed : (rules : Rules) (history : List Event) (verdict : Verdict)

@@ -3,4 +3,5 @@ pub mod Leaving
 pub mod Runs
 pub mod Scripts
 pub mod Standing
+pub mod Turning
 pub mod Turns

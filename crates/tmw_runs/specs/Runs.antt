@@ -1,8 +1,9 @@
 -- The runs of a script: what a thread records that makes its calls, one after another, and is answered.
-use Rattle.std.specs.Prelude.{◌≡◌, Bool, true, false, IsTrue, MatchBool, List, [], ◌∷◌, ◌++◌}
+use Rattle.std.specs.Prelude.{◌≡◌, ℕ, Bool, true, false, IsTrue, MatchBool, List, [], ◌∷◌, ◌++◌}
 use Rattle.tmw_defs.specs.History.{answers}
 use Rattle.tmw_events.specs.declared.event.Kind.{Kind}
 use Rattle.tmw_events.specs.declared.event.Kind.TheVariants.{A}
+use Rattle.tmw_runs.specs.Scripts.{are_transactions}
 
 -- An abort event.
 abbrev pub is_abort : Kind → Bool
@@ -26,3 +27,7 @@ IsWholeRun (calls ∷ script) kinds =
 -- A beginning of a run. It may end after a call.
 abbrev pub IsBeginning : List (List Kind) → List Kind → Type 0
 IsBeginning script kinds = (more : List Kind) × IsWholeRun script (kinds ++ more)
+
+-- These events begin a run of a script of transactions, on registers that the run has.
+abbrev pub BeginsScript : (registers : ℕ) → (kinds : List Kind) → Type 0
+BeginsScript registers kinds = (script : List (List Kind)) × IsTrue (are_transactions registers script) × IsBeginning script kinds

@@ -1,37 +1,20 @@
--- What is shown of a trace has a verdict of its own criterion, and its events are numbered up to the trace's length.
-use Rattle.std.proofs.Common.{◌≡◌, ◌+◌, ◌-◌, ◌≤◌, ◌^◌, ℕ, List, [], length, ap, sym, refl, subst, ◌∙◌, append-nil, arith}
+-- The events that are shown of a trace are numbered up to the trace's length.
+use Rattle.std.proofs.Common.{◌+◌, ◌-◌, ◌≤◌, ◌^◌, ℕ, List, [], length, ap, sym, ◌∙◌, append-nil, arith}
 use Rattle.std.specs.Prelude.{take}
 use Rattle.std.proofs.lemmas.List.{length-take, length-drop}
 use Rattle.tmw_lines.specs.TextFault.{EndsSoon}
 use Rattle.tmw_trace.specs.Text.{trace_grammar}
 use Rattle.tmw_events.specs.declared.event.Event.{Event}
 use Rattle.tmw_defs.specs.declared.criterion.Criterion.{Criterion}
-use Rattle.tmw_defs.specs.declared.criterion.Criterion.TheVariants.{Opacity, Strict}
 use Rattle.tmw_defs.specs.declared.verdict.Verdict.{Verdict}
 use Rattle.tmw_defs.specs.Opaque.{State}
-use Rattle.tmw_defs.specs.Verdict.{Rules, IsVerdict}
+use Rattle.tmw_defs.specs.Verdict.{Rules}
 use Rattle.tmw_monitor.specs.declared.bounds.Bounds.{Bounds}
-use Rattle.tmw_show.specs.Shown.{shown_length, IsShown}
-use Rattle.tmw_show.specs.Showing.{IsShowing}
-use Rattle.tmw_show.specs.declared.showing.Showing.{Showing}
+use Rattle.tmw_window.specs.Shown.{shown_length, IsShown}
+use Rattle.tmw_window.specs.Showing.{IsShowing}
+use Rattle.tmw_window.specs.declared.showing.Showing.{Showing}
 use Rattle.tmw_show.specs.declared.command.shown.Shown.{Shown}
-use Rattle.tmw_show.specs.Running.{IsShownOf, IsVerdictBy}
-
-verdict-by : (c : Criterion) (rules : Rules) (history : List Event) (v : Verdict) → rules.criterion ≡ c → IsVerdict rules history v
-    → IsVerdictBy c v
-verdict-by Opacity rules history v by is = λ other.
-    let told = subst (IsVerdict rules history) other is in
-    let bad : Opacity ≡ Strict = sym by ∙ told.0 in
-    absurd (cc)
-verdict-by Strict rules history v by is = λ other.
-    let told = subst (IsVerdict rules history) other is in
-    let bad : Strict ≡ Opacity = sym by ∙ told.0 in
-    absurd (cc)
-
-pub shown-by : (c : Criterion) (bounds : Bounds) (bytes : List ℕ) (shown : Shown) → IsShownOf c bounds bytes shown
-    → IsVerdictBy c shown.showing.verdict
-shown-by Opacity bounds bytes shown of = verdict-by Opacity _ of.history shown.showing.verdict refl of.tells.judged
-shown-by Strict bounds bytes shown of = verdict-by Strict _ of.history shown.showing.verdict refl of.tells.judged
+use Rattle.tmw_show.specs.Running.{IsShownOf}
 
 -- the window ends within the history
 numbered : (rules : Rules) (history : List Event) (v : Verdict) (from : ℕ) (states : List State) (events : List Event)

@@ -8,7 +8,7 @@ use Rattle.tmw_trace.specs.Text.{trace_text}
 use Rattle.tmw_trace.specs.declared.header.Header.{Header}
 use Rattle.tmw_trace.specs.declared.version.Version.TheVariants.{Two}
 use Rattle.tmw_defs.specs.Opaque.{State}
-use Rattle.tmw_show.specs.StatesLaw.{FitsRegisters}
+use Rattle.tmw_window.specs.StatesLaw.{FitsRegisters}
 use Rattle.tmw_show.specs.TracesLaw.{IsHeaderFor}
 use Rattle.tmw_show.specs.TracesText.{start_trace}
 

@@ -20,10 +20,10 @@ use Rattle.tmw_defs.specs.Verdict.{IsViolated, IsVerdict}
 use Rattle.tmw_cuts.specs.Members.{members}
 use Rattle.tmw_monitor.specs.declared.bounds.Bounds.{Bounds}
 use Rattle.tmw_monitor.specs.Fitting.{rules_for}
-use Rattle.tmw_show.specs.Showing.{IsShowing}
-use Rattle.tmw_show.specs.Shown.{shown_length}
-use Rattle.tmw_show.specs.StatesLaw.{FitsRegisters, StatesLaw}
-use Rattle.tmw_show.specs.WindowLaw.{IsJudgedAlike, WindowLaw, at_end}
+use Rattle.tmw_window.specs.Showing.{IsShowing}
+use Rattle.tmw_window.specs.Shown.{shown_length}
+use Rattle.tmw_window.specs.StatesLaw.{FitsRegisters, StatesLaw}
+use Rattle.tmw_window.specs.WindowLaw.{IsJudgedAlike, WindowLaw, at_end}
 use Rattle.tmw_show.specs.TracesLaw.{IsHeaderFor, AreJudgedLike, TracesLaw, rules_from}
 use Rattle.tmw_show.proofs.Shows.{shown-numbered}
 use Rattle.tmw_show.proofs.StateHeaders.{header_of, headers_of, initials-headers_of, each-headers_of, headers_of-each, heads-header_of, text-headers_of}

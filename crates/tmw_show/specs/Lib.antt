@@ -1,13 +1,5 @@
 pub mod Drawing
-pub mod Feeding
-pub mod Keeping
 pub mod Page
-pub mod Reasons
 pub mod Running
-pub mod Showing
-pub mod Shown
-pub mod StatesLaw
 pub mod TracesLaw
 pub mod TracesText
-pub mod Watching
-pub mod WindowLaw

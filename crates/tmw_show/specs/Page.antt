@@ -1,6 +1,6 @@
 -- The page that draws a window: a constant head, what is shown as one JSON object, and a constant tail. Of a trace the object has digits,
 -- the letters of events and blanks alone, within strings, and numbers.
-use Rattle.std.specs.Prelude.{ℕ, ◌+◌, List, [], ◌∷◌, ◌++◌, take, codes, Option, Some, None}
+use Rattle.std.specs.Prelude.{ℕ, ◌+◌, List, [], ◌∷◌, ◌++◌, take, drop, codes, Option, Some, None}
 use Rattle.std.specs.List.{flat_map}
 use Rattle.std.specs.Fmt.{decimal}
 use Rattle.tmw_events.specs.Text.{event_text}
@@ -16,40 +16,32 @@ use Rattle.tmw_defs.specs.declared.verdict.Verdict.TheVariants.{OpaqueSoFar, Str
 use Rattle.tmw_show.specs.Drawing.{told_text}
 use Rattle.tmw_monitor.specs.declared.bounds.Bounds.{Bounds}
 use Rattle.tmw_report.specs.CommandRun.{IsCommandRun}
+use Rattle.tmw_report.specs.Lines.{report_by}
 use Rattle.tmw_streams.specs.Streams.{FromSource, ToSink}
-use Rattle.tmw_show.specs.Running.{AnswersShow, line_by, shown_status, told_of}
+use Rattle.tmw_show.specs.Running.{AnswersShow, shown_status, shown_text, told_of}
+use Rattle.tmw_show.specs.declared.command.form.Form.{Form}
+use Rattle.tmw_show.specs.declared.command.form.Form.TheVariants.{Text, Page}
 use Rattle.tmw_show.specs.declared.command.page.parts.TheConstants.{HEAD, TAIL}
 use Rattle.tmw_show.specs.declared.command.shown.Shown.{Shown}
 use Rattle.tmw_show.specs.declared.command.told.Told.{Told}
 
--- a state as a string: what the run's registers hold, each value after one space
-abbrev pub state_json : List ℕ → Registers → State → List ℕ
-state_json opened registers state = opened ++ (values_text (take registers.number state) ++ 34 ∷ [])
+-- a state as a string behind a comma: what the run's registers hold, each value after one space
+abbrev pub state_json : Registers → State → List ℕ
+state_json registers state = codes ",\"" ++ (values_text (take registers.number state) ++ 34 ∷ [])
 
--- the states, with a comma between each and the next
-abbrev pub more_states : Registers → List State → List ℕ
-more_states registers states = flat_map (state_json (codes ",\"") registers) states
+-- an event as a string behind a comma: its line in a trace
+abbrev pub event_json : Event → List ℕ
+event_json event = codes ",\"" ++ (event_text event ++ 34 ∷ [])
 
-abbrev pub states_json : Registers → List State → List ℕ
-states_json registers [] = []
-states_json registers (state ∷ states) = state_json (codes "\"") registers state ++ more_states registers states
-
--- an event as a string: its line in a trace
-abbrev pub event_json : List ℕ → Event → List ℕ
-event_json opened event = opened ++ (event_text event ++ 34 ∷ [])
-
--- the events, with a comma between each and the next
-abbrev pub more_events : List Event → List ℕ
-more_events events = flat_map (event_json (codes ",\"")) events
-
-abbrev pub events_json : List Event → List ℕ
-events_json [] = []
-events_json (event ∷ events) = event_json (codes "\"") event ++ more_events events
+-- such items as a list, without the first comma
+abbrev pub list_json : {I : Type 0} → (I → List ℕ) → List I → List ℕ
+list_json item_json items = drop 1 (flat_map item_json items)
 
 -- both lists
 abbrev pub window_json : Registers → List State → List Event → List ℕ
 window_json registers states events =
-    codes ",\"states\":[" ++ (states_json registers states ++ (codes "],\"events\":[" ++ (events_json events ++ codes "]")))
+    codes ",\"states\":["
+    ++ (list_json (state_json registers) states ++ (codes "],\"events\":[" ++ (list_json event_json events ++ codes "]")))
 
 -- the criterion, how many registers there are, and how many events stand before the window
 abbrev pub criterion_json : Criterion → List ℕ
@@ -64,7 +56,7 @@ numbers_json criterion registers from =
 abbrev pub about_json : Criterion → Shown → List ℕ
 about_json criterion shown =
     codes "{\"report\":"
-    ++ (line_by criterion shown.showing.fed shown.showing.verdict ++ numbers_json criterion shown.registers shown.showing.from)
+    ++ (report_by criterion shown.showing.fed shown.showing.verdict ++ numbers_json criterion shown.registers shown.showing.from)
 
 -- the number of the event that the verdict names, if it names one
 abbrev pub settled_at : Verdict → Option ℕ
@@ -92,6 +84,11 @@ json_text criterion shown =
 -- the page
 abbrev pub page_text : Criterion → Shown → List ℕ
 page_text criterion shown = HEAD.now ++ (json_text criterion shown ++ TAIL.now)
+
+-- what is written in this form
+abbrev pub text_in : Form → Criterion → Shown → List ℕ
+text_in (Text trace) criterion shown = shown_text criterion trace shown
+text_in Page criterion shown = page_text criterion shown
 
 -- What a run of `show --page` does: it answers the bytes that its source tells in it as one of `show` does, with the page in place of
 -- the text.

@@ -1,21 +1,18 @@
 -- What `show` promises: from the bytes that its source tells to what its sink takes and the exit status.
-use Rattle.std.specs.Prelude.{◌≡◌, ◌≢◌, ℕ, Bool, List, ◌++◌, Result, Ok, Err, cond}
+use Rattle.std.specs.Prelude.{◌≡◌, ℕ, Bool, List, ◌++◌, Result, Ok, Err, cond}
 use Rattle.tmw_lines.specs.TextFault.{HasTextFault}
 use Rattle.tmw_trace.specs.Text.{trace_grammar, trace_text, AreEvents}
 use Rattle.tmw_trace.specs.declared.header.Header.{Header}
 use Rattle.tmw_events.specs.declared.event.Event.{Event}
 use Rattle.tmw_defs.specs.declared.criterion.Criterion.{Criterion}
-use Rattle.tmw_defs.specs.declared.criterion.Criterion.TheVariants.{Opacity, Strict}
-use Rattle.tmw_defs.specs.declared.verdict.Verdict.{Verdict}
-use Rattle.tmw_defs.specs.declared.verdict.Verdict.TheVariants.{OpaqueSoFar, StrictSoFar}
 use Rattle.tmw_cuts.specs.Members.{members}
 use Rattle.tmw_monitor.specs.declared.bounds.Bounds.{Bounds}
 use Rattle.tmw_monitor.specs.Fitting.{rules_for}
 use Rattle.tmw_report.specs.declared.fault.Fault.{Fault}
-use Rattle.tmw_report.specs.Lines.{report_text, strict_text, verdict_status}
+use Rattle.tmw_report.specs.Lines.{report_by, verdict_status}
 use Rattle.tmw_report.specs.CommandRun.{AnswersTextFault, IsCommandRun}
 use Rattle.tmw_streams.specs.Streams.{FromSource, ToSink}
-use Rattle.tmw_show.specs.Showing.{IsShowing}
+use Rattle.tmw_window.specs.Showing.{IsShowing}
 use Rattle.tmw_show.specs.declared.command.shown.Shown.{Shown}
 use Rattle.tmw_show.specs.declared.command.told.Told.{Told}
 use Rattle.tmw_show.specs.Drawing.{states_text, window_text}
@@ -37,11 +34,6 @@ abbrev pub AnswersShow : Criterion → Bounds → Type 0 → List ℕ → Result
 AnswersShow criterion bounds Ended bytes (Ok shown) = Ended × IsShownOf criterion bounds bytes shown
 AnswersShow criterion bounds Ended bytes (Err fault) = AnswersTextFault (HasTextFault trace_grammar Ended bytes) fault
 
--- The line that `judge` writes of the same trace, by the same criterion.
-abbrev pub line_by : Criterion → ℕ → Verdict → List ℕ
-line_by Opacity = report_text
-line_by Strict = strict_text
-
 -- What is told of the event at which something is wrong.
 abbrev pub told_of : Criterion → Shown → Told
 told_of criterion shown = record { criterion = criterion; verdict = shown.showing.verdict; fault = shown.showing.fault }
@@ -50,7 +42,7 @@ told_of criterion shown = record { criterion = criterion; verdict = shown.showin
 -- where these are asked for.
 abbrev pub drawn_text : Criterion → Shown → List ℕ
 drawn_text criterion shown =
-    line_by criterion shown.showing.fed shown.showing.verdict
+    report_by criterion shown.showing.fed shown.showing.verdict
     ++ (states_text shown.registers (members shown.showing.states)
     ++ window_text (told_of criterion shown) shown.showing.from shown.showing.events.items)
 
@@ -65,8 +57,3 @@ shown_status shown = verdict_status shown.showing.verdict
 abbrev pub ShowsBytes : {S K : Type 0} → FromSource S → ToSink K → Criterion → Bool → Bounds → S → S → K → K → ℕ → Type 0
 ShowsBytes From To criterion trace bounds =
     IsCommandRun From To (AnswersShow criterion bounds) (shown_text criterion trace) shown_status
-
--- The verdict is not what is said by the other criterion where nothing is wrong.
-abbrev pub IsVerdictBy : Criterion → Verdict → Type 0
-IsVerdictBy Opacity verdict = verdict ≢ StrictSoFar
-IsVerdictBy Strict verdict = verdict ≢ OpaqueSoFar

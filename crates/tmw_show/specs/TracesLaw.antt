@@ -14,7 +14,7 @@ use Rattle.tmw_defs.specs.Verdict.{Rules, IsViolated, IsVerdict}
 use Rattle.tmw_cuts.specs.Members.{members}
 use Rattle.tmw_monitor.specs.declared.bounds.Bounds.{Bounds}
 use Rattle.tmw_monitor.specs.Fitting.{rules_for}
-use Rattle.tmw_show.specs.WindowLaw.{at_end}
+use Rattle.tmw_window.specs.WindowLaw.{at_end}
 use Rattle.tmw_show.specs.declared.command.shown.Shown.{Shown}
 use Rattle.tmw_show.specs.Running.{IsShownOf, shown_text}
 

@@ -2,11 +2,12 @@
 //! columns, as traces of its own, or drawn by a page of HTML.
 
 mod answer;
-mod kind_text;
+mod event_text;
+mod form;
 mod law;
 mod numbers;
 mod page;
-mod paging;
+mod part;
 mod reading;
 mod run;
 mod shown;
@@ -17,7 +18,6 @@ mod traces;
 mod window;
 
 pub use law::law_traces;
-pub use paging::run_page;
-pub use run::run_show;
+pub use run::{run_page, run_show};
 pub use shown::Shown;
 pub use text::shown_text;

@@ -1,17 +1,16 @@
 -- From what a settled ring has left to the verdict on all of its log.
-use Rattle.std.proofs.Common.{◌≡◌, ◌<◌, ◌^◌, ◌++◌, ℕ, List, [], Option, length, get_or, sym, ap, ◌∙◌, subst, arith}
-use Rattle.std.proofs.lemmas.List.{append-nil, length-append}
+use Rattle.std.proofs.Common.{◌≡◌, ◌<◌, ◌^◌, ◌++◌, ℕ, List, [], length, get_or, sym, ap, ◌∙◌, subst}
 use Rattle.std.proofs.lemmas.List.Elements.{All-map}
 use Rattle.std.proofs.lemmas.List.Sorted.{length_permutation, All-permutation, IsPermutation-map, IsPermutation-refl, IsPermutation-sym, IsPermutation-trans}
 use Rattle.std.specs.Prelude.{Result, Ok, Err, IfOk}
 use Rattle.std.specs.List.{All}
 use Rattle.std.specs.List.Sorted.{IsPermutation}
 use Rattle.tmw_events.specs.declared.event.Event.{Event}
+use Rattle.tmw_pump.proofs.HeadlineProof.{gives_rest}
+use Rattle.tmw_pump.proofs.Turns.{IsFew, all_judged}
 use Rattle.tmw_pump.specs.Fronts.{came}
-use Rattle.tmw_pump.specs.Headline.{GivesHeadline, Headline, IsLogOf}
-use Rattle.tmw_pump.specs.Held.{listed}
-use Rattle.tmw_pump.specs.Resting.{all_of, IsRested}
-use Rattle.tmw_pump.specs.declared.forgetting_rest.ForgettingRest.{ForgettingRest}
+use Rattle.tmw_pump.specs.Headline.{Headline, IsLogOf}
+use Rattle.tmw_pump.specs.Resting.{RestIs, all_of, IsRested}
 use Rattle.tmw_pump.specs.declared.front.Front.{Front}
 use Rattle.tmw_pump.specs.declared.pumped.Pumped.{Pumped}
 use Rattle.tmw_ring.specs.Ends.{RingIs, WriterIs, WriterOf}
@@ -19,39 +18,24 @@ use Rattle.tmw_ring.specs.Parts.{made_from}
 use Rattle.tmw_ring.specs.Settling.{IsSettled}
 use Rattle.tmw_monitor.specs.Fitting.{Fits}
 use Rattle.tmw_watch.specs.Closing.{AreAll, HasEnded, IsClosed, IsJudged, IsLeft, IsUnjudged, writers_of}
+use Rattle.tmw_watch.specs.Shown.{rest_of, watch_pump}
 use Rattle.tmw_watch.specs.Opening.{AreOf}
 use Rattle.tmw_watch.specs.declared.closing.Closing.{Closing}
 use Rattle.tmw_watch.specs.declared.recorder.Recorder.{Recorder}
 use Rattle.tmw_watch.specs.declared.report.Report.{Report}
 use Rattle.tmw_watch.specs.declared.watch.Watch.{Watch}
 
--- A call that was to judge more than a log can have has judged all.
-all_judged : (max : ℕ) (pumped : Pumped) (old new : ForgettingRest) → 2 ^ 40 < max → IsRested max pumped old new
-    → new.front.judged.items ≡ all_of old
-all_judged max pumped old new wide rested =
-    let done = rested.counted.judged in
-    let judged = new.front.judged.items in
-    let few = new.few in
-    let counted = done.counted in
-    let long = ap (λ (l : List Event). length l) done.judged ∙ length-append old.front.judged.items done.more in
-    let none = rested.none_left (omega (arith, few, counted, long, wide)) in
-    let free = rested.held (omega (arith, wide)) in
-    let here : all_of new ≡ judged =
-    ap (λ (l : List Event). came new.front ++ l) none ∙ append-nil (came new.front)
-    ∙ ap (λ (h : Option Event). judged ++ listed h) free ∙ append-nil judged in
-    sym here ∙ rested.counted.all
-
--- So it gives the headline of all.
-pub is_judged : (max : ℕ) (pumped : Pumped) (old new : ForgettingRest) (report : Report) → 2 ^ 40 < max → IsRested max pumped old new
-    → report.events ≡ length new.front.judged.items → GivesHeadline new.front (all_of new) new.front.judged.items report.verdict
-    → IsJudged old report
-is_judged max pumped old new report wide rested counted gives =
-    let all = all_judged max pumped old new wide rested in
+-- A call that was to judge more than a log can have has judged all, which gives the headline of it.
+pub is_judged : (max : ℕ) (pumped : Pumped) (old new : RestIs) (report : Report) → 2 ^ 40 < max → IsFew new → IsRested max pumped old new
+    → report.events ≡ length new.front.judged.items → report.verdict ≡ new.front.monitor.verdict → IsJudged old report
+is_judged max pumped old new report wide few rested counted shown =
+    let all = all_judged max pumped old new wide few rested in
     record {
       counted = counted ∙ ap (λ (l : List Event). length l) all;
       headline = λ rules log writers fits one_log.
           subst (λ (judged : List Event). Headline rules log writers judged report.verdict) all
-          (gives rules log writers (rested.counted.judged.fits rules fits) (subst (IsLogOf log writers) (sym rested.counted.all) one_log));
+          (rw shown (gives_rest old.front new.front new.settled rested.counted.judged.fits rules log writers fits
+          (subst (IsLogOf log writers) (sym rested.counted.all) one_log)));
     }
 
 -- Recorders in another order are the ring's still.
@@ -82,8 +66,8 @@ pub writers-given : (writers first : List WriterIs) (placed : List Recorder) →
 writers-given writers first placed none is = is ∙ ap (λ (l : List WriterIs). l ++ writers_of placed) none
 
 -- So is the one whose log that is: the ring has ended with these recorders.
-has_ended : (watch : Watch) (recorders : List Recorder) (writers : List WriterIs) (rest : ForgettingRest) → writers ≡ writers_of recorders
-    → AreAll watch.recorders recorders → IsSettled watch.pump.reader writers rest.settled → rest.front ≡ watch.pump.front
+has_ended : (watch : Watch) (recorders : List Recorder) (writers : List WriterIs) (rest : RestIs) → writers ≡ writers_of recorders
+    → AreAll watch.recorders recorders → IsSettled (watch_pump watch).reader writers rest.settled → rest.front ≡ (watch_pump watch).front
     → IsLogOf (all_of rest) writers (all_of rest) → HasEnded watch recorders (all_of rest)
 has_ended watch recorders writers rest are all settled front one_log = record {
   all = all.counted;
@@ -91,7 +75,7 @@ has_ended watch recorders writers rest are all settled front one_log = record {
   same = IsPermutation-refl (writers_of recorders);
   order = all.order;
   left = rest.settled;
-  settled = subst (λ (l : List WriterIs). IsSettled watch.pump.reader l rest.settled) are settled;
+  settled = subst (λ (l : List WriterIs). IsSettled (watch_pump watch).reader l rest.settled) are settled;
   whole = ap (λ (f : Front). came f ++ rest.settled) front ∙ ap (λ (l : List Event). l ++ rest.settled) watch.pump.all;
   one_log = subst (λ (l : List WriterIs). IsLogOf (all_of rest) l (all_of rest)) are one_log;
 }
@@ -99,12 +83,12 @@ has_ended watch recorders writers rest are all settled front one_log = record {
 -- Where a ring was settled, it has ended with these recorders.
 pub ended_settled : {E : Type 0} (settled : Result Closing E) (watch : Watch) (recorders : List Recorder) (writers : List WriterIs)
     → writers ≡ writers_of recorders → AreAll watch.recorders recorders
-    → IfOk settled (λ (closing : Closing). IsSettled watch.pump.reader writers closing.rest.settled)
-    → IfOk settled (λ (closing : Closing). closing.rest.front ≡ watch.pump.front)
-    → IfOk settled (λ (closing : Closing). IsLogOf (all_of closing.rest) writers (all_of closing.rest))
-    → IfOk settled (λ (closing : Closing). HasEnded watch recorders (all_of closing.rest))
+    → IfOk settled (λ (closing : Closing). IsSettled (watch_pump watch).reader writers (rest_of closing).settled)
+    → IfOk settled (λ (closing : Closing). (rest_of closing).front ≡ (watch_pump watch).front)
+    → IfOk settled (λ (closing : Closing). IsLogOf (all_of (rest_of closing)) writers (all_of (rest_of closing)))
+    → IfOk settled (λ (closing : Closing). HasEnded watch recorders (all_of (rest_of closing)))
 ended_settled (Ok closing) watch recorders writers are all settled front one_log =
-    has_ended watch recorders writers closing.rest are all settled front one_log
+    has_ended watch recorders writers (rest_of closing) are all settled front one_log
 ended_settled (Err back) watch recorders writers are all settled front one_log = tt
 
 -- A ring that has ended with recorders in one order has ended with them in another.
@@ -123,8 +107,8 @@ ended_again watch given placed log same ended = record {
 }
 
 -- A watch whose ring has ended, and of which all was judged, is closed.
-pub is_closed : (watch : Watch) (recorders : List Recorder) (rest : ForgettingRest) (report : Report) → HasEnded watch recorders (all_of rest)
-    → rest.front ≡ watch.pump.front → IsJudged rest report → IsClosed watch recorders report
+pub is_closed : (watch : Watch) (recorders : List Recorder) (rest : RestIs) (report : Report) → HasEnded watch recorders (all_of rest)
+    → rest.front ≡ (watch_pump watch).front → IsJudged rest report → IsClosed watch recorders report
 is_closed watch recorders rest report ended front judged = record {
   log = all_of rest;
   ended = ended;
@@ -134,8 +118,8 @@ is_closed watch recorders rest report ended front judged = record {
 }
 
 -- One of which not all was judged is what is left.
-pub is_left : (watch : Watch) (recorders : List Recorder) (rest left : ForgettingRest) → HasEnded watch recorders (all_of rest)
-    → rest.front ≡ watch.pump.front → IsUnjudged rest left → IsLeft watch recorders left
+pub is_left : (watch : Watch) (recorders : List Recorder) (rest left : RestIs) → HasEnded watch recorders (all_of rest)
+    → rest.front ≡ (watch_pump watch).front → IsUnjudged rest left → IsLeft watch recorders left
 is_left watch recorders rest left ended front unjudged = record {
   ended = subst (HasEnded watch recorders) (sym unjudged.all) ended;
   fits = λ by fits. unjudged.fits by (subst (λ (front : Front). Fits by front.judged.items front.monitor) (sym front) fits);

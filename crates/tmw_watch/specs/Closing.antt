@@ -7,8 +7,7 @@ use Rattle.tmw_monitor.specs.Fitting.{Fits}
 use Rattle.tmw_pump.specs.Fronts.{KeepsFit, held_of, judged_of, monitor_of}
 use Rattle.tmw_pump.specs.Headline.{GivesHeadline, Headline, IsLogOf}
 use Rattle.tmw_pump.specs.Pumping.{reader_of}
-use Rattle.tmw_pump.specs.Resting.{all_of, rest_front}
-use Rattle.tmw_pump.specs.declared.forgetting_rest.ForgettingRest.{ForgettingRest}
+use Rattle.tmw_pump.specs.Resting.{RestIs, all_of, rest_front}
 use Rattle.tmw_ring.specs.Ends.{WriterIs}
 use Rattle.tmw_ring.specs.Settling.{AreInOrder, IsSettled}
 use Rattle.tmw_watch.specs.Opening.{AreOf}
@@ -50,12 +49,12 @@ pub record HasEnded (watch : Watch) (recorders : List Recorder) (log : List Even
   pub one_log : IsLogOf log (writers_of recorders) log
 
 -- All of the rest was judged: so many events it had in all, and the verdict is the headline's on all of them.
-pub record IsJudged (rest : ForgettingRest) (report : Report) : Type 0 where
+pub record IsJudged (rest : RestIs) (report : Report) : Type 0 where
   pub counted : report.events ≡ length (all_of rest)
   pub headline : GivesHeadline (rest_front rest) (all_of rest) (all_of rest) report.verdict
 
 -- More may have been judged, by the same rules, and nothing was lost. An event is held, for which memory was refused.
-pub record IsUnjudged (old new : ForgettingRest) : Type 0 where
+pub record IsUnjudged (old new : RestIs) : Type 0 where
   pub all : all_of new ≡ all_of old
   pub fits : KeepsFit (rest_front old) (rest_front new)
   pub held : IsSome (held_of (rest_front new))
@@ -70,7 +69,7 @@ pub record IsClosed (watch : Watch) (recorders : List Recorder) (report : Report
       → Headline rules log (writers_of recorders) log report.verdict
 
 -- The ring has ended, and what was not judged yet of its one log is left.
-pub record IsLeft (watch : Watch) (recorders : List Recorder) (rest : ForgettingRest) : Type 0 where
+pub record IsLeft (watch : Watch) (recorders : List Recorder) (rest : RestIs) : Type 0 where
   pub ended : HasEnded watch recorders (all_of rest)
   pub fits : KeepsFit (watch_front watch) (rest_front rest)
   pub held : IsSome (held_of (rest_front rest))

@@ -2,10 +2,9 @@
 use Rattle.std.specs.Prelude.{ℕ}
 use Rattle.std.specs.Global.{Global}
 use Rattle.std.specs.declared.sync.Arc.{Arc}
-use Rattle.tmw_pump.specs.Pumping.{pump_front}
+use Rattle.tmw_pump.specs.Pumping.{PumpIs, pump_front, pump_in}
+use Rattle.tmw_pump.specs.Resting.{RestIs, rest_in}
 use Rattle.tmw_pump.specs.declared.front.Front.{Front}
-use Rattle.tmw_pump.specs.declared.forgetting_pump.ForgettingPump.{ForgettingPump}
-use Rattle.tmw_pump.specs.declared.forgetting_rest.ForgettingRest.{ForgettingRest}
 use Rattle.tmw_ring.specs.Ends.{RingIs, WriterIs}
 use Rattle.tmw_watch.specs.declared.closing.Closing.{Closing}
 use Rattle.tmw_watch.specs.declared.recorder.Recorder.{Recorder}
@@ -16,8 +15,8 @@ abbrev pub watch_ring : Watch → Arc RingIs Global
 watch_ring watch = watch.ring
 
 -- the pump by which a watch judges
-abbrev pub watch_pump : Watch → ForgettingPump
-watch_pump watch = watch.pump
+abbrev pub watch_pump : Watch → PumpIs
+watch_pump watch = pump_in watch.pump
 
 -- the judged front of a watch
 abbrev pub watch_front : Watch → Front
@@ -36,5 +35,5 @@ abbrev pub writer_of : Recorder → WriterIs
 writer_of recorder = recorder.writer
 
 -- what is left to be judged
-abbrev pub rest_of : Closing → ForgettingRest
-rest_of closing = closing.rest
+abbrev pub rest_of : Closing → RestIs
+rest_of closing = rest_in closing.rest

@@ -1,21 +1,22 @@
 //! What a closed ring has left to be judged.
 ghost use Rattle.std.specs.Prelude.{◌≡◌, IfOk, IfErr};
+ghost use Rattle.tmw_pump.specs.Resting.{rest_in};
 ghost use Rattle.tmw_watch.specs.Closing.{IsJudged, IsUnjudged};
 ghost use Rattle.tmw_watch.specs.Shown.{rest_of};
 
 use crate::report::Report;
-use tmw_pump::ForgettingRest;
+use tmw_pump::Rest;
 
 /// What a watch whose ring has ended has still to judge.
 #[derive(Drop)]
 pub struct Closing {
-    rest: ForgettingRest,
+    rest: Rest<()>,
 }
 
 impl Closing {
     /// Makes a closing of what was left when the ring ended.
-    pub(crate) fn new(rest: ForgettingRest) -> Closing
-        ensures { rest_of result ≡ rest }
+    pub(crate) fn new(rest: Rest<()>) -> Closing
+        ensures { rest_of result ≡ rest_in rest }
     {
         Closing { rest }
     }
@@ -29,7 +30,9 @@ impl Closing {
         let Ok(_) = self.rest.pump(u64::MAX) else {
             return Err(self);
         };
-        let (events, verdict) = self.rest.finish();
-        Ok(Report { events, verdict })
+        Ok(Report {
+            events: self.rest.front().fed(),
+            verdict: self.rest.verdict(),
+        })
     }
 }

@@ -10,7 +10,7 @@ use crate::watch::Watch;
 use std::alloc::{AllocError, Global};
 use std::sync::Arc;
 use tmw_monitor::Monitor;
-use tmw_pump::ForgettingPump;
+use tmw_pump::Pump;
 use tmw_ring::{Ring, RingFault, Writer, ring};
 
 impl Watch {
@@ -38,7 +38,7 @@ impl Watch {
         let watch = Watch {
             alloc,
             ring,
-            pump: ForgettingPump::new(reader, monitor),
+            pump: Pump::keeping((), reader, monitor),
             recorders: settings.recorders,
         };
         Ok((watch, recorders))

@@ -3,14 +3,14 @@ ghost use Rattle.std.specs.Prelude.{◌≡◌, length, IfOk, OnErr, IsSome, IsTr
 ghost use Rattle.tmw_counts.specs.Summaries.{IsSummary};
 ghost use Rattle.tmw_pump.specs.Fronts.{TellsVerdict, WasRefusedMemory, front_part, held_of, judged_of, verdict_on};
 ghost use Rattle.tmw_pump.specs.Headline.{GivesHeadline};
-ghost use Rattle.tmw_pump.specs.Pumping.{HasPumped, IsPumped, reader_of};
+ghost use Rattle.tmw_pump.specs.Pumping.{HasPumped, IsPumped, pump_in, reader_of};
 ghost use Rattle.tmw_ring.specs.Ends.{ReaderOf};
 
 use crate::report::Report;
 use std::alloc::{AllocError, Global};
 use std::sync::Arc;
 use tmw_counts::Summary;
-use tmw_pump::{ForgettingPump, Pumped};
+use tmw_pump::{Pump, Pumped};
 use tmw_ring::Ring;
 
 /// The end by which one thread has judged what the recorders record, by the definition of opacity (Guerraoui and
@@ -19,10 +19,10 @@ use tmw_ring::Ring;
 pub struct Watch {
     pub(crate) alloc: Global,
     pub(crate) ring: Arc<Ring, Global>,
-    pub(crate) pump: ForgettingPump,
+    pub(crate) pump: Pump<()>,
     // How many recorders there are.
     pub(crate) recorders: u64,
-    pub ghost of_ring: { ReaderOf ring.value (reader_of pump) },
+    pub ghost of_ring: { ReaderOf ring.value (reader_of (pump_in pump)) },
     pub ghost counted: { recorders ≡ ring.value.size.writers },
 }
 
@@ -55,7 +55,7 @@ impl Watch {
             result.verdict }
     {
         Report {
-            events: self.pump.fed(),
+            events: self.pump.front().fed(),
             verdict: self.pump.verdict(),
         }
     }
@@ -65,7 +65,7 @@ impl Watch {
     pub fn summary(&self) -> Summary
         ensures { IsSummary (front_part (watch_front self.now)) result }
     {
-        self.pump.summary()
+        self.pump.front().summary()
     }
 
     /// Tells whether an event was taken that is not judged yet, after a failed allocation.

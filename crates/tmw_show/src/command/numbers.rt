@@ -1,7 +1,8 @@
-ghost use Rattle.std.specs.Prelude.{◌≡◌, ◌++◌, OnOk, decimal};
+ghost use Rattle.std.specs.Prelude.{◌≡◌, ◌∷◌, ◌++◌, OnOk, decimal};
 ghost use Rattle.tmw_trace.specs.Text.{values_text};
 ghost use Rattle.tmw_show.specs.Drawing.{blanks};
 
+use crate::command::part::{Part, push_each};
 use itoa::Buffer;
 use std::alloc::AllocError;
 
@@ -17,11 +18,20 @@ pub fn push_number(text: &mut Vec<u8>, number: u64) -> Result<(), AllocError>
 pub fn push_values(text: &mut Vec<u8>, values: &[u64]) -> Result<(), AllocError>
     ensures { OnOk result (text.new.items ≡ text.old.items ++ values_text values.now) }
 {
-    for value in values {
+    push_each(text, &SpacedValue, values)
+}
+
+/// A value after one space.
+#[derive(Drop)]
+struct SpacedValue;
+
+impl Part<u64> for SpacedValue {
+    ghost part = { λ own value. 32 ∷ decimal value };
+
+    fn push(&self, text: &mut Vec<u8>, value: &u64) -> Result<(), AllocError> {
         text.push(b' ')?;
-        push_number(text, *value)?;
+        push_number(text, *value)
     }
-    Ok(())
 }
 
 /// Adds so many blanks.

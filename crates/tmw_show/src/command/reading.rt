@@ -3,7 +3,6 @@ ghost use Rattle.tmw_streams.specs.Told.{Tells};
 ghost use Rattle.tmw_report.specs.CommandRun.{failures_after_answer};
 ghost use Rattle.tmw_show.specs.Running.{AnswersShow};
 
-use crate::LastWindow;
 use crate::command::shown::Shown;
 use std::alloc::Global;
 use tmw_defs::Criterion;
@@ -12,6 +11,7 @@ use tmw_monitor::Bounds;
 use tmw_report::{Fault, fault_of};
 use tmw_streams::Source;
 use tmw_trace::TraceLines;
+use tmw_window::LastWindow;
 
 /// Reads a trace up to the source's end, and judges each event as its line is read, by this criterion. No event
 /// before the last window is kept. After a failed allocation nothing more is read.

@@ -1,5 +1,5 @@
-use crate::Showing;
 use tmw_events::Registers;
+use tmw_window::Showing;
 
 /// What is shown of a trace whose run has so many registers.
 #[derive(Debug, Drop)]

@@ -1,32 +1,25 @@
-ghost use Rattle.std.specs.Prelude.{◌≡◌, ◌++◌, OnOk};
 ghost use Rattle.tmw_lines.specs.Text.{line};
-ghost use Rattle.tmw_show.specs.Drawing.{state_text, states_text};
+ghost use Rattle.tmw_show.specs.Drawing.{state_text};
 
 use crate::command::numbers::push_values;
+use crate::command::part::Part;
 use std::alloc::AllocError;
 use tmw_cuts::State;
 use tmw_events::Registers;
 
-/// Adds a line for each state: what the run's registers hold.
-pub fn push_states(
-    text: &mut Vec<u8>,
-    registers: Registers,
-    states: &[State],
-) -> Result<(), AllocError>
-    ensures { OnOk result (text.new.items ≡ text.old.items ++ states_text registers states.now) }
-{
-    for state in states {
-        push_state(text, registers, *state)?;
-    }
-    Ok(())
+/// The line of a state: what the run's registers hold.
+#[derive(Drop)]
+pub struct StateLine {
+    pub registers: Registers,
 }
 
-/// Adds the line of a state.
-fn push_state(text: &mut Vec<u8>, registers: Registers, state: State) -> Result<(), AllocError>
-    ensures { OnOk result (text.new.items ≡ text.old.items ++ line (state_text registers state)) }
-{
-    text.extend_from_slice(b"    state ")?;
-    push_values(text, &state[..registers.get() as usize])?;
-    text.push(b'\n')?;
-    Ok(())
+impl Part<State> for StateLine {
+    ghost part = { λ own state. line (state_text own.registers state) };
+
+    fn push(&self, text: &mut Vec<u8>, state: &State) -> Result<(), AllocError> {
+        text.extend_from_slice(b"    state ")?;
+        push_values(text, &state[..self.registers.get() as usize])?;
+        text.push(b'\n')?;
+        Ok(())
+    }
 }

@@ -1,14 +1,15 @@
-ghost use Rattle.std.specs.Prelude.{◌≡◌, ◌+◌, ◌≤◌, ◌++◌, IfOk, OnOk, length, string_bytes};
-ghost use Rattle.tmw_show.specs.Running.{IsVerdictBy, drawn_text, line_by, shown_text};
+ghost use Rattle.std.specs.Prelude.{◌≡◌, ◌+◌, ◌≤◌, ◌++◌, IfOk, OnOk, length};
+ghost use Rattle.tmw_show.specs.Running.{drawn_text, shown_text};
 
+use crate::command::part::push_each;
 use crate::command::shown::Shown;
-use crate::command::states::push_states;
+use crate::command::states::StateLine;
 use crate::command::told::Told;
 use crate::command::traces::push_traces;
 use crate::command::window::push_window;
 use std::alloc::{AllocError, Global};
-use tmw_defs::{Criterion, Verdict};
-use tmw_report::{report_strict, report_text};
+use tmw_defs::Criterion;
+use tmw_report::report_by;
 
 /// Makes the text of what is shown by this criterion, or of the window's traces if `trace` is set. It fails only
 /// after a failed allocation.
@@ -18,8 +19,7 @@ pub fn shown_text(
     trace: bool,
     shown: &Shown,
 ) -> Result<Vec<u8>, AllocError>
-    requires own { IsVerdictBy criterion shown.now.showing.verdict }
-    requires within { shown.now.showing.from + length
+    requires { shown.now.showing.from + length
         shown.now.showing.events.items ≤ shown.now.showing.fed }
     ensures { IfOk result (λ text. text.items ≡ shown_text criterion trace shown.now) }
 {
@@ -45,15 +45,17 @@ fn push_drawn(
     criterion: Criterion,
     shown: &Shown,
 ) -> Result<(), AllocError>
-    requires own { IsVerdictBy criterion shown.now.showing.verdict }
-    requires within { shown.now.showing.from + length
+    requires { shown.now.showing.from + length
         shown.now.showing.events.items ≤ shown.now.showing.fed }
     ensures { OnOk result (text.new.items ≡ text.old.items ++ drawn_text criterion shown.now) }
 {
     let showing = &shown.showing;
-    let line = line_by(alloc, criterion, showing.fed, &showing.verdict)?;
+    let line = report_by(alloc, criterion, showing.fed, &showing.verdict)?;
     text.extend_from_slice(line.as_bytes())?;
-    push_states(text, shown.registers, showing.states.states())?;
+    let line = StateLine {
+        registers: shown.registers,
+    };
+    push_each(text, &line, showing.states.states())?;
     let told = Told {
         criterion,
         verdict: showing.verdict,
@@ -61,20 +63,4 @@ fn push_drawn(
     };
     push_window(text, told, showing.from, &showing.events)?;
     Ok(())
-}
-
-/// Makes the line that `judge` writes, by the same criterion.
-pub fn line_by(
-    alloc: Global,
-    criterion: Criterion,
-    events: u64,
-    verdict: &Verdict,
-) -> Result<String, AllocError>
-    requires { IsVerdictBy criterion verdict.now }
-    ensures { IfOk result (λ line. string_bytes line ≡ line_by criterion events verdict.now) }
-{
-    match criterion {
-        Criterion::Opacity => report_text(alloc, events, verdict),
-        Criterion::Strict => report_strict(alloc, events, verdict),
-    }
 }

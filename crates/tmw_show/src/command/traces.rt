@@ -1,13 +1,14 @@
-ghost use Rattle.std.specs.Prelude.{◌≡◌, ◌++◌, OnOk};
-ghost use Rattle.tmw_events.specs.Text.{event_text};
+ghost use Rattle.std.specs.Prelude.{◌≡◌, ◌++◌, IfOk, OnOk};
 ghost use Rattle.tmw_lines.specs.Text.{line};
-ghost use Rattle.tmw_show.specs.TracesText.{events_text, start_text, start_trace, traces_text};
+ghost use Rattle.tmw_streams.specs.Memory.{held_bytes};
+ghost use Rattle.tmw_show.specs.TracesText.{events_text, start_text, traces_text};
 
-use crate::command::kind_text::{digit_of, push_kind};
 use crate::command::numbers::push_values;
-use std::alloc::AllocError;
+use crate::command::part::{Part, push_each};
+use std::alloc::{AllocError, Global};
 use tmw_cuts::State;
-use tmw_events::{Event, Registers};
+use tmw_events::{Event, EventTexts, Registers};
+use tmw_streams::{MemorySink, put_lines};
 
 /// Adds the traces of these events from each of these states, one after the other.
 pub fn push_traces(
@@ -19,30 +20,32 @@ pub fn push_traces(
     ensures { OnOk result
         (text.new.items ≡ text.old.items ++ traces_text registers events.now states.now) }
 {
-    for state in states {
-        push_trace(text, registers, events, *state)?;
-    }
-    Ok(())
+    let sink = written(*text.allocator(), events)?;
+    let lines = sink.bytes();
+    push_each(text, &TraceFrom { registers, lines }, states)
 }
 
-/// Adds the trace of these events from this state.
-fn push_trace(
-    text: &mut Vec<u8>,
+/// The trace of events, whose lines these are, from a state.
+#[derive(Drop)]
+struct TraceFrom<'a> {
     registers: Registers,
-    events: &[Event],
-    state: State,
-) -> Result<(), AllocError>
-    ensures { OnOk result
-        (text.new.items ≡ text.old.items ++ start_trace registers events.now state) }
-{
-    push_start(text, registers, state)?;
-    push_events(text, events)?;
-    Ok(())
+    lines: &'a [u8],
+}
+
+impl Part<State> for TraceFrom<'_> {
+    ghost part = { λ own state. line (start_text own.registers state) ++ own.lines.now };
+
+    fn push(&self, text: &mut Vec<u8>, state: &State) -> Result<(), AllocError> {
+        push_start(text, self.registers, state)?;
+        text.extend_from_slice(self.lines)?;
+        Ok(())
+    }
 }
 
 /// Adds the header's line.
-fn push_start(text: &mut Vec<u8>, registers: Registers, state: State) -> Result<(), AllocError>
-    ensures { OnOk result (text.new.items ≡ text.old.items ++ line (start_text registers state)) }
+fn push_start(text: &mut Vec<u8>, registers: Registers, state: &State) -> Result<(), AllocError>
+    ensures { OnOk result
+        (text.new.items ≡ text.old.items ++ line (start_text registers state.now)) }
 {
     text.extend_from_slice(b"opacity-trace 2 ")?;
     text.push(b'0' + registers.get())?;
@@ -51,22 +54,13 @@ fn push_start(text: &mut Vec<u8>, registers: Registers, state: State) -> Result<
     Ok(())
 }
 
-/// Adds a line for each event.
-fn push_events(text: &mut Vec<u8>, events: &[Event]) -> Result<(), AllocError>
-    ensures { OnOk result (text.new.items ≡ text.old.items ++ events_text events.now) }
+/// Writes a line for each event to memory.
+fn written(alloc: Global, events: &[Event]) -> Result<MemorySink, AllocError>
+    ensures { IfOk result (λ sink. held_bytes sink ≡ events_text events.now) }
 {
-    for event in events {
-        push_event(text, *event)?;
+    let mut sink = MemorySink::new(alloc);
+    match put_lines::<EventTexts, Event, MemorySink>(&mut sink, events) {
+        Ok(()) => Ok(sink),
+        Err(_) => Err(AllocError),
     }
-    Ok(())
-}
-
-/// Adds the line of an event.
-fn push_event(text: &mut Vec<u8>, event: Event) -> Result<(), AllocError>
-    ensures { OnOk result (text.new.items ≡ text.old.items ++ line (event_text event)) }
-{
-    text.extend_from_slice(&[digit_of(event.thread), b' '])?;
-    push_kind(text, event.kind)?;
-    text.push(b'\n')?;
-    Ok(())
 }

@@ -2,7 +2,7 @@ ghost use Rattle.std.specs.Prelude.{◌≡◌, ◌+◌, ◌<◌, ◌≤◌, ◌^
 ghost use Rattle.tmw_lines.specs.Text.{line};
 ghost use Rattle.tmw_show.specs.Drawing.{beside, event_row, heads_text, last_thread, rows_text, told_row, window_text};
 
-use crate::command::kind_text::push_kind;
+use crate::command::event_text::push_kind;
 use crate::command::numbers::push_blanks;
 use crate::command::told::{Told, told_of};
 use itoa::Buffer;
@@ -101,7 +101,7 @@ fn push_row(text: &mut Vec<u8>, number: u64, event: Event) -> Result<(), AllocEr
     push_blanks(text, 9usize.saturating_sub(digits.len()))?;
     text.extend_from_slice(digits)?;
     push_blanks(text, 2 + 12 * event.thread.get() as usize)?;
-    push_kind(text, event.kind)?;
+    push_kind(text, &event)?;
     Ok(())
 }
 

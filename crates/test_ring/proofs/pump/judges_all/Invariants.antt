@@ -2,4 +2,4 @@ use Rattle.tmw_ring.specs.Ends.{ReaderOf}
 use Rattle.test_ring.proofs.pump.judges_all.Given as goal
 
 abbrev pub invariant-loop : goal.invariant-loop
-invariant-loop l = ReaderOf l.ring l.pump.forgetting.reader
+invariant-loop l = ReaderOf l.ring l.pump.reader

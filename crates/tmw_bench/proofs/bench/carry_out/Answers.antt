@@ -1,4 +1,4 @@
-use Rattle.std.proofs.Common.{◌≡◌, ◌++◌, ℕ, List, [], Option, length, map, refl, sym, ap, ◌∙◌, subst, append_assoc, arith}
+use Rattle.std.proofs.Common.{◌≡◌, ◌++◌, ◌^◌, ◌-◌, ℕ, List, [], Option, length, map, refl, sym, ap, ◌∙◌, subst, append_assoc, arith}
 use Rattle.std.proofs.lemmas.List.{length-map}
 use Rattle.tmw_bench.proofs.OpaqueRounds.{all_opaque-append}
 use Rattle.tmw_bench.proofs.RoundsOver.{are_endings-map, over-log}
@@ -14,31 +14,47 @@ use Rattle.tmw_events.specs.declared.event.Event.{Event}
 use Rattle.tmw_monitor.specs.Fitting.{Fits, rules_of}
 use Rattle.tmw_pump.specs.Fronts.{came}
 use Rattle.tmw_pump.specs.Held.{listed}
-use Rattle.tmw_bench.proofs.Keeps.{all-judged, kept-of}
-use Rattle.tmw_bench.specs.Keeping.{IsKept}
 use Rattle.tmw_defs.specs.Verdict.{IsVerdict}
-use Rattle.tmw_monitor.specs.declared.monitor.Monitor.{Monitor}
-use Rattle.tmw_pump.proofs.Calls.{gives_rested}
+use Rattle.tmw_pump.proofs.Turns.{all_judged}
 use Rattle.tmw_pump.specs.Headline.{Headline, IsLogOf}
-use Rattle.tmw_pump.specs.Resting.{all_of}
+use Rattle.tmw_pump.specs.Keeping.{IsKept}
+use Rattle.tmw_pump.specs.Resting.{all_of, rest_in}
 use Rattle.tmw_pump.specs.declared.front.Front.{Front}
+use Rattle.tmw_ring.specs.Ends.{ReaderOf}
 use Rattle.tmw_ring.specs.declared.refused.Refused.{Refused}
 use Rattle.tmw_ring_defs.specs.Sizes.{HasNumbers}
 use Rattle.tmw_runs.specs.Scripts.{script_of, scripts_of}
 use Rattle.tmw_bench.proofs.bench.carry_out.Goals as goal
 
-pub play_rounds-requires-clause-scripts : goal.play_rounds-requires-clause-scripts
-play_rounds-requires-clause-scripts g c κs within =
+pub play_rounds-requires-clause-can : goal.play_rounds-requires-clause-can
+play_rounds-requires-clause-can g c κs within =
     let workload = c.args.workload.now in
     let scripts = scripts_of workload.scripts.items in
-    subst (λ (l : List (Vec (Vec Kind))). AreTransactions (scripts_of l)) (sym c.as_slice.ensures.value)
-    (workload.registers.number, are_transactions-workload workload.registers.number scripts workload.order.items workload.is)
+    let made = c.in-Ok.ensures.ok in
+    let started = c.keeping-pump.ensures in
+    let rules = rules_of workload.registers zeros c.args.settings.bounds in
+    let threads : c.len-threads.result ≡ length c.as_slice.result.now =
+    (let one = c.len-threads.ensures in
+    let two = workload.scripts.ok.0 in
+    let three = ap (λ (l : List (Vec (Vec Kind))). length l) c.as_slice.ensures.value in
+    omega (arith, one, two, three)) in
+    record {
+      gives = λ call answer given. given;
+      reader = subst (ReaderOf c.in-Ok.made.0) (sym started.reader) made.reader_of;
+      writers = made.writers_new;
+      count = made.count ∙ made.sized.writers_are ∙ threads;
+      scripts = subst (λ (l : List (Vec (Vec Kind))). AreTransactions (scripts_of l)) (sym c.as_slice.ensures.value)
+          (workload.registers.number, are_transactions-workload workload.registers.number scripts workload.order.items workload.is);
+      judged = started.judged;
+      fits = (rules, subst (Fits rules []) (sym started.monitor) c.in-Ok-new.ensures.fits);
+      some = c.args.settings.some_round;
+    }
 
 pub settle-rest-requires-clause-count : goal.settle-rest-requires-clause-count
 settle-rest-requires-clause-count g c =
     let workload = c.args.workload.now in
     let rules = rules_of workload.registers zeros c.args.settings.bounds in
-    let begun = c.in_ok-left.ensures.begun rules (subst (Fits rules []) (sym c.new-2.ensures.monitor) c.in-Ok-new.ensures.fits) in
+    let begun = c.in_ok-left.ensures.played.begun rules (subst (Fits rules []) (sym c.keeping-pump.ensures.monitor) c.in-Ok-new.ensures.fits) in
     let counted = begun.after.played.counted in
     let scripts = length-map c.as_slice.result.now script_of in
     let same : length c.as_slice.result.now ≡ length workload.scripts.items = ap (λ (l : List (Vec (Vec Kind))). length l) c.as_slice.ensures.value in
@@ -57,39 +73,37 @@ returns-clause-ok g c =
     let rules = rules_of workload.registers zeros settings.bounds in
     let ring = c.in-Ok.made.0 in
     let left = c.in_ok-left.left in
-    let played = c.in_ok-left.ensures in
-    let new = c.new-2.result.front in
-    let fitted : Fits rules [] new.monitor = subst (Fits rules []) (sym c.new-2.ensures.monitor) c.in-Ok-new.ensures.fits in
-    let begun : HaveBegun rules gives ring scripts left.rounds left.judge.forgetting.reader left.judge.forgetting.front left.writers.items left.stops.items =
-    subst (λ (l : List (Vec (Vec Kind))). HaveBegun rules gives ring (scripts_of l) left.rounds left.judge.forgetting.reader
-    left.judge.forgetting.front left.writers.items left.stops.items) c.as_slice.ensures.value (played.begun rules fitted) in
+    let played = c.in_ok-left.ensures.played in
+    let fitted : Fits rules [] c.keeping-pump.result.front.monitor = subst (Fits rules []) (sym c.keeping-pump.ensures.monitor) c.in-Ok-new.ensures.fits in
+    let begun : HaveBegun rules gives ring scripts left.rounds left.pump.reader left.pump.front left.writers.items left.stops.items =
+    subst (λ (l : List (Vec (Vec Kind))). HaveBegun rules gives ring (scripts_of l) left.rounds left.pump.reader
+    left.pump.front left.writers.items left.stops.items) c.as_slice.ensures.value (played.begun rules fitted) in
     let after = begun.after in
-    let front = left.judge.forgetting.front in
-    let reader = left.judge.forgetting.reader in
+    let front = left.pump.front in
+    let reader = left.pump.reader in
     let writers = left.writers.items in
     let stops = left.stops.items in
     let settled = c.settle-rest.ensures in
     let before = c.settle-rest.result in
-    let rest = c.judge_rest.new.rest in
-    let done = c.in-Ok-judge_rest.ensures in
+    let rest = c.pump.new.self in
+    let done = c.in-Ok-pump.ensures in
     let ends = c.in-Ok-ends_of.ends.items in
     let log = rest.front.judged.items in
     let verdict = rest.front.monitor.verdict in
     let threads : length workload.scripts.items ≡ length scripts = sym (length-map workload.scripts.items script_of) in
     let sized : c.len-threads.result ≡ length workload.scripts.items =
     (let one = c.len-threads.ensures in let two = workload.scripts.ok.0 in omega (arith, one, two)) in
-    let was : log ≡ all_of before = sym (all-judged rest done.none_left done.free) ∙ done.all in
-    let all : all_of before ≡ came front ++ before.settled = ap (λ (f : Front). came f ++ before.settled) settled.front in
-    let whole : log ≡ reader.taken ++ before.settled = was ∙ all ∙ ap (λ (l : List Event). l ++ before.settled) left.judge.forgetting.all in
+    let was : log ≡ all_of (rest_in before) = all_judged (2 ^ 64 - 1) c.in-Ok-pump.field-0 (rest_in before) (rest_in rest) (omega arith) rest.few done.ok in
+    let all : all_of (rest_in before) ≡ came front ++ before.settled = ap (λ (f : Front). came f ++ before.settled) settled.front in
+    let whole : log ≡ reader.taken ++ before.settled = was ∙ all ∙ ap (λ (l : List Event). l ++ before.settled) left.pump.all in
     let begins : log ≡ front.judged.items ++ (listed front.held ++ before.settled) =
     was ∙ all ∙ append_assoc front.judged.items (listed front.held) before.settled in
     let fits : Fits rules before.front.judged.items before.front.monitor =
     subst (λ (f : Front). Fits rules f.judged.items f.monitor) (sym settled.front) after.fits in
-    let judged : IsVerdict rules log verdict = (done.kept.judged.fits rules fits).judged in
+    let judged : IsVerdict rules log verdict = (done.ok.counted.judged.fits rules fits).judged in
     let headline : Headline rules log writers log verdict =
-    subst (λ (l : List Event). Headline rules l writers log verdict) (sym was)
-    (gives_rested done.count before rest (record { all = done.all; judged = done.kept.judged }) rules (all_of before) writers fits
-    (subst (IsLogOf (all_of before) writers) (sym done.all) settled.one_log)) in
+    done.headline rules log writers fits (subst (λ (l : List Event). IsLogOf l writers (all_of (rest_in rest))) (sym was)
+    (subst (IsLogOf (all_of (rest_in before)) writers) (sym done.ok.counted.all) settled.one_log)) in
     let endings : AreEndings scripts stops ends =
     are_endings-map scripts stops ends after.stop_count
     (c.in-Ok-ends_of.ensures ∙ ap (λ (l : List (Option Refused)). map ending_of l) c.deref.ensures.value) in
@@ -99,12 +113,6 @@ returns-clause-ok g c =
       order = after.order;
       count = after.played.counted;
       settled = settled.settled;
-    } in
-    let kept_new : IsKept keeps rules new c.in-Ok-begin.kept = record {
-      fits = subst (λ (l : List Event). Fits rules l new.monitor) (sym c.new-2.ensures.judged) fitted;
-      keeps_it = subst (λ (l : List Event). keeps rules l new.monitor.verdict c.in-Ok-begin.kept) (sym c.new-2.ensures.judged)
-          (subst (λ (m : Monitor). keeps rules [] m.verdict c.in-Ok-begin.kept) (sym c.new-2.ensures.monitor)
-          (c.in-Ok-begin.ensures rules c.in-Ok-new.ensures.fits));
     } in record {
       benched = is_benched gives workload.registers scripts settings log verdict ends left.rounds ring reader writers before.settled begun.bounds stops
           (are_transactions-workload workload.registers.number scripts workload.order.items workload.is)
@@ -114,5 +122,6 @@ returns-clause-ok g c =
           endings judged headline begun.counted played.within
           (λ fewer. over-log rules scripts stops ends front (listed front.held ++ before.settled) log writers verdict refl after.stop_count endings
           begins after.fits.judged headline (played.over fewer));
-      kept = kept-of keeps done.count before.front rest.front left.judge.kept c.judge_rest.new.kept done.kept rules (subst (λ (f : Front). IsKept keeps rules f left.judge.kept) (sym settled.front) (played.kept rules kept_new));
+      kept = done.kept rules (subst (λ (f : Front). IsKept keeps rules f before.kept) (sym settled.front)
+          (subst (IsKept keeps rules front) (sym settled.kept) (c.in_ok-left.ensures.kept rules (c.keeping-pump.ensures.keeps rules c.in-Ok-new.ensures.fits))));
     }

@@ -1,5 +1,5 @@
 -- The last window of the log is kept.
-use Rattle.std.proofs.Common.{◌≡◌, None, subst, sym}
+use Rattle.std.proofs.Common.{◌≡◌, None, ap, ◌∙◌, subst, sym}
 use Rattle.tmw_bench.specs.Benched.{HasBenched}
 use Rattle.tmw_counts.specs.Parts.{part_by}
 use Rattle.tmw_counts.specs.Summaries.{IsSummary}
@@ -8,10 +8,12 @@ use Rattle.tmw_defs.specs.Opaque.{zeros}
 use Rattle.tmw_defs.specs.declared.verdict.Verdict.{Verdict}
 use Rattle.tmw_monitor.specs.Fitting.{Fits, rules_of}
 use Rattle.tmw_monitor.specs.declared.monitor.Monitor.{Monitor}
+use Rattle.tmw_pump.specs.Fronts.{front_part}
+use Rattle.tmw_pump.specs.declared.front.Front.{Front}
 use Rattle.tmw_runs.specs.Scripts.{scripts_of}
-use Rattle.tmw_show.specs.Keeping.{KeepsShown}
-use Rattle.tmw_show.specs.Reasons.{IsReason}
-use Rattle.tmw_show.proofs.Reasons.{none-told}
+use Rattle.tmw_window.specs.Keeping.{KeepsShown}
+use Rattle.tmw_window.specs.Reasons.{IsReason}
+use Rattle.tmw_window.proofs.Reasons.{none-told}
 use Rattle.tmw_bench.proofs.bench.hunt.Goals as goal
 
 pub returns-clause-ok : goal.returns-clause-ok
@@ -23,10 +25,12 @@ returns-clause-ok g c =
     let carried = c.in_ok-carried.carried in
     let done = c.in_ok-carried.ensures.ok in
     let log = carried.rest.front.judged.items in
-    let same = sym c.monitor.ensures in
+    let back = c.into_kept-front.ensures in
+    let same = sym (c.monitor.ensures ∙ ap (λ (front : Front). front.monitor) back.front) in
     let reason = none-told rules log carried.rest.front.monitor.verdict done.benched.formed in
     let shown = c.finish.ensures rules log (subst (λ (m : Monitor). Fits rules log m) same done.kept.fits)
-    (subst (λ (m : Monitor). KeepsShown rules log m.verdict carried.kept.window) same done.kept.keeps_it)
+    (subst (λ kept. KeepsShown rules log c.monitor.result.now.verdict kept.window) (sym back.kept)
+    (subst (λ (m : Monitor). KeepsShown rules log m.verdict carried.rest.kept.window) same done.kept.keeps_it))
     (subst (λ (m : Monitor). IsReason rules log m.verdict None) same reason) in
     let verdict : carried.rest.front.monitor.verdict ≡ c.finish.result.verdict =
     verdict-one rules log carried.rest.front.monitor.verdict c.finish.result.verdict done.kept.fits.judged shown.judged in record {
@@ -34,5 +38,6 @@ returns-clause-ok g c =
       benched = subst (λ (v : Verdict). HasBenched gives workload.registers scripts c.args.settings log v carried.ends.items carried.rounds) verdict
           done.benched;
       shown = shown;
-      summary = subst (λ (v : Verdict). IsSummary (part_by v log) c.summary.result) verdict c.summary.ensures;
+      summary = subst (λ (v : Verdict). IsSummary (part_by v log) c.summary.result) verdict
+          (subst (λ (front : Front). IsSummary (front_part front) c.summary.result) back.front c.summary.ensures);
     }

@@ -5,6 +5,8 @@ use Rattle.tmw_counts.specs.Parts.{part_by}
 use Rattle.tmw_counts.specs.Summaries.{IsSummary}
 use Rattle.tmw_defs.specs.declared.verdict.Verdict.{Verdict}
 use Rattle.tmw_events.specs.declared.event.Event.{Event}
+use Rattle.tmw_pump.specs.Fronts.{front_part}
+use Rattle.tmw_pump.specs.declared.front.Front.{Front}
 use Rattle.tmw_runs.specs.Scripts.{scripts_of}
 use Rattle.tmw_bench.proofs.bench.run_bench.Goals as goal
 
@@ -15,11 +17,14 @@ returns-clause-ok g c =
     let gives = (goal.Tm-dyn g c.args.memory.now).gives c.args.memory.now.1 in
     let carried = c.in_ok-carried.carried in
     let done = c.in_ok-carried.ensures.ok in
+    let front = carried.rest.front in
+    let log = sym c.finish-log.ensures.judged in
+    let verdict = sym c.finish-log.ensures.verdict in
     record {
-      carried = subst (λ (l : List Event). HasBenched gives workload.registers scripts c.args.settings l c.verdict.result carried.ends.items carried.rounds)
-          (sym done.kept.keeps_it)
-          (subst (λ (v : Verdict). HasBenched gives workload.registers scripts c.args.settings carried.rest.front.judged.items v carried.ends.items carried.rounds)
-          (sym c.verdict.ensures.shown) done.benched);
-      summary = subst (λ (l : List Event). IsSummary (part_by c.verdict.result l) c.summary.result) (sym done.kept.keeps_it)
-          (subst (λ (v : Verdict). IsSummary (part_by v carried.rest.front.judged.items) c.summary.result) (sym c.verdict.ensures.shown) c.summary.ensures);
+      carried = subst (λ (l : List Event). HasBenched gives workload.registers scripts c.args.settings l c.finish-log.result.1 carried.ends.items carried.rounds)
+          log (subst (λ (v : Verdict). HasBenched gives workload.registers scripts c.args.settings front.judged.items v carried.ends.items carried.rounds)
+          verdict done.benched);
+      summary = subst (λ (l : List Event). IsSummary (part_by c.finish-log.result.1 l) c.summary-summary.result) log
+          (subst (λ (v : Verdict). IsSummary (part_by v front.judged.items) c.summary-summary.result) verdict
+          (subst (λ (f : Front). IsSummary (front_part f) c.summary-summary.result) c.front.ensures c.summary-summary.ensures));
     }

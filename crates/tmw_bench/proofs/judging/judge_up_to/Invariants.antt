@@ -4,4 +4,4 @@ use Rattle.tmw_ring.specs.Ends.{ReaderOf}
 use Rattle.tmw_bench.proofs.judging.judge_up_to.Given as goal
 
 abbrev pub invariant-loop : goal.invariant-loop
-invariant-loop g l = ReaderOf l.ring l.judge.forgetting.reader × HasGoneOn g.K.Keep.keeps l.fn.judge l.judge
+invariant-loop g l = ReaderOf l.ring l.pump.reader × HasGoneOn l.fn.pump l.pump

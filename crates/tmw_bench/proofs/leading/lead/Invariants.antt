@@ -9,7 +9,7 @@ use Rattle.tmw_bench.proofs.leading.lead.Given as goal
 
 abbrev pub invariant-loop-round : goal.invariant-loop-round
 invariant-loop-round g l =
-    ReaderOf l.ring l.judge.forgetting.reader × (length l.lines ≡ length l.fn.lines)
-    × ((rules : Rules) → Fits rules [] l.fn.judge.forgetting.front.monitor
-    → (bounds : List ℕ) × (l.round ≡ length bounds + 1) × HasLedTo rules (length bounds) bounds l.judge.forgetting.front l.fn.lines l.lines)
-    × HasGoneOn g.K.Keep.keeps l.fn.judge l.judge
+    ReaderOf l.ring l.pump.reader × (length l.lines ≡ length l.fn.lines)
+    × ((rules : Rules) → Fits rules [] l.fn.pump.front.monitor
+    → (bounds : List ℕ) × (l.round ≡ length bounds + 1) × HasLedTo rules (length bounds) bounds l.pump.front l.fn.lines l.lines)
+    × HasGoneOn l.fn.pump l.pump

@@ -3,12 +3,14 @@ use Rattle.tmw_bench.proofs.Leads.{gone_on-none, gone_on-then}
 use Rattle.tmw_bench.proofs.line.hear.Goals as goal
 
 pub loop-init : goal.loop-init
-loop-init g c = (c.requires.reader, gone_on-none g.K.Keep.keeps c.args.judge.now, search rules, search rules, search rules)
+loop-init g c = (c.requires.reader, gone_on-none c.args.pump.now, search rules, search rules, search rules)
 
 pub loop-preserved : goal.loop-preserved
 loop-preserved g c = (
-  c.in_ok-judged.ensures.of_ring,
-  gone_on-then g.K.Keep.keeps c.args.judge.now c.loop.judge c.pump.new.self c.loop.invariant.1 (c.in_ok-judged.judged, c.in_ok-judged.ensures.judged),
+  c.in_ok-pumped.ensures.of_ring,
+  let done = c.in_ok-pumped.ensures in
+      gone_on-then c.args.pump.now c.loop.pump c.pump.new.self c.loop.invariant.1
+      (record { count = c.in_ok-pumped.pumped.judged; judged = done.ok.counted.judged; kept = done.kept }),
   search rules,
   search rules,
   search rules,

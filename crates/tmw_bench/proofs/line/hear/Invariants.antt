@@ -7,5 +7,5 @@ use Rattle.tmw_bench.proofs.line.hear.Given as goal
 
 abbrev pub invariant-loop : goal.invariant-loop
 invariant-loop g l =
-    ReaderOf l.ring l.judge.forgetting.reader × HasGoneOn g.K.Keep.keeps l.initial.judge l.judge
+    ReaderOf l.ring l.pump.reader × HasGoneOn l.initial.pump l.pump
     × SameConsumer l.initial.line.up l.line.up × (received l.line.up ≡ received l.initial.line.up) × (l.line.down ≡ l.initial.line.down)

@@ -13,7 +13,7 @@ loop-line-preserved g c =
     let low : at.line-index < length at.lines = (let t = c.loop-line-test.true in let n = at.invariant.2.counted in omega (arith, t, n)) in
     let is : (fallback : Line) → get_or at.lines at.line-index fallback ≡ item = λ fallback. get_or_default at.lines at.line-index fallback c.line-item.result low in (
       one.reader,
-      gone_on-then g.K.Keep.keeps c.args.judge.now at.judge c.hear.new.judge at.invariant.1 one.goes_on,
+      gone_on-then c.args.pump.now at.pump c.hear.new.pump at.invariant.1 one.goes_on,
       heard-next c.args.lines.now at.lines at.line-index item c.hear.new.line c.in_ok-ended.ended low is one.heard at.invariant.2,
       elim c.if-is_stopped.branch [
         | then-is_stopped w ↦ λ _.
@@ -28,7 +28,7 @@ loop-line-preserved g c =
 pub loop-line-init : goal.loop-line-init
 loop-line-init g c = (
   c.requires.reader,
-  gone_on-none g.K.Keep.keeps c.args.judge.now,
+  gone_on-none c.args.pump.now,
   record { counted = refl; each = λ place fallback low. absurd (omega (arith, low)); rest = λ place fallback from. refl },
   λ none. absurd (cc),
 )

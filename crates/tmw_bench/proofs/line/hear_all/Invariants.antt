@@ -7,5 +7,5 @@ use Rattle.tmw_bench.proofs.line.hear_all.Given as goal
 
 abbrev pub invariant-loop-line : goal.invariant-loop-line
 invariant-loop-line g l =
-    ReaderOf l.ring l.judge.forgetting.reader × HasGoneOn g.K.Keep.keeps l.fn.judge l.judge
+    ReaderOf l.ring l.pump.reader × HasGoneOn l.fn.pump l.pump
     × HaveHeardUpTo l.line-index l.fn.lines l.lines × (IsTrue l.stopped → SomeToldStop l.line-index l.lines)

@@ -5,6 +5,7 @@ use Rattle.tmw_c.specs.Closing.{AreHeld, AreInPlace}
 use Rattle.tmw_c.specs.Opening.{AreEmpty}
 use Rattle.tmw_handles.specs.declared.held_watch.HeldWatch.TheVariants.{Shared}
 use Rattle.tmw_watch.proofs.Closings.{is_closed, is_left}
+use Rattle.tmw_watch.specs.Shown.{rest_of}
 use Rattle.tmw_watch.specs.declared.watch.Watch.{Watch}
 
 pub returns-then-not-are_in_place-clause-err : goal.returns-then-not-are_in_place-clause-err
@@ -85,7 +86,7 @@ returns-in-Ok-finish-clause-ok c =
       recorders = recorders;
       placed = subst (λ (n : ℕ). AreInPlace n c.args.handles.now) c.recorders.ensures (c.if-not-are_in_place.ensures.yes refl);
       taken = record { held = held; as_many = swapped.len; gone = gone };
-      closed = is_closed c.args.watch recorders c.in-Ok-end.closing.rest c.in-Ok-finish.whole ended.ok ended.front c.in-Ok-finish.ensures.ok;
+      closed = is_closed c.args.watch recorders (rest_of c.in-Ok-end.closing) c.in-Ok-finish.whole ended.ok ended.front c.in-Ok-finish.ensures.ok;
     }
 
 pub returns-in-Err-finish-clause-err : goal.returns-in-Err-finish-clause-err
@@ -107,6 +108,6 @@ returns-in-Err-finish-clause-err c =
       taken = record { held = held; as_many = swapped.len; gone = gone };
       closing = c.in-Err-finish.closing;
       left = refl;
-      is_left = is_left c.args.watch recorders c.in-Ok-end.closing.rest c.in-Err-finish.closing.rest ended.ok ended.front
+      is_left = is_left c.args.watch recorders (rest_of c.in-Ok-end.closing) (rest_of c.in-Err-finish.closing) ended.ok ended.front
           c.in-Err-finish.ensures.err;
     }))

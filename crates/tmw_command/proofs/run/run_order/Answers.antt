@@ -9,11 +9,11 @@ pub returns-in-Show : goal.returns-in-Show
 returns-in-Show g c = rw c.in-Show.is (c.show.ensures, refl)
 
 pub returns-in-Drive : goal.returns-in-Drive
-returns-in-Drive g c = rw c.in-Drive.is (rw (c.named-picked.ensures, c.written_of.ensures) at c.run_drive.ensures, refl)
+returns-in-Drive g c = rw c.in-Drive.is (rw c.pick.ensures at c.run_drive.ensures, refl)
 
 pub returns-in-Bench : goal.returns-in-Bench
 returns-in-Bench g c =
-    rw c.in-Bench.is (rw (c.named-picked-in-Bench.ensures, c.bench_flags.ensures, c.bench_settings.ensures) at c.run_bench_cmd.ensures)
+    rw c.in-Bench.is (rw c.pick-picked.ensures at c.run_bench_cmd.ensures)
 
 pub returns-in-Steps : goal.returns-in-Steps
 returns-in-Steps g c = rw c.in-Steps.is (c.run_steps.ensures, refl)

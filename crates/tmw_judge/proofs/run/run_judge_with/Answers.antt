@@ -2,13 +2,8 @@
 use Rattle.std.proofs.Common.{Ok, Err, inl, inr, refl}
 use Rattle.tmw_lines.specs.declared.text_fault.TextFault.TheVariants.{Memory as WantsMemory}
 use Rattle.tmw_report.specs.declared.fault.Fault.TheVariants.{Memory}
-use Rattle.tmw_judge.proofs.Answered.{memory-fault, own_verdicts}
+use Rattle.tmw_judge.proofs.Answered.{memory-fault}
 use Rattle.tmw_judge.proofs.run.run_judge_with.Goals as goal
-
-pub write_answer-requires : goal.write_answer-requires
-write_answer-requires g c =
-    let told = c.in-Ok.ensures.right in
-    own_verdicts c.args.options.summary c.args.options.bounds c.args.options.asked _ told.0 c.in-Ok.answer c.args.options.first told.2
 
 pub returns-in-Ok : goal.returns-in-Ok
 returns-in-Ok g c =

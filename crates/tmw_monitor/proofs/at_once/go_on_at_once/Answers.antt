@@ -1,9 +1,8 @@
 -- An event that the order which is kept explains leaves the history open and fine; where it ends the only transaction, the order leads to
 -- the only outcome.
-use Rattle.std.proofs.Common.{◌≡◌, ◌++◌, ◌∷◌, [], true, false, drop, refl, sym, ◌∙◌, inl, inr, arith}
+use Rattle.std.proofs.Common.{◌≡◌, ◌++◌, ◌∷◌, [], false, drop, refl, sym, ◌∙◌, inr, arith}
 use Rattle.std.specs.List.{Contains}
 use Rattle.tmw_defs.specs.History.{transactions}
-use Rattle.tmw_defs.specs.Opaque.{State}
 use Rattle.tmw_defs.specs.Outcomes.{Ends}
 use Rattle.tmw_wellformed.specs.Tracks.{Tracks}
 use Rattle.tmw_cuts.specs.Members.{members}

@@ -1,5 +1,5 @@
 -- A quiet event that leaves a transaction live: the window takes it, and a serial order that is known goes on with it.
-use Rattle.std.proofs.Common.{◌++◌, ◌∷◌, [], refl, inl}
+use Rattle.std.proofs.Common.{refl, inl}
 use Rattle.tmw_cuts.specs.Members.{members}
 use Rattle.tmw_monitor.proofs.taken.take_quiet.Goals as goal
 

@@ -1,5 +1,5 @@
 -- The window takes the event, a serial order that is known goes on with it, and what is then weighed tells.
-use Rattle.std.proofs.Common.{◌≡◌, ◌++◌, ◌∷◌, [], Result, Ok, Err, IfOk, rules}
+use Rattle.std.proofs.Common.{◌++◌, ◌∷◌, [], Result, Ok, Err, IfOk, rules}
 use Rattle.tmw_cuts.specs.Members.{members}
 use Rattle.tmw_monitor.proofs.taken.take_weighed.Goals.{then-not-explained, else-not-explained}
 use Rattle.tmw_monitor.proofs.taken.take_weighed.Goals as goal

@@ -1,16 +1,16 @@
 ghost use Rattle.std.specs.Prelude.{◌≡◌, ◌++◌, OnOk};
-ghost use Rattle.tmw_show.specs.Page.{about_json, criterion_json, event_json, events_json, json_text, mark_json, more_events, more_states, numbers_json, settled_at, state_json, states_json, window_json};
-ghost use Rattle.tmw_show.specs.Running.{IsVerdictBy};
+ghost use Rattle.tmw_show.specs.Page.{about_json, criterion_json, event_json, json_text, mark_json, numbers_json, settled_at, state_json, window_json};
 
-use crate::command::kind_text::{digit_of, push_kind};
+use crate::command::event_text::push_event;
 use crate::command::numbers::{push_number, push_values};
+use crate::command::part::{Part, push_list};
 use crate::command::shown::Shown;
-use crate::command::text::line_by;
 use crate::command::told::{Told, told_of};
 use std::alloc::{AllocError, Global};
 use tmw_cuts::State;
 use tmw_defs::{Criterion, Verdict};
 use tmw_events::{Event, Registers};
+use tmw_report::report_by;
 
 /// Adds what is shown by this criterion as one JSON object: the members of the report, the criterion, how many registers
 /// there are and how many events stand before the window; its states and its events; and what is wrong, if anything is.
@@ -20,7 +20,6 @@ pub fn push_json(
     criterion: Criterion,
     shown: &Shown,
 ) -> Result<(), AllocError>
-    requires { IsVerdictBy criterion shown.now.showing.verdict }
     ensures { OnOk result (text.new.items ≡ text.old.items ++ json_text criterion shown.now) }
 {
     let showing = &shown.showing;
@@ -48,11 +47,10 @@ fn push_about(
     criterion: Criterion,
     shown: &Shown,
 ) -> Result<(), AllocError>
-    requires { IsVerdictBy criterion shown.now.showing.verdict }
     ensures { OnOk result (text.new.items ≡ text.old.items ++ about_json criterion shown.now) }
 {
     let showing = &shown.showing;
-    let line = line_by(alloc, criterion, showing.fed, &showing.verdict)?;
+    let line = report_by(alloc, criterion, showing.fed, &showing.verdict)?;
     text.extend_from_slice(b"{\"report\":")?;
     text.extend_from_slice(line.as_bytes())?;
     push_numbers(text, criterion, shown.registers, showing.from)?;
@@ -97,86 +95,43 @@ fn push_window(
         (text.new.items ≡ text.old.items ++ window_json registers states.now events.now) }
 {
     text.extend_from_slice(b",\"states\":[")?;
-    push_states(text, registers, states)?;
+    push_list(text, &StateString { registers }, states)?;
     text.extend_from_slice(b"],\"events\":[")?;
-    push_events(text, events)?;
+    push_list(text, &EventString, events)?;
     text.push(b']')?;
     Ok(())
 }
 
-/// Adds the states, with a comma between each and the next.
-fn push_states(text: &mut Vec<u8>, registers: Registers, states: &[State]) -> Result<(), AllocError>
-    ensures { OnOk result (text.new.items ≡ text.old.items ++ states_json registers states.now) }
-{
-    let [first, rest @ ..] = states else {
-        return Ok(());
-    };
-    push_state(text, b"\"", registers, *first)?;
-    push_more_states(text, registers, rest)?;
-    Ok(())
-}
-
-/// Adds further states, with a comma before each.
-fn push_more_states(
-    text: &mut Vec<u8>,
+/// A state as a string, after a comma.
+#[derive(Drop)]
+struct StateString {
     registers: Registers,
-    states: &[State],
-) -> Result<(), AllocError>
-    ensures { OnOk result (text.new.items ≡ text.old.items ++ more_states registers states.now) }
-{
-    for state in states {
-        push_state(text, b",\"", registers, *state)?;
+}
+
+impl Part<State> for StateString {
+    ghost part = { λ own state. state_json own.registers state };
+
+    fn push(&self, text: &mut Vec<u8>, state: &State) -> Result<(), AllocError> {
+        text.extend_from_slice(b",\"")?;
+        push_values(text, &state[..self.registers.get() as usize])?;
+        text.push(b'"')?;
+        Ok(())
     }
-    Ok(())
 }
 
-/// Adds a state as a string, after what opens it.
-fn push_state(
-    text: &mut Vec<u8>,
-    opened: &[u8],
-    registers: Registers,
-    state: State,
-) -> Result<(), AllocError>
-    ensures { OnOk result
-        (text.new.items ≡ text.old.items ++ state_json opened.now registers state) }
-{
-    text.extend_from_slice(opened)?;
-    push_values(text, &state[..registers.get() as usize])?;
-    text.push(b'"')?;
-    Ok(())
-}
+/// An event as a string, after a comma: its line in a trace.
+#[derive(Drop)]
+struct EventString;
 
-/// Adds the events, with a comma between each and the next.
-fn push_events(text: &mut Vec<u8>, events: &[Event]) -> Result<(), AllocError>
-    ensures { OnOk result (text.new.items ≡ text.old.items ++ events_json events.now) }
-{
-    let [first, rest @ ..] = events else {
-        return Ok(());
-    };
-    push_event(text, b"\"", *first)?;
-    push_more_events(text, rest)?;
-    Ok(())
-}
+impl Part<Event> for EventString {
+    ghost part = { λ own event. event_json event };
 
-/// Adds further events, with a comma before each.
-fn push_more_events(text: &mut Vec<u8>, events: &[Event]) -> Result<(), AllocError>
-    ensures { OnOk result (text.new.items ≡ text.old.items ++ more_events events.now) }
-{
-    for event in events {
-        push_event(text, b",\"", *event)?;
+    fn push(&self, text: &mut Vec<u8>, event: &Event) -> Result<(), AllocError> {
+        text.extend_from_slice(b",\"")?;
+        push_event(text, event)?;
+        text.push(b'"')?;
+        Ok(())
     }
-    Ok(())
-}
-
-/// Adds an event as a string, after what opens it: its line in a trace.
-fn push_event(text: &mut Vec<u8>, opened: &[u8], event: Event) -> Result<(), AllocError>
-    ensures { OnOk result (text.new.items ≡ text.old.items ++ event_json opened.now event) }
-{
-    text.extend_from_slice(opened)?;
-    text.extend_from_slice(&[digit_of(event.thread), b' '])?;
-    push_kind(text, event.kind)?;
-    text.push(b'"')?;
-    Ok(())
 }
 
 /// Adds the number of the event at which something is wrong, and what is told of it, if the verdict names one.

@@ -1,5 +1,5 @@
 -- The next verdict is that of the history with the event, and where memory was refused the history fits as before.
-use Rattle.std.proofs.Common.{rules, ◌≡◌, ◌∷◌, [], ◌++◌, ◌↔◌, length, Some, None, arith}
+use Rattle.std.proofs.Common.{rules, ◌≡◌, ◌∷◌, [], ◌++◌, length, arith}
 use Rattle.std.proofs.lemmas.Result.{err_from_is_err_and}
 use Rattle.tmw_defs.specs.Criteria.{so_far}
 use Rattle.tmw_monitor.proofs.Feeding.{fits-next, fits-wrong, fits-kept}

@@ -1,32 +1,100 @@
-use Rattle.std.proofs.Common.{sym, ap, subst}
+use Rattle.std.proofs.Common.{◌≡◌, ℕ, refl, ap, ◌∙◌, subst, inl, inr, arith}
 use Rattle.std.proofs.lemmas.Result.{err_from_is_err_and}
-use Rattle.tmw_pump.proofs.Calls.{is_pumped, gives_pumped, judged_all}
+use Rattle.tmw_pump.proofs.HeadlineProof.{gives_headline}
+use Rattle.tmw_pump.proofs.Keeping.{was_kept}
+use Rattle.tmw_pump.proofs.Turns.{fits-came, pumped-came, pumped-more, pumped-next, pumped-refused}
 use Rattle.tmw_pump.proofs.pump.Pump.pump.Goals as goal
-use Rattle.tmw_pump.specs.Pumping.{IsPumped}
-use Rattle.tmw_pump.specs.declared.pumped.Pumped.{Pumped}
-use Rattle.tmw_pump.specs.declared.pump.Pump.{Pump}
+use Rattle.tmw_pump.specs.Pumping.{HasPumped, pump_in}
 
-pub returns-in_err-judged-clause-err : goal.returns-in_err-judged-clause-err
-returns-in_err-judged-clause-err c =
+pub returns-in_default-clause-ok : goal.returns-in_default-clause-ok
+returns-in_default-clause-ok g c =
+    let old = pump_in c.args.self.now in
+    let at = c.loop-judged in
+    let next = c.next.new.self in
+    let below = c.loop-judged-test.true in
+    let come = c.next.ensures.front in
+    rw c.pumped.ensures (record {
+      last = at.self.reader;
+      counted = pumped-came at.judged c.next.result old at.self.reader at.self.front next.front at.invariant.1 come;
+      ended = inr (below, c.in_default.ensures.none);
+      verdict = refl;
+      held = λ _. come.held ∙ c.in_default.is;
+      idle = λ none. absurd (omega (arith, none, below));
+    })
+
+pub returns-in_default-clause-headline : goal.returns-in_default-clause-headline
+returns-in_default-clause-headline g c =
+    let at = c.loop-judged in
+    let next = c.next.new.self in
+    gives_headline c.args.self.now.front next.reader.taken next.front
+    (λ by fits. fits-came c.next.result at.self.front next.front c.next.ensures.front by (at.invariant.1.judged.fits by fits)) next.all
+
+pub invariant_of-self : goal.invariant_of-self
+invariant_of-self g c =
+    let next = c.next.new.self in
+    let new = c.judge_held.new in record {
+      all = c.judge_held.ensures.came ∙ next.all;
+      keeps = was_kept g.K.Keep.keeps next.front new.front next.kept new.kept next.keeps c.judge_held.ensures.kept;
+    }
+
+pub returns-in_err-judge_held-clause-err : goal.returns-in_err-judge_held-clause-err
+returns-in_err-judge_held-clause-err g c =
     let p = err_from_is_err_and c.from_residual.result c.from_residual.ensures.1 in
-    let (count, fewer, judged, event, held) = c.in_err-judged.ensures.err in
-    rw p.1 (record { count = count; fewer = fewer; counted = judged; event = event; held = held })
+    let old = pump_in c.args.self.now in
+    let at = c.loop-judged in
+    let next = c.next.new.self in
+    let come = c.next.ensures.front in
+    let refused = c.in_err-judge_held.ensures in
+    rw p.1 (record {
+      count = at.judged;
+      fewer = c.loop-judged-test.true;
+      counted = pumped-refused at.judged old next.reader next.front c.judge_held.new.front
+          (pumped-next at.judged c.next.result old (pump_in at.self) (pump_in next) at.invariant.1 c.in-Some.ensures.taken come) refused.stays
+          refused.fits;
+      event = c.in-Some.event;
+      held = refused.held ∙ come.held ∙ c.in-Some.is;
+    })
 
-pub returns-in_err-judged-clause-headline : goal.returns-in_err-judged-clause-headline
-returns-in_err-judged-clause-headline c =
-    let (count, fewer, judged, event, held) = c.in_err-judged.ensures.err in
-    gives_pumped count c.args.self.now.forgetting c.judge_some.new.turns.forgetting judged.judged
+pub returns-in_err-judge_held-clause-headline : goal.returns-in_err-judge_held-clause-headline
+returns-in_err-judge_held-clause-headline g c =
+    let at = c.loop-judged in
+    let next = c.next.new.self in
+    gives_headline c.args.self.now.front next.reader.taken c.judge_held.new.front
+    (λ by fits. c.judge_held.ensures.fits by
+    (fits-came c.next.result at.self.front next.front c.next.ensures.front by (at.invariant.1.judged.fits by fits)))
+    (c.judge_held.ensures.came ∙ next.all)
+
+pub loop-judged-preserved : goal.loop-judged-preserved
+loop-judged-preserved g c =
+    let old = pump_in c.args.self.now in
+    let at = c.loop-judged in
+    let next = c.next.new.self in
+    let done = c.in_ok-judge_held.ensures in (
+      c.next.ensures.of_ring,
+      pumped-more at.judged old next.reader next.front c.judge_held.new.front c.in-Some.event
+          (pumped-next at.judged c.next.result old (pump_in at.self) (pump_in next) at.invariant.1 c.in-Some.ensures.taken c.next.ensures.front)
+          done.judged done.fits,
+      λ rules was. done.kept rules (c.next.ensures.kept rules (at.invariant.2 rules was)),
+      λ _. done.free,
+      λ none. absurd (omega (arith, none)),
+    )
 
 pub returns-clause-ok : goal.returns-clause-ok
-returns-clause-ok c =
-    let old = c.args.self.now.forgetting in
-    let new = c.judge_some.new.turns.forgetting in
-    let done = c.in_ok-judged.ensures in
-    subst (λ (p : Pumped). IsPumped c.args.max p old new) (sym c.pumped.ensures)
-    (is_pumped c.args.max c.in_ok-judged.judged old new done.ok done.free (λ none. ap (λ (held : Pump). held.forgetting) (c.judge_some.ensures.idle none)))
+returns-clause-ok g c =
+    let old = pump_in c.args.self.now in
+    let at = c.loop-judged in
+    let new = pump_in at.self in
+    let all : at.judged ≡ c.args.max = (let past = c.loop-judged-test.false in let within = at.auto.judged-end in omega (arith, past, within)) in
+    rw c.pumped-2.ensures (record {
+      last = new.reader;
+      counted = subst (λ (count : ℕ). HasPumped count old new.reader new.front) all at.invariant.1;
+      ended = inl (refl, refl);
+      verdict = refl;
+      held = λ some. at.invariant.3 (omega (arith, some, all));
+      idle = λ none. ap pump_in (at.invariant.4 (omega (arith, none, all)));
+    })
 
 pub returns-clause-headline : goal.returns-clause-headline
-returns-clause-headline c =
-    let old = c.args.self.now.forgetting in
-    let new = c.judge_some.new.turns.forgetting in
-    gives_pumped c.in_ok-judged.judged old new (judged_all c.args.max c.in_ok-judged.judged old new c.in_ok-judged.ensures.ok)
+returns-clause-headline g c =
+    let at = c.loop-judged in
+    gives_headline c.args.self.now.front at.self.reader.taken at.self.front at.invariant.1.judged.fits at.self.all

@@ -1,10 +1,20 @@
-use Rattle.std.proofs.Common.{List, sym, subst}
+use Rattle.std.proofs.Common.{List, ap, sym, ◌∙◌, subst}
+use Rattle.tmw_defs.specs.declared.verdict.Verdict.{Verdict}
 use Rattle.tmw_events.specs.declared.event.Event.{Event}
+use Rattle.tmw_pump.proofs.HeadlineProof.{gives_rest}
+use Rattle.tmw_pump.proofs.Keeping.{all_kept}
 use Rattle.tmw_pump.proofs.rest.Rest.finish.Goals as goal
 use Rattle.tmw_pump.specs.Headline.{GivesHeadline}
-use Rattle.tmw_pump.specs.Resting.{all_of}
+use Rattle.tmw_pump.specs.Resting.{all_of, rest_in}
+
+pub returns-clause-judged : goal.returns-clause-judged
+returns-clause-judged c =
+    let rest = c.args.self in
+    ap (λ log. log.items) c.into_kept.ensures.kept ∙ all_kept rest.front rest.kept rest.keeps
 
 pub returns-clause-headline : goal.returns-clause-headline
 returns-clause-headline c =
-    let rest = c.args.self.forgetting in
-    subst (λ (judged : List Event). GivesHeadline rest.front (all_of rest) judged c.finish.result.1) (sym c.args.self.kept) c.finish.ensures.headline
+    let rest = c.args.self in
+    subst (λ (judged : List Event). GivesHeadline rest.front (all_of (rest_in rest)) judged c.verdict-verdict.result) (sym (returns-clause-judged c))
+    (subst (λ (verdict : Verdict). GivesHeadline rest.front (all_of (rest_in rest)) rest.front.judged.items verdict) (sym c.verdict-verdict.ensures.shown)
+    (gives_rest rest.front rest.front rest.settled (λ by fits. fits)))

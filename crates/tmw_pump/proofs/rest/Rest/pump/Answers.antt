@@ -1,32 +1,67 @@
-use Rattle.std.proofs.Common.{sym, ap, subst}
+use Rattle.std.proofs.Common.{◌∙◌, arith}
 use Rattle.std.proofs.lemmas.Result.{err_from_is_err_and}
-use Rattle.tmw_pump.proofs.Calls.{is_rested, gives_rested, rested_all}
+use Rattle.tmw_pump.proofs.HeadlineProof.{gives_rest}
+use Rattle.tmw_pump.proofs.Keeping.{was_kept}
+use Rattle.tmw_pump.proofs.Turns.{few-came, fits-came, rested-more, rested-next, rested-refused}
 use Rattle.tmw_pump.proofs.rest.Rest.pump.Goals as goal
-use Rattle.tmw_pump.specs.Resting.{IsRested}
-use Rattle.tmw_pump.specs.declared.pumped.Pumped.{Pumped}
-use Rattle.tmw_pump.specs.declared.rest.Rest.{Rest}
+use Rattle.tmw_pump.specs.Resting.{rest_in}
 
-pub returns-in_err-judged-clause-err : goal.returns-in_err-judged-clause-err
-returns-in_err-judged-clause-err c =
+pub returns-in_default-clause-headline : goal.returns-in_default-clause-headline
+returns-in_default-clause-headline g c =
+    let at = c.loop-judged in
+    let next = c.next.new.self in
+    gives_rest c.args.self.now.front next.front next.settled
+    (λ by fits. fits-came c.next.result at.self.front next.front c.next.ensures.front by (at.invariant.0.judged.fits by fits))
+
+pub invariant_of-self : goal.invariant_of-self
+invariant_of-self g c =
+    let next = c.next.new.self in
+    let new = c.judge_held.new in record {
+      few = few-came next.settled next.front new.front c.judge_held.ensures.came next.few;
+      keeps = was_kept g.K.Keep.keeps next.front new.front next.kept new.kept next.keeps c.judge_held.ensures.kept;
+    }
+
+pub returns-in_err-judge_held-clause-err : goal.returns-in_err-judge_held-clause-err
+returns-in_err-judge_held-clause-err g c =
     let p = err_from_is_err_and c.from_residual.result c.from_residual.ensures.1 in
-    let (count, fewer, judged, event, held) = c.in_err-judged.ensures.err in
-    rw p.1 (record { count = count; fewer = fewer; counted = judged; event = event; held = held })
+    let old = rest_in c.args.self.now in
+    let at = c.loop-judged in
+    let next = c.next.new.self in
+    let come = c.next.ensures.front in
+    let refused = c.in_err-judge_held.ensures in
+    rw p.1 (record {
+      count = at.judged;
+      fewer = c.loop-judged-test.true;
+      counted = rested-refused at.judged old next.settled next.front c.judge_held.new.front
+          (rested-next at.judged c.next.result old (rest_in at.self) (rest_in next) at.invariant.0 c.next.ensures.all come) refused.stays refused.came
+          refused.fits;
+      event = c.in-Some.event;
+      held = refused.held ∙ come.held ∙ c.in-Some.is;
+    })
 
-pub returns-in_err-judged-clause-headline : goal.returns-in_err-judged-clause-headline
-returns-in_err-judged-clause-headline c =
-    let (count, fewer, judged, event, held) = c.in_err-judged.ensures.err in
-    gives_rested count c.args.self.now.forgetting c.judge_some.new.turns.forgetting judged
+pub returns-in_err-judge_held-clause-headline : goal.returns-in_err-judge_held-clause-headline
+returns-in_err-judge_held-clause-headline g c =
+    let at = c.loop-judged in
+    let next = c.next.new.self in
+    gives_rest c.args.self.now.front c.judge_held.new.front next.settled
+    (λ by fits. c.judge_held.ensures.fits by
+    (fits-came c.next.result at.self.front next.front c.next.ensures.front by (at.invariant.0.judged.fits by fits)))
 
-pub returns-clause-ok : goal.returns-clause-ok
-returns-clause-ok c =
-    let old = c.args.self.now.forgetting in
-    let new = c.judge_some.new.turns.forgetting in
-    let done = c.in_ok-judged.ensures in
-    subst (λ (p : Pumped). IsRested c.args.max p old new) (sym c.pumped.ensures)
-    (is_rested c.args.max c.in_ok-judged.judged old new done.ok done.free (λ none. ap (λ (held : Rest). held.forgetting) (c.judge_some.ensures.idle none)))
+pub loop-judged-preserved : goal.loop-judged-preserved
+loop-judged-preserved g c =
+    let old = rest_in c.args.self.now in
+    let at = c.loop-judged in
+    let next = c.next.new.self in
+    let done = c.in_ok-judge_held.ensures in (
+      rested-more at.judged old next.settled next.front c.judge_held.new.front c.in-Some.event
+          (rested-next at.judged c.next.result old (rest_in at.self) (rest_in next) at.invariant.0 c.next.ensures.all c.next.ensures.front) done.judged
+          done.came done.fits,
+      λ rules was. done.kept rules (c.next.ensures.kept rules (at.invariant.1 rules was)),
+      λ _. done.free,
+      λ none. absurd (omega (arith, none)),
+    )
 
 pub returns-clause-headline : goal.returns-clause-headline
-returns-clause-headline c =
-    let old = c.args.self.now.forgetting in
-    let new = c.judge_some.new.turns.forgetting in
-    gives_rested c.in_ok-judged.judged old new (rested_all c.args.max c.in_ok-judged.judged old new c.in_ok-judged.ensures.ok)
+returns-clause-headline g c =
+    let at = c.loop-judged in
+    gives_rest c.args.self.now.front at.self.front at.self.settled at.invariant.0.judged.fits

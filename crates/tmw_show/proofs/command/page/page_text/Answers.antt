@@ -1,8 +1,12 @@
--- An empty text with the page added is the page.
-use Rattle.std.proofs.Common.{◌++◌, ap, ◌∙◌}
-use Rattle.tmw_show.specs.Page.{page_text}
+-- Each part follows the one before it, and nothing precedes the first.
+use Rattle.std.proofs.Common.{[], ◌++◌, ap, ◌∙◌}
+use Rattle.tmw_show.specs.Page.{json_text}
+use Rattle.tmw_show.specs.declared.command.page.parts.TheConstants.{HEAD, TAIL}
+use Rattle.tmw_show.proofs.Appends.{three}
 use Rattle.tmw_show.proofs.command.page.page_text.Goals as goal
 
 pub returns : goal.returns
 returns c =
-    c.in_ok-push_page.ensures ∙ ap (λ xs. xs ++ page_text c.args.criterion c.args.shown.now) c.new-text.ensures.items
+    three [] HEAD.now (json_text c.args.criterion c.args.shown.now)
+    (c.in_ok-extend_from_slice.ensures.items ∙ ap (λ xs. xs ++ HEAD.now) c.new-text.ensures.items)
+    c.in_ok-push_json.ensures TAIL.now c.in_ok-extend_from_slice-2.ensures.items

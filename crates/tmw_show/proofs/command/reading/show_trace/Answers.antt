@@ -5,8 +5,8 @@ use Rattle.tmw_lines.proofs.TextsRead.{soon-behind}
 use Rattle.tmw_streams.proofs.ToldBytes.{Tells-more}
 use Rattle.tmw_trace.specs.Text.{trace_grammar}
 use Rattle.tmw_monitor.specs.Fitting.{rules_for}
-use Rattle.tmw_show.specs.Feeding.{TakeEvents, LackAnEvent}
-use Rattle.tmw_show.specs.declared.last_window.LastWindow.{LastWindow}
+use Rattle.tmw_window.specs.Feeding.{TakeEvents, LackAnEvent}
+use Rattle.tmw_window.specs.declared.last_window.LastWindow.{LastWindow}
 use Rattle.tmw_show.proofs.GivenFaults.{given-fault}
 use Rattle.tmw_show.proofs.command.reading.show_trace.Goals as goal
 

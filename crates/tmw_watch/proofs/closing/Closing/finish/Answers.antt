@@ -1,8 +1,11 @@
-use Rattle.std.proofs.Common.{◌^◌, ◌-◌, arith}
+use Rattle.std.proofs.Common.{◌^◌, ◌-◌, length, ap, ◌∙◌, arith}
+use Rattle.tmw_pump.specs.Resting.{rest_in}
+use Rattle.tmw_pump.specs.declared.front.Front.{Front}
 use Rattle.tmw_watch.proofs.Closings.{is_judged}
 use Rattle.tmw_watch.proofs.closing.Closing.finish.Goals as goal
 
 pub returns-clause-ok : goal.returns-clause-ok
 returns-clause-ok c =
-    is_judged (2 ^ 64 - 1) c.in-Ok.field-0 c.args.self.rest c.pump.new.self record { events = c.finish-events.result.0; verdict = c.finish-events.result.1 }
-    (omega arith) c.in-Ok.ensures.ok c.finish-events.ensures.fed c.finish-events.ensures.headline
+    let new = c.pump.new.self in
+    is_judged (2 ^ 64 - 1) c.in-Ok.field-0 (rest_in c.args.self.rest) (rest_in new) record { events = c.fed.result; verdict = c.verdict.result } (omega arith)
+    new.few c.in-Ok.ensures.ok (c.fed.ensures ∙ ap (λ (front : Front). length front.judged.items) c.front.ensures) c.verdict.ensures.shown

@@ -5,6 +5,7 @@ use Rattle.tmw_pump.specs.Resting.{all_of}
 use Rattle.tmw_watch.proofs.Closings.{ended_again, is_closed, is_left, of_ring_placed}
 use Rattle.tmw_watch.proofs.watch.Watch.close.Goals as goal
 use Rattle.tmw_watch.specs.Closing.{writers_of}
+use Rattle.tmw_watch.specs.Shown.{rest_of}
 use Rattle.tmw_watch.specs.declared.recorder.Recorder.{Recorder}
 
 pub returns-in-Err-clause-err : goal.returns-in-Err-clause-err
@@ -41,7 +42,7 @@ returns-in-Ok-finish-clause-ok c =
     let watch = c.args.self in
     let given = c.args.recorders.items in
     let placed = c.in-Ok.recorders.items in
-    let rest = c.in-Ok-end.closing.rest in
+    let rest = rest_of c.in-Ok-end.closing in
     let ended = c.in-Ok-end.ensures in
     is_closed watch given rest c.in-Ok-finish.report (ended_again watch given placed (all_of rest) c.in-Ok.ensures.ok ended.ok) ended.front
     c.in-Ok-finish.ensures.ok
@@ -51,7 +52,7 @@ returns-in-Err-finish-clause-err c =
     let watch = c.args.self in
     let given = c.args.recorders.items in
     let placed = c.in-Ok.recorders.items in
-    let rest = c.in-Ok-end.closing.rest in
+    let rest = rest_of c.in-Ok-end.closing in
     let ended = c.in-Ok-end.ensures in
-    is_left watch given rest c.in-Err-finish.closing.rest (ended_again watch given placed (all_of rest) c.in-Ok.ensures.ok ended.ok) ended.front
+    is_left watch given rest (rest_of c.in-Err-finish.closing) (ended_again watch given placed (all_of rest) c.in-Ok.ensures.ok ended.ok) ended.front
     c.in-Err-finish.ensures.err

@@ -10,7 +10,7 @@ returns-clause-ok c =
     let settings = c.args.settings in
     let made = c.in_ok-made.ensures.ok in
     let recorders = c.in_ok-recorders.ensures in
-    let pump = c.new-2.ensures in
+    let pump = c.keeping.ensures in
     let rules = rules_of settings.registers settings.start settings.bounds in
     record {
       sized = subst (λ (ring : RingIs). HasNumbers settings.cells settings.recorders settings.limit ring.size) (sym c.in_ok-ring.ensures.ok)

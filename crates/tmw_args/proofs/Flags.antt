@@ -1,0 +1,38 @@
+-- A flag is read from its text.
+use Rattle.std.proofs.Common.{◌≡◌, ◌∙◌, Bool, true, false, Option, Some, None, [], ◌∷◌, ap, sym, refl}
+use Rattle.std.specs.Prelude.{◌≢◌, codes, option_and_then}
+use Rattle.std.specs.Str.{bytes_eq}
+use Rattle.std.specs.Str.Parse.{ParsesBool, false_text, true_text}
+use Rattle.std.proofs.lemmas.Slice.Eq.{bytes_eq-Decides}
+use Rattle.clap.specs.Matches.{ReadsOne, one_text}
+use Rattle.clap.specs.Values.{bool_text}
+use Rattle.clap.specs.Words.{Text, rows_of}
+use Rattle.clap.specs.declared.parser.matches.Found.{Found}
+use Rattle.clap.proofs.WalkLemmas.{one_text-rows}
+use Rattle.tmw_args.specs.Names.{named}
+use Rattle.tmw_args.specs.Words.{flag_in}
+
+abbrev flag_named : Text → Option Bool
+flag_named = named bool_text (true ∷ false ∷ [])
+
+another-flag : (text : Text) → text ≢ true_text → text ≢ false_text → flag_named text ≡ None
+another-flag text not_true not_false = go (bytes_eq text (codes "true")) (bytes_eq text (codes "false")) refl refl
+  where
+    go : (one other : Bool) → bytes_eq text (codes "true") ≡ one → bytes_eq text (codes "false") ≡ other → flag_named text ≡ None
+    go true other is too = absurd (not_true ((bytes_eq-Decides text (codes "true")).0 is))
+    go false true is too = absurd (not_false ((bytes_eq-Decides text (codes "false")).0 too))
+    go false false is too = rw (is, too) refl
+
+flag-named : (E : Type 0) (text : Text) (read : Option Bool) → ReadsOne (ParsesBool {E = E}) text read → read ≡ flag_named text
+flag-named E text (Some true) is = sym (ap flag_named is)
+flag-named E text (Some false) is = sym (ap flag_named is)
+flag-named E text None is = sym (another-flag text is.1.0 is.1.1)
+
+-- the flag that was read is that of the words
+pub read-flag : (E : Type 0) (f : Found) (flag : Text) (read : Option Bool) → (one_text f flag ≡ None → read ≡ None)
+    → ((text : Text) → one_text f flag ≡ Some text → ReadsOne (ParsesBool {E = E}) text read) → read ≡ flag_in flag (rows_of f)
+read-flag E f flag read absent value = go (one_text f flag) refl
+  where
+    go : (text : Option Text) → one_text f flag ≡ text → read ≡ flag_in flag (rows_of f)
+    go None is = absent is ∙ sym (ap (option_and_then flag_named) (sym (one_text-rows f flag) ∙ is))
+    go (Some text) is = flag-named E text read (value text is) ∙ sym (ap (option_and_then flag_named) (sym (one_text-rows f flag) ∙ is))

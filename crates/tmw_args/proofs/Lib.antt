@@ -1,0 +1,10 @@
+mod Bounding
+mod Commands
+mod Counting
+mod EachName
+mod HelpWords
+mod Flags
+mod Refusals
+mod Sample
+mod Simple
+mod WrittenOut

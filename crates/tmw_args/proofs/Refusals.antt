@@ -1,0 +1,30 @@
+-- A refusal is a reading of the words of which the parse failed.
+use Rattle.std.proofs.Common.{◌≡◌, ◌∙◌, List, Err, inl, inr, subst, sym}
+use Rattle.clap.specs.Words.{App, IsAmong, Text}
+use Rattle.clap.specs.declared.error.kind.ErrorKind.{ErrorKind}
+use Rattle.clap.specs.declared.error.kind.ErrorKind.TheVariants.{ArgumentConflict, DisplayHelp, DisplayVersion, OutOfMemory}
+use Rattle.tmw_args.specs.Words.{kinds_of}
+use Rattle.tmw_args.specs.Reading.{FailsAs, IsRefusal, Reads}
+use Rattle.tmw_args.specs.declared.refusal.Refusal.{Refusal}
+use Rattle.tmw_args.specs.declared.refusal.Refusal.TheVariants.{Help, Version, Usage, Memory}
+
+pub refused-reads : (program : App) (words : List Text) (kind : ErrorKind) (refusal : Refusal) → FailsAs program words kind
+    → IsRefusal kind refusal → Reads program words (Err refusal)
+refused-reads program words kind (Help text) (inl memory) is =
+    let bad : OutOfMemory ≡ DisplayHelp = sym memory ∙ is in
+    absurd (cc)
+refused-reads program words kind (Help text) (inr (inl among)) is = subst (λ (k : ErrorKind). IsAmong k (kinds_of program words)) is among
+refused-reads program words kind (Help text) (inr (inr (other, nothing))) is =
+    let bad : ArgumentConflict ≡ DisplayHelp = sym other ∙ is in
+    absurd (cc)
+refused-reads program words kind Version (inl memory) is =
+    let bad : OutOfMemory ≡ DisplayVersion = sym memory ∙ is in
+    absurd (cc)
+refused-reads program words kind Version (inr (inl among)) is = subst (λ (k : ErrorKind). IsAmong k (kinds_of program words)) is among
+refused-reads program words kind Version (inr (inr (other, nothing))) is =
+    let bad : ArgumentConflict ≡ DisplayVersion = sym other ∙ is in
+    absurd (cc)
+refused-reads program words kind (Usage text) (inl memory) (not_memory, not_help, not_version) = absurd (not_memory memory)
+refused-reads program words kind (Usage text) (inr (inl among)) (not_memory, not_help, not_version) = inl (kind, among, not_help, not_version)
+refused-reads program words kind (Usage text) (inr (inr (other, nothing))) (not_memory, not_help, not_version) = inr nothing
+refused-reads program words kind Memory fails is = tt

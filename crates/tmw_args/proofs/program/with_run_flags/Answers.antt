@@ -1,0 +1,11 @@
+-- Each step adds its flag to those that are there.
+use Rattle.std.proofs.Common.{◌∙◌, ap, codes}
+use Rattle.std.proofs.lemmas.Result.{IfOk-weaker}
+use Rattle.clap.specs.Words.{App}
+use Rattle.tmw_args.specs.Program.{with_flag}
+use Rattle.tmw_args.proofs.program.with_run_flags.Goals as goal
+
+pub returns : goal.returns
+returns c =
+    let alone = c.in_ok-alone.ensures ∙ ap (λ (app : App). with_flag (codes "trace-only") app) c.in_ok-traced.ensures in
+    IfOk-weaker c.with_flag-3.result _ _ (λ command flagged. flagged ∙ ap (λ (app : App). with_flag (codes "summary") app) alone) c.with_flag-3.ensures

@@ -1,0 +1,14 @@
+use crate::run_options::RunOptions;
+use tmw_bench::Settings;
+
+/// What the options of `bench` say.
+#[derive(Clone, Copy, PartialEq, Eq, Debug)]
+pub struct BenchOptions {
+    pub written: RunOptions,
+    /// How threads record, how often they run the workload, and how the record is judged.
+    pub settings: Settings,
+    /// Whether the record's last window is shown.
+    pub show: bool,
+    /// Whether nobody is told how far the bench has come.
+    pub quiet: bool,
+}

@@ -1,0 +1,36 @@
+use crate::bench_options::BenchOptions;
+use crate::form::Form;
+use crate::run_options::RunOptions;
+use crate::which::Which;
+use tmw_defs::Criterion;
+use tmw_judge::Options;
+use tmw_monitor::Bounds;
+
+/// What the command line asks the program to do.
+#[derive(Clone, Copy, PartialEq, Eq, Debug)]
+pub enum Order {
+    /// To judge the trace on standard input, as these options say.
+    Judge(Options),
+    /// To judge the trace on standard input by this criterion within these bounds, and to show where it went wrong: its
+    /// last window, in this form.
+    Show {
+        criterion: Criterion,
+        form: Form,
+        bounds: Bounds,
+    },
+    /// To run the workload on standard input on this memory, and to judge the run within these bounds. The options say
+    /// what is written of it.
+    Drive {
+        memory: Which,
+        written: RunOptions,
+        bounds: Bounds,
+    },
+    /// To run the workload on standard input in threads on this memory, and to judge what they record, as these options
+    /// say.
+    Bench {
+        memory: Which,
+        options: BenchOptions,
+    },
+    /// To take the ring's steps that standard input lists.
+    Steps,
+}

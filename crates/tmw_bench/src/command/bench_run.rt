@@ -1,9 +1,0 @@
-use tmw_drive::Driven;
-
-/// What threads have made of a workload, with the header under which their log is written.
-#[derive(Debug, Drop)]
-pub struct BenchRun {
-    pub driven: Driven,
-    /// How many rounds were begun.
-    pub rounds: u64,
-}

@@ -1,0 +1,4 @@
+mod BenchAnswers
+mod DriveAnswers
+mod EndsLines
+mod Zeros

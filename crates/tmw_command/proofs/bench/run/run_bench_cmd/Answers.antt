@@ -1,0 +1,83 @@
+-- Where the lines found no memory, that fault answers, which is right of all bytes.
+use Rattle.std.proofs.Common.{◌≡◌, Ok, Err, inl, inr, false, refl, rules, true}
+use Rattle.tmw_defs.specs.Opaque.{zeros}
+use Rattle.tmw_monitor.specs.Fitting.{rules_of}
+use Rattle.tmw_show.proofs.Shows.{shown-within}
+use Rattle.tmw_report.specs.declared.fault.Fault.TheVariants.{Memory}
+use Rattle.tmw_command.specs.BenchRun.{asks_for_log}
+use Rattle.tmw_command.proofs.bench.run.run_bench_cmd.Goals as goal
+
+pub answer_hunt-requires : goal.answer_hunt-requires
+answer_hunt-requires g c =
+    let found = c.in-Ok-hunt_source.ensures.right.2.1 in
+    let shown = c.in-Ok-hunt_source.found.shown in
+    shown-within (rules_of shown.registers zeros c.args.options.now.settings.bounds) found.hunted.log shown.showing found.hunted.shown
+
+pub returns-in-Ok : goal.returns-in-Ok
+returns-in-Ok g c =
+    let told = c.in-Ok.ensures.right in
+    let is : asks_for_log c.args.options.now ≡ true = search rules in
+    rw is (elim c.answer_run.ensures [
+      | inl done ↦ record {
+        run = record { bytes = told.0; answer = Ok c.in-Ok.found; told = told.1; right = told.2; failures = c.in-Ok.ensures.failures; put = done.0 };
+        remarked = done.1;
+      }
+      | inr done ↦ record {
+        run = record { bytes = told.0; answer = Err Memory; told = told.1; right = tt; failures = c.in-Ok.ensures.failures; put = done.0 };
+        remarked = done.1;
+      }
+    ])
+
+pub returns-in-Ok-hunt_source : goal.returns-in-Ok-hunt_source
+returns-in-Ok-hunt_source g c =
+    let told = c.in-Ok-hunt_source.ensures.right in
+    let is : asks_for_log c.args.options.now ≡ false = search rules in
+    rw is (elim c.answer_hunt.ensures [
+      | inl done ↦ record {
+        run = record {
+          bytes = told.0;
+          answer = Ok c.in-Ok-hunt_source.found;
+          told = told.1;
+          right = told.2;
+          failures = c.in-Ok-hunt_source.ensures.failures;
+          put = done.0;
+        };
+        remarked = done.1;
+      }
+      | inr done ↦ record {
+        run = record { bytes = told.0; answer = Err Memory; told = told.1; right = tt; failures = c.in-Ok-hunt_source.ensures.failures; put = done.0 };
+        remarked = done.1;
+      }
+    ])
+
+pub returns-in-Err : goal.returns-in-Err
+returns-in-Err g c =
+    let told = c.in-Err.ensures.right in
+    let is : asks_for_log c.args.options.now ≡ true = search rules in
+    rw is (record {
+      run = record {
+        bytes = told.0;
+        answer = Err c.in-Err.fault;
+        told = told.1;
+        right = told.2;
+        failures = c.in-Err.ensures.failures;
+        put = c.answer_fault.ensures;
+      };
+      remarked = refl;
+    })
+
+pub returns-in-Err-hunt_source : goal.returns-in-Err-hunt_source
+returns-in-Err-hunt_source g c =
+    let told = c.in-Err-hunt_source.ensures.right in
+    let is : asks_for_log c.args.options.now ≡ false = search rules in
+    rw is (record {
+      run = record {
+        bytes = told.0;
+        answer = Err c.in-Err-hunt_source.fault;
+        told = told.1;
+        right = told.2;
+        failures = c.in-Err-hunt_source.ensures.failures;
+        put = c.answer_fault-in-Err-hunt_source.ensures;
+      };
+      remarked = refl;
+    })

@@ -1,0 +1,9 @@
+use crate::drive::Driven;
+
+/// What threads have made of a workload, with the header under which their log is written.
+#[derive(Debug, Drop)]
+pub struct BenchRun {
+    pub driven: Driven,
+    /// How many rounds were begun.
+    pub rounds: u64,
+}

@@ -1,0 +1,108 @@
+ghost use Rattle.std.specs.Prelude.{◌≡◌, ℕ, List};
+ghost use Rattle.tmw_report.specs.CommandRun.{failures_after_answer};
+ghost use Rattle.tmw_command.specs.BenchRun.{benched_of, hunted_of};
+ghost use Rattle.tmw_command.specs.Benching.{AnswersBench, AnswersHunt, fault_of};
+ghost use Rattle.tmw_command.specs.Driven.{IsHeaderOf};
+ghost use Rattle.tmw_streams.specs.Told.{Tells};
+ghost use Rattle.tmw_tm.specs.Memory.{memory_is};
+
+use crate::bench::bench_run::BenchRun;
+use crate::bench::hunt_run::HuntRun;
+use crate::drive::{Driven, header_of};
+use crate::reading::read_source;
+use std::alloc::Global;
+use std::sync::Wait;
+use std::thread::Threads;
+use tmw_bench::{BenchFault, Benched, Hunted, Progress, Settings, hunt, run_bench};
+use tmw_events::Registers;
+use tmw_report::Fault;
+use tmw_show::Shown;
+use tmw_streams::Source;
+use tmw_tm::Tm;
+
+/// Reads a workload up to the source's end, and runs it in threads on the memory. The log is kept.
+pub fn bench_source<S: Source, R: Threads + Wait + Sync>(
+    rt: &R,
+    alloc: Global,
+    source: &mut S,
+    memory: &(dyn Tm + Sync),
+    settings: Settings,
+) -> Result<BenchRun, Fault>
+    ensures right { (bytes : List ℕ) × Tells S.from source.old bytes source.new
+        × AnswersBench (memory_is (has memory.now) (gives memory.now)) settings
+        (S.from.ended source.new) bytes result }
+    ensures failures { S.from.failures source.new ≡ failures_after_answer result
+        (S.from.failures source.old) }
+{
+    let workload = read_source(alloc, source)?;
+    match run_bench(rt, alloc, memory, &workload, settings) {
+        Ok(benched) => Ok(with_header(workload.registers, benched)),
+        Err(fault) => Err(fault_of(fault)),
+    }
+}
+
+/// Reads a workload up to the source's end, and runs it in threads on the memory. Of the log only the last window is
+/// kept.
+pub fn hunt_source<S: Source, R: Threads + Wait + Sync, P: Progress>(
+    rt: &R,
+    alloc: Global,
+    source: &mut S,
+    memory: &(dyn Tm + Sync),
+    settings: Settings,
+    progress: &P,
+) -> Result<HuntRun, Fault>
+    ensures right { (bytes : List ℕ) × Tells S.from source.old bytes source.new
+        × AnswersHunt (memory_is (has memory.now) (gives memory.now)) settings
+        (S.from.ended source.new) bytes result }
+    ensures failures { S.from.failures source.new ≡ failures_after_answer result
+        (S.from.failures source.old) }
+{
+    let workload = read_source(alloc, source)?;
+    match hunt(rt, alloc, memory, &workload, settings, progress) {
+        Ok(hunted) => Ok(with_registers(workload.registers, hunted)),
+        Err(fault) => Err(fault_of(fault)),
+    }
+}
+
+/// What threads have made of a workload over so many registers, with the header of its log.
+fn with_header(registers: Registers, benched: Benched) -> BenchRun
+    ensures header { IsHeaderOf registers result.driven.outcome.log.items result.driven.header }
+    ensures same { benched_of result ≡ benched }
+{
+    BenchRun {
+        driven: Driven {
+            header: header_of(registers, &benched.outcome.log),
+            outcome: benched.outcome,
+            summary: benched.summary,
+        },
+        rounds: benched.rounds,
+    }
+}
+
+/// What threads have made of a workload, with its registers.
+fn with_registers(registers: Registers, hunted: Hunted) -> HuntRun
+    ensures registers { result.shown.registers ≡ registers }
+    ensures same { hunted_of result ≡ hunted }
+{
+    HuntRun {
+        shown: Shown {
+            registers,
+            showing: hunted.showing,
+        },
+        summary: hunted.summary,
+        ends: hunted.ends,
+        rounds: hunted.rounds,
+    }
+}
+
+/// The fault by which the command answers that no run was judged to its end.
+const fn fault_of(fault: BenchFault) -> Fault
+    ensures { result ≡ fault_of fault }
+{
+    match fault {
+        BenchFault::Registers => Fault::Registers,
+        BenchFault::Ring(_) => Fault::Ring,
+        BenchFault::Memory => Fault::Memory,
+        BenchFault::Spawn => Fault::Spawn,
+    }
+}

@@ -1,0 +1,56 @@
+-- What is kept of the judged front, from one event to the next.
+use Rattle.std.proofs.Common.{◌≡◌, List, [], Option, sym, subst}
+use Rattle.std.proofs.Math.Logic.{∥∥₁_elim, ∥∥₁_map}
+use Rattle.std.specs.Global.{Vec}
+use Rattle.std.specs.Coded.{Coded-set, coded_list}
+use Rattle.tmw_defs.proofs.VerdictProof.{verdict-one}
+use Rattle.tmw_defs.specs.Verdict.{Rules, IsVerdict}
+use Rattle.tmw_defs.specs.declared.verdict.Verdict.{Verdict}
+use Rattle.tmw_events.specs.contracts.event.Event as event
+use Rattle.tmw_events.specs.declared.event.Event.{Event}
+use Rattle.tmw_monitor.specs.Fitting.{Fits}
+use Rattle.tmw_monitor.specs.declared.monitor.Monitor.{Monitor}
+use Rattle.tmw_pump.proofs.Turns.{fits-came}
+use Rattle.tmw_pump.specs.Fronts.{HasCome, KeepsFit}
+use Rattle.tmw_pump.specs.Keeping.{IsKept, StaysKept, WasKept}
+use Rattle.tmw_pump.specs.declared.front.Front.{Front}
+
+-- Where the log is kept, it is what was judged.
+pub all_kept : (front : Front) (log : Vec Event) → ∥ WasKept (λ rules history verdict (kept : Vec Event). kept.items ≡ history) front log ∥₁
+    → log.items ≡ front.judged.items
+all_kept front log was = ∥∥₁_elim was (Coded-set (coded_list event.the_row.coded) log.items front.judged.items) (λ (rules, kept). kept.keeps_it)
+
+module _ {K : Type 0} (keeps : Rules → List Event → Verdict → K → Type 0) where
+  -- what is kept of nothing is kept of a front without events
+  pub new_kept : (monitor : Monitor) (front : Front) (kept : K) → front.judged.items ≡ [] → front.monitor ≡ monitor
+      → ((rules : Rules) → Fits rules [] monitor → keeps rules [] monitor.verdict kept)
+      → (rules : Rules) → Fits rules [] monitor → IsKept keeps rules front kept
+  new_kept monitor front kept none same begins rules fits = record {
+    fits = subst (λ (l : List Event). Fits rules l front.monitor) (sym none) (subst (Fits rules []) (sym same) fits);
+    keeps_it = subst (λ (l : List Event). keeps rules l front.monitor.verdict kept) (sym none)
+        (subst (λ (m : Monitor). keeps rules [] m.verdict kept) (sym same) (begins rules fits));
+  }
+
+  -- what was kept by some rules still is
+  pub was_kept : (old new : Front) (before after : K) → ∥ WasKept keeps old before ∥₁ → StaysKept keeps old new before after
+      → ∥ WasKept keeps new after ∥₁
+  was_kept old new before after was stays = ∥∥₁_map was (λ (rules, kept). (rules, stays rules kept))
+
+  -- where no event more is judged, what is kept may stay: the verdict is the same
+  pub kept-same : (old new : Front) (before after : K) → new.judged.items ≡ old.judged.items → KeepsFit old new
+      → ((rules : Rules) (history : List Event) (verdict : Verdict) → keeps rules history verdict before → keeps rules history verdict after)
+      → StaysKept keeps old new before after
+  kept-same old new before after judged fits same rules was =
+      let now = fits rules was.fits in
+      let verdict : old.monitor.verdict ≡ new.monitor.verdict =
+      verdict-one rules old.judged.items old.monitor.verdict new.monitor.verdict was.fits.judged
+      (subst (λ (l : List Event). IsVerdict rules l new.monitor.verdict) judged now.judged) in
+      record {
+        fits = now;
+        keeps_it = subst (λ (l : List Event). keeps rules l new.monitor.verdict after) (sym judged)
+            (subst (λ (v : Verdict). keeps rules old.judged.items v after) verdict (same rules old.judged.items old.monitor.verdict was.keeps_it));
+      }
+
+  -- an event that has come is not judged yet
+  pub kept-came : (event : Option Event) (old new : Front) (kept : K) → HasCome event old new → StaysKept keeps old new kept kept
+  kept-came event old new kept come = kept-same old new kept kept come.judged (fits-came event old new come) (λ rules history verdict was. was)

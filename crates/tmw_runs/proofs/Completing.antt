@@ -1,0 +1,98 @@
+-- What is recorded by turns begins a run: there is a text that completes it.
+use Rattle.std.proofs.Common.{◌≡◌, ◌<◌, ◌+◌, ◌++◌, ℕ, zero, suc, true, List, [], ◌∷◌, IsTrue, length, get_or, drop, refl, sym, ap, subst, ◌∙◌, arith, append_assoc}
+use Rattle.std.specs.List.{list_all}
+use Rattle.std.proofs.lemmas.Bool.{and_parts}
+use Rattle.std.proofs.lemmas.List.{append-nil, drop_more}
+use Rattle.std.proofs.lemmas.List.Folds.{list_all-append}
+use Rattle.tmw_defs.specs.History.{answers, is_call}
+use Rattle.tmw_defs.specs.Texts.{kinds_of}
+use Rattle.tmw_events.specs.declared.event.Kind.{Kind}
+use Rattle.tmw_events.specs.declared.event.Kind.TheVariants.{A}
+use Rattle.tmw_runs.proofs.Calls.{answers_abort, are_calls-transactions}
+use Rattle.tmw_runs.proofs.LongerRuns.{whole_run-more}
+use Rattle.tmw_runs.proofs.NeverMalformed.{formed_law}
+use Rattle.tmw_runs.specs.Law.{FormedLaw, OverLaw, StepLaw}
+use Rattle.tmw_runs.specs.Runs.{BeginsScript, IsWholeRun, IsWholeText}
+use Rattle.tmw_runs.specs.Scripts.{are_calls}
+use Rattle.tmw_runs.specs.Turning.{Follows, IsByTurns}
+
+-- calls have a whole text: the first is answered by an abort event
+pub some_text : (registers : ℕ) (calls : List Kind) → IsTrue (list_all (is_call registers) calls) → (text : List Kind) × IsWholeText calls text
+some_text registers [] asks = ([], refl)
+some_text registers (call ∷ calls) asks =
+    (call ∷ A ∷ [], (A, [], refl, answers_abort registers call (and_parts (is_call registers call) _ asks).0, refl))
+
+-- so have those from some place on
+some_rest : (registers place : ℕ) (calls : List Kind) → IsTrue (list_all (is_call registers) calls)
+    → (text : List Kind) × IsWholeText (drop place calls) text
+some_rest registers zero calls asks = some_text registers calls asks
+some_rest registers (suc place) [] asks = ([], refl)
+some_rest registers (suc place) (call ∷ calls) asks = some_rest registers place calls (and_parts (is_call registers call) _ asks).1
+
+-- a call that is due may be answered by an abort event
+call_answers : (registers place : ℕ) (calls : List Kind) → IsTrue (list_all (is_call registers) calls) → place < length calls
+    → IsTrue (answers (get_or calls place A) A)
+call_answers registers place [] asks low = absurd (omega (arith, low))
+call_answers registers zero (call ∷ calls) asks low = answers_abort registers call (and_parts (is_call registers call) _ asks).0
+call_answers registers (suc place) (call ∷ calls) asks low =
+    call_answers registers place calls (and_parts (is_call registers call) _ asks).1 (omega (arith, low))
+
+-- whatever phase the transaction is in
+completes : (registers place phase : ℕ) (calls kinds : List Kind) → IsTrue (list_all (is_call registers) calls) → Follows calls place phase kinds
+    → (more : List Kind) × IsWholeText calls (kinds ++ more)
+completes registers place zero calls kinds asks leaves =
+    let (text, whole) = some_rest registers place calls asks in
+    (text, leaves text whole)
+completes registers place (suc zero) calls kinds asks (low, before, is, leaves) =
+    let call : Kind = get_or calls place A in
+    let text : IsWholeText (call ∷ drop (place + 1) calls) (call ∷ A ∷ []) = (A, [], refl, call_answers registers place calls asks low, refl) in
+    let left : IsWholeText (drop place calls) (call ∷ A ∷ [])
+    = subst (λ (l : List Kind). IsWholeText l (call ∷ A ∷ [])) (sym (drop_more calls place A low)) text
+    in
+    let parts : kinds ++ A ∷ [] ≡ before ++ call ∷ A ∷ []
+    = ap (λ (k : List Kind). k ++ A ∷ []) is ∙ append_assoc before (call ∷ []) (A ∷ [])
+    in
+    (A ∷ [], subst (λ (k : List Kind). IsWholeText calls k) (sym parts) (leaves (call ∷ A ∷ []) left))
+completes registers place (suc (suc more)) calls kinds asks whole =
+    ([], subst (λ (k : List Kind). IsWholeText calls k) (sym (append-nil kinds)) whole)
+
+pub step_law : StepLaw
+step_law script calls kinds recorded place phase next_place next_phase turned goes = record {
+  run = turned.run;
+  text = turned.text ++ recorded ∷ [];
+  parts = ap (λ (k : List Kind). k ++ recorded ∷ []) turned.parts ∙ append_assoc turned.run turned.text (recorded ∷ []);
+  whole = turned.whole;
+  follows = goes turned.text turned.follows;
+}
+
+pub over_law : OverLaw
+over_law script calls kinds place more turned =
+    subst (λ (k : List Kind). IsWholeRun (script ++ calls ∷ []) k) (sym turned.parts)
+    (whole_run-more script calls turned.run turned.text turned.whole turned.follows)
+
+-- what is recorded by turns begins a run of its transactions
+begins-by_turns : (registers : ℕ) (kinds : List Kind) → IsByTurns registers kinds → BeginsScript registers kinds
+begins-by_turns registers kinds turns =
+    let script = turns.script in
+    let calls = turns.calls in
+    let turned = turns.turned in
+    let are : IsTrue (are_calls registers (script ++ calls ∷ [])) = are_calls-transactions registers (script ++ calls ∷ []) turns.asks in
+    let last : IsTrue (list_all (is_call registers) calls) =
+    (and_parts (list_all (is_call registers) calls) true
+    (and_parts (are_calls registers script) _ (sym (list_all-append (list_all (is_call registers)) script (calls ∷ [])) ∙ are)).1).0 in
+    let (more, whole) = completes registers turns.place turns.phase calls turned.text last turned.follows in
+    let parts : kinds ++ more ≡ turned.run ++ (turned.text ++ more)
+    = ap (λ (k : List Kind). k ++ more) turned.parts ∙ append_assoc turned.run turned.text more
+    in (
+      script ++ calls ∷ [],
+      turns.asks,
+      (
+        more,
+        subst (λ (k : List Kind). IsWholeRun (script ++ calls ∷ []) k) (sym parts)
+            (whole_run-more script calls turned.run (turned.text ++ more) turned.whole whole),
+      ),
+    )
+
+pub formed_by_turns : FormedLaw IsByTurns
+formed_by_turns registers history turns =
+    formed_law registers history (λ thread. begins-by_turns registers (kinds_of thread history) (turns thread))

@@ -1,0 +1,58 @@
+-- Calls that are each at their place.
+use Rattle.std.proofs.Common.{◌≡◌, ◌<◌, ◌+◌, ℕ, suc, true, List, [], ◌∷◌, IsTrue, length, get_or, refl, subst, arith}
+use Rattle.std.proofs.lemmas.Bool.{and_from}
+use Rattle.tmw_defs.specs.History.{is_call}
+use Rattle.tmw_events.specs.declared.event.Kind.{Kind}
+use Rattle.tmw_events.specs.declared.event.Kind.TheVariants.{R, W, T, X, A, N}
+use Rattle.tmw_runs.specs.Scripts.{is_operation, is_request, is_transaction}
+use Rattle.tmw_runs.specs.Law.{PlacedLaw}
+use Rattle.tmw_runs.specs.Turning.{IsPlaced}
+
+-- a call that asks neither to commit nor to abort
+operates : (registers : ℕ) (call : Kind) → is_call registers call ≡ true → (is_request call ≡ true → ⊥) → is_operation registers call ≡ true
+operates registers (R r) calls other = calls
+operates registers (W r v) calls other = calls
+operates registers (N r d) calls other = calls
+operates registers T calls other = absurd (other refl)
+operates registers X calls other = absurd (other refl)
+operates registers _ calls other = absurd (cc)
+
+-- each is at its place among more calls, the first of which stand in front of it
+abbrev ArePlaced : (registers front : ℕ) → List Kind → Type 0
+ArePlaced registers front calls = (place : ℕ) → place < length calls
+    → (is_call registers (get_or calls place A) ≡ true) × IsPlaced (front + length calls) (front + place) (get_or calls place A)
+
+-- so are those behind the first
+placed_behind : (registers front : ℕ) (call : Kind) (calls : List Kind) → ArePlaced registers front (call ∷ calls)
+    → ArePlaced registers (front + 1) calls
+placed_behind registers front call calls each place low =
+    let (is, placed) = each (suc place) (omega (arith, low)) in
+    let count : front + length (call ∷ calls) ≡ front + 1 + length calls = omega arith in
+    let at : front + suc place ≡ front + 1 + place = omega arith in
+    let one : IsPlaced (front + 1 + length calls) (front + suc place) (get_or calls place A)
+    = subst (λ (n : ℕ). IsPlaced n (front + suc place) (get_or calls place A)) count placed
+    in
+    (is, subst (λ (n : ℕ). IsPlaced (front + 1 + length calls) n (get_or calls place A)) at one)
+
+transaction-placed : (registers front : ℕ) (calls : List Kind) → 0 < length calls → ArePlaced registers front calls
+    → IsTrue (is_transaction registers calls)
+transaction-placed registers front [] some each = absurd (omega (arith, some))
+transaction-placed registers front (call ∷ []) some each =
+    let (is, (fits, last)) = each 0 (omega arith) in
+    last.1 (omega arith)
+transaction-placed registers front (call ∷ next ∷ calls) some each =
+    let (is, (fits, last)) = each 0 (omega arith) in
+    let operation : is_operation registers call ≡ true =
+    operates registers call is (λ asks. absurd (let end = last.0 asks in omega (arith, end))) in
+    and_from (is_operation registers call) (is_transaction registers (next ∷ calls)) operation
+    (transaction-placed registers (front + 1) (next ∷ calls) (omega arith) (placed_behind registers front call (next ∷ calls) each))
+
+pub placed_law : PlacedLaw
+placed_law registers calls some each = transaction-placed registers 0 calls some (λ place low.
+    let (is, placed) = each place low in
+    let count : length calls ≡ 0 + length calls = omega arith in
+    let at : place ≡ 0 + place = omega arith in (
+      is,
+      subst (λ (n : ℕ). IsPlaced (0 + length calls) n (get_or calls place A)) at
+          (subst (λ (n : ℕ). IsPlaced n place (get_or calls place A)) count placed),
+    ))

@@ -1,0 +1,26 @@
+-- A text for which there is no memory is answered by that fault: what was told is a trace's text.
+use Rattle.std.proofs.Common.{Ok, Err, inl, inr, refl}
+use Rattle.tmw_lines.specs.declared.text_fault.TextFault.TheVariants.{Memory as WantsMemory}
+use Rattle.tmw_report.specs.declared.fault.Fault.TheVariants.{Memory}
+use Rattle.tmw_show.proofs.Shows.{shown-soon, shown-within}
+use Rattle.tmw_show.proofs.command.run.run_in.Goals as goal
+
+pub answer_shown-requires : goal.answer_shown-requires
+answer_shown-requires g c =
+    let told = c.in-Ok.ensures.right in
+    shown-within _ told.2.1.history c.in-Ok.shown.showing told.2.1.tells
+
+pub returns-in-Ok : goal.returns-in-Ok
+returns-in-Ok g c =
+    let told = c.in-Ok.ensures.right in
+    elim c.answer_shown.ensures [
+      | inl put ↦ record { bytes = told.0; answer = Ok c.in-Ok.shown; told = told.1; right = told.2; failures = c.in-Ok.ensures.failures; put = put }
+      | inr put ↦ record {
+        bytes = told.0;
+        answer = Err Memory;
+        told = told.1;
+        right = (WantsMemory, refl, shown-soon c.args.criterion c.args.bounds told.0 c.in-Ok.shown told.2.1);
+        failures = c.in-Ok.ensures.failures;
+        put = put;
+      }
+    ]

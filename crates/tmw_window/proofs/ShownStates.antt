@@ -1,0 +1,45 @@
+-- The states from which a window that is shown begins are states of the run.
+use Rattle.std.proofs.Common.{◌≡◌, ◌-◌, ◌<◌, ◌≤◌, ℕ, List, length, IsTrue, refl, sym, subst, inl, inr, arith}
+use Rattle.std.specs.Prelude.{take}
+use Rattle.std.proofs.lemmas.Bool.{cases_lt}
+use Rattle.std.proofs.lemmas.List.Elements.{All-take}
+use Rattle.tmw_events.specs.Text.{FitsKind}
+use Rattle.tmw_events.specs.declared.event.Event.{Event}
+use Rattle.tmw_defs.specs.declared.verdict.Verdict.{Verdict}
+use Rattle.tmw_defs.specs.declared.verdict.Verdict.TheVariants.{OpaqueSoFar, StrictSoFar, Violated, Undecided, Malformed}
+use Rattle.tmw_defs.specs.declared.verdict.Why.TheVariants.{Transactions, States}
+use Rattle.tmw_defs.specs.History.{is_well_formed}
+use Rattle.tmw_defs.specs.Verdict.{Rules, IsFine, IsVerdict}
+use Rattle.tmw_defs.proofs.Criteria.{formed-final}
+use Rattle.tmw_window.specs.Shown.{shown_length}
+use Rattle.tmw_window.specs.StatesLaw.{StatesLaw}
+use Rattle.tmw_window.proofs.Outcomes.{outcome_kept}
+use Rattle.tmw_window.proofs.Part.{shown-part, shown-within}
+
+-- what precedes the length at which something is wrong first is well-formed
+before-formed : (rules : Rules) (h : List Event) (m from : ℕ) → from ≤ m - 1 → ((k : ℕ) → k < m → IsFine rules (take k h))
+    → IsTrue (is_well_formed rules.registers (take from h))
+before-formed rules h m from order before =
+    elim (cases_lt from m) [
+      | inl below ↦ formed-final rules.criterion rules.registers rules.start (take from h) (before from below).final
+      | inr past ↦
+          let none : from ≡ 0 = omega (arith, order, past) in
+          subst (λ n. IsTrue (is_well_formed rules.registers (take n h))) (sym none) refl
+    ]
+
+cut-formed : (rules : Rules) (h : List Event) (v : Verdict) (from : ℕ) → IsVerdict rules h v → from ≤ shown_length (length h) v - 1
+    → IsTrue (is_well_formed rules.registers (take from h))
+cut-formed rules h OpaqueSoFar from is order =
+    formed-final rules.criterion rules.registers rules.start (take from h) (is.1 from (omega (arith, order))).final
+cut-formed rules h StrictSoFar from is order =
+    formed-final rules.criterion rules.registers rules.start (take from h) (is.1 from (omega (arith, order))).final
+cut-formed rules h (Malformed m) from is order = before-formed rules h m from order is.before
+cut-formed rules h (Undecided m Transactions) from is order = before-formed rules h m from order is.before
+cut-formed rules h (Undecided m States) from is order = before-formed rules h m from order is.before
+cut-formed rules h (Violated m) from is order = before-formed rules h m from order is.before
+
+pub states_law : StatesLaw
+states_law rules h v from states events judged shown start fit s is =
+    let part = shown-part rules h v from states events (shown-within rules h v judged) shown in
+    outcome_kept rules.criterion rules.registers rules.start (take from h) (cut-formed rules h v from judged part.order)
+    (All-take (λ event. FitsKind event.kind) from h fit) start s ((part.each s).0 is)

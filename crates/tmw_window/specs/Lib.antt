@@ -1,0 +1,8 @@
+pub mod Feeding
+pub mod Keeping
+pub mod Reasons
+pub mod Showing
+pub mod Shown
+pub mod StatesLaw
+pub mod Watching
+pub mod WindowLaw

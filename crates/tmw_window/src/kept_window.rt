@@ -1,0 +1,126 @@
+ghost use Rattle.std.specs.Prelude.{◌≡◌, List, [], ◌∷◌, ◌++◌, IfOk, IsOk, OnOk};
+ghost use Rattle.tmw_events.specs.declared.event.Event.{Event};
+ghost use Rattle.tmw_defs.specs.Verdict.{Rules, IsVerdict};
+ghost use Rattle.tmw_defs.specs.declared.verdict.Verdict.{Verdict};
+ghost use Rattle.tmw_monitor.specs.Fitting.{Fits};
+ghost use Rattle.tmw_monitor.specs.Monitor.{IsOpen, verdict_of};
+ghost use Rattle.tmw_monitor.specs.declared.monitor.Monitor.{Monitor};
+
+use crate::next_shown::NextShown;
+use crate::showing::Showing;
+use std::alloc::{AllocError, Global};
+use tmw_cuts::States;
+use tmw_events::Event;
+use tmw_monitor::Monitor;
+use tmw_wellformed::Malformed;
+
+/// The last window of a history that a monitor judges, up to the event at which something is wrong, and the states
+/// from which it begins. No event before it is kept.
+#[derive(Debug, Drop)]
+pub struct KeptWindow {
+    from: u64,
+    states: States,
+    events: Vec<Event>,
+}
+
+impl KeptWindow {
+    ghost use Rattle.tmw_window.specs.Keeping.{HasPlaceFor, IsNext, KeepsSame, KeepsShown, events_of, from_of, states_of};
+    ghost use Rattle.tmw_window.specs.Reasons.{IsReason};
+    ghost use Rattle.tmw_window.specs.Showing.{IsShowing};
+
+    /// Makes what is kept before the first event that the monitor is fed.
+    pub fn new(alloc: Global, monitor: &Monitor) -> Result<KeptWindow, AllocError>
+        ensures { IfOk result
+            (λ kept. (rules : Rules) → Fits rules [] monitor.now
+            → KeepsShown rules [] (verdict_of monitor.now) kept) }
+    {
+        let states = monitor.outcomes().copy()?;
+        Ok(KeptWindow {
+            from: 0,
+            states,
+            events: Vec::new(alloc),
+        })
+    }
+
+    /// Makes room for the event that the monitor takes next, and returns what that does with the window. If something
+    /// is wrong already it succeeds.
+    pub fn make_room(&mut self, monitor: &Monitor) -> Result<NextShown, AllocError>
+        ensures same { KeepsSame self.old self.new }
+        ensures next { IfOk result (IsNext monitor.now) }
+        ensures room { IfOk result (λ next. HasPlaceFor next self.new) }
+        ensures stays { (IsOpen monitor.now → ⊥) → IsOk result }
+    {
+        if !monitor.is_open() {
+            return Ok(NextShown::None);
+        }
+        self.events.reserve(1)?;
+        if !monitor.is_at_cut() {
+            return Ok(NextShown::GoesOn);
+        }
+        let states = monitor.outcomes().copy()?;
+        Ok(NextShown::Begins {
+            from: monitor.fed(),
+            states,
+        })
+    }
+
+    /// Takes the event that the monitor has taken, and keeps it unless something was wrong before it.
+    pub fn take(&mut self, next: NextShown, event: Event)
+        requires { HasPlaceFor next self.old }
+        ensures { (rules : Rules) (history : List Event) (before : Monitor) (verdict : Verdict)
+            → IsNext before next
+            → Fits rules history before → IsVerdict rules (history ++ event ∷ []) verdict
+            → KeepsShown rules history (verdict_of before) self.old
+            → KeepsShown rules (history ++ event ∷ []) verdict self.new }
+    {
+        match next {
+            NextShown::None => {}
+            NextShown::Begins { from, states } => {
+                self.from = from;
+                self.states = states;
+                self.events.clear();
+                self.events.push_reserved(event);
+            }
+            NextShown::GoesOn => self.events.push_reserved(event),
+        }
+    }
+
+    /// Returns how many events stand before the window.
+    pub fn from(&self) -> u64
+        ensures { result ≡ from_of self.now }
+    {
+        self.from
+    }
+
+    /// Returns the states from which the window begins, in rising order, 1 to 64.
+    pub fn states(&self) -> &States
+        ensures { result.now ≡ states_of self.now }
+    {
+        &self.states
+    }
+
+    /// Returns the window's events: up to the one at which something is wrong, or else all.
+    pub fn events(&self) -> &[Event]
+        ensures { result.now ≡ events_of self.now }
+    {
+        &self.events
+    }
+
+    /// Returns what is shown of the run that the monitor was fed, if no event follows. The fault is that of the event at
+    /// which the run is malformed, if it is.
+    pub fn finish(self, monitor: &Monitor, fault: Option<Malformed>) -> Showing
+        ensures { (rules : Rules) (history : List Event) → Fits rules history monitor.now
+            → KeepsShown rules history (verdict_of monitor.now) self
+            → IsReason rules history (verdict_of monitor.now) fault
+            → IsShowing rules history result }
+    {
+        Showing {
+            fed: monitor.fed(),
+            verdict: monitor.verdict(),
+            fault,
+            from: self.from,
+            states: self.states,
+            events: self.events,
+        }
+    }
+}

@@ -1,7 +1,0 @@
--- A command's texts for help are no part of what a parse reads.
-use Rattle.std.proofs.Common.{◌∙◌, ap}
-use Rattle.clap.specs.Simple.{app_of_fields}
-use Rattle.tmw_words.proofs.program.described.Goals as goal
-
-pub returns : goal.returns
-returns c = ap app_of_fields c.after_help.ensures ∙ ap app_of_fields c.about.ensures ∙ c.new.ensures.app

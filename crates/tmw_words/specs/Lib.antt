@@ -1,3 +1,0 @@
-pub mod Program
-pub mod Reading
-pub mod Words

@@ -1,0 +1,110 @@
+#!/usr/bin/env python3
+"""Lays the library for C out in a folder, from its archive. Nothing is proved here: ./build proves the archive, and calls this.
+
+    packaging/layout.py ARCHIVE FOLDER
+
+The folder gets:
+
+    lib/libtmwatch.a              the archive
+    lib/libtmwatch.so.VERSION     the same as a shared library, which programs load as libtmwatch.so.0
+    lib/libtmwatch.so.0           a link to it
+    lib/libtmwatch.so             a link to that, for -ltmwatch
+    lib/libtmwatch_bench.a        the bench for memories in C, which no proof covers
+    lib/pkgconfig                 tmwatch.pc and tmwatch_bench.pc
+    include                       the headers
+
+Exit status: 0 all is there; 1 a tool failed; 2 other words.
+Environment: CC (cc), which compiles the bench and links the shared library.
+"""
+import os
+import re
+import shutil
+import subprocess
+import sys
+import tempfile
+
+TOP = os.path.dirname(os.path.dirname(os.path.realpath(__file__)))
+# What a program that is linked against the library loads. The number goes up when a program that was linked before no longer runs.
+SONAME = "libtmwatch.so.0"
+HEADERS = ("tmwatch.h", "tmwatch_bench.h", "tmwatch_bench.hpp", "tmwatch_permits.h")
+# What each package for pkg-config is, and what it needs of others.
+PACKAGES = {
+    "tmwatch": ("A watch that judges whether a transactional memory is opaque", ""),
+    "tmwatch_bench": ("A bench that runs a transactional memory under such a watch", " -pthread\nRequires: tmwatch"),
+}
+PACKAGE = """prefix=${{pcfiledir}}/../..
+includedir=${{prefix}}/include
+libdir=${{prefix}}/lib
+
+Name: {name}
+Description: {what}
+Version: {version}
+Cflags: -I${{includedir}}
+Libs: -L${{libdir}} -l{name}{needs}
+"""
+
+
+def read_version():
+    """Returns the version that the program prints, by its specification."""
+    with open(f"{TOP}/crates/tmw_command/specs/Version.antt", encoding="utf-8") as it:
+        return re.search(r'"tmwatch ([0-9.]*), ', it.read())[1]
+
+
+def put(one, to):
+    """Copies a file or a link there by one step, so that no other call meets half of it."""
+    os.makedirs(os.path.dirname(to), exist_ok=True)
+    if os.path.lexists(f"{to}.new"):
+        os.remove(f"{to}.new")
+    shutil.copy(one, f"{to}.new", follow_symlinks=False)
+    os.replace(f"{to}.new", to)
+
+
+def link_shared(room, call):
+    """Links the shared library from the archive in the room, and makes its links."""
+    shared = f"libtmwatch.so.{read_version()}"
+    with open(f"{room}/exports", "w", encoding="utf-8") as it:
+        it.write("{ global: tmwatch_*; local: *; };\n")
+    words = [f"-Wl,-soname,{SONAME}", "-Wl,--version-script=exports", "-Wl,--whole-archive", "lib/libtmwatch.a", "-Wl,--no-whole-archive"]
+    call([os.environ.get("CC", "cc"), "-shared", "-o", f"lib/{shared}", *words], cwd=room)
+    os.symlink(shared, f"{room}/lib/{SONAME}")
+    os.symlink(SONAME, f"{room}/lib/libtmwatch.so")
+
+
+def build_bench(room, call):
+    """Compiles the bench for memories in C into an archive of its own, so that the library's has nothing but what is proved."""
+    words = ["-std=c11", "-O2", "-fPIC", "-pthread", f"-I{TOP}/include", "-c", "-o", "tmwatch_bench.o", f"{TOP}/bench-c/tmwatch_bench.c"]
+    call([os.environ.get("CC", "cc"), *words], cwd=room)
+    call(["ar", "rcs", "lib/libtmwatch_bench.a", "tmwatch_bench.o"], cwd=room)
+
+
+def lay_out(archive, to, call):
+    """Puts the library of this archive, the bench, headers and packages into the folder. `call` runs a tool, by words and a folder."""
+    with tempfile.TemporaryDirectory(prefix="tmwatch-layout-") as room:
+        os.makedirs(f"{room}/lib/pkgconfig")
+        shutil.copyfile(archive, f"{room}/lib/libtmwatch.a")
+        link_shared(room, call)
+        build_bench(room, call)
+        for name, (what, needs) in PACKAGES.items():
+            with open(f"{room}/lib/pkgconfig/{name}.pc", "w", encoding="utf-8") as it:
+                it.write(PACKAGE.format(name=name, what=what, version=read_version(), needs=needs))
+        for at, _, files in os.walk(f"{room}/lib"):
+            for name in files:
+                put(f"{at}/{name}", f"{to}{at[len(room) :]}/{name}")
+    for name in HEADERS:
+        put(f"{TOP}/include/{name}", f"{to}/include/{name}")
+
+
+def main(words):
+    if len(words) != 2:
+        print(__doc__, end="", file=sys.stderr)
+        return 2
+    try:
+        lay_out(*words, lambda tool, cwd: subprocess.run(tool, cwd=cwd, check=True))
+    except (OSError, subprocess.CalledProcessError) as error:
+        print(f"packaging/layout.py: {error}", file=sys.stderr)
+        return 1
+    return 0
+
+
+if __name__ == "__main__":
+    sys.exit(main(sys.argv[1:]))

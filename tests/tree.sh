@@ -1,0 +1,65 @@
+#!/usr/bin/env bash
+# Checks what files of the repository say of each other. Nothing is built.
+#
+#   tests/tree.sh
+#   tests/tree.sh FILE
+#
+# - crates.txt, from top to bottom: a crate stands on crates above it. Crates of the kit have no line there.
+# - The version of the program's specification, which builds and tests read, is that of the program's source, of the package in Rust and
+#   of the newest heading in CHANGELOG.md. No other file has it.
+# FILE is another crates.txt, which alone is checked.
+#
+# A row prints what is wrong. The last line is 'N passed, M failed', and the exit status is 1 if a row has failed.
+set -eu
+# shellcheck source=tests/common.sh
+. "$(dirname "${BASH_SOURCE[0]}")/common.sh"
+
+# Prints each edge of a crates.txt that doesn't go down, and fails if there is one.
+edges_go_down() {
+    awk '
+        /^[a-z]/ {
+            line[++crates] = $0
+            place[crate_of($0)] = crates
+        }
+        function crate_of(line) { return substr(line, 1, match(line, /[ :]|$/) - 1) }
+        END {
+            for (k = 1; k <= crates; k++) {
+                count = split(substr(line[k], index(line[k], ":") + 1), below, " ")
+                for (at = 1; at <= count; at++)
+                    if (place[below[at]] >= k) {
+                        print crate_of(line[k]) " names " below[at] ", which does not stand above it"
+                        up = 1
+                    }
+            }
+            if (!crates) print "no crate"
+            exit up || !crates
+        }' "$1"
+}
+
+# Fails if what sed finds in these files, by this expression, is not the version alone.
+is_of_version() {
+    diff <(echo "$version") <(sed -n "s/$1/\1/p" "${@:2}" | sort -u)
+}
+
+# Prints each file that has the version, without the names of crates. Lock files don't count.
+files_with_version() {
+    grep -rlIwF --exclude-dir={.git,out,built,target} --exclude=*.{lock,log} -- "$version" "$top" |
+        sed "s|^$top/||; s|^crates/[a-z_]*/|crates/*/|" | LC_ALL=C sort
+}
+
+ends 'edges of crates.txt' 0 edges_go_down "${1:-$top/crates.txt}"
+if [ $# -eq 0 ]; then
+    mapfile -t source < <(find "$top"/crates/*/src -name '*.rt')
+    ends "version $version, in the program" 0 is_of_version '.*"tmwatch \([0-9][0-9.]*\), by .*' "${source[@]}"
+    ends 'version, in the command line' 0 is_of_version '.*\.version("\(.*\)").*' "${source[@]}"
+    ends 'version, in the package in Rust' 0 is_of_version '^version = "\(.*\)"$' "$top/bindings/rust/Cargo.toml"
+    ends 'version, in the changes' 0 is_of_version '^## \([0-9][0-9.]*\).*' <(grep -m 1 '^## ' "$top/CHANGELOG.md")
+    ends 'version, in no other file' 0 diff - <(files_with_version) <<END
+CHANGELOG.md
+bindings/rust/Cargo.toml
+crates/*/specs/Version.antt
+crates/*/src/program.rt
+crates/*/src/run.rt
+END
+fi
+end_rows
