@@ -1,5 +1,5 @@
 -- The law of the two criteria.
-use Rattle.std.proofs.Common.{◌≡◌, ◌↔◌, ℕ, List, length, sym, subst}
+use Rattle.std.proofs.Common.{◌≡◌, ◌↔◌, List, sym, subst}
 use Rattle.std.specs.Prelude.{take}
 use Rattle.tmw_events.specs.declared.event.Event.{Event}
 use Rattle.tmw_defs.specs.declared.criterion.Criterion.{Criterion}

@@ -1,17 +1,17 @@
 -- Strict serializability asks less than opacity: of a serial order of all transactions, those that its completion holds are a serial
 -- order of them alone.
-use Rattle.std.proofs.Common.{◌≡◌, ◌&&◌, ℕ, zero, suc, Bool, true, false, List, [], ◌∷◌, length, IsTrue, refl, sym, ap, ◌∙◌, inl, inr}
-use Rattle.std.specs.Prelude.{◌≤◌, take, remove, slice_get, Some, not, ◌↔◌}
+use Rattle.std.proofs.Common.{◌≡◌, ℕ, zero, suc, Bool, true, false, List, [], ◌∷◌, IsTrue, refl, sym, ap, ◌∙◌, inl, inr}
+use Rattle.std.specs.Prelude.{take, remove, slice_get, Some, not}
 use Rattle.std.specs.List.{list_all}
 use Rattle.std.proofs.lemmas.Bool.{and_parts, and_from, cases_Bool}
 use Rattle.tmw_events.specs.declared.event.Event.{Event}
 use Rattle.tmw_defs.specs.History.{Txn, status_of, transactions}
-use Rattle.tmw_defs.specs.Opaque.{State, Placed, may_hold, may_be, PlacesEach, precedes, keeps_order, reads_hold, after, is_legal, Explains, HasOrder, IsFinalOpaque, IsOpaque}
+use Rattle.tmw_defs.specs.Opaque.{State, Placed, may_hold, may_be, PlacesEach, precedes, keeps_order, reads_hold, after, is_legal, HasOrder, IsFinalOpaque, IsOpaque}
 use Rattle.tmw_defs.specs.History.{operations}
-use Rattle.tmw_defs.specs.Strict.{AreHeld, ExplainsStrictly, HasStrictOrder, IsFinalStrict, IsStrict}
+use Rattle.tmw_defs.specs.Strict.{AreHeld, HasStrictOrder, IsFinalStrict, IsStrict}
 
 -- A completion that leaves out the transaction with this index holds what one of the others holds.
-left_out : (ts members : List Txn) (i : ℕ) (t : Txn) → slice_get ts i ≡ Some t → IsTrue (may_hold (status_of t.text) false)
+pub left_out : (ts members : List Txn) (i : ℕ) (t : Txn) → slice_get ts i ≡ Some t → IsTrue (may_hold (status_of t.text) false)
     → AreHeld (remove ts i) members → AreHeld ts members
 left_out [] members i t at may are = absurd (cc)
 left_out (u ∷ ts) members zero t at may are = let same : u ≡ t = cc in inl (rw same may, are)
@@ -24,14 +24,14 @@ left_out (u ∷ ts) members (suc i) t at may are =
     ]
 
 -- One that holds it holds it at some place among those of the others.
-record IsTakenIn (ts members : List Txn) (t : Txn) : Type 0 where
+pub record IsTakenIn (ts members : List Txn) (t : Txn) : Type 0 where
   pub all : List Txn
   pub place : ℕ
   pub at : slice_get all place ≡ Some t
   pub others : remove all place ≡ members
   pub are : AreHeld ts all
 
-taken_in : (ts members : List Txn) (i : ℕ) (t : Txn) → slice_get ts i ≡ Some t → IsTrue (may_hold (status_of t.text) true)
+pub taken_in : (ts members : List Txn) (i : ℕ) (t : Txn) → slice_get ts i ≡ Some t → IsTrue (may_hold (status_of t.text) true)
     → AreHeld (remove ts i) members → IsTakenIn ts members t
 taken_in [] members i t at may are = absurd (cc)
 taken_in (u ∷ ts) members zero t at may are =

@@ -3,8 +3,8 @@ use Rattle.std.specs.Prelude.{◌≡◌, ◌≤◌, ◌↔◌, ℕ, List, length
 use Rattle.tmw_events.specs.declared.event.Event.{Event}
 use Rattle.tmw_defs.specs.declared.criterion.Criterion.TheVariants.{Strict}
 use Rattle.tmw_defs.specs.declared.verdict.Verdict.TheVariants.{StrictSoFar}
-use Rattle.tmw_defs.specs.Opaque.{State, IsFinalOpaque, IsOpaque}
-use Rattle.tmw_defs.specs.Strict.{IsFinalStrict, IsStrict}
+use Rattle.tmw_defs.specs.Opaque.{State, IsOpaque}
+use Rattle.tmw_defs.specs.Strict.{IsStrict}
 use Rattle.tmw_defs.specs.Verdict.{Rules, HasMany, IsVerdict}
 use Rattle.tmw_defs.specs.Windows.{HasWide}
 

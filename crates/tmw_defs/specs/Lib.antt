@@ -6,6 +6,7 @@ pub mod Decision
 pub mod History
 pub mod Opaque
 pub mod Outcomes
+pub mod Part
 pub mod Quiet
 pub mod QuietLaw
 pub mod Strict

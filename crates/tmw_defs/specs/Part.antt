@@ -1,0 +1,77 @@
+-- Parts of a history's transactions: what is left of them when some are taken out, and some operations of others, so that the rest has
+-- a serial order wherever the whole has one.
+use Rattle.std.specs.Prelude.{◌≡◌, ◌==◌, ◌&&◌, ◌+◌, ◌%◌, ◌^◌, ◌⊎◌, ℕ, Bool, true, false, not, List, [], ◌∷◌, map, remove, slice_get, Some, IsTrue}
+use Rattle.std.specs.List.{list_all}
+use Rattle.tmw_defs.specs.declared.criterion.Criterion.{Criterion}
+use Rattle.tmw_defs.specs.declared.op.Op.{Op}
+use Rattle.tmw_defs.specs.declared.op.Op.TheVariants.{Read, Write, Add}
+use Rattle.tmw_defs.specs.Criteria.{ExplainsBy}
+use Rattle.tmw_defs.specs.History.{Txn, status_of, operations}
+use Rattle.tmw_defs.specs.Opaque.{State, Placed, precedes}
+
+-- The operation was answered this value of this register.
+abbrev pub is_answered : ℕ → ℕ → Op → Bool
+is_answered r v (Read q w) = (q.number == r) && (w == v)
+is_answered r v (Write q w) = false
+is_answered r v (Add q d w) = (q.number == r) && (w == v)
+
+-- No operation of these transactions was answered this value of this register.
+abbrev pub is_unread : List Txn → ℕ → ℕ → Bool
+is_unread ts r v = list_all (λ t. list_all (λ op. not (is_answered r v op)) (operations t.text)) ts
+
+-- An operation may go if nobody reads what it leaves in its register: each read, and each write and add whose value is unread.
+abbrev pub may_go : (ℕ → ℕ → Bool) → Op → Bool
+may_go unread (Read r v) = true
+may_go unread (Write r v) = unread r.number v
+may_go unread (Add r d v) = unread r.number ((v + d) % 2 ^ 64)
+
+-- The operations that are left of these, in order. The others may go.
+abbrev pub AreOpsLeft : (ℕ → ℕ → Bool) → List Op → List Op → Type 0
+AreOpsLeft unread left [] = left ≡ []
+AreOpsLeft unread left (op ∷ ops) =
+    (IsTrue (may_go unread op) × AreOpsLeft unread left ops)
+    ⊎ ((more : List Op) × (left ≡ op ∷ more) × AreOpsLeft unread more ops)
+
+-- The one transaction is what is left of the other: it has the same status, and lacks only operations that may go.
+pub record IsLeftOf (unread : ℕ → ℕ → Bool) (whole left : Txn) : Type 0 where
+  pub status : status_of left.text ≡ status_of whole.text
+  pub ops : AreOpsLeft unread (operations left.text) (operations whole.text)
+
+-- The transaction may go if each of its operations may.
+abbrev pub may_go_whole : (ℕ → ℕ → Bool) → Txn → Bool
+may_go_whole unread t = list_all (may_go unread) (operations t.text)
+
+-- These transactions, in some order, are those of the others that stay. The rest may go.
+abbrev pub AreStaying : (ℕ → ℕ → Bool) → List Txn → List Txn → Type 0
+AreStaying unread staying [] = staying ≡ []
+AreStaying unread staying (t ∷ ts) =
+    (IsTrue (may_go_whole unread t) × AreStaying unread staying ts)
+    ⊎ ((i : ℕ) × (slice_get staying i ≡ Some t) × AreStaying unread (remove staying i) ts)
+
+-- The members of two lists of one length are so related, one by one.
+abbrev pub Each : {A B : Type 0} → (A → B → Type 0) → List A → List B → Type 0
+Each Rel [] [] = Unit {0}
+Each Rel [] (b ∷ bs) = ⊥
+Each Rel (a ∷ as') [] = ⊥
+Each Rel (a ∷ as') (b ∷ bs) = Rel a b × Each Rel as' bs
+
+-- For each of these transactions, which of them precede it in real time.
+abbrev pub precedence : List Txn → List (List Bool)
+precedence ts = map (λ b. map (λ a. precedes a b) ts) ts
+
+-- The one transactions are a part of the others: what is left of those that stay. Unread is what none of the part was answered. Among
+-- those that stay, real time orders the same.
+pub record IsPart (part whole : List Txn) : Type 0 where
+  pub staying : List Txn
+  pub stay : AreStaying (is_unread part) staying whole
+  pub left : Each (IsLeftOf (is_unread part)) staying part
+  pub order : precedence part ≡ precedence staying
+
+-- Some serial order explains the transactions from the state, by this criterion.
+abbrev pub HasOrderBy : Criterion → State → List Txn → Type 0
+HasOrderBy criterion s ts = (order : List Placed) × ExplainsBy criterion s ts order
+
+-- Where the whole has an order, each part has one. So a part that has none tells that the whole has none.
+abbrev pub PartLaw : Type 0
+PartLaw = (criterion : Criterion) (s : State) (part whole : List Txn) → IsPart part whole → HasOrderBy criterion s whole
+    → HasOrderBy criterion s part
