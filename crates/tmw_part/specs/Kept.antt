@@ -1,0 +1,64 @@
+-- Which events of a window are kept: a mark for each, in order.
+use Rattle.std.specs.Prelude.{◌==◌, ◌&&◌, ◌+◌, ℕ, Bool, true, false, not, nat_le, List, [], ◌∷◌, length, map, position, slice_index_or, replicate, Option, Some, None}
+use Rattle.tmw_events.specs.declared.event.Event.{Event}
+use Rattle.tmw_defs.specs.History.{Txn, transactions, is_well_formed}
+use Rattle.tmw_part.specs.declared.piece.Piece.{Piece}
+use Rattle.tmw_part.specs.Test.{is_part_at}
+
+-- Each event is kept.
+abbrev pub all_kept : List Event → List Bool
+all_kept window = replicate (length window) true
+
+-- The events that are kept.
+abbrev pub kept_of : List Bool → List Event → List Event
+kept_of [] events = []
+kept_of (mark ∷ marks) [] = []
+kept_of (true ∷ marks) (e ∷ events) = e ∷ kept_of marks events
+kept_of (false ∷ marks) (e ∷ events) = kept_of marks events
+
+-- The places of those that are kept, where the first mark is of this place.
+abbrev pub places_from : ℕ → List Bool → List ℕ
+places_from place [] = []
+places_from place (true ∷ marks) = place ∷ places_from (place + 1) marks
+places_from place (false ∷ marks) = places_from (place + 1) marks
+
+-- The last event is kept.
+abbrev pub keeps_last : List Bool → Bool
+keeps_last [] = true
+keeps_last (mark ∷ []) = mark
+keeps_last (mark ∷ marks) = keeps_last marks
+
+-- The transaction is the thread's, and the event at this place lies in it.
+abbrev pub lies_in : ℕ → ℕ → Txn → Bool
+lies_in thread place t = (t.thread == thread) && (nat_le t.first place && nat_le place t.last)
+
+-- Its number among these, or how many they are.
+abbrev pub number_or : ℕ → Option ℕ → ℕ
+number_or default None = default
+number_or default (Some number) = number
+
+abbrev pub owner : List Txn → ℕ → ℕ → ℕ
+owner ts thread place = number_or (length ts) (position (lies_in thread place) ts)
+
+-- For each transaction of what is kept, the number of that one of the window's in which its first event lies.
+abbrev pub owners : List Bool → List Event → List ℕ
+owners marks window =
+    map (λ u. owner (transactions window) u.thread (slice_index_or (places_from 0 marks) u.first 0)) (transactions (kept_of marks window))
+
+-- What is kept has the last event, is well-formed, and is a part of the window, each transaction of the one in which it lies.
+abbrev pub keeps_part : ℕ → List Bool → List Event → Bool
+keeps_part registers marks window =
+    keeps_last marks
+    && (is_well_formed registers (kept_of marks window)
+    && is_part_at (owners marks window) (transactions (kept_of marks window)) (transactions window))
+
+-- The piece is no longer kept. The first mark is of this place.
+abbrev pub without_from : Piece → ℕ → List Bool → List Event → List Bool
+without_from piece place [] events = []
+without_from piece place (mark ∷ marks) [] = []
+without_from piece place (mark ∷ marks) (e ∷ events) =
+    (mark && not ((e.thread.number == piece.thread) && (nat_le piece.from place && nat_le place piece.upto)))
+    ∷ without_from piece (place + 1) marks events
+
+abbrev pub without : Piece → List Bool → List Event → List Bool
+without piece marks window = without_from piece 0 marks window

@@ -1,0 +1,4 @@
+pub mod Finding
+pub mod Kept
+pub mod Pieces
+pub mod Test

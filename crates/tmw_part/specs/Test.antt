@@ -1,0 +1,88 @@
+-- The test of what is left of a transaction, by cases.
+use Rattle.std.specs.Prelude.{◌==◌, ◌&&◌, ◌||◌, ◌+◌, ℕ, Bool, true, false, not, List, [], ◌∷◌, map, slice_index_or, if◌then◌else◌}
+use Rattle.tmw_defs.specs.declared.op.Op.{Op}
+use Rattle.tmw_defs.specs.declared.op.Op.TheVariants.{Read, Write, Add}
+use Rattle.tmw_defs.specs.declared.status.Status.{Status}
+use Rattle.tmw_defs.specs.declared.status.Status.TheVariants.{Live, Pending, Committed, Aborted}
+use Rattle.tmw_defs.specs.History.{Txn, status_of, operations}
+use Rattle.tmw_defs.specs.Opaque.{precedes}
+use Rattle.tmw_defs.specs.Part.{is_unread, may_go, may_go_whole}
+
+abbrev pub is_same_op : Op → Op → Bool
+is_same_op (Read q w) (Read r v) = (q.number == r.number) && (w == v)
+is_same_op (Write q w) (Write r v) = (q.number == r.number) && (w == v)
+is_same_op (Add q e w) (Add r d v) = (q.number == r.number) && ((e == d) && (w == v))
+is_same_op _ _ = false
+
+-- Each operation is the next that is left, or may go.
+abbrev pub are_ops_left : (ℕ → ℕ → Bool) → List Op → List Op → Bool
+are_ops_left unread [] [] = true
+are_ops_left unread (x ∷ left) [] = false
+are_ops_left unread [] (op ∷ ops) = may_go unread op && are_ops_left unread [] ops
+are_ops_left unread (x ∷ left) (op ∷ ops) =
+    if is_same_op x op then are_ops_left unread left ops else may_go unread op && are_ops_left unread (x ∷ left) ops
+
+abbrev pub is_same_status : Status → Status → Bool
+is_same_status Live Live = true
+is_same_status Pending Pending = true
+is_same_status Committed Committed = true
+is_same_status Aborted Aborted = true
+is_same_status _ _ = false
+
+abbrev pub is_left_of : (ℕ → ℕ → Bool) → Txn → Txn → Bool
+is_left_of unread t u =
+    is_same_status (status_of u.text) (status_of t.text) && are_ops_left unread (operations u.text) (operations t.text)
+
+-- One by one, these are left of those.
+abbrev pub are_left_of : (ℕ → ℕ → Bool) → List Txn → List Txn → Bool
+are_left_of unread [] [] = true
+are_left_of unread [] (u ∷ us) = false
+are_left_of unread (t ∷ ts) [] = false
+are_left_of unread (t ∷ ts) (u ∷ us) = is_left_of unread t u && are_left_of unread ts us
+
+abbrev pub is_same : Bool → Bool → Bool
+is_same true b = b
+is_same false b = not b
+
+-- Of these, the same precede the one as of those the other.
+abbrev pub is_same_row : Txn → Txn → List Txn → List Txn → Bool
+is_same_row a b [] [] = true
+is_same_row a b [] (u ∷ us) = false
+is_same_row a b (t ∷ ts) [] = false
+is_same_row a b (t ∷ ts) (u ∷ us) = is_same (precedes u b) (precedes t a) && is_same_row a b ts us
+
+abbrev pub are_same_rows : List Txn → List Txn → List Txn → List Txn → Bool
+are_same_rows ts us [] [] = true
+are_same_rows ts us [] (b ∷ bs) = false
+are_same_rows ts us (a ∷ as') [] = false
+are_same_rows ts us (a ∷ as') (b ∷ bs) = is_same_row a b ts us && are_same_rows ts us as' bs
+
+-- The number is one of these; and they without it.
+abbrev pub is_among : ℕ → List ℕ → Bool
+is_among n [] = false
+is_among n (p ∷ places) = (p == n) || is_among n places
+
+abbrev pub without : ℕ → List ℕ → List ℕ
+without n [] = []
+without n (p ∷ places) = if p == n then places else p ∷ without n places
+
+-- Each of these, of which the first has this number, has one of the places, or may go; and each place is one of theirs.
+abbrev pub are_placed : (ℕ → ℕ → Bool) → ℕ → List ℕ → List Txn → Bool
+are_placed unread n [] [] = true
+are_placed unread n (p ∷ places) [] = false
+are_placed unread n places (t ∷ ts) =
+    if is_among n places then are_placed unread (n + 1) (without n places) ts
+    else may_go_whole unread t && are_placed unread (n + 1) places ts
+
+abbrev pub nothing : Txn
+nothing = record { thread = 0; first = 0; last = 0; text = [] }
+
+-- Those of the whole that stay, by their places in it, in the order of the part.
+abbrev pub staying_of : List Txn → List ℕ → List Txn
+staying_of whole places = map (λ n. slice_index_or whole n nothing) places
+
+abbrev pub is_part_at : List ℕ → List Txn → List Txn → Bool
+is_part_at places part whole =
+    are_placed (is_unread part) 0 places whole
+    && (are_left_of (is_unread part) (staying_of whole places) part
+    && are_same_rows (staying_of whole places) part (staying_of whole places) part)
