@@ -1,6 +1,6 @@
 mod Appends
+mod Explained
 mod GivenFaults
-mod Rows
 pub mod Shows
 mod StateHeaders
 mod TracesProof

@@ -1,18 +1,15 @@
 -- The events that are shown of a trace are numbered up to the trace's length.
-use Rattle.std.proofs.Common.{◌+◌, ◌-◌, ◌≤◌, ◌^◌, ℕ, List, [], length, ap, sym, ◌∙◌, append-nil, arith}
+use Rattle.std.proofs.Common.{◌+◌, ◌-◌, ◌≤◌, ◌^◌, ℕ, List, length, ap, ◌∙◌, arith}
 use Rattle.std.specs.Prelude.{take}
 use Rattle.std.proofs.lemmas.List.{length-take, length-drop}
-use Rattle.tmw_lines.specs.TextFault.{EndsSoon}
-use Rattle.tmw_trace.specs.Text.{trace_grammar}
 use Rattle.tmw_events.specs.declared.event.Event.{Event}
-use Rattle.tmw_defs.specs.declared.criterion.Criterion.{Criterion}
 use Rattle.tmw_defs.specs.declared.verdict.Verdict.{Verdict}
 use Rattle.tmw_defs.specs.Opaque.{State}
 use Rattle.tmw_defs.specs.Verdict.{Rules}
-use Rattle.tmw_monitor.specs.declared.bounds.Bounds.{Bounds}
 use Rattle.tmw_window.specs.Shown.{shown_length, IsShown}
 use Rattle.tmw_window.specs.Showing.{IsShowing}
 use Rattle.tmw_window.specs.declared.showing.Showing.{Showing}
+use Rattle.tmw_show.specs.declared.command.options.ShowOptions.{ShowOptions}
 use Rattle.tmw_show.specs.declared.command.shown.Shown.{Shown}
 use Rattle.tmw_show.specs.Running.{IsShownOf}
 
@@ -34,17 +31,9 @@ shown-within rules history showing is =
     let within = numbered rules history showing.verdict showing.from _ showing.events.items is.shown in
     omega (arith, within, is.counted)
 
-pub shown-numbered : (c : Criterion) (bounds : Bounds) (bytes : List ℕ) (shown : Shown) → IsShownOf c bounds bytes shown
+pub shown-numbered : (options : ShowOptions) (bytes : List ℕ) (shown : Shown) → IsShownOf options bytes shown
     → shown.showing.from + length shown.showing.events.items ≤ 2 ^ 40
-shown-numbered c bounds bytes shown of =
+shown-numbered options bytes shown of =
     let within = numbered _ of.history shown.showing.verdict shown.showing.from _ shown.showing.events.items of.tells.shown in
     let few = of.are_events.few in
     omega (arith, within, few)
-
--- the text of a trace ends soon behind whole lines
-pub shown-soon : (c : Criterion) (bounds : Bounds) (bytes : List ℕ) (shown : Shown) → IsShownOf c bounds bytes shown
-    → EndsSoon trace_grammar bytes
-shown-soon c bounds bytes shown of = record {
-  begun = record { header = of.header; items = of.history; are_lines = of.are_events; rest = []; split = of.text ∙ sym (append-nil _) };
-  soon = omega arith;
-}

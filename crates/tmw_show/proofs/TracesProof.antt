@@ -1,5 +1,5 @@
 -- The traces that are written of what is shown are judged as the run is.
-use Rattle.std.proofs.Common.{◌≡◌, ◌≤◌, ◌^◌, ◌==◌, ℕ, true, List, [], ◌∷◌, length, map, All, sym, ap, subst, ◌∙◌, take-append-drop, arith}
+use Rattle.std.proofs.Common.{◌≡◌, ◌≤◌, ◌^◌, ◌==◌, ℕ, Bool, true, false, IsTrue, refl, inl, inr, List, [], ◌∷◌, length, map, All, sym, ap, subst, ◌∙◌, take-append-drop, arith}
 use Rattle.std.specs.Prelude.{take, drop, get_or}
 use Rattle.std.specs.List.{Contains, AllByRecursion, list_all}
 use Rattle.std.proofs.lemmas.Bool.{and_parts}
@@ -13,9 +13,13 @@ use Rattle.tmw_trace.specs.declared.header.Header.{Header}
 use Rattle.tmw_trace.specs.declared.version.Version.{Version}
 use Rattle.tmw_trace.specs.declared.version.Version.TheVariants.{One, Two}
 use Rattle.tmw_defs.specs.declared.criterion.Criterion.{Criterion}
+use Rattle.tmw_defs.specs.declared.criterion.Criterion.TheVariants.{Opacity, Strict}
 use Rattle.tmw_defs.specs.declared.verdict.Verdict.{Verdict}
 use Rattle.tmw_defs.specs.declared.verdict.Verdict.TheVariants.{Violated}
+use Rattle.tmw_defs.specs.Criteria.{IsFinalBy}
+use Rattle.tmw_defs.specs.History.{transactions, is_well_formed}
 use Rattle.tmw_defs.specs.Opaque.{State}
+use Rattle.tmw_defs.specs.Part.{HasOrderBy}
 use Rattle.tmw_defs.specs.Verdict.{IsViolated, IsVerdict}
 use Rattle.tmw_cuts.specs.Members.{members}
 use Rattle.tmw_monitor.specs.declared.bounds.Bounds.{Bounds}
@@ -24,7 +28,14 @@ use Rattle.tmw_window.specs.Showing.{IsShowing}
 use Rattle.tmw_window.specs.Shown.{shown_length}
 use Rattle.tmw_window.specs.StatesLaw.{FitsRegisters, StatesLaw}
 use Rattle.tmw_window.specs.WindowLaw.{IsJudgedAlike, WindowLaw, at_end}
-use Rattle.tmw_show.specs.TracesLaw.{IsHeaderFor, AreJudgedLike, TracesLaw, rules_from}
+use Rattle.tmw_part.specs.Finding.{FindsPart}
+use Rattle.tmw_part.specs.Kept.{all_kept, kept_of, keeps_calls, keeps_last, keeps_part, may_leave_all}
+use Rattle.tmw_show.specs.Explaining.{IsNeededOf, marks_of}
+use Rattle.tmw_show.specs.Running.{shown_events}
+use Rattle.tmw_show.specs.TracesLaw.{IsHeaderFor, IsContradictory, AreJudgedLike, TellOf, TracesLaw, rules_from}
+use Rattle.tmw_show.specs.declared.command.needed.Needed.{Needed}
+use Rattle.tmw_show.specs.declared.command.needed.Needed.TheVariants.{Unasked, NotViolated, Marks}
+use Rattle.tmw_show.specs.declared.command.shown.Shown.{Shown}
 use Rattle.tmw_show.proofs.Shows.{shown-numbered}
 use Rattle.tmw_show.proofs.StateHeaders.{header_of, headers_of, initials-headers_of, each-headers_of, headers_of-each, heads-header_of, text-headers_of}
 
@@ -85,10 +96,85 @@ module _ (c : Criterion) (bounds : Bounds) (registers : Registers) (start : Stat
         single = sole-header heads;
       }
 
-pub traces_law : WindowLaw → StatesLaw → TracesLaw
-traces_law window states_law c bounds bytes shown of =
+-- all events are those that all marks keep
+kept-all : (events : List Event) → kept_of (all_kept events) events ≡ events
+kept-all [] = refl
+kept-all (event ∷ events) = ap (λ (es : List Event). event ∷ es) (kept-all events)
+
+-- of these events some are kept
+kept-each : (P : Event → Type 0) (marks : List Bool) (events : List Event) → AllByRecursion P events → AllByRecursion P (kept_of marks events)
+kept-each P [] events all = tt
+kept-each P (mark ∷ marks) [] all = tt
+kept-each P (true ∷ marks) (event ∷ events) all = (all.0, kept-each P marks events all.1)
+kept-each P (false ∷ marks) (event ∷ events) all = kept-each P marks events all.1
+
+kept-few : (marks : List Bool) (events : List Event) → length (kept_of marks events) ≤ length events
+kept-few [] events = omega arith
+kept-few (mark ∷ marks) [] = omega arith
+kept-few (true ∷ marks) (event ∷ events) = (let few = kept-few marks events in omega (arith, few))
+kept-few (false ∷ marks) (event ∷ events) = (let few = kept-few marks events in omega (arith, few))
+
+ordered-final : (c : Criterion) (registers : ℕ) (s : State) (events : List Event) → IsFinalBy c registers s events
+    → HasOrderBy c s (transactions events)
+ordered-final Opacity registers s events final = final.ordered
+ordered-final Strict registers s events final = final.ordered
+
+formed-part : (registers : ℕ) (marks : List Bool) (window : List Event) → IsTrue (keeps_part registers marks window)
+    → IsTrue (is_well_formed registers (kept_of marks window))
+formed-part registers marks window keeps =
+    let (last, more) = and_parts (keeps_last marks) _ keeps in
+    let (calls, rest) = and_parts (keeps_calls marks window) _ more in
+    let (writes, formed) = and_parts (may_leave_all (transactions (kept_of marks window)) marks window) _ rest in
+    (and_parts (is_well_formed registers (kept_of marks window)) _ formed).0
+
+-- what is found in a window that is violated from a state is well-formed, and not final from it
+contradictory : (c : Criterion) (bounds : Bounds) (registers : Registers) (states : List State) (events : List Event) (marks : List Bool)
+    → FindsPart c registers.number states events marks → (s : State) (f : FitsRegisters registers.number s) → Contains states s
+    → IsViolated (rules_for c registers s bounds) events → IsContradictory c (kept_of marks events) (header_of registers s f)
+contradictory c bounds registers states events marks finds s f among violated =
+    elim finds [
+      | inl found ↦ record {
+        formed = formed-part registers.number marks events found.1.keeps;
+        not_final = λ final. found.1.none (s, among, ordered-final c registers.number s (kept_of marks events) final);
+      }
+      | inr all ↦
+          let same : kept_of marks events ≡ events = rw all.1 (kept-all events) in
+          rw same (record { formed = violated.formed; not_final = violated.not_final })
+    ]
+
+-- how the traces of what is shown are judged
+tells-by : (c : Criterion) (bounds : Bounds) (shown : Shown) (start : State) (why : Bool) (needed : Needed)
+    → (fit : AllByRecursion (FitsRegisters shown.registers.number) (members shown.showing.states))
+    → shown.needed ≡ needed → IsNeededOf c why shown.registers shown.showing needed
+    → IsJudgedAlike (rules_for c shown.registers start bounds) shown.showing.verdict (members shown.showing.states) shown.showing.events.items
+    → All (IsHeaderFor shown.registers (shown_events shown)) (headers_of shown.registers (members shown.showing.states) fit)
+    → TellOf c bounds shown needed (headers_of shown.registers (members shown.showing.states) fit)
+tells-by c bounds shown start why (Marks marks) fit is of alike heads =
     let registers = shown.registers in
+    let states = members shown.showing.states in
     let events = shown.showing.events.items in
+    let kept : shown_events shown ≡ kept_of marks.items events = rw is refl in
+    rw kept (All-from_recursion (IsContradictory c (kept_of marks.items events)) (headers_of registers states fit)
+    (each-headers_of registers (IsContradictory c (kept_of marks.items events)) states fit
+    (each-member (λ s. (f : FitsRegisters registers.number s) → IsContradictory c (kept_of marks.items events) (header_of registers s f)) states
+    (λ s among f. contradictory c bounds registers states events marks.items of.2 s f among (alike.violated.0 of.1 s among)))))
+tells-by c bounds shown start why Unasked fit is of alike heads =
+    let same : shown_events shown ≡ shown.showing.events.items = rw is (kept-all shown.showing.events.items) in
+    rw same (judged c bounds shown.registers start shown.showing.verdict (members shown.showing.states) shown.showing.events.items fit alike
+    (rw same at heads))
+tells-by c bounds shown start why NotViolated fit is of alike heads =
+    let same : shown_events shown ≡ shown.showing.events.items = rw is (kept-all shown.showing.events.items) in
+    rw same (judged c bounds shown.registers start shown.showing.verdict (members shown.showing.states) shown.showing.events.items fit alike
+    (rw same at heads))
+
+pub traces_law : WindowLaw → StatesLaw → TracesLaw
+traces_law window states_law options bytes shown of =
+    let c = options.criterion in
+    let bounds = options.bounds in
+    let registers = shown.registers in
+    let window_events = shown.showing.events.items in
+    let marks = marks_of shown.needed window_events in
+    let events = shown_events shown in
     let states = members shown.showing.states in
     let start = of.header.initial in
     let tells : IsShowing (rules_for c registers start bounds) of.history shown.showing =
@@ -100,23 +186,26 @@ traces_law window states_law c bounds bytes shown of =
       zeros = start-zeros of.header.version of.header.registers.number start of.header.starts;
     }) in
     let fit : AllByRecursion (FitsRegisters registers.number) states = each-member (FitsRegisters registers.number) states
-    (states_law (rules_for c registers start bounds) of.history shown.showing.verdict shown.showing.from states events tells.judged tells.shown
+    (states_law (rules_for c registers start bounds) of.history shown.showing.verdict shown.showing.from states window_events tells.judged tells.shown
     begins kinds) in
-    let alike = window (rules_for c registers start bounds) of.history shown.showing.verdict shown.showing.from states events bounds.some_states
+    let alike = window (rules_for c registers start bounds) of.history shown.showing.verdict shown.showing.from states window_events bounds.some_states
     tells.judged tells.shown in
     let last = shown_length (length of.history) shown.showing.verdict in
-    let own : All (λ event. FitsKind event.kind) events = subst (All (λ event. FitsKind event.kind)) (sym tells.shown.window)
+    let own : All (λ event. FitsKind event.kind) window_events = subst (All (λ event. FitsKind event.kind)) (sym tells.shown.window)
     (All-drop (λ event. FitsKind event.kind) shown.showing.from (take last of.history)
     (All-take (λ event. FitsKind event.kind) last of.history kinds)) in
-    let few : length events ≤ 2 ^ 40 = (let numbered = shown-numbered c bounds bytes shown of in omega (arith, numbered)) in
+    let kept : All (λ event. FitsKind event.kind) events = All-from_recursion (λ event. FitsKind event.kind) events
+    (kept-each (λ event. FitsKind event.kind) marks window_events (recursion_from_All (λ event. FitsKind event.kind) window_events own)) in
+    let few : length events ≤ 2 ^ 40 =
+    (let numbered = shown-numbered options bytes shown of in let fewer = kept-few marks window_events in omega (arith, numbered, fewer)) in
     let heads : All (IsHeaderFor registers events) (headers_of registers states fit) =
     All-from_recursion _ (headers_of registers states fit) (each-headers_of registers (IsHeaderFor registers events) states fit
     (each-member (λ s. (f : FitsRegisters registers.number s) → IsHeaderFor registers events (header_of registers s f)) states
-    (λ s at f. heads-header_of registers events own few s f))) in
+    (λ s at f. heads-header_of registers events kept few s f))) in
     record {
       headers = headers_of registers states fit;
       states = initials-headers_of registers states fit;
       each = heads;
       text = text-headers_of registers events states fit;
-      judged = judged c bounds registers start shown.showing.verdict states events fit alike heads;
+      tell = tells-by c bounds shown start options.why shown.needed fit refl of.needed alike heads;
     }

@@ -1,6 +1,6 @@
 -- How a window is drawn: the states from which it begins, and its events in a column for each thread. Numbers are decimal, without
 -- sign and without leading zeros.
-use Rattle.std.specs.Prelude.{ℕ, ◌+◌, ◌-◌, ◌*◌, ◌==◌, List, [], ◌∷◌, ◌++◌, length, take, replicate, max, codes, Option, Some, None, if◌then◌else◌}
+use Rattle.std.specs.Prelude.{ℕ, Bool, true, false, ◌+◌, ◌-◌, ◌*◌, ◌==◌, List, [], ◌∷◌, ◌++◌, length, take, replicate, max, codes, Option, Some, None, if◌then◌else◌}
 use Rattle.std.specs.List.{flat_map}
 use Rattle.std.specs.Fmt.{decimal}
 use Rattle.tmw_events.specs.Text.{kind_text}
@@ -17,6 +17,7 @@ use Rattle.tmw_defs.specs.declared.verdict.Why.{Why}
 use Rattle.tmw_defs.specs.declared.verdict.Why.TheVariants.{Transactions, States}
 use Rattle.tmw_wellformed.specs.declared.malformed.Malformed.{Malformed as Fault}
 use Rattle.tmw_wellformed.specs.declared.malformed.Malformed.TheVariants.{Register, Busy, Idle, Mismatch}
+use Rattle.tmw_part.specs.Kept.{kept_of}
 use Rattle.tmw_show.specs.declared.command.told.Told.{Told}
 
 -- so many blanks
@@ -88,13 +89,19 @@ beside gap (first ∷ rest) = blanks gap ++ (codes "  " ++ first ∷ rest)
 abbrev pub told_row : ℕ → List ℕ → List ℕ → List ℕ
 told_row width row told = row ++ beside (width - length row) told
 
--- a line for each event, of which the first has this number
-abbrev pub rows_text : Told → ℕ → ℕ → List Event → List ℕ
-rows_text told width number [] = []
-rows_text told width number (event ∷ events) =
-    line (told_row width (event_row number event) (told_text told number)) ++ rows_text told width (number + 1) events
+-- a line for each event that has the mark. The first event has this number.
+abbrev pub rows_text : Told → ℕ → ℕ → List Bool → List Event → List ℕ
+rows_text told width number [] events = []
+rows_text told width number (mark ∷ marks) [] = []
+rows_text told width number (false ∷ marks) (event ∷ events) = rows_text told width (number + 1) marks events
+rows_text told width number (true ∷ marks) (event ∷ events) =
+    line (told_row width (event_row number event) (told_text told number)) ++ rows_text told width (number + 1) marks events
 
--- the line of the heads, and a line for each event: the first has the number that follows `from`
-abbrev pub window_text : Told → ℕ → List Event → List ℕ
-window_text told from events =
-    line (heads_text (last_thread events)) ++ rows_text told (length (heads_text (last_thread events))) (from + 1) events
+-- the heads of the columns that these events need
+abbrev pub heads_for : List Event → List ℕ
+heads_for events = heads_text (last_thread events)
+
+-- the line of the heads, and a line for each event that has the mark: the first event has the number that follows `from`
+abbrev pub window_text : Told → ℕ → List Bool → List Event → List ℕ
+window_text told from marks events =
+    line (heads_for (kept_of marks events)) ++ rows_text told (length (heads_for (kept_of marks events))) (from + 1) marks events

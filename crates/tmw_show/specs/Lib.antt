@@ -1,4 +1,5 @@
 pub mod Drawing
+pub mod Explaining
 pub mod Page
 pub mod Running
 pub mod TracesLaw

@@ -14,13 +14,7 @@ use Rattle.tmw_defs.specs.declared.criterion.Criterion.TheVariants.{Opacity, Str
 use Rattle.tmw_defs.specs.declared.verdict.Verdict.{Verdict}
 use Rattle.tmw_defs.specs.declared.verdict.Verdict.TheVariants.{OpaqueSoFar, StrictSoFar, Violated, Undecided, Malformed}
 use Rattle.tmw_show.specs.Drawing.{told_text}
-use Rattle.tmw_monitor.specs.declared.bounds.Bounds.{Bounds}
-use Rattle.tmw_report.specs.CommandRun.{IsCommandRun}
 use Rattle.tmw_report.specs.Lines.{report_by}
-use Rattle.tmw_streams.specs.Streams.{FromSource, ToSink}
-use Rattle.tmw_show.specs.Running.{AnswersShow, shown_status, shown_text, told_of}
-use Rattle.tmw_show.specs.declared.command.form.Form.{Form}
-use Rattle.tmw_show.specs.declared.command.form.Form.TheVariants.{Text, Page}
 use Rattle.tmw_show.specs.declared.command.page.parts.TheConstants.{HEAD, TAIL}
 use Rattle.tmw_show.specs.declared.command.shown.Shown.{Shown}
 use Rattle.tmw_show.specs.declared.command.told.Told.{Told}
@@ -66,6 +60,10 @@ settled_at (Violated at) = Some at
 settled_at (Undecided at why) = Some at
 settled_at (Malformed at) = Some at
 
+-- What is told of the event at which something is wrong.
+abbrev pub told_of : Criterion → Shown → Told
+told_of criterion shown = record { criterion = criterion; verdict = shown.showing.verdict; fault = shown.showing.fault }
+
 -- that event, and what is told of it
 abbrev pub mark_at : Told → Option ℕ → List ℕ
 mark_at told None = []
@@ -84,13 +82,3 @@ json_text criterion shown =
 -- the page
 abbrev pub page_text : Criterion → Shown → List ℕ
 page_text criterion shown = HEAD.now ++ (json_text criterion shown ++ TAIL.now)
-
--- what is written in this form
-abbrev pub text_in : Form → Criterion → Shown → List ℕ
-text_in (Text trace) criterion shown = shown_text criterion trace shown
-text_in Page criterion shown = page_text criterion shown
-
--- What a run of `show --page` does: it answers the bytes that its source tells in it as one of `show` does, with the page in place of
--- the text.
-abbrev pub PagesBytes : {S K : Type 0} → FromSource S → ToSink K → Criterion → Bounds → S → S → K → K → ℕ → Type 0
-PagesBytes From To criterion bounds = IsCommandRun From To (AnswersShow criterion bounds) (page_text criterion) shown_status

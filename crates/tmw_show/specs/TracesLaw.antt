@@ -1,6 +1,6 @@
 -- The law of the traces that `show --trace` writes: `judge` reads each of them as a trace, and what it may say of them tells whether
 -- the run is violated.
-use Rattle.std.specs.Prelude.{◌≡◌, ◌≢◌, ◌↔◌, ◌≤◌, ℕ, true, List, [], ◌∷◌, length, map, All}
+use Rattle.std.specs.Prelude.{◌≡◌, ◌≢◌, ◌↔◌, ◌≤◌, ℕ, List, [], ◌∷◌, length, map, All, IsTrue}
 use Rattle.std.specs.List.{flat_map}
 use Rattle.tmw_events.specs.declared.event.Event.{Event}
 use Rattle.tmw_events.specs.declared.registers.Registers.{Registers}
@@ -10,13 +10,19 @@ use Rattle.tmw_trace.specs.declared.version.Version.TheVariants.{Two}
 use Rattle.tmw_defs.specs.declared.criterion.Criterion.{Criterion}
 use Rattle.tmw_defs.specs.declared.verdict.Verdict.{Verdict}
 use Rattle.tmw_defs.specs.declared.verdict.Verdict.TheVariants.{Violated}
+use Rattle.tmw_defs.specs.Criteria.{IsFinalBy}
+use Rattle.tmw_defs.specs.History.{is_well_formed}
 use Rattle.tmw_defs.specs.Verdict.{Rules, IsViolated, IsVerdict}
 use Rattle.tmw_cuts.specs.Members.{members}
 use Rattle.tmw_monitor.specs.declared.bounds.Bounds.{Bounds}
 use Rattle.tmw_monitor.specs.Fitting.{rules_for}
 use Rattle.tmw_window.specs.WindowLaw.{at_end}
+use Rattle.tmw_show.specs.declared.command.form.Form.TheVariants.{Traces}
+use Rattle.tmw_show.specs.declared.command.needed.Needed.{Needed}
+use Rattle.tmw_show.specs.declared.command.needed.Needed.TheVariants.{Marks}
+use Rattle.tmw_show.specs.declared.command.options.ShowOptions.{ShowOptions}
 use Rattle.tmw_show.specs.declared.command.shown.Shown.{Shown}
-use Rattle.tmw_show.specs.Running.{IsShownOf, shown_text}
+use Rattle.tmw_show.specs.Running.{IsShownOf, shown_events, shown_text}
 
 -- The header is of version two and of these registers, and these are events of a trace with it.
 pub record IsHeaderFor (registers : Registers) (events : List Event) (header : Header) : Type 0 where
@@ -39,16 +45,26 @@ pub record AreJudgedLike (criterion : Criterion) (bounds : Bounds) (verdict : Ve
   pub single : (header : Header) → headers ≡ header ∷ []
       → IsVerdict (rules_from criterion bounds header) events (at_end (length events) verdict)
 
+-- The events are a well-formed history of a trace with this header that is not final-state opaque, or not final-state strict.
+pub record IsContradictory (criterion : Criterion) (events : List Event) (header : Header) : Type 0 where
+  pub formed : IsTrue (is_well_formed header.registers.number events)
+  pub not_final : IsFinalBy criterion header.registers.number header.initial events → ⊥
+
+-- How the traces are judged tells of the run: that of a part contradicts itself from each of the states, and the whole window is judged
+-- like the run.
+abbrev pub TellOf : Criterion → Bounds → Shown → Needed → List Header → Type 0
+TellOf criterion bounds shown (Marks marks) headers = All (IsContradictory criterion (shown_events shown)) headers
+TellOf criterion bounds shown _ headers = AreJudgedLike criterion bounds shown.showing.verdict (shown_events shown) headers
+
 -- With `--trace` the texts of traces are written, one behind the other: one trace for each state that is shown, in order, which begins
--- with just that state and has just the events that are shown. How they are judged tells of the run.
-pub record AreTracesOf (criterion : Criterion) (bounds : Bounds) (shown : Shown) : Type 0 where
+-- with just that state and has just the events that are shown.
+pub record AreTracesOf (options : ShowOptions) (shown : Shown) : Type 0 where
   pub headers : List Header
   pub states : map (λ header. header.initial) headers ≡ members shown.showing.states
-  pub each : All (IsHeaderFor shown.registers shown.showing.events.items) headers
-  pub text : shown_text criterion true shown ≡ flat_map (λ header. trace_text header shown.showing.events.items) headers
-  pub judged : AreJudgedLike criterion bounds shown.showing.verdict shown.showing.events.items headers
+  pub each : All (IsHeaderFor shown.registers (shown_events shown)) headers
+  pub text : shown_text options.criterion Traces shown ≡ flat_map (λ header. trace_text header (shown_events shown)) headers
+  pub tell : TellOf options.criterion options.bounds shown shown.needed headers
 
 -- So it is of whatever trace's bytes, by each criterion and within all bounds.
 abbrev pub TracesLaw : Type 0
-TracesLaw = (criterion : Criterion) (bounds : Bounds) (bytes : List ℕ) (shown : Shown) → IsShownOf criterion bounds bytes shown
-    → AreTracesOf criterion bounds shown
+TracesLaw = (options : ShowOptions) (bytes : List ℕ) (shown : Shown) → IsShownOf options bytes shown → AreTracesOf options shown

@@ -3,4 +3,4 @@
 
 mod command;
 
-pub use command::{Shown, law_traces, run_page, run_show, shown_text};
+pub use command::{Form, Needed, ShowOptions, Shown, law_traces, run_show, shown_text};

@@ -1,15 +1,13 @@
-ghost use Rattle.std.specs.Prelude.{◌≡◌, IfOk, ◌+◌, ◌≤◌, ◌⊎◌, length};
+ghost use Rattle.std.specs.Prelude.{◌+◌, ◌≤◌, ◌⊎◌, length};
 ghost use Rattle.tmw_report.specs.Lines.{fault_line};
 ghost use Rattle.tmw_report.specs.Putting.{IsPut};
 ghost use Rattle.tmw_report.specs.declared.fault.Fault.TheVariants.{Memory};
-ghost use Rattle.tmw_show.specs.Page.{text_in};
-ghost use Rattle.tmw_show.specs.Running.{shown_status};
+ghost use Rattle.tmw_show.specs.Running.{shown_status, shown_text};
 
 use crate::command::form::Form;
-use crate::command::page::page_text;
 use crate::command::shown::Shown;
 use crate::command::text::shown_text;
-use std::alloc::{AllocError, Global};
+use std::alloc::Global;
 use tmw_defs::Criterion;
 use tmw_report::{FAULT_STATUS, Fault, answer_fault, status_of};
 use tmw_streams::{Sink, put_all};
@@ -25,32 +23,15 @@ pub fn answer_shown<K: Sink>(
 ) -> u8
     requires { shown.now.showing.from + length
         shown.now.showing.events.items ≤ shown.now.showing.fed }
-    ensures { IsPut K.to sink.old sink.new (text_in form criterion shown.now)
+    ensures { IsPut K.to sink.old sink.new (shown_text criterion form shown.now)
         (shown_status shown.now) result
         ⊎ IsPut K.to sink.old sink.new (fault_line Memory) 4 result }
 {
-    let Ok(text) = text_in(alloc, criterion, form, shown) else {
+    let Ok(text) = shown_text(alloc, criterion, form, shown) else {
         return answer_fault(sink, Fault::Memory);
     };
     match put_all(sink, &text) {
         Ok(()) => status_of(&shown.showing.verdict),
         Err(_) => FAULT_STATUS,
-    }
-}
-
-/// Makes what is shown in this form.
-fn text_in(
-    alloc: Global,
-    criterion: Criterion,
-    form: Form,
-    shown: &Shown,
-) -> Result<Vec<u8>, AllocError>
-    requires { shown.now.showing.from + length
-        shown.now.showing.events.items ≤ shown.now.showing.fed }
-    ensures { IfOk result (λ text. text.items ≡ text_in form criterion shown.now) }
-{
-    match form {
-        Form::Text { trace } => shown_text(alloc, criterion, trace, shown),
-        Form::Page => page_text(alloc, criterion, shown),
     }
 }

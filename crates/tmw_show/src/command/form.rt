@@ -1,8 +1,10 @@
-/// In which form it is written what is shown.
-#[derive(Clone, Copy, Debug)]
+/// How the last window is shown.
+#[derive(Clone, Copy, PartialEq, Eq, Debug)]
 pub enum Form {
-    /// As a text: drawn, or the window's traces alone if `trace` is set.
-    Text { trace: bool },
-    /// As a page that draws it.
+    /// Drawn as text, after the report's line.
+    Drawing,
+    /// As traces of its own.
+    Traces,
+    /// As a page of HTML that draws it.
     Page,
 }

@@ -1,28 +1,29 @@
-ghost use Rattle.std.specs.Prelude.{◌≡◌, ℕ, List};
+ghost use Rattle.std.specs.Prelude.{◌≡◌, ℕ, IfErr, IfOk, List};
+ghost use Rattle.tmw_report.specs.declared.fault.Fault.TheVariants.{Memory};
+ghost use Rattle.tmw_show.specs.Explaining.{IsShownFor};
 ghost use Rattle.tmw_streams.specs.Told.{Tells};
 ghost use Rattle.tmw_report.specs.CommandRun.{failures_after_answer};
 ghost use Rattle.tmw_show.specs.Running.{AnswersShow};
 
+use crate::command::options::ShowOptions;
 use crate::command::shown::Shown;
 use std::alloc::Global;
-use tmw_defs::Criterion;
+use tmw_events::Registers;
 use tmw_lines::give_items;
-use tmw_monitor::Bounds;
 use tmw_report::{Fault, fault_of};
 use tmw_streams::Source;
 use tmw_trace::TraceLines;
-use tmw_window::LastWindow;
+use tmw_window::{LastWindow, Showing};
 
-/// Reads a trace up to the source's end, and judges each event as its line is read, by this criterion. No event
+/// Reads a trace up to the source's end, and judges each event as its line is read, as these options say. No event
 /// before the last window is kept. After a failed allocation nothing more is read.
 pub fn show_trace<S: Source>(
     alloc: Global,
     source: &mut S,
-    criterion: Criterion,
-    bounds: Bounds,
+    options: ShowOptions,
 ) -> Result<Shown, Fault>
     ensures right { (bytes : List ℕ) × Tells S.from source.old bytes source.new
-        × AnswersShow criterion bounds (S.from.ended source.new) bytes result }
+        × AnswersShow options (S.from.ended source.new) bytes result }
     ensures failures { S.from.failures source.new ≡ failures_after_answer result
         (S.from.failures source.old) }
 {
@@ -31,15 +32,33 @@ pub fn show_trace<S: Source>(
         Ok(header) => header,
         Err(fault) => return Err(fault_of(fault)),
     };
-    let Ok(mut window) = LastWindow::new(alloc, criterion, header.registers, header.initial, bounds)
-    else {
+    let Ok(mut window) = LastWindow::new(
+        alloc,
+        options.criterion,
+        header.registers,
+        header.initial,
+        options.bounds,
+    ) else {
         return Err(Fault::Memory);
     };
     match give_items(&mut lines, source, &mut window) {
-        Ok(()) => Ok(Shown {
-            registers: header.registers,
-            showing: window.finish(),
-        }),
+        Ok(()) => explained(alloc, options, header.registers, window.finish()),
         Err(fault) => Err(fault_of(fault)),
+    }
+}
+
+/// What is shown of a run that was judged so. Never `Io`.
+fn explained(
+    alloc: Global,
+    options: ShowOptions,
+    registers: Registers,
+    showing: Showing,
+) -> Result<Shown, Fault>
+    ensures shown { IfOk result (λ shown. IsShownFor options.criterion options.why registers showing shown) }
+    ensures memory { IfErr result (λ fault. fault ≡ Memory) }
+{
+    match Shown::new(alloc, options.criterion, options.why, registers, showing) {
+        Ok(shown) => Ok(shown),
+        Err(_) => Err(Fault::Memory),
     }
 }

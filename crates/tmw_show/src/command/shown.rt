@@ -1,4 +1,11 @@
+ghost use Rattle.std.specs.Prelude.{IfOk};
+ghost use Rattle.tmw_show.specs.Explaining.{IsNeededOf};
+
+use crate::command::needed::Needed;
+use std::alloc::{AllocError, Global};
+use tmw_defs::{Criterion, Verdict};
 use tmw_events::Registers;
+use tmw_part::find_part;
 use tmw_window::Showing;
 
 /// What is shown of a trace whose run has so many registers.
@@ -6,4 +13,57 @@ use tmw_window::Showing;
 pub struct Shown {
     pub registers: Registers,
     pub showing: Showing,
+    /// Which events of the window.
+    pub needed: Needed,
+}
+
+impl Shown {
+    ghost use Rattle.tmw_show.specs.Explaining.{IsShownFor};
+
+    /// Makes what is shown of a run that was judged by this criterion. If `why` is set, a part of a violated window is
+    /// found that is violated by itself. It fails only after a failed allocation.
+    pub fn new(
+        alloc: Global,
+        criterion: Criterion,
+        why: bool,
+        registers: Registers,
+        showing: Showing,
+    ) -> Result<Shown, AllocError>
+        ensures { IfOk result (IsShownFor criterion why registers showing) }
+    {
+        let needed = needed_of(alloc, criterion, why, registers, &showing)?;
+        Ok(Shown {
+            registers,
+            showing,
+            needed,
+        })
+    }
+}
+
+/// Which events of the window are shown.
+fn needed_of(
+    alloc: Global,
+    criterion: Criterion,
+    why: bool,
+    registers: Registers,
+    showing: &Showing,
+) -> Result<Needed, AllocError>
+    ensures { IfOk result (IsNeededOf criterion why registers showing.now) }
+{
+    if !why {
+        return Ok(Needed::Unasked);
+    }
+    match showing.verdict {
+        Verdict::Violated(_at) => {
+            let marks = find_part(
+                criterion,
+                alloc,
+                registers,
+                &showing.states,
+                &showing.events,
+            )?;
+            Ok(Needed::Marks(marks))
+        }
+        _ => Ok(Needed::NotViolated),
+    }
 }

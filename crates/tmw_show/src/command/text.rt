@@ -1,6 +1,11 @@
-ghost use Rattle.std.specs.Prelude.{◌≡◌, ◌+◌, ◌≤◌, ◌++◌, IfOk, OnOk, length};
-ghost use Rattle.tmw_show.specs.Running.{drawn_text, shown_text};
+ghost use Rattle.std.specs.Prelude.{◌≡◌, ◌+◌, ◌≤◌, IfOk, length};
+ghost use Rattle.tmw_cuts.specs.Members.{members};
+ghost use Rattle.tmw_show.specs.Running.{drawn_text, shown_events, shown_text};
+ghost use Rattle.tmw_show.specs.TracesText.{traces_text};
 
+use crate::command::form::Form;
+use crate::command::needed::{marks_of, push_needed};
+use crate::command::page::page_text;
 use crate::command::part::push_each;
 use crate::command::shown::Shown;
 use crate::command::states::StateLine;
@@ -9,58 +14,61 @@ use crate::command::traces::push_traces;
 use crate::command::window::push_window;
 use std::alloc::{AllocError, Global};
 use tmw_defs::Criterion;
+use tmw_part::kept_events;
 use tmw_report::report_by;
 
-/// Makes the text of what is shown by this criterion, or of the window's traces if `trace` is set. It fails only
-/// after a failed allocation.
+/// Makes the text of what is shown by this criterion, in this form. It fails only after a failed allocation.
 pub fn shown_text(
     alloc: Global,
     criterion: Criterion,
-    trace: bool,
+    form: Form,
     shown: &Shown,
 ) -> Result<Vec<u8>, AllocError>
     requires { shown.now.showing.from + length
         shown.now.showing.events.items ≤ shown.now.showing.fed }
-    ensures { IfOk result (λ text. text.items ≡ shown_text criterion trace shown.now) }
+    ensures { IfOk result (λ text. text.items ≡ shown_text criterion form shown.now) }
 {
-    let mut text = Vec::new(alloc);
-    if trace {
-        let showing = &shown.showing;
-        push_traces(
-            &mut text,
-            shown.registers,
-            &showing.events,
-            showing.states.states(),
-        )?;
-    } else {
-        push_drawn(alloc, &mut text, criterion, shown)?;
+    match form {
+        Form::Drawing => drawn_text(alloc, criterion, shown),
+        Form::Traces => traces_text(alloc, shown),
+        Form::Page => page_text(alloc, criterion, shown),
     }
-    Ok(text)
 }
 
-/// Adds the report's line, the states from which the last window begins, and its events.
-fn push_drawn(
-    alloc: Global,
-    text: &mut Vec<u8>,
-    criterion: Criterion,
-    shown: &Shown,
-) -> Result<(), AllocError>
+/// The report's line, the states from which the last window begins, and its events.
+fn drawn_text(alloc: Global, criterion: Criterion, shown: &Shown) -> Result<Vec<u8>, AllocError>
     requires { shown.now.showing.from + length
         shown.now.showing.events.items ≤ shown.now.showing.fed }
-    ensures { OnOk result (text.new.items ≡ text.old.items ++ drawn_text criterion shown.now) }
+    ensures { IfOk result (λ text. text.items ≡ drawn_text criterion shown.now) }
 {
     let showing = &shown.showing;
-    let line = report_by(alloc, criterion, showing.fed, &showing.verdict)?;
-    text.extend_from_slice(line.as_bytes())?;
+    let mut text = Vec::new(alloc);
+    let report = report_by(alloc, criterion, showing.fed, &showing.verdict)?;
+    text.extend_from_slice(report.as_bytes())?;
     let line = StateLine {
         registers: shown.registers,
     };
-    push_each(text, &line, showing.states.states())?;
+    push_each(&mut text, &line, showing.states.states())?;
+    push_needed(&mut text, &shown.needed, &showing.events)?;
     let told = Told {
         criterion,
         verdict: showing.verdict,
         fault: showing.fault,
     };
-    push_window(text, told, showing.from, &showing.events)?;
-    Ok(())
+    let marks = marks_of(alloc, &shown.needed, &showing.events)?;
+    push_window(&mut text, told, showing.from, &marks, &showing.events)?;
+    Ok(text)
+}
+
+/// The traces of the events that are shown.
+fn traces_text(alloc: Global, shown: &Shown) -> Result<Vec<u8>, AllocError>
+    ensures { IfOk result (λ text. text.items
+        ≡ traces_text shown.now.registers (shown_events shown.now) (members shown.now.showing.states)) }
+{
+    let showing = &shown.showing;
+    let marks = marks_of(alloc, &shown.needed, &showing.events)?;
+    let events = kept_events(alloc, &marks, &showing.events)?;
+    let mut text = Vec::new(alloc);
+    push_traces(&mut text, shown.registers, &events, showing.states.states())?;
+    Ok(text)
 }

@@ -8,26 +8,30 @@ use crate::command::told::{Told, told_of};
 use itoa::Buffer;
 use std::alloc::AllocError;
 use tmw_events::Event;
+use tmw_part::kept_events;
 
 /// The heads of eight columns.
 const ALL_HEADS: &[u8] =
     b"    event  thread 0    thread 1    thread 2    thread 3    thread 4    thread 5    thread 6    thread 7";
 
-/// Adds the line of the heads, and a line for each event, in a column for each thread: the first has the number that follows `from`.
+/// Adds the line of the heads, and a line for each event that has the mark, in a column for each thread. The first event has the
+/// number that follows `from`.
 pub fn push_window(
     text: &mut Vec<u8>,
     told: Told,
     from: u64,
+    marks: &[bool],
     events: &[Event],
 ) -> Result<(), AllocError>
     requires { from + length events.now < 2 ^ 64 }
     ensures { OnOk result
-        (text.new.items ≡ text.old.items ++ window_text told from events.now) }
+        (text.new.items ≡ text.old.items ++ window_text told from marks.now events.now) }
 {
-    let heads = heads_of(last_thread(events));
+    let kept = kept_events(*text.allocator(), marks, events)?;
+    let heads = heads_of(last_thread(&kept));
     text.extend_from_slice(heads)?;
     text.push(b'\n')?;
-    push_rows(text, told, heads.len(), from, events)?;
+    push_rows(text, told, heads.len(), from, marks, events)?;
     Ok(())
 }
 
@@ -51,23 +55,33 @@ fn last_thread(events: &[Event]) -> u8
     last
 }
 
-/// Adds a line for each event: the first has the number that follows `from`.
+/// Adds a line for each event that has the mark: the first event has the number that follows `from`.
 fn push_rows(
     text: &mut Vec<u8>,
     told: Told,
     width: usize,
     from: u64,
+    marks: &[bool],
     events: &[Event],
 ) -> Result<(), AllocError>
     requires { from + length events.now < 2 ^ 64 }
     ensures { OnOk result
         (text.new.items ≡ text.old.items
-        ++ rows_text told width (from + 1) events.now) }
+        ++ rows_text told width (from + 1) marks.now events.now) }
 {
     let mut number = from;
-    for event in events {
+    let mut rest_marks = marks;
+    let mut rest = events;
+    while let [mark, more_marks @ ..] = rest_marks {
+        let [event, more @ ..] = rest else {
+            return Ok(());
+        };
         number += 1;
-        push_line(text, width, number, *event, told_of(told, number))?;
+        if *mark {
+            push_line(text, width, number, *event, told_of(told, number))?;
+        }
+        rest_marks = more_marks;
+        rest = more;
     }
     Ok(())
 }

@@ -7,6 +7,7 @@ use Rattle.tmw_trace.specs.Text.{trace_grammar}
 use Rattle.tmw_monitor.specs.Fitting.{rules_for}
 use Rattle.tmw_window.specs.Feeding.{TakeEvents, LackAnEvent}
 use Rattle.tmw_window.specs.declared.last_window.LastWindow.{LastWindow}
+use Rattle.tmw_show.proofs.Explained.{explained-answers}
 use Rattle.tmw_show.proofs.GivenFaults.{given-fault}
 use Rattle.tmw_show.proofs.command.reading.show_trace.Goals as goal
 
@@ -21,21 +22,13 @@ returns-in-Ok-give_items-clause-right g c =
     let all = c.in-Ok-give_items.ensures.gives in
     let header = c.in-Ok.header in
     let end = all.given.0 header [] first.0 first.2 in
-    let judged_by = rules_for c.args.criterion header.registers header.initial c.args.bounds in
+    let judged_by = rules_for c.args.options.criterion header.registers header.initial c.args.options.bounds in
     let watches = all.given.1 judged_by [] c.in-Ok-new.ensures in (
       first.0 ++ all.bytes,
       Tells-more g.S.Source.from c.args.source.now c.header.new.source c.give_items.new.source first.0 all.bytes first.1 all.told,
-      (
-        end.ended,
-        record {
-          header = header;
-          history = all.items;
-          are_events = end.are_lines;
-          text = end.text;
-          registers = refl;
-          tells = c.finish.ensures judged_by all.items watches;
-        },
-      ),
+      explained-answers c.args.options (g.S.Source.from.ended c.give_items.new.source) (first.0 ++ all.bytes) header all.items c.finish.result
+          c.explained.result end.ended end.are_lines end.text (c.finish.ensures judged_by all.items watches) c.explained.ensures.shown
+          c.explained.ensures.memory,
     )
 
 pub returns-in-Err-give_items-clause-right : goal.returns-in-Err-give_items-clause-right

@@ -1,8 +1,7 @@
 -- Each part follows the one before it.
 use Rattle.std.proofs.Common.{codes}
 use Rattle.tmw_cuts.specs.Members.{members}
-use Rattle.tmw_show.specs.Page.{about_json, mark_json, window_json}
-use Rattle.tmw_show.specs.Running.{told_of}
+use Rattle.tmw_show.specs.Page.{about_json, mark_json, told_of, window_json}
 use Rattle.tmw_show.proofs.Appends.{four}
 use Rattle.tmw_show.proofs.command.page.json.push_json.Goals as goal
 

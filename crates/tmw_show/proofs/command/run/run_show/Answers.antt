@@ -2,8 +2,9 @@
 use Rattle.std.proofs.Common.{Ok, Err, inl, inr, refl}
 use Rattle.tmw_lines.specs.declared.text_fault.TextFault.TheVariants.{Memory as WantsMemory}
 use Rattle.tmw_report.specs.declared.fault.Fault.TheVariants.{Memory}
-use Rattle.tmw_show.proofs.Shows.{shown-soon, shown-within}
-use Rattle.tmw_show.proofs.command.run.run_in.Goals as goal
+use Rattle.tmw_show.proofs.Explained.{trace-soon}
+use Rattle.tmw_show.proofs.Shows.{shown-within}
+use Rattle.tmw_show.proofs.command.run.run_show.Goals as goal
 
 pub answer_shown-requires : goal.answer_shown-requires
 answer_shown-requires g c =
@@ -19,7 +20,7 @@ returns-in-Ok g c =
         bytes = told.0;
         answer = Err Memory;
         told = told.1;
-        right = (WantsMemory, refl, shown-soon c.args.criterion c.args.bounds told.0 c.in-Ok.shown told.2.1);
+        right = (WantsMemory, refl, trace-soon told.2.1.header told.2.1.history told.0 told.2.1.are_events told.2.1.text);
         failures = c.in-Ok.ensures.failures;
         put = put;
       }

@@ -1,0 +1,45 @@
+-- What is shown of a run that was read and judged answers its bytes, and so does the want of memory for it.
+use Rattle.std.proofs.Common.{◌≡◌, ℕ, List, [], Result, Ok, Err, refl, sym, ◌∙◌, append-nil, arith}
+use Rattle.std.specs.Prelude.{IfErr, IfOk}
+use Rattle.tmw_lines.specs.TextFault.{EndsSoon}
+use Rattle.tmw_lines.specs.declared.text_fault.TextFault.TheVariants.{Memory as WantsMemory}
+use Rattle.tmw_trace.specs.Text.{trace_grammar, trace_text, AreEvents}
+use Rattle.tmw_trace.specs.declared.header.Header.{Header}
+use Rattle.tmw_events.specs.declared.event.Event.{Event}
+use Rattle.tmw_monitor.specs.Fitting.{rules_for}
+use Rattle.tmw_report.specs.declared.fault.Fault.{Fault}
+use Rattle.tmw_report.specs.declared.fault.Fault.TheVariants.{Memory}
+use Rattle.tmw_window.specs.Showing.{IsShowing}
+use Rattle.tmw_window.specs.declared.showing.Showing.{Showing}
+use Rattle.tmw_show.specs.Explaining.{IsShownFor}
+use Rattle.tmw_show.specs.Running.{AnswersShow}
+use Rattle.tmw_show.specs.declared.command.options.ShowOptions.{ShowOptions}
+use Rattle.tmw_show.specs.declared.command.shown.Shown.{Shown}
+
+-- the text of a trace ends soon behind whole lines
+pub trace-soon : (header : Header) (history : List Event) (bytes : List ℕ) → AreEvents header history → bytes ≡ trace_text header history
+    → EndsSoon trace_grammar bytes
+trace-soon header history bytes are text = record {
+  begun = record { header = header; items = history; are_lines = are; rest = []; split = text ∙ sym (append-nil _) };
+  soon = omega arith;
+}
+
+pub explained-answers : (options : ShowOptions) (Ended : Type 0) (bytes : List ℕ) (header : Header) (history : List Event) (showing : Showing)
+    (result : Result Shown Fault) → Ended → AreEvents header history → bytes ≡ trace_text header history
+    → IsShowing (rules_for options.criterion header.registers header.initial options.bounds) history showing
+    → IfOk result (IsShownFor options.criterion options.why header.registers showing) → IfErr result (λ fault. fault ≡ Memory)
+    → AnswersShow options Ended bytes result
+explained-answers options Ended bytes header history showing (Ok shown) ended are text tells is none = (
+  ended,
+  record {
+    header = header;
+    history = history;
+    are_events = are;
+    text = text;
+    registers = is.same_registers;
+    tells = rw is.same_showing tells;
+    needed = rw (is.same_registers, is.same_showing) is.needed;
+  },
+)
+explained-answers options Ended bytes header history showing (Err fault) ended are text tells none is =
+    rw is (WantsMemory, refl, trace-soon header history bytes are text)

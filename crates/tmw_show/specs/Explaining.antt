@@ -1,0 +1,50 @@
+-- Which events of a window are shown: all, or those that contradict each other, where it is asked why the window is violated.
+use Rattle.std.specs.Prelude.{◌≡◌, ℕ, Bool, true, false, List, [], ◌++◌, length, nat_lt, codes, if◌then◌else◌}
+use Rattle.std.specs.Fmt.{decimal}
+use Rattle.tmw_cuts.specs.Members.{members}
+use Rattle.tmw_defs.specs.declared.criterion.Criterion.{Criterion}
+use Rattle.tmw_defs.specs.declared.verdict.Verdict.{Verdict}
+use Rattle.tmw_defs.specs.declared.verdict.Verdict.TheVariants.{Violated}
+use Rattle.tmw_events.specs.declared.event.Event.{Event}
+use Rattle.tmw_events.specs.declared.registers.Registers.{Registers}
+use Rattle.tmw_lines.specs.Text.{line}
+use Rattle.tmw_part.specs.Finding.{FindsPart}
+use Rattle.tmw_part.specs.Kept.{all_kept, kept_of}
+use Rattle.tmw_window.specs.declared.showing.Showing.{Showing}
+use Rattle.tmw_show.specs.declared.command.needed.Needed.{Needed}
+use Rattle.tmw_show.specs.declared.command.shown.Shown.{Shown}
+use Rattle.tmw_show.specs.declared.command.needed.Needed.TheVariants.{Unasked, NotViolated, Marks}
+
+-- The verdict is that the run is violated.
+abbrev pub IsViolation : Verdict → Type 0
+IsViolation verdict = (at : ℕ) × (verdict ≡ Violated at)
+
+-- Only where it is asked why a window is violated that is, a part of it is found.
+abbrev pub IsNeededOf : Criterion → Bool → Registers → Showing → Needed → Type 0
+IsNeededOf criterion why registers showing Unasked = why ≡ false
+IsNeededOf criterion why registers showing NotViolated = (why ≡ true) × (IsViolation showing.verdict → ⊥)
+IsNeededOf criterion why registers showing (Marks marks) = (why ≡ true)
+    × IsViolation showing.verdict × FindsPart criterion registers.number (members showing.states) showing.events.items marks.items
+
+-- This is what is shown, where it is so asked, of a run with so many registers whose last window this is.
+pub record IsShownFor (criterion : Criterion) (why : Bool) (registers : Registers) (showing : Showing) (shown : Shown) : Type 0 where
+  pub same_registers : shown.registers ≡ registers
+  pub same_showing : shown.showing ≡ showing
+  pub needed : IsNeededOf criterion why registers showing shown.needed
+
+-- The marks of the events that are shown.
+abbrev pub marks_of : Needed → List Event → List Bool
+marks_of (Marks marks) events = marks.items
+marks_of _ events = all_kept events
+
+-- how many events of how many are shown, where a part was searched for
+abbrev pub part_words : ℕ → ℕ → List ℕ
+part_words shown all =
+    if nat_lt 1000 all then codes "all events: a part is found of at most 1000"
+    else decimal shown ++ (codes " of " ++ (decimal all ++ codes " events, none of which can be left out"))
+
+-- the line that says so, where it is asked why the window is violated
+abbrev pub needed_text : Needed → List Event → List ℕ
+needed_text Unasked events = []
+needed_text NotViolated events = line (codes "    part   all events: the run isn't violated")
+needed_text (Marks marks) events = line (codes "    part   " ++ part_words (length (kept_of marks.items events)) (length events))

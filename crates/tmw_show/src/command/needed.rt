@@ -1,0 +1,62 @@
+ghost use Rattle.std.specs.Prelude.{◌≡◌, ◌++◌, IfOk, OnOk};
+ghost use Rattle.tmw_show.specs.Explaining.{marks_of, needed_text, part_words};
+
+use crate::command::numbers::push_number;
+use std::alloc::{AllocError, Global};
+use tmw_events::Event;
+use tmw_part::{MOST_EVENTS, kept_events};
+
+/// Which events of a window are shown.
+#[derive(Debug, Drop)]
+pub enum Needed {
+    /// All: it isn't asked why the window is violated.
+    Unasked,
+    /// All: the window isn't violated.
+    NotViolated,
+    /// Those that have the mark, which are violated by themselves.
+    Marks(Vec<bool>),
+}
+
+/// The marks of the events that are shown.
+pub fn marks_of(alloc: Global, needed: &Needed, events: &[Event]) -> Result<Vec<bool>, AllocError>
+    ensures { IfOk result (λ marks. marks.items ≡ marks_of needed.now events.now) }
+{
+    match needed {
+        Needed::Unasked | Needed::NotViolated => Vec::from_elem(alloc, true, events.len()),
+        Needed::Marks(marks) => marks.clone(),
+    }
+}
+
+/// Adds the line that tells how many of the events are shown, if it is asked why the window is violated.
+pub fn push_needed(text: &mut Vec<u8>, needed: &Needed, events: &[Event]) -> Result<(), AllocError>
+    ensures { OnOk result (text.new.items ≡ text.old.items ++ needed_text needed.now events.now) }
+{
+    match needed {
+        Needed::Unasked => {}
+        Needed::NotViolated => {
+            text.extend_from_slice(b"    part   all events: the run isn't violated\n")?;
+        }
+        Needed::Marks(marks) => {
+            let kept = kept_events(*text.allocator(), marks, events)?;
+            text.extend_from_slice(b"    part   ")?;
+            push_part_words(text, kept.len(), events.len())?;
+            text.push(b'\n')?;
+        }
+    }
+    Ok(())
+}
+
+/// Adds how many events of how many are shown.
+fn push_part_words(text: &mut Vec<u8>, shown: usize, all: usize) -> Result<(), AllocError>
+    ensures { OnOk result (text.new.items ≡ text.old.items ++ part_words shown all) }
+{
+    if MOST_EVENTS < all {
+        text.extend_from_slice(b"all events: a part is found of at most 1000")?;
+    } else {
+        push_number(text, shown as u64)?;
+        text.extend_from_slice(b" of ")?;
+        push_number(text, all as u64)?;
+        text.extend_from_slice(b" events, none of which can be left out")?;
+    }
+    Ok(())
+}

@@ -1,0 +1,13 @@
+use crate::command::form::Form;
+use tmw_defs::Criterion;
+use tmw_monitor::Bounds;
+
+/// What `show` is to do.
+#[derive(Clone, Copy, PartialEq, Eq, Debug)]
+pub struct ShowOptions {
+    pub criterion: Criterion,
+    pub form: Form,
+    /// Of a violated window it shows a part that is violated by itself, and says why.
+    pub why: bool,
+    pub bounds: Bounds,
+}
