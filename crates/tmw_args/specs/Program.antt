@@ -75,7 +75,7 @@ judge_among criteria =
 -- `show`, by one of these criteria
 abbrev pub show_among : ValueParser → App
 show_among criteria =
-    with_bounds (with_flag (codes "page") (with_flag (codes "trace") (with_criterion criteria (new_app (codes "show")))))
+    with_bounds (with_flag (codes "why") (with_flag (codes "page") (with_flag (codes "trace") (with_criterion criteria (new_app (codes "show"))))))
 
 -- `drive`, over one of these memories
 abbrev pub drive_among : ValueParser → App
@@ -84,7 +84,8 @@ drive_among memories = with_bounds (with_memory memories (new_app (codes "drive"
 -- `bench`, over one of these memories
 abbrev pub bench_among : ValueParser → App
 bench_among memories =
-    with_bounds (with_counts (with_flag (codes "quiet") (with_flag (codes "show") (with_memory memories (new_app (codes "bench"))))))
+    with_bounds (with_counts (with_flag (codes "quiet") (with_flag (codes "why") (with_flag (codes "show")
+    (with_memory memories (new_app (codes "bench")))))))
 
 -- `steps`, which has no option
 abbrev pub steps : App

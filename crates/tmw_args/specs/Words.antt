@@ -1,5 +1,5 @@
 -- What the words of a command line ask for: an order, help, the version, or nothing that the program knows.
-use Rattle.std.specs.Prelude.{◌≡◌, ◌≢◌, ◌⊎◌, ◌^◌, ℕ, Bool, true, false, List, [], ◌∷◌, ◌++◌, Option, Some, None, codes, if◌then◌else◌, option_and_then}
+use Rattle.std.specs.Prelude.{◌≡◌, ◌≢◌, ◌⊎◌, ◌^◌, ◌||◌, ℕ, Bool, true, false, List, [], ◌∷◌, ◌++◌, Option, Some, None, codes, if◌then◌else◌, option_and_then}
 use Rattle.std.specs.List.{remove}
 use Rattle.std.specs.Str.{bytes_eq}
 use Rattle.clap.specs.Values.{bool_text}
@@ -10,10 +10,10 @@ use Rattle.tmw_defs.specs.declared.criterion.Asked.{Asked}
 use Rattle.tmw_defs.specs.declared.criterion.Criterion.{Criterion}
 use Rattle.tmw_monitor.specs.declared.bounds.Bounds.{Bounds}
 use Rattle.tmw_bench.specs.declared.settings.Settings.{Settings}
+use Rattle.tmw_show.specs.declared.command.form.Form.{Form}
+use Rattle.tmw_show.specs.declared.command.form.Form.TheVariants.{Drawing, Traces, Page}
 use Rattle.tmw_args.specs.Counts.{Count, counted}
 use Rattle.tmw_args.specs.Names.{asked_named, criterion_named, memory_named, named}
-use Rattle.tmw_args.specs.declared.form.Form.{Form}
-use Rattle.tmw_args.specs.declared.form.Form.TheVariants.{Drawing, Traces, Page}
 use Rattle.tmw_args.specs.declared.order.Order.{Order}
 use Rattle.tmw_args.specs.declared.order.Order.TheVariants.{Judge, Show, Drive, Bench, Steps}
 use Rattle.tmw_args.specs.declared.run_options.RunOptions.{RunOptions}
@@ -93,8 +93,9 @@ abbrev pub show_in : List Row → Option Order
 show_in rows = do
   criterion ← criterion_in rows
   form ← form_in rows
+  why ← flag_in (codes "why") rows
   bounds ← bounds_in rows
-  Some (Show criterion form bounds)
+  Some (Show (record { criterion = criterion; form = form; why = why; bounds = bounds }))
 
 abbrev pub run_options_in : List Row → Option RunOptions
 run_options_in rows = do
@@ -130,14 +131,16 @@ settings_in rows = do
   bounds ← bounds_in rows
   Some (settings_of cells patience rounds bounds)
 
+-- With `--why` the window is shown, whether `--show` is there or not.
 abbrev pub bench_in : List Row → Option Order
 bench_in rows = do
   memory ← memory_in rows
   written ← run_options_in rows
   settings ← settings_in rows
   show ← flag_in (codes "show") rows
+  why ← flag_in (codes "why") rows
   quiet ← flag_in (codes "quiet") rows
-  Some (Bench memory (record { written = written; settings = settings; show = show; quiet = quiet }))
+  Some (Bench memory (record { written = written; settings = settings; show = show || why; why = why; quiet = quiet }))
 
 -- The order of a command and of what was found for its options. There is none without a command, without one of its values, or
 -- with options that contradict each other.

@@ -9,6 +9,8 @@ pub struct BenchOptions {
     pub settings: Settings,
     /// Whether the record's last window is shown.
     pub show: bool,
+    /// Whether, if that is violated, a part is shown that is violated by itself. Then the window is shown.
+    pub why: bool,
     /// Whether nobody is told how far the bench has come.
     pub quiet: bool,
 }

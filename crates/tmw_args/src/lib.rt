@@ -2,7 +2,6 @@
 #![tactic(auto)]
 
 mod bench_options;
-mod form;
 mod names;
 mod order;
 mod parse;
@@ -13,7 +12,6 @@ mod which;
 mod words;
 
 pub use bench_options::BenchOptions;
-pub use form::Form;
 pub use order::Order;
 pub use refusal::Refusal;
 pub use run_options::RunOptions;

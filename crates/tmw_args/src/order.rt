@@ -1,23 +1,17 @@
 use crate::bench_options::BenchOptions;
-use crate::form::Form;
 use crate::run_options::RunOptions;
 use crate::which::Which;
-use tmw_defs::Criterion;
 use tmw_judge::Options;
 use tmw_monitor::Bounds;
+use tmw_show::ShowOptions;
 
 /// What the command line asks the program to do.
 #[derive(Clone, Copy, PartialEq, Eq, Debug)]
 pub enum Order {
     /// To judge the trace on standard input, as these options say.
     Judge(Options),
-    /// To judge the trace on standard input by this criterion within these bounds, and to show where it went wrong: its
-    /// last window, in this form.
-    Show {
-        criterion: Criterion,
-        form: Form,
-        bounds: Bounds,
-    },
+    /// To judge the trace on standard input, and to show where it went wrong, as these options say.
+    Show(ShowOptions),
     /// To run the workload on standard input on this memory, and to judge the run within these bounds. The options say
     /// what is written of it.
     Drive {

@@ -6,7 +6,6 @@ ghost use Rattle.tmw_args.specs.Reading.{FailsAs};
 ghost use Rattle.tmw_args.specs.Words.{Asks, asked_in, bench_in, bounds_in, count_in, criterion_in, drive_in, flag_in, form_by, form_in, help_as_flag, judge_in, memory_in, names_help, order_in, run_options_in, settings_in, show_in};
 
 use crate::bench_options::BenchOptions;
-use crate::form::Form;
 use crate::names::{asked_named, criterion_named};
 use crate::order::Order;
 use crate::program::new_program;
@@ -20,6 +19,7 @@ use tmw_bench::Settings;
 use tmw_defs::{Asked, Criterion};
 use tmw_judge::Options;
 use tmw_monitor::Bounds;
+use tmw_show::{Form, ShowOptions};
 
 /// The most cells of a ring.
 const MOST_CELLS: u64 = 4096;
@@ -148,12 +148,14 @@ fn show_of(show: &ArgMatches<'_>) -> Option<Order>
 {
     let criterion = criterion_of(show)?;
     let form = form_of(show)?;
+    let why = flag_of(show, "why")?;
     let bounds = bounds_of(show)?;
-    Some(Order::Show {
+    Some(Order::Show(ShowOptions {
         criterion,
         form,
+        why,
         bounds,
-    })
+    }))
 }
 
 /// The criterion that the matches of `show` name.
@@ -206,11 +208,13 @@ fn bench_of(bench: &ArgMatches<'_>) -> Option<Order>
     let written = run_options_of(bench)?;
     let settings = settings_of(bench)?;
     let show = flag_of(bench, "show")?;
+    let why = flag_of(bench, "why")?;
     let quiet = flag_of(bench, "quiet")?;
     let options = BenchOptions {
         written,
         settings,
-        show,
+        show: show || why,
+        why,
         quiet,
     };
     Some(Order::Bench { memory, options })

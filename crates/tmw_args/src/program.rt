@@ -36,6 +36,8 @@ const SHOW_TRACE_HELP: &str = "Write only the window, as traces";
 
 const SHOW_PAGE_HELP: &str = "Write the window as a page of HTML";
 
+const WHY_HELP: &str = "Show only the events that contradict each other";
+
 const BENCH_SHOW_HELP: &str = "Write what `show` writes in place of the report";
 
 const QUIET_HELP: &str = "Show no progress on a terminal";
@@ -94,14 +96,17 @@ column per thread. The window begins where no transaction was open, and ends at
 the event where the run went wrong, or at the last event. Beside that event
 stands what is wrong; if malformed, which rule it broke.
 
+With --why it writes, of a violated window, only the events that contradict each
+other: violated by themselves, and no call or transaction more can be left out.
+
 With --trace it writes, for each state, a trace that starts with this state and
-has the window's events, and nothing else. With --page it writes one page of
-HTML that draws the window, for a browser; it needs no network.
+has the events shown, and nothing else. With --page it writes one page of HTML
+that draws the window, for a browser; it needs no network.
 
 Exit status: 0 opaque (or strict) so far, 1 violated, 2 undecided, 3 malformed,
 4 for a fault, which one line on standard output names.
 
-Example: tmwatch show < run.trace";
+Example: tmwatch show --why < run.trace";
 
 const DRIVE_HELP: &str =
     "Reads a workload in JSON from standard input: the number of registers, a script
@@ -125,10 +130,10 @@ used: each script has its own thread.
 Writes the verdict by opacity, as one line of JSON, then how each thread ended;
 with --trace the run's trace before both, and with --summary the counts of
 `judge --summary` behind both. With --show it writes what `show` writes of the
-run, then the ends, and the counts if asked for; with --show and --trace it
-writes only what `show --trace` writes. With --trace-only it writes the run's
-trace and nothing else, whatever other flags there are, so that `judge` or
-`show` can read it. A thread that has found the ring full as often as --patience
+run, with --why what `show --why` does, then the ends, and the counts if asked
+for; with --trace too only the traces that `show` writes. With --trace-only it
+writes the run's trace and nothing else, whatever other flags there are, so that
+`judge` or `show` can read it. A thread that has found the ring full as often as --patience
 says stops; its end is `full`.
 
 Exit status: 0 opaque so far, 1 violated, 2 undecided,
@@ -200,7 +205,8 @@ fn new_show<'a>(alloc: Global, criteria: &'a [&'a str]) -> Result<Command<'a>, A
     let show = described(alloc, "show", about, SHOW_HELP);
     let judged = with_criterion(alloc, show, criteria, SHOW_CRITERION_HELP)?;
     let traced = with_flag(alloc, judged, "trace", SHOW_TRACE_HELP)?;
-    with_bounds(alloc, with_flag(alloc, traced, "page", SHOW_PAGE_HELP)?)
+    let paged = with_flag(alloc, traced, "page", SHOW_PAGE_HELP)?;
+    with_bounds(alloc, with_flag(alloc, paged, "why", WHY_HELP)?)
 }
 
 /// The command `drive`, over memories of these names.
@@ -220,7 +226,8 @@ fn new_bench<'a>(alloc: Global, memories: &'a [&'a str]) -> Result<Command<'a>, 
     let bench = described(alloc, "bench", about, BENCH_HELP);
     let remembered = with_memory(alloc, bench, memories)?;
     let shown = with_flag(alloc, remembered, "show", BENCH_SHOW_HELP)?;
-    let quiet = with_flag(alloc, shown, "quiet", QUIET_HELP)?;
+    let explained = with_flag(alloc, shown, "why", WHY_HELP)?;
+    let quiet = with_flag(alloc, explained, "quiet", QUIET_HELP)?;
     with_bounds(alloc, with_counts(alloc, quiet)?)
 }
 

@@ -1,9 +1,15 @@
 -- What answers a workload that was read answers the source that told its text.
-use Rattle.std.proofs.Common.{◌≡◌, ◌≤◌, ℕ, List, IsTrue, length, subst, sym}
+use Rattle.std.proofs.Common.{◌≡◌, ◌≤◌, ℕ, List, Result, Ok, Err, IsTrue, length, subst, sym}
+use Rattle.std.specs.Prelude.{IfErr, IfOk}
 use Rattle.std.proofs.lemmas.List.{length-map}
 use Rattle.tmw_bench.specs.Benched.{IsHunted, IsNoBench}
 use Rattle.tmw_command.specs.BenchRun.{hunted_of}
-use Rattle.tmw_command.specs.Benching.{IsHuntedFrom, IsNoBenchFrom, IsRightFault, fault_of}
+use Rattle.tmw_args.specs.declared.bench_options.BenchOptions.{BenchOptions}
+use Rattle.tmw_defs.specs.declared.criterion.Criterion.TheVariants.{Opacity}
+use Rattle.tmw_report.specs.declared.fault.Fault.{Fault}
+use Rattle.tmw_report.specs.declared.fault.Fault.TheVariants.{Memory}
+use Rattle.tmw_show.specs.Explaining.{IsNeededOf}
+use Rattle.tmw_command.specs.Benching.{AnswersHunt, IsHuntedFrom, IsNoBenchFrom, IsRightFault, fault_of}
 use Rattle.tmw_command.specs.declared.bench.hunt_run.HuntRun.{HuntRun}
 use Rattle.tmw_bench.specs.declared.fault.BenchFault.{BenchFault}
 use Rattle.tmw_bench.specs.declared.fault.BenchFault.TheVariants.{Memory as LacksMemory, Registers as LacksRegisters, Ring as HasNoRing, Spawn as LacksThreads}
@@ -36,11 +42,13 @@ module _ (has : ℕ) (Ended : Type 0) (settings : Settings) (bytes : List ℕ) w
   })
 
 -- what threads have made of the text of a workload
-pub hunted-from : (memory : MemoryIs) (workload : Workload) (settings : Settings) (bytes : List ℕ) (hunted : Hunted) (run : HuntRun)
+hunted-from : (memory : MemoryIs) (workload : Workload) (options : BenchOptions) (bytes : List ℕ) (hunted : Hunted) (run : HuntRun)
     → IsWorkloadText workload.registers.number (scripts_of workload.scripts.items) workload.order.items bytes
     → workload.registers.number ≤ memory.registers → run.shown.registers ≡ workload.registers → hunted_of run ≡ hunted
-    → IsHunted memory.gives workload.registers (scripts_of workload.scripts.items) settings hunted → IsHuntedFrom memory settings bytes run
-hunted-from memory workload settings bytes hunted run text enough registers same made = record {
+    → IsNeededOf Opacity options.why run.shown.registers run.shown.showing run.shown.needed
+    → IsHunted memory.gives workload.registers (scripts_of workload.scripts.items) options.settings hunted
+    → IsHuntedFrom memory options bytes run
+hunted-from memory workload options bytes hunted run text enough registers same needed made = record {
   enough = subst (λ (r : Width). r.number ≤ memory.registers) (sym registers) enough;
   workload = record {
     scripts = scripts_of workload.scripts.items;
@@ -48,6 +56,20 @@ hunted-from memory workload settings bytes hunted run text enough registers same
     is = subst (λ (r : Width). IsTrue (is_workload r.number (scripts_of workload.scripts.items) workload.order.items)) (sym registers) workload.is;
     text = subst (λ (r : Width). IsWorkloadText r.number (scripts_of workload.scripts.items) workload.order.items bytes) (sym registers) text;
   };
-  hunted = subst (λ (r : Width). IsHunted memory.gives r (scripts_of workload.scripts.items) settings (hunted_of run)) (sym registers)
-      (subst (IsHunted memory.gives workload.registers (scripts_of workload.scripts.items) settings) (sym same) made);
+  hunted = subst (λ (r : Width). IsHunted memory.gives r (scripts_of workload.scripts.items) options.settings (hunted_of run)) (sym registers)
+      (subst (IsHunted memory.gives workload.registers (scripts_of workload.scripts.items) options.settings) (sym same) made);
+  needed = needed;
 }
+
+-- They answer it, and so does the want of memory for the part of the last window.
+pub hunted-answers : (memory : MemoryIs) (workload : Workload) (options : BenchOptions) (Ended : Type 0) (bytes : List ℕ) (hunted : Hunted)
+    (result : Result HuntRun Fault) → Ended
+    → IsWorkloadText workload.registers.number (scripts_of workload.scripts.items) workload.order.items bytes
+    → workload.registers.number ≤ memory.registers
+    → IsHunted memory.gives workload.registers (scripts_of workload.scripts.items) options.settings hunted
+    → IfOk result (λ run. run.shown.registers ≡ workload.registers) → IfOk result (λ run. hunted_of run ≡ hunted)
+    → IfOk result (λ run. IsNeededOf Opacity options.why run.shown.registers run.shown.showing run.shown.needed)
+    → IfErr result (λ fault. fault ≡ Memory) → AnswersHunt memory options Ended bytes result
+hunted-answers memory workload options Ended bytes hunted (Ok run) ended text enough made registers same needed none =
+    (ended, hunted-from memory workload options bytes hunted run text enough registers same needed made)
+hunted-answers memory workload options Ended bytes hunted (Err fault) ended text enough made registers same needed is = rw is tt

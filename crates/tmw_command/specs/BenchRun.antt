@@ -4,6 +4,8 @@ use Rattle.tmw_bench.specs.declared.benched.Benched.{Benched}
 use Rattle.tmw_bench.specs.declared.hunted.Hunted.{Hunted}
 use Rattle.tmw_defs.specs.declared.criterion.Criterion.TheVariants.{Opacity}
 use Rattle.tmw_report.specs.Lines.{report_text}
+use Rattle.tmw_show.specs.declared.command.form.Form.{Form}
+use Rattle.tmw_show.specs.declared.command.form.Form.TheVariants.{Drawing, Traces}
 use Rattle.tmw_command.specs.Ends.{ends_line}
 use Rattle.tmw_command.specs.declared.bench.bench_run.BenchRun.{BenchRun}
 use Rattle.tmw_args.specs.declared.bench_options.BenchOptions.{BenchOptions}
@@ -42,10 +44,14 @@ bench_status run = driven_status run.driven
 abbrev pub hunted_of : HuntRun → Hunted
 hunted_of run = record { showing = run.shown.showing; summary = run.summary; ends = run.ends; rounds = run.rounds }
 
+-- The form in which `show` writes the log's last window.
+abbrev pub shown_form : BenchOptions → Form
+shown_form options = cond options.written.trace Traces Drawing
+
 -- What `show` writes of the log, by opacity, and behind what is drawn the last lines.
 abbrev pub place_text : BenchOptions → HuntRun → List ℕ
 place_text options run =
-    shown_text Opacity options.written.trace run.shown ++ cond options.written.trace [] (last_lines options run.ends.items run.summary)
+    shown_text Opacity (shown_form options) run.shown ++ cond options.written.trace [] (last_lines options run.ends.items run.summary)
 
 -- Without the log: what `show` writes of it, where that is asked for, and else the report's line and the last ones.
 abbrev pub hunt_text : BenchOptions → HuntRun → List ℕ

@@ -6,7 +6,9 @@ use Rattle.tmw_bench.specs.declared.fault.BenchFault.{BenchFault}
 use Rattle.tmw_bench.specs.declared.fault.BenchFault.TheVariants.{Memory as LacksMemory, Registers as LacksRegisters, Ring as HasNoRing, Spawn as LacksThreads}
 use Rattle.tmw_bench.specs.declared.settings.Settings.{Settings}
 use Rattle.tmw_events.specs.declared.registers.Registers.{Registers}
+use Rattle.tmw_defs.specs.declared.criterion.Criterion.TheVariants.{Opacity}
 use Rattle.tmw_report.specs.Remark.{IsRemarkedRun}
+use Rattle.tmw_show.specs.Explaining.{IsNeededOf}
 use Rattle.tmw_streams.specs.Streams.{FromSource, ToSink}
 use Rattle.tmw_report.specs.declared.fault.Fault.{Fault}
 use Rattle.tmw_report.specs.declared.fault.Fault.TheVariants.{Memory, Registers as TooManyRegisters, Ring, Spawn}
@@ -29,11 +31,12 @@ pub record IsBenchedFrom (memory : MemoryIs) (settings : Settings) (bytes : List
   pub benched : IsBenched memory.gives registers workload.scripts settings (benched_of run)
 
 -- The bytes are the text of a workload over no more registers than the memory has, and this is what threads have made of it, of whose
--- log the last window is told.
-pub record IsHuntedFrom (memory : MemoryIs) (settings : Settings) (bytes : List ℕ) (run : HuntRun) : Type 0 where
+-- log the last window is told, with a part of it where it is asked why it is violated.
+pub record IsHuntedFrom (memory : MemoryIs) (options : BenchOptions) (bytes : List ℕ) (run : HuntRun) : Type 0 where
   pub enough : run.shown.registers.number ≤ memory.registers
   pub workload : IsTextOver run.shown.registers.number bytes
-  pub hunted : IsHunted memory.gives run.shown.registers workload.scripts settings (hunted_of run)
+  pub hunted : IsHunted memory.gives run.shown.registers workload.scripts options.settings (hunted_of run)
+  pub needed : IsNeededOf Opacity options.why run.shown.registers run.shown.showing run.shown.needed
 
 -- The bytes are the text of a workload, of which no run was judged to its end, by this fault.
 pub record IsNoBenchFrom (has : ℕ) (settings : Settings) (bytes : List ℕ) (fault : BenchFault) : Type 0 where
@@ -68,8 +71,8 @@ abbrev pub AnswersBench : MemoryIs → Settings → Type 0 → List ℕ → Resu
 AnswersBench memory settings = AnswersBy (IsBenchedFrom memory settings) memory.registers settings
 
 -- What threads have made of it, with the last window of their log.
-abbrev pub AnswersHunt : MemoryIs → Settings → Type 0 → List ℕ → Result HuntRun Fault → Type 0
-AnswersHunt memory settings = AnswersBy (IsHuntedFrom memory settings) memory.registers settings
+abbrev pub AnswersHunt : MemoryIs → BenchOptions → Type 0 → List ℕ → Result HuntRun Fault → Type 0
+AnswersHunt memory options = AnswersBy (IsHuntedFrom memory options) memory.registers options.settings
 
 -- What a run of `bench` does: an answer to the bytes that its source tells in it, and the answer's text to its sink. Where the log's
 -- trace is asked for the answer has the log, and else its length, its verdict and its last window. The sink for errors is told
@@ -79,5 +82,5 @@ BenchesBytes From To Errors memory options source source_after sink sink_after e
     MatchBool (asks_for_log options)
     (IsRemarkedRun From To Errors (AnswersBench memory options.settings) (bench_text options) bench_status bench_shows_nothing
     source source_after sink sink_after errors errors_after status)
-    (IsRemarkedRun From To Errors (AnswersHunt memory options.settings) (hunt_text options) hunt_status hunt_shows_nothing
+    (IsRemarkedRun From To Errors (AnswersHunt memory options) (hunt_text options) hunt_status hunt_shows_nothing
     source source_after sink sink_after errors errors_after status)

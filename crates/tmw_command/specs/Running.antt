@@ -1,6 +1,6 @@
 -- What a run of the command line does: from its words and the bytes that its source tells to what its two sinks take and the
 -- exit status. The second sink is for errors.
-use Rattle.std.specs.Prelude.{◌≡◌, ℕ, true, false, List, Result, Ok, Err, string_bytes}
+use Rattle.std.specs.Prelude.{◌≡◌, ℕ, List, Result, Ok, Err, string_bytes}
 use Rattle.clap.specs.Words.{Text}
 use Rattle.tmw_report.specs.Lines.{fault_line}
 use Rattle.tmw_report.specs.Putting.{IsPut, IsSent}
@@ -10,16 +10,11 @@ use Rattle.tmw_report.specs.declared.fault.Fault.TheVariants.{Memory as WantsMem
 use Rattle.tmw_judge.specs.Answering.{JudgesWith}
 use Rattle.tmw_command.specs.Benching.{BenchesBytes}
 use Rattle.tmw_command.specs.Driving.{DrivesBytes}
-use Rattle.tmw_show.specs.Page.{PagesBytes}
 use Rattle.tmw_show.specs.Running.{ShowsBytes}
 use Rattle.tmw_steps.specs.Running.{RunsSteps}
-use Rattle.tmw_defs.specs.declared.criterion.Criterion.{Criterion}
-use Rattle.tmw_monitor.specs.declared.bounds.Bounds.{Bounds}
 use Rattle.tmw_tm.specs.Memory.{MemoryIs}
 use Rattle.tmw_args.specs.Reading.{IsReading}
 use Rattle.tmw_command.specs.Version.{version_line}
-use Rattle.tmw_args.specs.declared.form.Form.{Form}
-use Rattle.tmw_args.specs.declared.form.Form.TheVariants.{Drawing, Traces, Page}
 use Rattle.tmw_args.specs.declared.order.Order.{Order}
 use Rattle.tmw_args.specs.declared.order.Order.TheVariants.{Judge, Show, Drive, Bench, Steps}
 use Rattle.tmw_args.specs.declared.refusal.Refusal.{Refusal}
@@ -45,12 +40,6 @@ pub record Streams (S K E : Type 0) : Type 0 where
 abbrev pub streams : {S K E : Type 0} → S → K → E → Streams S K E
 streams source sink errors = record { source = source; sink = sink; errors = errors }
 
--- What a run of `show` does: it draws the last window, or writes it as traces or as a page.
-abbrev pub Shows : {S K : Type 0} → FromSource S → ToSink K → Criterion → Form → Bounds → S → S → K → K → ℕ → Type 0
-Shows From To criterion Drawing bounds = ShowsBytes From To criterion false bounds
-Shows From To criterion Traces bounds = ShowsBytes From To criterion true bounds
-Shows From To criterion Page bounds = PagesBytes From To criterion bounds
-
 -- This is done, and nothing is sent to the sink for errors.
 abbrev pub Silently : {S K E : Type 0} → (S → S → K → K → ℕ → Type 0) → Streams S K E → Streams S K E → ℕ → Type 0
 Silently Does old new status = Does old.source new.source old.sink new.sink status × (new.errors ≡ old.errors)
@@ -63,7 +52,7 @@ Aloud Does old new status = Does old.source new.source old.sink new.sink old.err
 -- how far it has come goes elsewhere, and is in no clause.
 abbrev pub RunsOrder : {S K E : Type 0} → FromSource S → ToSink K → ToSink E → MemoriesAre → Order → Streams S K E → Streams S K E → ℕ → Type 0
 RunsOrder From To Errors memories (Judge options) = Aloud (JudgesWith From To Errors options)
-RunsOrder From To Errors memories (Show criterion form bounds) = Silently (Shows From To criterion form bounds)
+RunsOrder From To Errors memories (Show options) = Silently (ShowsBytes From To options)
 RunsOrder From To Errors memories (Drive memory written bounds) = Silently (DrivesBytes From To (memories memory) written bounds)
 RunsOrder From To Errors memories (Bench memory options) = Aloud (BenchesBytes From To Errors (memories memory) options)
 RunsOrder From To Errors memories Steps = Silently (RunsSteps From To)

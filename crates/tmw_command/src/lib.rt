@@ -11,4 +11,4 @@ pub use bench::{BenchRun, HuntRun, ends_text, run_bench_cmd};
 pub use drive::{Driven, run_drive};
 pub use memories::Memories;
 pub use run::run_command;
-pub use tmw_args::{BenchOptions, Form, Order, Refusal, RunOptions, Which, read_words};
+pub use tmw_args::{BenchOptions, Order, Refusal, RunOptions, Which, read_words};

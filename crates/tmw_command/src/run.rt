@@ -1,7 +1,7 @@
 ghost use Rattle.std.specs.Prelude.{map, string_bytes};
 ghost use Rattle.std.specs.Result.{result_map_both};
 ghost use Rattle.tmw_report.specs.Putting.{IsPut, IsSent};
-ghost use Rattle.tmw_command.specs.Running.{AnswersRefusal, RunsCommand, RunsOrder, RunsWords, Shows, by_which, streams};
+ghost use Rattle.tmw_command.specs.Running.{AnswersRefusal, RunsCommand, RunsOrder, RunsWords, by_which, streams};
 ghost use Rattle.tmw_tm.specs.Memory.{memory_is};
 
 use crate::bench::run_bench_cmd;
@@ -11,13 +11,11 @@ use std::alloc::Global;
 use std::convert::AsStr;
 use std::sync::Wait;
 use std::thread::Threads;
-use tmw_args::{Form, Order, Refusal, read_words};
+use tmw_args::{Order, Refusal, read_words};
 use tmw_bench::Progress;
-use tmw_defs::Criterion;
 use tmw_judge::run_judge_with;
-use tmw_monitor::Bounds;
 use tmw_report::{FAULT_STATUS, Fault, answer_fault};
-use tmw_show::{run_page, run_show};
+use tmw_show::run_show;
 use tmw_steps::run_steps;
 use tmw_streams::{Sink, Source, put_all};
 use tmw_tm::Tm;
@@ -107,11 +105,7 @@ fn run_order<S: Source, K: Sink, E: Sink, R: AllocGlobal + Threads + Wait + Sync
     let alloc = rt.alloc();
     match order {
         Order::Judge(options) => run_judge_with(alloc, source, sink, errors, options),
-        Order::Show {
-            criterion,
-            form,
-            bounds,
-        } => show(alloc, source, sink, criterion, form, bounds),
+        Order::Show(options) => run_show(alloc, source, sink, options),
         Order::Drive {
             memory,
             written,
@@ -122,25 +116,6 @@ fn run_order<S: Source, K: Sink, E: Sink, R: AllocGlobal + Threads + Wait + Sync
             run_bench_cmd(rt, source, sink, errors, picked, &options, progress)
         }
         Order::Steps => run_steps(alloc, source, sink),
-    }
-}
-
-/// Shows the last window of a trace, in this form.
-fn show<S: Source, K: Sink>(
-    alloc: Global,
-    source: &mut S,
-    sink: &mut K,
-    criterion: Criterion,
-    form: Form,
-    bounds: Bounds,
-) -> u8
-    ensures { Shows S.from K.to criterion form bounds
-        source.old source.new sink.old sink.new result }
-{
-    match form {
-        Form::Drawing => run_show(alloc, source, sink, criterion, false, bounds),
-        Form::Traces => run_show(alloc, source, sink, criterion, true, bounds),
-        Form::Page => run_page(alloc, source, sink, criterion, bounds),
     }
 }
 

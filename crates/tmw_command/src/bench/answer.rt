@@ -16,7 +16,7 @@ use tmw_counts::{Summary, is_open};
 use tmw_defs::{Criterion, Verdict};
 use tmw_drive::Ending;
 use tmw_report::{FAULT_STATUS, Fault, answer_fault, report_text, send_remark, status_of};
-use tmw_show::shown_text;
+use tmw_show::{Form, shown_text};
 use tmw_streams::{Sink, put_all};
 
 /// Writes the log's trace, and behind it the lines that these options request, and returns the exit status. The lines are
@@ -98,13 +98,12 @@ fn text_of(alloc: Global, options: &BenchOptions, run: &HuntRun) -> Result<Vec<u
         run.now.shown.showing.events.items ≤ run.now.shown.showing.fed }
     ensures { IfOk result (λ text. text.items ≡ hunt_text options.now run.now) }
 {
-    let trace = options.written.trace;
-    if options.show && trace {
-        return shown_text(alloc, Criterion::Opacity, trace, &run.shown);
+    if options.show && options.written.trace {
+        return shown_text(alloc, Criterion::Opacity, Form::Traces, &run.shown);
     }
     let last = last_lines(alloc, options, &run.ends, &run.summary)?;
     if options.show {
-        let mut text = shown_text(alloc, Criterion::Opacity, trace, &run.shown)?;
+        let mut text = shown_text(alloc, Criterion::Opacity, Form::Drawing, &run.shown)?;
         text.extend_from_slice(last.as_bytes())?;
         Ok(text)
     } else {

@@ -1,4 +1,7 @@
-ghost use Rattle.std.specs.Prelude.{◌≡◌, ℕ, List};
+ghost use Rattle.std.specs.Prelude.{◌≡◌, ℕ, IfErr, IfOk, List};
+ghost use Rattle.tmw_defs.specs.declared.criterion.Criterion.TheVariants.{Opacity};
+ghost use Rattle.tmw_report.specs.declared.fault.Fault.TheVariants.{Memory};
+ghost use Rattle.tmw_show.specs.Explaining.{IsNeededOf};
 ghost use Rattle.tmw_report.specs.CommandRun.{failures_after_answer};
 ghost use Rattle.tmw_command.specs.BenchRun.{benched_of, hunted_of};
 ghost use Rattle.tmw_command.specs.Benching.{AnswersBench, AnswersHunt, fault_of};
@@ -13,7 +16,9 @@ use crate::reading::read_source;
 use std::alloc::Global;
 use std::sync::Wait;
 use std::thread::Threads;
+use tmw_args::BenchOptions;
 use tmw_bench::{BenchFault, Benched, Hunted, Progress, Settings, hunt, run_bench};
+use tmw_defs::Criterion;
 use tmw_events::Registers;
 use tmw_report::Fault;
 use tmw_show::Shown;
@@ -41,25 +46,25 @@ pub fn bench_source<S: Source, R: Threads + Wait + Sync>(
     }
 }
 
-/// Reads a workload up to the source's end, and runs it in threads on the memory. Of the log only the last window is
-/// kept.
+/// Reads a workload up to the source's end, and runs it in threads on the memory, as these options say. Of the log only
+/// the last window is kept.
 pub fn hunt_source<S: Source, R: Threads + Wait + Sync, P: Progress>(
     rt: &R,
     alloc: Global,
     source: &mut S,
     memory: &(dyn Tm + Sync),
-    settings: Settings,
+    options: &BenchOptions,
     progress: &P,
 ) -> Result<HuntRun, Fault>
     ensures right { (bytes : List ℕ) × Tells S.from source.old bytes source.new
-        × AnswersHunt (memory_is (has memory.now) (gives memory.now)) settings
+        × AnswersHunt (memory_is (has memory.now) (gives memory.now)) options.now
         (S.from.ended source.new) bytes result }
     ensures failures { S.from.failures source.new ≡ failures_after_answer result
         (S.from.failures source.old) }
 {
     let workload = read_source(alloc, source)?;
-    match hunt(rt, alloc, memory, &workload, settings, progress) {
-        Ok(hunted) => Ok(with_registers(workload.registers, hunted)),
+    match hunt(rt, alloc, memory, &workload, options.settings, progress) {
+        Ok(hunted) => with_registers(alloc, options.why, workload.registers, hunted),
         Err(fault) => Err(fault_of(fault)),
     }
 }
@@ -79,19 +84,27 @@ fn with_header(registers: Registers, benched: Benched) -> BenchRun
     }
 }
 
-/// What threads have made of a workload, with its registers.
-fn with_registers(registers: Registers, hunted: Hunted) -> HuntRun
-    ensures registers { result.shown.registers ≡ registers }
-    ensures same { hunted_of result ≡ hunted }
+/// What threads have made of a workload, with its registers and, if it is asked why, what is needed of its last window.
+fn with_registers(
+    alloc: Global,
+    why: bool,
+    registers: Registers,
+    hunted: Hunted,
+) -> Result<HuntRun, Fault>
+    ensures registers { IfOk result (λ run. run.shown.registers ≡ registers) }
+    ensures same { IfOk result (λ run. hunted_of run ≡ hunted) }
+    ensures needed { IfOk result
+        (λ run. IsNeededOf Opacity why run.shown.registers run.shown.showing run.shown.needed) }
+    ensures memory { IfErr result (λ fault. fault ≡ Memory) }
 {
-    HuntRun {
-        shown: Shown {
-            registers,
-            showing: hunted.showing,
-        },
-        summary: hunted.summary,
-        ends: hunted.ends,
-        rounds: hunted.rounds,
+    match Shown::new(alloc, Criterion::Opacity, why, registers, hunted.showing) {
+        Ok(shown) => Ok(HuntRun {
+            shown,
+            summary: hunted.summary,
+            ends: hunted.ends,
+            rounds: hunted.rounds,
+        }),
+        Err(_) => Err(Fault::Memory),
     }
 }
 

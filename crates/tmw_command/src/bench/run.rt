@@ -18,7 +18,7 @@ use tmw_tm::Tm;
 ///
 /// Without a flag it writes the report line, then the line that tells how each thread has ended. With `summary` that of the
 /// counts follows. With `trace` the log's trace comes before all, and with `trace_only` alone. With `show` what the
-/// command `show` draws comes in the report's place. With `show` and `trace` alone it writes only the traces of the last
+/// command `show` draws comes in the report's place, with `why` what `show --why` does. With `show` and `trace` alone it writes only the traces of the last
 /// window, as `show --trace` does. It keeps the whole log only for the log's trace; else it tells `progress` how far the run has
 /// come, unless it is to be quiet. Of a run that shows nothing the sink for errors is told.
 ///
@@ -52,7 +52,7 @@ pub fn run_bench_cmd<
         }
     } else {
         let told = told_of(options.quiet, progress);
-        match hunt_source(rt, alloc, source, memory, options.settings, &told) {
+        match hunt_source(rt, alloc, source, memory, options, &told) {
             Ok(found) => answer_hunt(alloc, sink, errors, options, &found),
             Err(fault) => answer_fault(sink, fault),
         }

@@ -10,6 +10,7 @@ pub returns : goal.returns
 returns c =
     let given = c.in_ok-remembered.ensures ∙ ap (λ (app : App). with_memory (Names c.args.memories) app) c.described-bench.ensures in
     let shown = c.in_ok-shown.ensures ∙ ap (λ (app : App). with_flag (codes "show") app) given in
-    let quiet = c.in_ok-quiet.ensures ∙ ap (λ (app : App). with_flag (codes "quiet") app) shown in
+    let explained = c.in_ok-explained.ensures ∙ ap (λ (app : App). with_flag (codes "why") app) shown in
+    let quiet = c.in_ok-quiet.ensures ∙ ap (λ (app : App). with_flag (codes "quiet") app) explained in
     let counted = c.in_ok-with_counts.ensures ∙ ap with_counts quiet in
     IfOk-weaker c.with_bounds.result _ _ (λ command bounded. bounded ∙ ap with_bounds counted) c.with_bounds.ensures

@@ -10,5 +10,6 @@ pub returns : goal.returns
 returns c =
     let given = c.in_ok-judged.ensures ∙ ap (λ (app : App). with_criterion (Names c.args.criteria) app) c.described-show.ensures in
     let traced = c.in_ok-traced.ensures ∙ ap (λ (app : App). with_flag (codes "trace") app) given in
-    let paged = c.in_ok-with_flag.ensures ∙ ap (λ (app : App). with_flag (codes "page") app) traced in
-    IfOk-weaker c.with_bounds.result _ _ (λ command bounded. bounded ∙ ap with_bounds paged) c.with_bounds.ensures
+    let paged = c.in_ok-paged.ensures ∙ ap (λ (app : App). with_flag (codes "page") app) traced in
+    let explained = c.in_ok-with_flag.ensures ∙ ap (λ (app : App). with_flag (codes "why") app) paged in
+    IfOk-weaker c.with_bounds.result _ _ (λ command bounded. bounded ∙ ap with_bounds explained) c.with_bounds.ensures

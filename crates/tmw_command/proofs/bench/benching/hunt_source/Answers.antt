@@ -1,5 +1,5 @@
 -- The workload that was read was carried out, or it was not, by the fault that is answered.
-use Rattle.tmw_command.proofs.BenchAnswers.{hunted-from, right-bench}
+use Rattle.tmw_command.proofs.BenchAnswers.{hunted-answers, right-bench}
 use Rattle.tmw_tm.specs.Memory.{memory_is}
 use Rattle.tmw_command.proofs.bench.benching.hunt_source.Goals as goal
 
@@ -9,12 +9,10 @@ returns-in-Ok-clause-right g c =
     let tm = goal.Tm-dyn g c.args.memory.now in (
       told.0,
       told.1,
-      (
-        told.2.0,
-        hunted-from (memory_is (tm.has c.args.memory.now.1) (λ call answer. tm.gives c.args.memory.now.1 call answer)) c.in_ok-workload.workload
-            c.args.settings told.0 c.in-Ok.hunted c.with_registers.result told.2.1 c.in-Ok.ensures.enough
-            c.with_registers.ensures.registers c.with_registers.ensures.same c.in-Ok.ensures.ok,
-      ),
+      hunted-answers (memory_is (tm.has c.args.memory.now.1) (λ call answer. tm.gives c.args.memory.now.1 call answer)) c.in_ok-workload.workload
+          c.args.options.now (g.S.Source.from.ended c.read_source.new.source) told.0 c.in-Ok.hunted c.with_registers.result told.2.0 told.2.1
+          c.in-Ok.ensures.enough c.in-Ok.ensures.ok c.with_registers.ensures.registers c.with_registers.ensures.same
+          c.with_registers.ensures.needed c.with_registers.ensures.memory,
     )
 
 pub returns-clause-right : goal.returns-clause-right
@@ -24,6 +22,6 @@ returns-clause-right g c =
     rw c.fault_of.ensures (
       told.0,
       told.1,
-      right-bench has (g.S.Source.from.ended c.read_source.new.source) c.args.settings told.0 c.in_ok-workload.workload c.in-Err.fault
+      right-bench has (g.S.Source.from.ended c.read_source.new.source) c.args.options.now.settings told.0 c.in_ok-workload.workload c.in-Err.fault
           told.2.0 told.2.1 c.in-Err.ensures.err,
     )
