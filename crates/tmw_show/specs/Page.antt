@@ -1,6 +1,6 @@
 -- The page that draws a window: a constant head, what is shown as one JSON object, and a constant tail. Of a trace the object has digits,
 -- the letters of events and blanks alone, within strings, and numbers.
-use Rattle.std.specs.Prelude.{ℕ, ◌+◌, List, [], ◌∷◌, ◌++◌, take, drop, codes, Option, Some, None}
+use Rattle.std.specs.Prelude.{ℕ, Bool, true, false, ◌+◌, List, [], ◌∷◌, ◌++◌, take, drop, codes, Option, Some, None}
 use Rattle.std.specs.List.{flat_map}
 use Rattle.std.specs.Fmt.{decimal}
 use Rattle.tmw_events.specs.Text.{event_text}
@@ -16,6 +16,8 @@ use Rattle.tmw_defs.specs.declared.verdict.Verdict.TheVariants.{OpaqueSoFar, Str
 use Rattle.tmw_show.specs.Drawing.{told_text}
 use Rattle.tmw_report.specs.Lines.{report_by}
 use Rattle.tmw_show.specs.declared.command.page.parts.TheConstants.{HEAD, TAIL}
+use Rattle.tmw_show.specs.declared.command.needed.Needed.{Needed}
+use Rattle.tmw_show.specs.declared.command.needed.Needed.TheVariants.{Marks}
 use Rattle.tmw_show.specs.declared.command.shown.Shown.{Shown}
 use Rattle.tmw_show.specs.declared.command.told.Told.{Told}
 
@@ -72,12 +74,21 @@ mark_at told (Some at) = codes ",\"mark\":" ++ (decimal at ++ (codes ",\"told\":
 abbrev pub mark_json : Told → List ℕ
 mark_json told = mark_at told (settled_at told.verdict)
 
+-- of a violated window of which that is asked: a digit for each event, 1 for those that contradict each other
+abbrev pub digit : Bool → ℕ
+digit true = 49
+digit false = 48
+
+abbrev pub needed_json : Needed → List ℕ
+needed_json (Marks marks) = codes ",\"needed\":\"" ++ (flat_map (λ mark. digit mark ∷ []) marks.items ++ codes "\"")
+needed_json _ = []
+
 -- what is shown, as one JSON object and a line feed
 abbrev pub json_text : Criterion → Shown → List ℕ
 json_text criterion shown =
     about_json criterion shown
     ++ (window_json shown.registers (members shown.showing.states) shown.showing.events.items
-    ++ (mark_json (told_of criterion shown) ++ codes "}\n"))
+    ++ (mark_json (told_of criterion shown) ++ (needed_json shown.needed ++ codes "}\n")))
 
 -- the page
 abbrev pub page_text : Criterion → Shown → List ℕ

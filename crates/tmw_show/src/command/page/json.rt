@@ -1,9 +1,10 @@
-ghost use Rattle.std.specs.Prelude.{◌≡◌, ◌++◌, OnOk};
-ghost use Rattle.tmw_show.specs.Page.{about_json, criterion_json, event_json, json_text, mark_json, numbers_json, settled_at, state_json, window_json};
+ghost use Rattle.std.specs.Prelude.{◌≡◌, [], ◌∷◌, ◌++◌, OnOk};
+ghost use Rattle.tmw_show.specs.Page.{about_json, criterion_json, digit, event_json, json_text, mark_json, needed_json, numbers_json, settled_at, state_json, window_json};
 
 use crate::command::event_text::push_event;
+use crate::command::needed::Needed;
 use crate::command::numbers::{push_number, push_values};
-use crate::command::part::{Part, push_list};
+use crate::command::part::{Part, push_each, push_list};
 use crate::command::shown::Shown;
 use crate::command::told::{Told, told_of};
 use std::alloc::{AllocError, Global};
@@ -36,6 +37,7 @@ pub fn push_json(
         fault: showing.fault,
     };
     push_mark(text, told)?;
+    push_needed(text, &shown.needed)?;
     text.extend_from_slice(b"}\n")?;
     Ok(())
 }
@@ -149,6 +151,31 @@ fn push_mark(text: &mut Vec<u8>, told: Told) -> Result<(), AllocError>
         None => {}
     }
     Ok(())
+}
+
+/// Adds a digit for each event, if it is asked why a window is violated that is.
+fn push_needed(text: &mut Vec<u8>, needed: &Needed) -> Result<(), AllocError>
+    ensures { OnOk result (text.new.items ≡ text.old.items ++ needed_json needed.now) }
+{
+    if let Needed::Marks(marks) = needed {
+        text.extend_from_slice(b",\"needed\":\"")?;
+        push_each(text, &MarkDigit, marks)?;
+        text.push(b'"')?;
+    }
+    Ok(())
+}
+
+/// A mark as a digit.
+#[derive(Drop)]
+struct MarkDigit;
+
+impl Part<bool> for MarkDigit {
+    ghost part = { λ own mark. digit mark ∷ [] };
+
+    fn push(&self, text: &mut Vec<u8>, mark: &bool) -> Result<(), AllocError> {
+        text.push(if *mark { b'1' } else { b'0' })?;
+        Ok(())
+    }
 }
 
 /// The number of the event that the verdict names, if it names one.

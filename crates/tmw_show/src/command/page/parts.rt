@@ -81,6 +81,8 @@ i.marked { background: var(--wrong-fill); border-color: var(--wrong); }
 .tx.self > rect { stroke-width: 2.5; }
 .tx.before > text, .tx.after > text { font-weight: 700; }
 .reading .op:not(.picked):not(.source) { opacity: .35; }
+.why .tx.spare, .why .tx:not(.spare) .op.spare { opacity: .25; }
+button { font: inherit; color: inherit; background: var(--band); border: 1px solid var(--edge); border-radius: 4px; padding: 0 8px; cursor: pointer; }
 .tx, .op { outline: none; }
 .tx:focus-visible > rect, .op:focus-visible rect { stroke: var(--ink); stroke-width: 2.5; }
 #print { display: none; }
@@ -93,7 +95,7 @@ i.marked { background: var(--wrong-fill); border-color: var(--wrong); }
   h1 { font-size: 17px; }
   #legend { margin: 8px 0 4px; font-size: 11px; }
   h2 { font-size: 11px; }
-  #board, #told { display: none; }
+  #board, #told, button { display: none; }
   #print { display: block; flex: 1 1 0; min-height: 0; }
   #print > svg { width: 100%; height: 100%; }
   #below { margin-top: 8px; }
@@ -126,8 +128,8 @@ pub const TAIL: &[u8] = br##"</script>
 <script>
 'use strict';
 (() => {
-// At most so many events are drawn, and so many writes listed. Sizes are in pixels.
-const MOST = 400, LISTED = 24, TOP = 24, LANE = 45, CHAR = 6.65;
+// At most so many events are drawn, so many writes listed, and of so many a part is found. Sizes are in pixels.
+const MOST = 400, LISTED = 24, SEARCHED = 1000, TOP = 24, LANE = 45, CHAR = 6.65;
 
 // What the program has written: values stay texts, since 64 bits do not fit a number. An event is its line of the trace.
 const run = JSON.parse(document.getElementById('run').textContent);
@@ -140,6 +142,8 @@ const events = run.events.map(line => {
   return event;
 });
 const first = earlier + 1, last = earlier + events.length;
+// Where it is asked why the window is violated: which events contradict each other.
+const needed = events.length > SEARCHED ? undefined : run.needed;
 const from = Math.max(first, last - MOST + 1);
 const byId = id => document.getElementById(id);
 const group = n => String(n).replace(/\B(?=(\d{3})+$)/g, ',');
@@ -193,6 +197,7 @@ for (const op of ops) {
   op.where = op.first === op.last ? `event ${op.first}` : `events ${op.first} and ${op.last}`;
   op.isMarked = mark !== undefined && (op.first === mark || op.last === mark);
   if (op.isMarked) op.where += `, ${wrong}`;
+  op.isSpare = needed !== undefined && needed[op.first - first] === '0';
   if (call && (call.k === 'R' || isAdd) && has) op.read = answer.v;
   if (call && call.k === 'W') op.wrote = call.v;
   if (isAdd && has) op.wrote = String(BigInt.asUintN(64, BigInt(answer.v) + BigInt(call.v)));
@@ -217,7 +222,8 @@ byId('verdict').classList.toggle('wrong', ['violated', 'malformed'].includes(rep
 const extent = events.length === 0 ? 'It has no events.'
   : from > first ? `No transaction was open before event ${first}. Of the ${plural(events.length, 'event')} from there to event ${last} the last ${MOST} are drawn, ${from} to ${last}.`
   : `Drawn: events ${first} to ${last}. No transaction was open before event ${first}.`;
-byId('about').textContent = `By ${strict ? 'strict serializability' : 'opacity'}, of a run of ${plural(report.events, 'event')} over ${plural(registers, 'register')}. ${extent}`;
+const why = needed === undefined ? '' : ` ${[...needed].filter(mark => mark === '1').length} of these events contradict each other: they are violated by themselves, and no call or transaction more can be left out.`;
+byId('about').textContent = `By ${strict ? 'strict serializability' : 'opacity'}, of a run of ${plural(report.events, 'event')} over ${plural(registers, 'register')}. ${extent}${why}`;
 
 // Columns: one for each event, as wide as the texts that end there need. A transaction that is still open is drawn, if only as a heading.
 const shown = txs.filter(tx => tx.last >= from || !isEnded(tx)), bars = ops.filter(op => op.last >= from);
@@ -265,7 +271,8 @@ function label(parent, text, char, x, y, right) {
 }
 for (const tx of shown) {
   const y = yOf(tx.thread), x = tx.first < from ? -9 : xOf(tx.first) + 1, right = endOf(tx.last) - 1;
-  tx.node = make('g', { class: `tx ${tx.status === 'commit-pending' ? 'pending' : tx.status}`, tabindex: 0, role: 'group',
+  const isSpare = ops.every(op => op.tx !== tx || op.isSpare);
+  tx.node = make('g', { class: `tx ${tx.status === 'commit-pending' ? 'pending' : tx.status}${isSpare ? ' spare' : ''}`, tabindex: 0, role: 'group',
     'aria-label': `${tx.name}, thread ${tx.thread}, ${tx.status}, events ${tx.first} to ${tx.last}`,
     'data-first': tx.first, 'data-last': tx.last, 'data-thread': tx.thread, 'data-status': tx.status }, chart);
   if (!isEnded(tx)) make('line', { class: 'tail', x1: right + 4, x2: width - 2, y1: y + 28, y2: y + 28 }, tx.node);
@@ -276,7 +283,7 @@ for (const tx of shown) {
 }
 for (const op of bars) {
   const y = yOf(op.tx.thread) + 18, x = op.first < from ? -9 : xOf(op.first) + 4, right = endOf(op.last) - 4;
-  const kind = (op.read === undefined ? '' : ' reads') + (op.call && !op.answer ? ' waits' : '') + (op.isMarked ? ' marked' : '');
+  const kind = (op.isSpare ? ' spare' : '') + (op.read === undefined ? '' : ' reads') + (op.call && !op.answer ? ' waits' : '') + (op.isMarked ? ' marked' : '');
   op.node = make('g', { class: `op${kind}`, tabindex: -1, role: op.read === undefined ? 'img' : 'button',
     'aria-label': `${op.text}, ${op.where}`, 'data-first': op.first, 'data-last': op.last }, op.tx.node);
   make('rect', { x, y, width: Math.max(right - x, 2), height: 21, rx: 3 }, op.node);
@@ -361,6 +368,13 @@ document.addEventListener('keydown', key => {
 for (const [name, word] of [['committed', 'committed'], ['aborted', 'aborted'], ['pending', 'commit-pending'], ['live', 'live'], ['marked', `event ${mark}: ${wrong}`]]) {
   if (name === 'marked' ? mark === undefined : !shown.some(tx => tx.status === word)) continue;
   make('i', { class: name }, make('span', {}, byId('legend'))).after(word);
+}
+if (needed !== undefined) {
+  const all = make('button', { type: 'button' }, byId('legend'), 'Show all events');
+  chart.classList.add('why');
+  all.addEventListener('click', () => {
+    all.textContent = chart.classList.toggle('why') ? 'Show all events' : 'Show what contradicts itself';
+  });
 }
 byId('held').textContent = states.length === 1 ? 'The registers at the start of the window' : `The ${states.length} states from which the window may begin`;
 const rows = Math.ceil(states.length / Math.ceil(states.length / 16));
