@@ -1,4 +1,5 @@
 pub mod Finding
 pub mod Kept
 pub mod Pieces
+pub mod Shown
 pub mod Test

@@ -1,6 +1,11 @@
 //! Of a violated window, a part that contradicts itself and of which nothing more can be taken out.
 #![tactic(auto)]
 
+mod left;
+mod part;
 mod piece;
+mod transaction;
 
+pub use part::{is_part, law_test};
 pub use piece::Piece;
+pub use transaction::Transaction;
