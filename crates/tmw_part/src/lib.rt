@@ -2,6 +2,7 @@
 #![tactic(auto)]
 
 mod left;
+mod marks;
 mod part;
 mod piece;
 mod transaction;
