@@ -1,2 +1,3 @@
 mod Adding
+mod Marking
 pub mod TestProof

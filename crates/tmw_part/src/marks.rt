@@ -1,5 +1,5 @@
 //! Which events of a window are kept: a mark for each, in order.
-ghost use Rattle.std.specs.Prelude.{◌≡◌, IfOk};
+ghost use Rattle.std.specs.Prelude.{◌≡◌, IfOk, position, slice_index_or};
 ghost use Rattle.tmw_part.specs.Kept.{keeps_last, kept_of, lies_in, owner, owners_among, places_from, without};
 ghost use Rattle.tmw_part.specs.Shown.{txn_of, txns_of};
 
@@ -58,14 +58,32 @@ fn lies_in(transaction: &Transaction, thread: Ix, place: usize) -> bool
     transaction.thread == thread && transaction.first <= place && place <= transaction.last
 }
 
+/// The number of the thread's transaction in which the event at this place lies, if it lies in one.
+fn find_owner(whole: &[Transaction], thread: Ix, place: usize) -> Option<usize>
+    ensures { result
+        ≡ position (λ one. lies_in thread.number place (txn_of one)) whole.now }
+{
+    whole.iter().position(|one| lies_in(one, thread, place))
+}
+
 /// The number of the thread's transaction in which the event at this place lies, or how many there are.
 fn owner(whole: &[Transaction], thread: Ix, place: usize) -> usize
     ensures { result ≡ owner (txns_of whole.now) thread.number place }
 {
-    whole
-        .iter()
-        .position(|one| lies_in(one, thread, place))
-        .unwrap_or(whole.len())
+    match find_owner(whole, thread, place) {
+        Some(number) => number,
+        None => whole.len(),
+    }
+}
+
+/// The number at the place, or 0 if there is none.
+fn number_at(numbers: &[usize], place: usize) -> usize
+    ensures { result ≡ slice_index_or numbers.now place 0 }
+{
+    match numbers.get(place) {
+        Some(number) => *number,
+        None => 0,
+    }
 }
 
 /// Returns for each transaction of a part, whose events have these places in the whole, the number of that one of the
@@ -81,7 +99,7 @@ pub fn owners(
 {
     let mut owners = Vec::new(alloc);
     for transaction in part {
-        let place = places.get(transaction.first).copied().unwrap_or(0);
+        let place = number_at(places, transaction.first);
         owners.push(owner(whole, transaction.thread, place))?;
     }
     Ok(owners)

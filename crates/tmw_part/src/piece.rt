@@ -1,4 +1,4 @@
-ghost use Rattle.std.specs.Prelude.{◌≡◌, ◌+◌, ◌<◌, ◌^◌, ◌++◌, IfOk, OnOk, length};
+ghost use Rattle.std.specs.Prelude.{◌≡◌, ◌+◌, ◌<◌, ◌==◌, ◌^◌, ◌++◌, IfOk, IfSome, OnOk, length, position};
 ghost use Rattle.tmw_defs.specs.History.{is_call};
 ghost use Rattle.tmw_part.specs.Kept.{is_of};
 ghost use Rattle.tmw_part.specs.Pieces.{call_of, calls_from, pieces};
@@ -34,13 +34,21 @@ fn is_call(kind: Kind) -> bool
     )
 }
 
+/// The place of the first event of the thread.
+fn first_of(thread: Ix, events: &[Event]) -> Option<usize>
+    ensures place { result
+        ≡ position (λ event. event.thread.number == thread.number) events.now }
+    ensures within { IfSome result (λ place. place < length events.now) }
+{
+    events.iter().position(|event| event.thread == thread)
+}
+
 /// The call at this place, before these events, with its answer if it has one.
 fn call_of(place: usize, call: Event, events: &[Event]) -> Piece
     requires { place + 1 + length events.now < 2 ^ 64 }
     ensures { result ≡ call_of place call events.now }
 {
-    let answer = events.iter().position(|event| event.thread == call.thread);
-    let upto = match answer {
+    let upto = match first_of(call.thread, events) {
         Some(number) => place + 1 + number,
         None => place,
     };

@@ -1,4 +1,4 @@
-use Rattle.std.proofs.Common.{rules, ◌≡◌, ◌+◌, ap, sym, ◌∙◌}
+use Rattle.std.proofs.Common.{rules, ◌≡◌, ◌+◌, ap, sym, refl, ◌∙◌}
 use Rattle.tmw_part.specs.declared.piece.Piece.{Piece}
 use Rattle.tmw_part.specs.Pieces.{behind, call_of}
 use Rattle.tmw_part.proofs.piece.call_of.Goals.{in-Some, in-None}
@@ -6,7 +6,7 @@ use Rattle.tmw_part.proofs.piece.call_of.Goals as goal
 
 pub returns : goal.returns
 returns c =
-    elim c.match-answer.branch [
-      | in-Some w ↦ let a = w.upto-is in let b = w.in-Some.is in let d = c.position-answer.ensures in ?
-      | in-None w ↦ let a = w.upto-is in let b = w.in-None.is in ?
+    elim c.match-first_of.branch [
+      | in-Some w ↦ let at = w.in-Some.ensures.place in rw (c.get.ensures.value, w.upto-is, ← at) refl
+      | in-None w ↦ let at = w.in-None.ensures.place in rw (c.get.ensures.value, w.upto-is, ← at) refl
     ]
