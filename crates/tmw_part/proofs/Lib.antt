@@ -1,3 +1,5 @@
 mod Adding
+mod Growing
 mod Marking
 pub mod TestProof
+mod Violation

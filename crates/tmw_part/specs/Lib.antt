@@ -2,4 +2,5 @@ pub mod Finding
 pub mod Kept
 pub mod Pieces
 pub mod Shown
+pub mod Taking
 pub mod Test

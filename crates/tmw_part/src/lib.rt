@@ -6,6 +6,7 @@ mod marks;
 mod part;
 mod piece;
 mod transaction;
+mod violated;
 
 pub use part::{is_part, law_test};
 pub use piece::Piece;
