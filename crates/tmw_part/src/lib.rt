@@ -1,6 +1,8 @@
 //! Of a violated window, a part that contradicts itself and of which nothing more can be taken out.
 #![tactic(auto)]
 
+mod find;
+mod kept_part;
 mod left;
 mod marks;
 mod part;
@@ -8,6 +10,7 @@ mod piece;
 mod transaction;
 mod violated;
 
+pub use find::{MOST_EVENTS, find_part};
 pub use part::{is_part, law_test};
 pub use piece::Piece;
 pub use transaction::Transaction;
