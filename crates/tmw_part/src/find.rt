@@ -24,7 +24,7 @@ fn try_without(
     registers: Registers,
     states: &States,
     events: &[Event],
-    piece: Piece,
+    piece: &Piece,
     marks: &[bool],
 ) -> Result<Option<Vec<bool>>, AllocError>
     requires few { length (transactions events.now) ≤ 8 }
@@ -34,9 +34,9 @@ fn try_without(
     ensures fewer { IfOk result (λ found. IfSome found (λ left.
         length (kept_of left.items events.now) < length (kept_of marks.now events.now))) }
     ensures needed { IfOk result (λ found. IfNone found (IsNeeded criterion registers.number
-        (members states.now) events.now marks.now piece)) }
+        (members states.now) events.now marks.now piece.now)) }
 {
-    let left = without(alloc, piece, marks, events)?;
+    let left = without(alloc, *piece, marks, events)?;
     if left.as_slice() == marks {
         return Ok(None);
     }
@@ -69,7 +69,7 @@ fn take_out(
 {
     let mut took = false;
     for piece in pieces {
-        let found = try_without(criterion, alloc, registers, states, events, *piece, marks)?;
+        let found = try_without(criterion, alloc, registers, states, events, piece, marks)?;
         if let Some(left) = found {
             *marks = left;
             took = true;
