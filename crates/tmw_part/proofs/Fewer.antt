@@ -1,5 +1,5 @@
 -- What is kept of a window: all of it at first, and less without a piece.
-use Rattle.std.proofs.Common.{◌≡◌, ◌&&◌, ◌⊎◌, ◌+◌, ◌<◌, ◌≤◌, ℕ, zero, suc, Bool, true, false, not, List, [], ◌∷◌, length, IsTrue, refl, sym, ap, ◌∙◌, inl, inr, arith}
+use Rattle.std.proofs.Common.{◌≡◌, ◌⊎◌, ◌+◌, ◌<◌, ℕ, zero, suc, Bool, true, false, List, [], ◌∷◌, length, refl, sym, ap, ◌∙◌, inl, inr, arith}
 use Rattle.std.specs.Prelude.{replicate}
 use Rattle.std.specs.Cmp.Lexicographic.{pointwise}
 use Rattle.std.proofs.Math.Bool.{beq}
@@ -30,13 +30,13 @@ without-fewer piece place (true ∷ marks) (e ∷ events) each =
     let rest = without-fewer piece (place + 1) marks events (omega (arith, each)) in
     elim (cases_Bool (is_of piece place e)) [
       | inl is ↦ rw is (inr (elim rest [
-          | inl same ↦ rw same (omega arith)
-          | inr fewer ↦ omega (arith, fewer)
-        ]))
+        | inl same ↦ rw same (omega arith)
+        | inr fewer ↦ omega (arith, fewer)
+      ]))
       | inr other ↦ rw other (elim rest [
-          | inl same ↦ inl (ap (λ more. true ∷ more) same)
-          | inr fewer ↦ inr (omega (arith, fewer))
-        ])
+        | inl same ↦ inl (ap (λ more. true ∷ more) same)
+        | inr fewer ↦ inr (omega (arith, fewer))
+      ])
     ]
 
 pub kept-all : (events : List Event) → kept_of (all_kept events) events ≡ events

@@ -1,5 +1,5 @@
 -- The whole of a window is a part of it, and no part has more transactions than the whole.
-use Rattle.std.proofs.Common.{◌≡◌, ◌+◌, ◌<◌, ◌≤◌, ℕ, zero, suc, Bool, List, [], ◌∷◌, length, Some, refl, sym, ap, ◌∙◌, inl, inr, arith}
+use Rattle.std.proofs.Common.{◌≡◌, ◌<◌, ◌≤◌, ℕ, zero, suc, Bool, List, [], ◌∷◌, length, Some, refl, ap, inl, inr, arith}
 use Rattle.std.specs.Prelude.{remove, slice_get}
 use Rattle.std.proofs.lemmas.List.Edits.{length-remove}
 use Rattle.tmw_defs.specs.declared.op.Op.{Op}

@@ -1,5 +1,5 @@
 -- What a search for an end state tells of events that were taken into its window.
-use Rattle.std.proofs.Common.{◌≡◌, ◌≤◌, ◌&&◌, Bool, true, false, not, ℕ, List, length, IsTrue, Result, Ok, Err, IfOk, refl, inl, inr, arith}
+use Rattle.std.proofs.Common.{◌≡◌, ◌≤◌, Bool, true, false, not, ℕ, List, length, IsTrue, Result, Ok, Err, IfOk, refl, inl, inr, arith}
 use Rattle.std.specs.Prelude.{IsFalse}
 use Rattle.std.proofs.Math.Bool.{and-false}
 use Rattle.tmw_events.specs.declared.event.Event.{Event}
@@ -10,13 +10,13 @@ use Rattle.tmw_cuts.specs.declared.states.States.{States}
 use Rattle.tmw_cuts.specs.declared.window.Window.{Window}
 use Rattle.tmw_cuts.specs.Members.{members}
 use Rattle.tmw_search.specs.Ended.{TellsEnd}
-use Rattle.tmw_part.specs.Finding.{HasOrderFrom, TellsViolated, IsViolated, IsViolatedPart, Fails}
+use Rattle.tmw_part.specs.Finding.{TellsViolated, IsViolated, IsViolatedPart, Fails}
 use Rattle.tmw_part.specs.Kept.{all_kept, kept_of, keeps_last, owners}
 use Rattle.tmw_part.specs.Test.{is_part_at}
 use Rattle.tmw_part.proofs.Fewer.{kept-all, keeps_last-all, length-all}
 use Rattle.tmw_part.proofs.Parts.{part-fewer, part-whole}
 use Rattle.tmw_part.proofs.TestProof.{part-test}
-use Rattle.tmw_defs.specs.History.{is_well_formed, transactions}
+use Rattle.tmw_defs.specs.History.{transactions}
 use Rattle.tmw_defs.specs.Opaque.{State}
 use Rattle.tmw_part.specs.Taking.{AreTaken, AreUnfit}
 

@@ -96,9 +96,7 @@ fn take_all_out(
     let pieces = pieces(alloc, events)?;
     let mut took = true;
     while took {
-        took = take_out(
-            criterion, alloc, registers, states, events, &pieces, marks,
-        )?;
+        took = take_out(criterion, alloc, registers, states, events, &pieces, marks)?;
     }
     Ok(())
 }

@@ -1,4 +1,4 @@
-use Rattle.std.proofs.Common.{◌≡◌, ◌+◌, All, length}
+use Rattle.std.proofs.Common.{◌+◌, All, length}
 use Rattle.std.specs.Prelude.{IsFalse, if◌then◌else◌}
 use Rattle.tmw_cuts.specs.Members.{members}
 use Rattle.tmw_part.specs.Finding.{IsNeeded, IsViolatedPart}

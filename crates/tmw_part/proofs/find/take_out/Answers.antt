@@ -1,12 +1,9 @@
-use Rattle.std.proofs.Common.{◌≡◌, ◌<◌, ◌≤◌, ◌∙◌, true, false, length, sym, ap, inl, inr, arith}
+use Rattle.std.proofs.Common.{◌≡◌, ◌∙◌, true, false, sym, inl, inr, arith}
 use Rattle.std.proofs.lemmas.Bool.{cases_Bool}
 use Rattle.std.proofs.lemmas.List.{take_all}
 use Rattle.std.proofs.lemmas.List.Elements.{All-more}
 use Rattle.tmw_cuts.specs.Members.{members}
-use Rattle.tmw_part.specs.declared.piece.Piece.{Piece}
-use Rattle.std.specs.Prelude.{slice_index_or}
 use Rattle.tmw_part.specs.Finding.{IsNeeded}
-use Rattle.tmw_part.specs.Kept.{kept_of}
 use Rattle.tmw_part.proofs.find.take_out.Goals.{in-Some, in_default}
 use Rattle.tmw_part.proofs.find.take_out.Goals as goal
 

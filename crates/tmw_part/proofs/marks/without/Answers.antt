@@ -1,6 +1,5 @@
-use Rattle.std.proofs.Common.{◌≡◌, [], ◌++◌, sym, ◌∙◌, drop}
+use Rattle.std.proofs.Common.{◌≡◌, [], sym, ◌∙◌, drop}
 use Rattle.std.proofs.lemmas.List.{append-nil, drop_all}
-use Rattle.tmw_part.specs.Kept.{without, without_from}
 use Rattle.tmw_part.proofs.Marking.{without_none}
 use Rattle.tmw_part.proofs.marks.without.Goals as goal
 

@@ -1,6 +1,4 @@
-use Rattle.std.proofs.Common.{rules, ◌≡◌, ◌+◌, ap, sym, refl, ◌∙◌}
-use Rattle.tmw_part.specs.declared.piece.Piece.{Piece}
-use Rattle.tmw_part.specs.Pieces.{behind, call_of}
+use Rattle.std.proofs.Common.{refl}
 use Rattle.tmw_part.proofs.piece.call_of.Goals.{in-Some, in-None}
 use Rattle.tmw_part.proofs.piece.call_of.Goals as goal
 

@@ -1,5 +1,5 @@
-use Rattle.std.proofs.Common.{◌≡◌, ◌+◌, ◌++◌, [], ◌∷◌, take, length, sym, ap, subst, ◌∙◌, arith}
-use Rattle.std.proofs.lemmas.List.{take_all, take_more}
+use Rattle.std.proofs.Common.{◌+◌, take, subst, arith}
+use Rattle.std.proofs.lemmas.List.{take_all}
 use Rattle.tmw_part.specs.Taking.{AreTaken, AreUnfit}
 use Rattle.tmw_part.proofs.Growing.{unfit-begun, take-next}
 use Rattle.tmw_part.proofs.violated.window_of.Goals as goal
