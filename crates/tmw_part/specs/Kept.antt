@@ -47,9 +47,13 @@ abbrev pub owner : List Txn → List ℕ → Txn → ℕ
 owner ts places u =
     number_or (length ts) (position (lies_in u.thread (slice_index_or places u.first 0) (slice_index_or places u.last 0)) ts)
 
--- For each transaction of what is kept, the number of the window's in which it lies.
+-- For each transaction of a part, the number of that one of the whole in which its first event lies. The places in the whole of the
+-- part's events are these.
+abbrev pub owners_among : List ℕ → List Txn → List Txn → List ℕ
+owners_among places part whole = map (λ u. owner whole u.thread (slice_index_or places u.first 0)) part
+
 abbrev pub owners : List Bool → List Event → List ℕ
-owners marks window = map (owner (transactions window) (places_from 0 marks)) (transactions (kept_of marks window))
+owners marks window = owners_among (places_from 0 marks) (transactions (kept_of marks window)) (transactions window)
 
 -- Each call is kept with its answer, or neither is.
 abbrev pub keeps_calls : List Bool → List Event → Bool
@@ -77,13 +81,15 @@ keeps_part registers marks window =
     && (is_well_formed registers (kept_of marks window)
     && is_part_at (owners marks window) (transactions (kept_of marks window)) (transactions window))))
 
+-- The event at this place is one of the piece.
+abbrev pub is_of : Piece → ℕ → Event → Bool
+is_of piece place e = (e.thread.number == piece.thread) && (nat_le piece.from place && nat_le place piece.upto)
+
 -- The piece is no longer kept. The first mark is of this place.
 abbrev pub without_from : Piece → ℕ → List Bool → List Event → List Bool
 without_from piece place [] events = []
 without_from piece place (mark ∷ marks) [] = []
-without_from piece place (mark ∷ marks) (e ∷ events) =
-    (mark && not ((e.thread.number == piece.thread) && (nat_le piece.from place && nat_le place piece.upto)))
-    ∷ without_from piece (place + 1) marks events
+without_from piece place (mark ∷ marks) (e ∷ events) = (mark && not (is_of piece place e)) ∷ without_from piece (place + 1) marks events
 
 abbrev pub without : Piece → List Bool → List Event → List Bool
 without piece marks window = without_from piece 0 marks window

@@ -1,4 +1,6 @@
 pub mod Finding
 pub mod Kept
 pub mod Pieces
+pub mod Shown
+pub mod Taking
 pub mod Test

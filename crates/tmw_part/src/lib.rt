@@ -2,9 +2,15 @@
 #![tactic(auto)]
 
 mod find;
-mod kept;
+mod kept_part;
+mod left;
+mod marks;
+mod part;
 mod piece;
+mod transaction;
+mod violated;
 
 pub use find::{MOST_EVENTS, find_part};
-pub use kept::kept_events;
+pub use part::{is_part, law_test};
 pub use piece::Piece;
+pub use transaction::Transaction;

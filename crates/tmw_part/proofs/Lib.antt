@@ -1,0 +1,7 @@
+mod Adding
+mod Fewer
+mod Growing
+mod Marking
+mod Parts
+pub mod TestProof
+mod Violation
