@@ -1,12 +1,11 @@
 -- What is kept of a window: all of it at first, and less without a piece.
-use Rattle.std.proofs.Common.{◌≡◌, ◌⊎◌, ◌+◌, ◌<◌, ℕ, zero, suc, Bool, true, false, List, [], ◌∷◌, length, refl, sym, ap, ◌∙◌, inl, inr, arith}
-use Rattle.std.specs.Prelude.{replicate}
+use Rattle.std.proofs.Common.{◌≡◌, ◌⊎◌, ◌+◌, ◌<◌, ℕ, suc, Bool, true, false, List, [], ◌∷◌, length, refl, sym, ap, ◌∙◌, inl, inr, arith}
 use Rattle.std.specs.Cmp.Lexicographic.{pointwise}
 use Rattle.std.proofs.Math.Bool.{beq}
 use Rattle.std.proofs.lemmas.Bool.{cases_Bool}
 use Rattle.tmw_events.specs.declared.event.Event.{Event}
 use Rattle.tmw_part.specs.declared.piece.Piece.{Piece}
-use Rattle.tmw_part.specs.Kept.{all_kept, kept_of, keeps_last, is_of, without, without_from}
+use Rattle.tmw_part.specs.Kept.{all_kept, kept_of, is_of, without, without_from}
 
 pub length-without : (piece : Piece) (place : ℕ) (marks : List Bool) (events : List Event) → length marks ≡ length events
     → length (without_from piece place marks events) ≡ length events
@@ -42,14 +41,6 @@ without-fewer piece place (true ∷ marks) (e ∷ events) each =
 pub kept-all : (events : List Event) → kept_of (all_kept events) events ≡ events
 kept-all [] = refl
 kept-all (e ∷ events) = ap (λ more. e ∷ more) (kept-all events)
-
-last-all : (n : ℕ) → keeps_last (replicate n true) ≡ true
-last-all zero = refl
-last-all (suc zero) = refl
-last-all (suc (suc n)) = last-all (suc n)
-
-pub keeps_last-all : (events : List Event) → keeps_last (all_kept events) ≡ true
-keeps_last-all events = last-all (length events)
 
 pub length-all : (events : List Event) → length (all_kept events) ≡ length events
 length-all [] = refl

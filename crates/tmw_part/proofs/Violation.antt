@@ -1,7 +1,7 @@
 -- What a search for an end state tells of events that were taken into its window.
 use Rattle.std.proofs.Common.{◌≡◌, ◌≤◌, Bool, true, false, not, ℕ, List, length, IsTrue, Result, Ok, Err, IfOk, refl, inl, inr, arith}
 use Rattle.std.specs.Prelude.{IsFalse}
-use Rattle.std.proofs.Math.Bool.{and-false}
+use Rattle.std.proofs.lemmas.Bool.{and_parts}
 use Rattle.tmw_events.specs.declared.event.Event.{Event}
 use Rattle.tmw_defs.specs.declared.criterion.Criterion.{Criterion}
 use Rattle.tmw_defs.specs.Outcomes.{end_state}
@@ -11,9 +11,10 @@ use Rattle.tmw_cuts.specs.declared.window.Window.{Window}
 use Rattle.tmw_cuts.specs.Members.{members}
 use Rattle.tmw_search.specs.Ended.{TellsEnd}
 use Rattle.tmw_part.specs.Finding.{TellsViolated, IsViolated, IsViolatedPart, Fails}
-use Rattle.tmw_part.specs.Kept.{all_kept, kept_of, keeps_last, owners}
-use Rattle.tmw_part.specs.Test.{is_part_at}
-use Rattle.tmw_part.proofs.Fewer.{kept-all, keeps_last-all, length-all}
+use Rattle.tmw_defs.specs.Part.{IsPart}
+use Rattle.tmw_part.specs.Kept.{all_kept, are_whole, kept_of, keeps_last, keeps_part, may_miss_all, owners}
+use Rattle.tmw_part.specs.Pieces.{calls_from}
+use Rattle.tmw_part.proofs.Fewer.{kept-all, length-all}
 use Rattle.tmw_part.proofs.Parts.{part-fewer, part-whole}
 use Rattle.tmw_part.proofs.TestProof.{part-test}
 use Rattle.tmw_defs.specs.History.{transactions}
@@ -43,41 +44,47 @@ pub tells-unfit : (criterion : Criterion) (registers : ℕ) (states : States) (e
 tells-unfit criterion registers states events (inl ill_formed) = inl ill_formed
 tells-unfit criterion registers states events (inr many) = inr (inl many)
 
--- the answer on what is kept, which has the last event and passes the test of a part, is that on the part
+-- what passes the test of a part is one
+part-kept : (marks : List Bool) (window : List Event) → IsTrue (keeps_part marks window)
+    → IsPart (transactions (kept_of marks window)) (transactions window)
+part-kept marks window keeps =
+    let (last, more) = and_parts (keeps_last marks) _ keeps in
+    let (calls, rest) = and_parts (are_whole marks (calls_from 0 window)) _ more in
+    let (writes, part) = and_parts (may_miss_all (transactions (kept_of marks window)) marks window) _ rest in
+    part-test (owners marks window) (transactions (kept_of marks window)) (transactions window) part
+
+-- the answer on what is kept, which passes the test of a part, is that on the part
 pub told-part : {E : Type 0} (criterion : Criterion) (registers : ℕ) (states : List State) (window : List Event) (marks : List Bool)
-    (answer : Result Bool E) → length marks ≡ length window → IsTrue (keeps_last marks)
-    → IsTrue (is_part_at (owners marks window) (transactions (kept_of marks window)) (transactions window))
+    (answer : Result Bool E) → length marks ≡ length window → IsTrue (keeps_part marks window)
     → IfOk answer (TellsViolated criterion registers states (kept_of marks window))
     → IfOk answer (λ is. IsTrue is → IsViolatedPart criterion registers states window marks)
-told-part criterion registers states window marks (Ok true) each last part told = λ is. record {
+told-part criterion registers states window marks (Ok true) each keeps told = λ is. record {
   each = each;
-  last = last;
-  part = part-test (owners marks window) (transactions (kept_of marks window)) (transactions window) part;
+  keeps = inr keeps;
+  part = part-kept marks window keeps;
   violated = told;
 }
-told-part criterion registers states window marks (Ok false) each last part told = λ is. absurd (cc)
-told-part criterion registers states window marks (Err error) each last part told = tt
+told-part criterion registers states window marks (Ok false) each keeps told = λ is. absurd (cc)
+told-part criterion registers states window marks (Err error) each keeps told = tt
 
 pub told-fails : {E : Type 0} (criterion : Criterion) (registers : ℕ) (states : List State) (window : List Event) (marks : List Bool)
-    (answer : Result Bool E) → length (transactions window) ≤ 8
-    → IsTrue (is_part_at (owners marks window) (transactions (kept_of marks window)) (transactions window))
+    (answer : Result Bool E) → length (transactions window) ≤ 8 → IsTrue (keeps_part marks window)
     → IfOk answer (TellsViolated criterion registers states (kept_of marks window))
     → IfOk answer (λ is. IsFalse is → Fails criterion registers states window marks)
-told-fails criterion registers states window marks (Ok true) few part told = λ is. absurd (cc)
-told-fails criterion registers states window marks (Ok false) few part (inl ill_formed) =
-    λ is. inl (rw ill_formed (and-false (keeps_last marks)))
-told-fails criterion registers states window marks (Ok false) few part (inr (inl many)) = λ is.
-    let is_part = part-test (owners marks window) (transactions (kept_of marks window)) (transactions window) part in
+told-fails criterion registers states window marks (Ok true) few keeps told = λ is. absurd (cc)
+told-fails criterion registers states window marks (Ok false) few keeps (inl ill_formed) = λ is. inr (inl ill_formed)
+told-fails criterion registers states window marks (Ok false) few keeps (inr (inl many)) = λ is.
+    let is_part = part-kept marks window keeps in
     let fewer = part-fewer (transactions (kept_of marks window)) (transactions window) is_part in
     absurd (omega (arith, few, many, fewer))
-told-fails criterion registers states window marks (Ok false) few part (inr (inr order)) = λ is. inr order
-told-fails criterion registers states window marks (Err error) few part told = tt
+told-fails criterion registers states window marks (Ok false) few keeps (inr (inr order)) = λ is. inr (inr order)
+told-fails criterion registers states window marks (Err error) few keeps told = tt
 
 pub violated-whole : (criterion : Criterion) (registers : ℕ) (states : List State) (window : List Event)
     → IsViolated criterion registers states window → IsViolatedPart criterion registers states window (all_kept window)
 violated-whole criterion registers states window violated = record {
   each = length-all window;
-  last = keeps_last-all window;
+  keeps = inl refl;
   part = rw (kept-all window) (part-whole (transactions window));
   violated = rw (kept-all window) violated;
 }

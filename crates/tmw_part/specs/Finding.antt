@@ -1,5 +1,5 @@
 -- What is found in a violated window: a part that is violated by itself, of which nothing more can be taken out.
-use Rattle.std.specs.Prelude.{◌≡◌, ◌⊎◌, ◌<◌, ◌≤◌, ℕ, Bool, true, false, List, length, All, IsTrue, IsFalse}
+use Rattle.std.specs.Prelude.{◌≡◌, ◌≢◌, ◌⊎◌, ◌<◌, ◌≤◌, ℕ, Bool, true, false, List, [], length, All, IsTrue, IsFalse}
 use Rattle.std.specs.List.{Contains}
 use Rattle.tmw_events.specs.declared.event.Event.{Event}
 use Rattle.tmw_defs.specs.declared.criterion.Criterion.{Criterion}
@@ -26,29 +26,30 @@ TellsViolated criterion registers states events true = IsViolated criterion regi
 TellsViolated criterion registers states events false =
     IsFalse (is_well_formed registers events) ⊎ ((8 < length (transactions events)) ⊎ HasOrderFrom criterion states events)
 
--- What is kept, a mark for each event, has the last event, is a part of the window and is violated.
+-- What is kept, a mark for each event, is all of the window or passes the test of a part of it, is such a part, and is violated.
 pub record IsViolatedPart (criterion : Criterion) (registers : ℕ) (states : List State) (window : List Event) (marks : List Bool) : Type 0 where
   pub each : length marks ≡ length window
-  pub last : IsTrue (keeps_last marks)
+  pub keeps : (marks ≡ all_kept window) ⊎ IsTrue (keeps_part marks window)
   pub part : IsPart (transactions (kept_of marks window)) (transactions window)
   pub violated : IsViolated criterion registers states (kept_of marks window)
 
--- What is kept is no part of the window that passes the test, or has an order.
+-- What is kept does not pass the test of a part of the window, is ill-formed, or has an order.
 abbrev pub Fails : Criterion → ℕ → List State → List Event → List Bool → Type 0
 Fails criterion registers states window marks =
-    IsFalse (keeps_part registers marks window) ⊎ HasOrderFrom criterion states (kept_of marks window)
+    IsFalse (keeps_part marks window)
+    ⊎ (IsFalse (is_well_formed registers (kept_of marks window)) ⊎ HasOrderFrom criterion states (kept_of marks window))
 
 -- The piece can't be taken out of what is kept too: it is out already, or what is then kept fails.
 abbrev pub IsNeeded : Criterion → ℕ → List State → List Event → List Bool → Piece → Type 0
 IsNeeded criterion registers states window marks piece =
     (without piece marks window ≡ marks) ⊎ Fails criterion registers states window (without piece marks window)
 
--- What is kept is such a part, and no piece more can be taken out.
-pub record IsLeastPart (criterion : Criterion) (registers : ℕ) (states : List State) (window : List Event) (marks : List Bool) : Type 0 where
+-- What is kept is such a part and minimal: no piece more can be taken out.
+pub record IsMinimalPart (criterion : Criterion) (registers : ℕ) (states : List State) (window : List Event) (marks : List Bool) : Type 0 where
   pub is : IsViolatedPart criterion registers states window marks
-  pub least : All (IsNeeded criterion registers states window marks) (pieces window)
+  pub minimal : All (IsNeeded criterion registers states window marks) (pieces window)
 
--- The window is searched: it is violated, and has at most 1,000 events.
+-- The window is searched: it is violated, begins from one state at least, and has at most 1,000 events.
 pub record IsSearched (criterion : Criterion) (registers : ℕ) (states : List State) (window : List Event) : Type 0 where
   pub some : states ≢ []
   pub events : length window ≤ 1000

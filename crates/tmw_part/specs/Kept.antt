@@ -4,7 +4,7 @@ use Rattle.std.specs.List.{list_all}
 use Rattle.tmw_events.specs.declared.event.Event.{Event}
 use Rattle.tmw_events.specs.declared.event.Kind.{Kind}
 use Rattle.tmw_events.specs.declared.event.Kind.TheVariants.{W}
-use Rattle.tmw_defs.specs.History.{Txn, transactions, is_well_formed}
+use Rattle.tmw_defs.specs.History.{Txn, transactions}
 use Rattle.tmw_defs.specs.Part.{is_unread}
 use Rattle.tmw_part.specs.declared.piece.Piece.{Piece}
 use Rattle.tmw_part.specs.Pieces.{calls_from}
@@ -33,7 +33,7 @@ keeps_last [] = true
 keeps_last (mark ∷ []) = mark
 keeps_last (mark ∷ marks) = keeps_last marks
 
--- The transaction is the thread's, and the events from the one place to the other lie in it.
+-- The transaction is the thread's, and the events from the one place up to the other lie in it.
 abbrev pub lies_in : ℕ → ℕ → ℕ → Txn → Bool
 lies_in thread from upto t = (t.thread == thread) && (nat_le t.first from && nat_le upto t.last)
 
@@ -41,45 +41,42 @@ abbrev pub number_or : ℕ → Option ℕ → ℕ
 number_or default None = default
 number_or default (Some number) = number
 
--- The number of that one of these in which the transaction's first and last event lie, where these are the places of what is kept; or else
--- how many there are.
-abbrev pub owner : List Txn → List ℕ → Txn → ℕ
-owner ts places u =
-    number_or (length ts) (position (lies_in u.thread (slice_index_or places u.first 0) (slice_index_or places u.last 0)) ts)
+-- The number of that one of these transactions in which those events lie, or how many there are.
+abbrev pub owner : List Txn → ℕ → ℕ → ℕ → ℕ
+owner ts thread from upto = number_or (length ts) (position (lies_in thread from upto) ts)
 
--- For each transaction of a part, the number of that one of the whole in which its first event lies. The places in the whole of the
--- part's events are these.
+-- For each transaction of a part, the number of that one of the whole in which its first and its last event lie. The places in the whole
+-- of the part's events are these.
 abbrev pub owners_among : List ℕ → List Txn → List Txn → List ℕ
-owners_among places part whole = map (λ u. owner whole u.thread (slice_index_or places u.first 0)) part
+owners_among places part whole =
+    map (λ u. owner whole u.thread (slice_index_or places u.first 0) (slice_index_or places u.last 0)) part
 
 abbrev pub owners : List Bool → List Event → List ℕ
 owners marks window = owners_among (places_from 0 marks) (transactions (kept_of marks window)) (transactions window)
 
--- Each call is kept with its answer, or neither is.
-abbrev pub keeps_calls : List Bool → List Event → Bool
-keeps_calls marks window =
-    list_all (λ call. is_same (slice_index_or marks call.from false) (slice_index_or marks call.upto false)) (calls_from 0 window)
+-- Each of these calls is kept with its answer, or neither is.
+abbrev pub are_whole : List Bool → List Piece → Bool
+are_whole marks calls = list_all (λ call. is_same (slice_index_or marks call.from true) (slice_index_or marks call.upto true)) calls
 
--- The event may go though it is a write, answered or not: nothing that is kept was answered its value.
-abbrev pub may_leave : List Txn → Kind → Bool
-may_leave part (W r v) = is_unread part r.number v
-may_leave part _ = true
+-- An event of this kind may be missing: it calls no write, answered or not, of a value that the part reads.
+abbrev pub may_miss : List Txn → Kind → Bool
+may_miss part (W r v) = is_unread part r.number v
+may_miss part _ = true
 
--- So it is with each event that is not kept.
-abbrev pub may_leave_all : List Txn → List Bool → List Event → Bool
-may_leave_all part [] events = true
-may_leave_all part (mark ∷ marks) [] = true
-may_leave_all part (mark ∷ marks) (e ∷ events) = (mark || may_leave part e.kind) && may_leave_all part marks events
+-- Each event that is not kept may be missing.
+abbrev pub may_miss_all : List Txn → List Bool → List Event → Bool
+may_miss_all part [] events = true
+may_miss_all part (mark ∷ marks) [] = true
+may_miss_all part (mark ∷ marks) (e ∷ events) = (mark || may_miss part e.kind) && may_miss_all part marks events
 
--- What is kept has the last event and whole calls, with each write whose value is read; it is well-formed, and a part of the window, each
--- transaction of the one in which it lies.
-abbrev pub keeps_part : ℕ → List Bool → List Event → Bool
-keeps_part registers marks window =
+-- What is kept has the last event, whole calls and each write whose value it reads, and is a part of the window, each transaction of the
+-- one in which it lies.
+abbrev pub keeps_part : List Bool → List Event → Bool
+keeps_part marks window =
     keeps_last marks
-    && (keeps_calls marks window
-    && (may_leave_all (transactions (kept_of marks window)) marks window
-    && (is_well_formed registers (kept_of marks window)
-    && is_part_at (owners marks window) (transactions (kept_of marks window)) (transactions window))))
+    && (are_whole marks (calls_from 0 window)
+    && (may_miss_all (transactions (kept_of marks window)) marks window
+    && is_part_at (owners marks window) (transactions (kept_of marks window)) (transactions window)))
 
 -- The event at this place is one of the piece.
 abbrev pub is_of : Piece → ℕ → Event → Bool

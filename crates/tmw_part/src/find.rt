@@ -1,7 +1,7 @@
 ghost use Rattle.std.specs.Prelude.{◌≡◌, ◌≤◌, ◌<◌, All, IfOk, IfSome, IfNone, IsTrue, IsFalse, length};
 ghost use Rattle.tmw_defs.specs.History.{transactions};
 ghost use Rattle.tmw_cuts.specs.Members.{members};
-ghost use Rattle.tmw_part.specs.Finding.{FindsPart, IsLeastPart, IsNeeded, IsViolatedPart};
+ghost use Rattle.tmw_part.specs.Finding.{FindsPart, IsMinimalPart, IsNeeded, IsViolatedPart};
 ghost use Rattle.tmw_part.specs.Kept.{kept_of};
 ghost use Rattle.tmw_part.specs.Pieces.{pieces};
 
@@ -90,7 +90,7 @@ fn take_all_out(
     requires few { length (transactions events.now) ≤ 8 }
     requires part { IsViolatedPart criterion registers.number (members states.now) events.now
         marks.old.items }
-    ensures { IfOk result (λ _. IsLeastPart criterion registers.number (members states.now)
+    ensures { IfOk result (λ _. IsMinimalPart criterion registers.number (members states.now)
         events.now marks.new.items) }
 {
     let pieces = pieces(alloc, events)?;
@@ -102,9 +102,9 @@ fn take_all_out(
 }
 
 /// Finds a part of a window that is violated by itself, from any of the states, and of which nothing more can be taken
-/// out, one transaction or one call with its answer at a time: for each event, whether it is kept. The last event is.
-/// In a window of more than `MOST_EVENTS` events, and in one that is not violated, all are. It fails only if an
-/// allocation does.
+/// out, one transaction or one call with its answer at a time: for each event, whether it is kept. The last event is, and
+/// each write of a value that the part reads. In a window of more than `MOST_EVENTS` events, and in one that is not
+/// violated, all are. It fails only if an allocation does.
 pub fn find_part(
     criterion: Criterion,
     alloc: Global,
@@ -116,7 +116,7 @@ pub fn find_part(
         events.now marks.items) }
 {
     let mut marks = vec![in alloc; true; events.len()]?;
-    if events.len() > MOST_EVENTS {
+    if states.is_empty() || events.len() > MOST_EVENTS {
         return Ok(marks);
     }
     if !is_violated(criterion, alloc, registers, states, events)? {

@@ -32,7 +32,7 @@ fn answers_none(ops: &[Op], register: Ix, value: u64) -> bool
 }
 
 /// Whether no operation of the part was answered this value of this register.
-fn is_unread(
+pub(crate) fn is_unread(
     alloc: Global,
     part: &[Transaction],
     register: Ix,

@@ -11,6 +11,7 @@ mod transaction;
 mod violated;
 
 pub use find::{MOST_EVENTS, find_part};
+pub use marks::kept_of;
 pub use part::{is_part, law_test};
 pub use piece::Piece;
 pub use transaction::Transaction;

@@ -1,12 +1,13 @@
 //! Which events of a window are kept: a mark for each, in order.
-ghost use Rattle.std.specs.Prelude.{◌≡◌, IfOk, position, slice_index_or};
-ghost use Rattle.tmw_part.specs.Kept.{keeps_last, kept_of, lies_in, owner, owners_among, places_from, without};
+ghost use Rattle.std.specs.Prelude.{◌≡◌, IfOk, position, slice_index_or, true};
+ghost use Rattle.tmw_part.specs.Kept.{are_whole, keeps_last, kept_of, lies_in, may_miss, may_miss_all, owner, owners_among, places_from, without};
 ghost use Rattle.tmw_part.specs.Shown.{txn_of, txns_of};
 
+use crate::left::is_unread;
 use crate::piece::Piece;
 use crate::transaction::Transaction;
 use std::alloc::{AllocError, Global};
-use tmw_events::{Event, Ix};
+use tmw_events::{Event, Ix, Kind};
 
 /// Returns the events that are kept.
 pub fn kept_of(alloc: Global, marks: &[bool], events: &[Event]) -> Result<Vec<Event>, AllocError>
@@ -51,26 +52,28 @@ pub fn keeps_last(marks: &[bool]) -> bool
     *mark
 }
 
-/// Whether the transaction is the thread's, and the event at this place lies in it.
-fn lies_in(transaction: &Transaction, thread: Ix, place: usize) -> bool
-    ensures { result ≡ lies_in thread.number place (txn_of transaction.now) }
+/// Whether the transaction is the thread's, and the events from the one place up to the other lie in it.
+fn lies_in(transaction: &Transaction, thread: Ix, from: usize, upto: usize) -> bool
+    ensures { result ≡ lies_in thread.number from upto (txn_of transaction.now) }
 {
-    transaction.thread == thread && transaction.first <= place && place <= transaction.last
+    transaction.thread == thread && transaction.first <= from && upto <= transaction.last
 }
 
-/// The number of the thread's transaction in which the event at this place lies, if it lies in one.
-fn find_owner(whole: &[Transaction], thread: Ix, place: usize) -> Option<usize>
+/// The number of the thread's transaction in which these events lie, if they lie in one.
+fn find_owner(whole: &[Transaction], thread: Ix, from: usize, upto: usize) -> Option<usize>
     ensures { result
-        ≡ position (λ one. lies_in thread.number place (txn_of one)) whole.now }
+        ≡ position (λ one. lies_in thread.number from upto (txn_of one)) whole.now }
 {
-    whole.iter().position(|one| lies_in(one, thread, place))
+    whole
+        .iter()
+        .position(|one| lies_in(one, thread, from, upto))
 }
 
-/// The number of the thread's transaction in which the event at this place lies, or how many there are.
-fn owner(whole: &[Transaction], thread: Ix, place: usize) -> usize
-    ensures { result ≡ owner (txns_of whole.now) thread.number place }
+/// The number of the thread's transaction in which these events lie, or how many there are.
+fn owner(whole: &[Transaction], thread: Ix, from: usize, upto: usize) -> usize
+    ensures { result ≡ owner (txns_of whole.now) thread.number from upto }
 {
-    match find_owner(whole, thread, place) {
+    match find_owner(whole, thread, from, upto) {
         Some(number) => number,
         None => whole.len(),
     }
@@ -87,7 +90,7 @@ fn number_at(numbers: &[usize], place: usize) -> usize
 }
 
 /// Returns for each transaction of a part, whose events have these places in the whole, the number of that one of the
-/// whole in which its first event lies.
+/// whole in which its first and its last event lie.
 pub fn owners(
     alloc: Global,
     places: &[usize],
@@ -99,10 +102,67 @@ pub fn owners(
 {
     let mut owners = Vec::new(alloc);
     for transaction in part {
-        let place = number_at(places, transaction.first);
-        owners.push(owner(whole, transaction.thread, place))?;
+        let from = number_at(places, transaction.first);
+        let upto = number_at(places, transaction.last);
+        owners.push(owner(whole, transaction.thread, from, upto))?;
     }
     Ok(owners)
+}
+
+/// The mark at the place, or true if there is none.
+fn mark_at(marks: &[bool], place: usize) -> bool
+    ensures { result ≡ slice_index_or marks.now place true }
+{
+    match marks.get(place) {
+        Some(mark) => *mark,
+        None => true,
+    }
+}
+
+/// Tells whether each of these calls is kept with its answer, or neither is.
+pub fn are_whole(marks: &[bool], calls: &[Piece]) -> bool
+    ensures { result ≡ are_whole marks.now calls.now }
+{
+    for call in calls {
+        if mark_at(marks, call.from) != mark_at(marks, call.upto) {
+            return false;
+        }
+    }
+    true
+}
+
+/// Whether an event of this kind may be missing: it calls no write, answered or not, of a value that the part reads.
+fn may_miss(alloc: Global, part: &[Transaction], kind: Kind) -> Result<bool, AllocError>
+    ensures { IfOk result (λ may. may ≡ may_miss (txns_of part.now) kind) }
+{
+    match kind {
+        Kind::W(register, value) => is_unread(alloc, part, register, value),
+        _ => Ok(true),
+    }
+}
+
+/// Tells whether each event that is not kept may be missing.
+pub fn may_miss_all(
+    alloc: Global,
+    part: &[Transaction],
+    marks: &[bool],
+    events: &[Event],
+) -> Result<bool, AllocError>
+    ensures { IfOk result (λ may. may ≡ may_miss_all (txns_of part.now) marks.now events.now) }
+{
+    let mut rest_marks = marks;
+    let mut rest = events;
+    while let [mark, more_marks @ ..] = rest_marks {
+        let [event, more @ ..] = rest else {
+            return Ok(true);
+        };
+        if !*mark && !may_miss(alloc, part, event.kind)? {
+            return Ok(false);
+        }
+        rest_marks = more_marks;
+        rest = more;
+    }
+    Ok(true)
 }
 
 /// Returns the marks of what is kept without the piece.

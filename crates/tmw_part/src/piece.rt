@@ -60,7 +60,7 @@ fn call_of(place: usize, call: Event, events: &[Event]) -> Piece
 }
 
 /// Adds the calls among these events, each with its answer if it has one.
-fn push_calls(events: &[Event], pieces: &mut Vec<Piece>) -> Result<(), AllocError>
+pub fn push_calls(events: &[Event], pieces: &mut Vec<Piece>) -> Result<(), AllocError>
     ensures { OnOk result (pieces.new.items ≡ pieces.old.items ++ calls_from 0 events.now) }
 {
     let mut rest = events;

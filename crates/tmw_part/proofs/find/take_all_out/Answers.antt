@@ -16,5 +16,5 @@ loop-took-preserved c = record {
 pub returns : goal.returns
 returns c = record {
   is = c.loop-took.invariant.part;
-  least = rw c.in_ok-pieces.ensures at (c.loop-took.invariant.needed c.loop-took-test.false);
+  minimal = rw c.in_ok-pieces.ensures at (c.loop-took.invariant.needed c.loop-took-test.false);
 }
