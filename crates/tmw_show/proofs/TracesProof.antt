@@ -1,5 +1,5 @@
 -- The traces that are written of what is shown are judged as the run is.
-use Rattle.std.proofs.Common.{◌≡◌, ◌≤◌, ◌^◌, ◌==◌, ℕ, Bool, true, false, IsTrue, refl, inl, inr, List, [], ◌∷◌, length, map, All, sym, ap, subst, ◌∙◌, take-append-drop, arith}
+use Rattle.std.proofs.Common.{◌≡◌, ◌≤◌, ◌^◌, ◌==◌, ℕ, Bool, true, false, refl, inl, inr, List, [], ◌∷◌, length, map, All, sym, ap, subst, ◌∙◌, take-append-drop, arith}
 use Rattle.std.specs.Prelude.{take, drop, get_or}
 use Rattle.std.specs.List.{Contains, AllByRecursion, list_all}
 use Rattle.std.proofs.lemmas.Bool.{and_parts}
@@ -17,7 +17,7 @@ use Rattle.tmw_defs.specs.declared.criterion.Criterion.TheVariants.{Opacity, Str
 use Rattle.tmw_defs.specs.declared.verdict.Verdict.{Verdict}
 use Rattle.tmw_defs.specs.declared.verdict.Verdict.TheVariants.{Violated}
 use Rattle.tmw_defs.specs.Criteria.{IsFinalBy}
-use Rattle.tmw_defs.specs.History.{transactions, is_well_formed}
+use Rattle.tmw_defs.specs.History.{transactions}
 use Rattle.tmw_defs.specs.Opaque.{State}
 use Rattle.tmw_defs.specs.Part.{HasOrderBy}
 use Rattle.tmw_defs.specs.Verdict.{IsViolated, IsVerdict}
@@ -29,7 +29,7 @@ use Rattle.tmw_window.specs.Shown.{shown_length}
 use Rattle.tmw_window.specs.StatesLaw.{FitsRegisters, StatesLaw}
 use Rattle.tmw_window.specs.WindowLaw.{IsJudgedAlike, WindowLaw, at_end}
 use Rattle.tmw_part.specs.Finding.{FindsPart}
-use Rattle.tmw_part.specs.Kept.{all_kept, kept_of, keeps_calls, keeps_last, keeps_part, may_leave_all}
+use Rattle.tmw_part.specs.Kept.{all_kept, kept_of}
 use Rattle.tmw_show.specs.Explaining.{IsNeededOf, marks_of}
 use Rattle.tmw_show.specs.Running.{shown_events}
 use Rattle.tmw_show.specs.TracesLaw.{IsHeaderFor, IsContradictory, AreJudgedLike, TellOf, TracesLaw, rules_from}
@@ -119,14 +119,6 @@ ordered-final : (c : Criterion) (registers : ℕ) (s : State) (events : List Eve
 ordered-final Opacity registers s events final = final.ordered
 ordered-final Strict registers s events final = final.ordered
 
-formed-part : (registers : ℕ) (marks : List Bool) (window : List Event) → IsTrue (keeps_part registers marks window)
-    → IsTrue (is_well_formed registers (kept_of marks window))
-formed-part registers marks window keeps =
-    let (last, more) = and_parts (keeps_last marks) _ keeps in
-    let (calls, rest) = and_parts (keeps_calls marks window) _ more in
-    let (writes, formed) = and_parts (may_leave_all (transactions (kept_of marks window)) marks window) _ rest in
-    (and_parts (is_well_formed registers (kept_of marks window)) _ formed).0
-
 -- what is found in a window that is violated from a state is well-formed, and not final from it
 contradictory : (c : Criterion) (bounds : Bounds) (registers : Registers) (states : List State) (events : List Event) (marks : List Bool)
     → FindsPart c registers.number states events marks → (s : State) (f : FitsRegisters registers.number s) → Contains states s
@@ -134,8 +126,8 @@ contradictory : (c : Criterion) (bounds : Bounds) (registers : Registers) (state
 contradictory c bounds registers states events marks finds s f among violated =
     elim finds [
       | inl found ↦ record {
-        formed = formed-part registers.number marks events found.1.keeps;
-        not_final = λ final. found.1.none (s, among, ordered-final c registers.number s (kept_of marks events) final);
+        formed = found.1.is.violated.formed;
+        not_final = λ final. found.1.is.violated.none (s, among, ordered-final c registers.number s (kept_of marks events) final);
       }
       | inr all ↦
           let same : kept_of marks events ≡ events = rw all.1 (kept-all events) in

@@ -4,7 +4,7 @@ ghost use Rattle.tmw_show.specs.Explaining.{marks_of, needed_text, part_words};
 use crate::command::numbers::push_number;
 use std::alloc::{AllocError, Global};
 use tmw_events::Event;
-use tmw_part::{MOST_EVENTS, kept_events};
+use tmw_part::{MOST_EVENTS, kept_of};
 
 /// Which events of a window are shown.
 #[derive(Debug, Drop)]
@@ -37,7 +37,7 @@ pub fn push_needed(text: &mut Vec<u8>, needed: &Needed, events: &[Event]) -> Res
             text.extend_from_slice(b"    part   all events: the run isn't violated\n")?;
         }
         Needed::Marks(marks) => {
-            let kept = kept_events(*text.allocator(), marks, events)?;
+            let kept = kept_of(*text.allocator(), marks, events)?;
             text.extend_from_slice(b"    part   ")?;
             push_part_words(text, kept.len(), events.len())?;
             text.push(b'\n')?;

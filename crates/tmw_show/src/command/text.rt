@@ -14,7 +14,7 @@ use crate::command::traces::push_traces;
 use crate::command::window::push_window;
 use std::alloc::{AllocError, Global};
 use tmw_defs::Criterion;
-use tmw_part::kept_events;
+use tmw_part::kept_of;
 use tmw_report::report_by;
 
 /// Makes the text of what is shown by this criterion, in this form. It fails only after a failed allocation.
@@ -67,7 +67,7 @@ fn traces_text(alloc: Global, shown: &Shown) -> Result<Vec<u8>, AllocError>
 {
     let showing = &shown.showing;
     let marks = marks_of(alloc, &shown.needed, &showing.events)?;
-    let events = kept_events(alloc, &marks, &showing.events)?;
+    let events = kept_of(alloc, &marks, &showing.events)?;
     let mut text = Vec::new(alloc);
     push_traces(&mut text, shown.registers, &events, showing.states.states())?;
     Ok(text)

@@ -8,7 +8,7 @@ use crate::command::told::{Told, told_of};
 use itoa::Buffer;
 use std::alloc::AllocError;
 use tmw_events::Event;
-use tmw_part::kept_events;
+use tmw_part::kept_of;
 
 /// The heads of eight columns.
 const ALL_HEADS: &[u8] =
@@ -27,7 +27,7 @@ pub fn push_window(
     ensures { OnOk result
         (text.new.items ≡ text.old.items ++ window_text told from marks.now events.now) }
 {
-    let kept = kept_events(*text.allocator(), marks, events)?;
+    let kept = kept_of(*text.allocator(), marks, events)?;
     let heads = heads_of(last_thread(&kept));
     text.extend_from_slice(heads)?;
     text.push(b'\n')?;
