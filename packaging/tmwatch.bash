@@ -21,9 +21,9 @@ _tmwatch() {
         return
         ;;
     judge) options='--criterion --summary --first --window --states' ;;
-    show) options='--criterion --trace --page --window --states' ;;
+    show) options='--criterion --trace --page --why --window --states' ;;
     drive) options='--memory --trace --trace-only --summary --window --states' ;;
-    bench) options='--memory --trace --trace-only --summary --show --quiet --ring --patience --rounds --window --states' ;;
+    bench) options='--memory --trace --trace-only --summary --show --why --quiet --ring --patience --rounds --window --states' ;;
     steps) ;;
     *) return ;;
     esac

@@ -122,7 +122,10 @@ def wanted(trace, text):
         tx['status'] = ENDS.get(fitting[-1][0], 'live') if fitting else 'live'
         tx['operations'] = operations_of(tx)
     mark = re.search(r'  (violated, by.*|undecided, by.*|malformed: .*)$', text, re.M)
-    return {'report': report, 'line': lines[0], 'start': max(cut + 1, end - MOST + 1), 'cut': cut, 'end': end, 'transactions': transactions,
+    rows = {int(number) for number in re.findall(r'^ *(\d+)  ', text, re.M)}
+    is_part = re.search(r'^    part   \d', text, re.M)
+    return {'needed': ''.join('01'[number in rows] for number in range(cut + 1, end + 1)) if is_part else None,
+            'report': report, 'line': lines[0], 'start': max(cut + 1, end - MOST + 1), 'cut': cut, 'end': end, 'transactions': transactions,
             'events': events[cut:end], 'states': [line.split()[1:] for line in lines if line.startswith('    state')],
             'mark': report.get('at'), 'told': mark and mark.group(1)}
 
@@ -148,6 +151,9 @@ def differences(page, text, want):
     same('the states in the page', [state.split() for state in run['states']], want['states'])
     same('the events in the page', run['events'], want['events'])
     same('the number before them', run['before'], want['cut'])
+    same('what is needed', run.get('needed'), want['needed'])
+    faint = [bar[0] for bar in bars if want['needed'] and want['needed'][bar[0] - want['cut'] - 1] == '0']
+    same('what is faint', sorted(int(first) for first in every(r'<g class="op spare[^>]*data-first="(\d+)"')), sorted(faint))
     same('the mark in the page', (run.get('mark'), run.get('told')), (want['mark'], want['told']))
 
     same('lanes', sorted(every(r'<rect class="lane[^"]*"[^>]*data-thread="(\d)"')), threads)

@@ -47,7 +47,7 @@ printf '%s\n' 'opacity-trace 1 1' '1 R 0' '0 W 0 1' '0 C' >"$folder/commit.trace
     printf '%s\n' '1 T' '1 C' '0 R 0' '0 V 9'
 } >"$folder/pending.trace"
 traces=("$top"/examples/*.trace "$folder"/*.trace)
-python3 "$top/tests/page.py" "$program" "$browser" "${traces[@]}" "${traces[@]/%/ --criterion strict}" \
+python3 "$top/tests/page.py" "$program" "$browser" "${traces[@]}" "${traces[@]/%/ --criterion strict}" "${traces[@]/%/ --why}" \
     "$top/examples/two_writers.trace --states 1" "$top/examples/left_open.trace --window 2" >"$folder/pages" || true
 sed '$d' "$folder/pages"
 read -r well _ badly _ <<<"$(tail -n 1 "$folder/pages")"
