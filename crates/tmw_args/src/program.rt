@@ -36,7 +36,7 @@ const SHOW_TRACE_HELP: &str = "Write only the window, as traces";
 
 const SHOW_PAGE_HELP: &str = "Write the window as a page of HTML";
 
-const WHY_HELP: &str = "Show only the events that contradict each other";
+const WHY_HELP: &str = "Show a part of the window that is violated by itself";
 
 const BENCH_SHOW_HELP: &str = "Write what `show` writes in place of the report";
 
@@ -96,8 +96,8 @@ column per thread. The window begins where no transaction was open, and ends at
 the event where the run went wrong, or at the last event. Beside that event
 stands what is wrong; if malformed, which rule it broke.
 
-With --why it writes, of a violated window, only the events that contradict each
-other: violated by themselves, and no call or transaction more can be left out.
+With --why it writes, of a violated window, a part that is violated by itself: as
+few transactions and calls as it finds, with all that they read.
 
 With --trace it writes, for each state, a trace that starts with this state and
 has the events shown, and nothing else. With --page it writes one page of HTML

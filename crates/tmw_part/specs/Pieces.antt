@@ -8,12 +8,12 @@ use Rattle.tmw_part.specs.declared.piece.Piece.{Piece}
 abbrev pub whole_of : Txn → Piece
 whole_of t = record { thread = t.thread; from = t.first; upto = t.last }
 
--- The place of the event that is the n-th behind the one at this place, if there is one, and else this place.
+-- The place of the event that has n others between it and this place, if there is one, and else this place.
 abbrev pub behind : ℕ → Option ℕ → ℕ
 behind place None = place
 behind place (Some n) = place + 1 + n
 
--- A call at this place, before these events: with the next event of its thread, which is its answer.
+-- A call at this place, before these events: with the next event of its thread, which is its answer where they are well-formed.
 abbrev pub call_of : ℕ → Event → List Event → Piece
 call_of place e events = record {
   thread = e.thread.number;

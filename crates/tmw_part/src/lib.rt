@@ -1,4 +1,4 @@
-//! Of a violated window, a part that contradicts itself and of which nothing more can be taken out.
+//! Of a violated window, a part that is violated by itself, and from which no transaction and no call can be taken out on its own.
 #![tactic(auto)]
 
 mod find;

@@ -1,5 +1,5 @@
 -- The traces that are written of what is shown are judged as the run is.
-use Rattle.std.proofs.Common.{◌≡◌, ◌≤◌, ◌^◌, ◌==◌, ℕ, Bool, true, false, refl, inl, inr, List, [], ◌∷◌, length, map, All, sym, ap, subst, ◌∙◌, take-append-drop, arith}
+use Rattle.std.proofs.Common.{◌≡◌, ◌≢◌, ◌≤◌, ◌^◌, ◌==◌, ℕ, Bool, true, false, refl, inl, inr, List, [], ◌∷◌, length, map, All, sym, ap, subst, ◌∙◌, take-append-drop, arith}
 use Rattle.std.specs.Prelude.{take, drop, get_or}
 use Rattle.std.specs.List.{Contains, AllByRecursion, list_all}
 use Rattle.std.proofs.lemmas.Bool.{and_parts}
@@ -63,6 +63,12 @@ no-item x (k, within, is) = absurd (omega (arith, within))
 module _ (c : Criterion) (bounds : Bounds) (registers : Registers) (start : State) (v : Verdict) (states : List State) (events : List Event)
     (fit : AllByRecursion (FitsRegisters registers.number) states)
     (alike : IsJudgedAlike (rules_for c registers start bounds) v states events) where
+  some-header : headers_of registers states fit ≢ []
+  some-header none =
+      let empty : states ≡ [] = sym (initials-headers_of registers states fit) ∙ ap (map (λ (h : Header). h.initial)) none in
+      let (s, among) = alike.some in
+      absurd (no-item s (subst (λ (items : List State). Contains items s) empty among))
+
   sole-header : All (IsHeaderFor registers events) (headers_of registers states fit) → (header : Header)
       → headers_of registers states fit ≡ header ∷ [] → IsVerdict (rules_from c bounds header) events (at_end (length events) v)
   sole-header heads header one =
@@ -79,10 +85,6 @@ module _ (c : Criterion) (bounds : Bounds) (registers : Registers) (start : Stat
       → (k : ℕ) × (answer ≡ Violated k) × (k ≤ length events) in
       let At : State → Type 0 = λ s. IsViolated (rules_for c registers s bounds) events in
       record {
-        some = λ none.
-            let empty : states ≡ [] = sym (initials-headers_of registers states fit) ∙ ap (map (λ (h : Header). h.initial)) none in
-            let (s, among) = alike.some in
-            absurd (no-item s (subst (λ (items : List State). Contains items s) empty among));
         violated = (
           λ is. All-from_recursion Wrong (headers_of registers states fit) (each-headers_of registers Wrong states fit
               (each-member (λ s. (f : FitsRegisters registers.number s) → Wrong (header_of registers s f)) states
@@ -196,6 +198,7 @@ traces_law window states_law options bytes shown of =
     (λ s at f. heads-header_of registers events kept few s f))) in
     record {
       headers = headers_of registers states fit;
+      some = some-header c bounds registers start shown.showing.verdict states window_events fit alike;
       states = initials-headers_of registers states fit;
       each = heads;
       text = text-headers_of registers events states fit;

@@ -37,11 +37,14 @@ abbrev pub marks_of : Needed → List Event → List Bool
 marks_of (Marks marks) events = marks.items
 marks_of _ events = all_kept events
 
--- how many events of how many are shown, where a part was searched for
+-- how many events of how many are shown
+abbrev pub counts_words : ℕ → ℕ → List ℕ
+counts_words shown all = decimal shown ++ (codes " of " ++ (decimal all ++ codes " events, violated by themselves"))
+
+-- of more than 1,000 all are, since only in fewer a part is searched for
 abbrev pub part_words : ℕ → ℕ → List ℕ
 part_words shown all =
-    if nat_lt 1000 all then codes "all events: a part is found of at most 1000"
-    else decimal shown ++ (codes " of " ++ (decimal all ++ codes " events, none of which can be left out"))
+    if nat_lt 1000 all then codes "all events: of more than 1000 no part is searched for" else counts_words shown all
 
 -- the line that says so, where it is asked why the window is violated
 abbrev pub needed_text : Needed → List Event → List ℕ

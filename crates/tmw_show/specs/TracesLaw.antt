@@ -1,5 +1,5 @@
--- The law of the traces that `show --trace` writes: `judge` reads each of them as a trace, and what it may say of them tells whether
--- the run is violated.
+-- The law of the traces that `show --trace` writes: `judge` reads each of them as a trace. What it may say of traces of the whole window
+-- tells whether the run is violated; those of a part are not final-state opaque, or not final-state strict.
 use Rattle.std.specs.Prelude.{◌≡◌, ◌≢◌, ◌↔◌, ◌≤◌, ℕ, List, [], ◌∷◌, length, map, All, IsTrue}
 use Rattle.std.specs.List.{flat_map}
 use Rattle.tmw_events.specs.declared.event.Event.{Event}
@@ -34,11 +34,10 @@ pub record IsHeaderFor (registers : Registers) (events : List Event) (header : H
 abbrev pub rules_from : Criterion → Bounds → Header → Rules
 rules_from criterion bounds header = rules_for criterion header.registers header.initial bounds
 
--- There is a trace with one of these headers, and each with these events is judged like a run with this verdict: the run is violated
--- exactly when each of them is violated at its end. Then each verdict on one of them is that it is violated, at its end or before. A
+-- Each trace with one of these headers and these events is judged like a run with this verdict: the run is violated exactly when each of
+-- them is violated at its end. Then each verdict on one of them is that it is violated, at its end or before. A
 -- single trace has the run's own verdict, whichever it is, at its end.
 pub record AreJudgedLike (criterion : Criterion) (bounds : Bounds) (verdict : Verdict) (events : List Event) (headers : List Header) : Type 0 where
-  pub some : headers ≢ []
   pub violated : ((at : ℕ) × (verdict ≡ Violated at)) ↔ All (λ header. IsViolated (rules_from criterion bounds header) events) headers
   pub answered : (at : ℕ) → verdict ≡ Violated at → All (λ header. (answer : Verdict)
       → IsVerdict (rules_from criterion bounds header) events answer → (k : ℕ) × (answer ≡ Violated k) × (k ≤ length events)) headers
@@ -50,16 +49,16 @@ pub record IsContradictory (criterion : Criterion) (events : List Event) (header
   pub formed : IsTrue (is_well_formed header.registers.number events)
   pub not_final : IsFinalBy criterion header.registers.number header.initial events → ⊥
 
--- How the traces are judged tells of the run: that of a part contradicts itself from each of the states, and the whole window is judged
--- like the run.
+-- How the traces are judged tells of the run: those of the whole window are judged like the run; those of a part contradict themselves.
 abbrev pub TellOf : Criterion → Bounds → Shown → Needed → List Header → Type 0
 TellOf criterion bounds shown (Marks marks) headers = All (IsContradictory criterion (shown_events shown)) headers
 TellOf criterion bounds shown _ headers = AreJudgedLike criterion bounds shown.showing.verdict (shown_events shown) headers
 
 -- With `--trace` the texts of traces are written, one behind the other: one trace for each state that is shown, in order, which begins
--- with just that state and has just the events that are shown.
+-- with just that state and has just the events that are shown. There is one at least.
 pub record AreTracesOf (options : ShowOptions) (shown : Shown) : Type 0 where
   pub headers : List Header
+  pub some : headers ≢ []
   pub states : map (λ header. header.initial) headers ≡ members shown.showing.states
   pub each : All (IsHeaderFor shown.registers (shown_events shown)) headers
   pub text : shown_text options.criterion Traces shown ≡ flat_map (λ header. trace_text header (shown_events shown)) headers

@@ -1,5 +1,5 @@
 ghost use Rattle.std.specs.Prelude.{◌≡◌, ◌++◌, IfOk, OnOk};
-ghost use Rattle.tmw_show.specs.Explaining.{marks_of, needed_text, part_words};
+ghost use Rattle.tmw_show.specs.Explaining.{counts_words, marks_of, needed_text, part_words};
 
 use crate::command::numbers::push_number;
 use std::alloc::{AllocError, Global};
@@ -47,16 +47,24 @@ pub fn push_needed(text: &mut Vec<u8>, needed: &Needed, events: &[Event]) -> Res
 }
 
 /// Adds how many events of how many are shown.
+fn push_counts(text: &mut Vec<u8>, shown: usize, all: usize) -> Result<(), AllocError>
+    ensures { OnOk result (text.new.items ≡ text.old.items ++ counts_words shown all) }
+{
+    push_number(text, shown as u64)?;
+    text.extend_from_slice(b" of ")?;
+    push_number(text, all as u64)?;
+    text.extend_from_slice(b" events, violated by themselves")?;
+    Ok(())
+}
+
+/// Adds how many events of how many are shown, or that no part is searched for.
 fn push_part_words(text: &mut Vec<u8>, shown: usize, all: usize) -> Result<(), AllocError>
     ensures { OnOk result (text.new.items ≡ text.old.items ++ part_words shown all) }
 {
     if MOST_EVENTS < all {
-        text.extend_from_slice(b"all events: a part is found of at most 1000")?;
+        text.extend_from_slice(b"all events: of more than 1000 no part is searched for")?;
     } else {
-        push_number(text, shown as u64)?;
-        text.extend_from_slice(b" of ")?;
-        push_number(text, all as u64)?;
-        text.extend_from_slice(b" events, none of which can be left out")?;
+        push_counts(text, shown, all)?;
     }
     Ok(())
 }

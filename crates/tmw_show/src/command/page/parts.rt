@@ -142,7 +142,7 @@ const events = run.events.map(line => {
   return event;
 });
 const first = earlier + 1, last = earlier + events.length;
-// Where it is asked why the window is violated: which events contradict each other.
+// Where it is asked why the window is violated: which events are violated by themselves.
 const needed = events.length > SEARCHED ? undefined : run.needed;
 const from = Math.max(first, last - MOST + 1);
 const byId = id => document.getElementById(id);
@@ -222,7 +222,7 @@ byId('verdict').classList.toggle('wrong', ['violated', 'malformed'].includes(rep
 const extent = events.length === 0 ? 'It has no events.'
   : from > first ? `No transaction was open before event ${first}. Of the ${plural(events.length, 'event')} from there to event ${last} the last ${MOST} are drawn, ${from} to ${last}.`
   : `Drawn: events ${first} to ${last}. No transaction was open before event ${first}.`;
-const why = needed === undefined ? '' : ` ${[...needed].filter(mark => mark === '1').length} of these events contradict each other: they are violated by themselves, and no call or transaction more can be left out.`;
+const why = needed === undefined ? '' : ` ${[...needed].filter(mark => mark === '1').length} of these events are violated by themselves. The others are faint.`;
 byId('about').textContent = `By ${strict ? 'strict serializability' : 'opacity'}, of a run of ${plural(report.events, 'event')} over ${plural(registers, 'register')}. ${extent}${why}`;
 
 // Columns: one for each event, as wide as the texts that end there need. A transaction that is still open is drawn, if only as a heading.
@@ -373,7 +373,7 @@ if (needed !== undefined) {
   const all = make('button', { type: 'button' }, byId('legend'), 'Show all events');
   chart.classList.add('why');
   all.addEventListener('click', () => {
-    all.textContent = chart.classList.toggle('why') ? 'Show all events' : 'Show what contradicts itself';
+    all.textContent = chart.classList.toggle('why') ? 'Show all events' : 'Show the part';
   });
 }
 byId('held').textContent = states.length === 1 ? 'The registers at the start of the window' : `The ${states.length} states from which the window may begin`;
