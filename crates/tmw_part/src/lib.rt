@@ -11,6 +11,5 @@ mod transaction;
 mod violated;
 
 pub use find::{MOST_EVENTS, find_part};
-pub use part::{is_part, law_test};
+pub use part::law_test;
 pub use piece::Piece;
-pub use transaction::Transaction;
