@@ -3,5 +3,5 @@ mod Fewer
 mod Growing
 mod Marking
 mod Parts
-pub mod TestProof
+mod TestProof
 mod Violation

@@ -14,4 +14,3 @@ pub use find::{MOST_EVENTS, find_part};
 pub use marks::kept_of;
 pub use part::{is_part, law_test};
 pub use piece::Piece;
-pub use transaction::Transaction;
