@@ -12,5 +12,5 @@ mod violated;
 
 pub use find::{MOST_EVENTS, find_part};
 pub use marks::kept_of;
-pub use part::{is_part, law_test};
+pub use part::law_test;
 pub use piece::Piece;
