@@ -1,4 +1,6 @@
 pub mod Finding
 pub mod Kept
 pub mod Pieces
+pub mod Reasons
+pub mod Steps
 pub mod Test

@@ -2,5 +2,7 @@
 #![tactic(auto)]
 
 mod piece;
+mod step;
 
 pub use piece::Piece;
+pub use step::{Contradiction, Source, Step};
