@@ -1,1 +1,2 @@
 mod OrderFacts
+mod OrderValues
