@@ -1,2 +1,3 @@
 mod OrderFacts
 mod OrderValues
+mod StepsProof

@@ -91,7 +91,7 @@ unwritten s r (Add q d v ∷ ops) not_so =
     unwritten (slice_set s q.number ((v + d) % 2 ^ 64)) r ops more ∙ set_else s q r ((v + d) % 2 ^ 64) other
 
 -- what operations need is what the register holds before them
-needed_holds : (s : State) (r v : ℕ) (ops : List Op) → IsTrue (reads_hold s ops) → IsTrue (is_some_of v (needed_of r ops))
+pub needed_holds : (s : State) (r v : ℕ) (ops : List Op) → IsTrue (reads_hold s ops) → IsTrue (is_some_of v (needed_of r ops))
     → slice_index s r ≡ v
 needed_holds s r v [] reads needs = absurd (cc)
 needed_holds s r v (Read q w ∷ ops) reads needs =
@@ -118,7 +118,7 @@ needed_holds s r v (Add q d w ∷ ops) reads needs =
     ]
 
 -- what is known of a register, where it is right
-abbrev Fits : State → ℕ → Option ℕ → Type 0
+abbrev pub Fits : State → ℕ → Option ℕ → Type 0
 Fits s r None = Unit {0}
 Fits s r (Some v) = slice_index s r ≡ v
 
@@ -160,7 +160,7 @@ same_known s r held read (Some x) q v fits here is =
     ∙ eqb-true (slice_index s q.number) v here ∙ eqb-true v read value
 
 -- so operations that are answered what the registers hold don't read unlike
-reads_alike : (s : State) (r held read : ℕ) (known : Option ℕ) (ops : List Op) → length s ≡ 8 → Fits s r known
+pub reads_alike : (s : State) (r held read : ℕ) (known : Option ℕ) (ops : List Op) → length s ≡ 8 → Fits s r known
     → IsTrue (reads_hold s ops) → IsTrue (reads_unlike r held read known ops) → held ≡ read
 reads_alike s r held read known [] long fits reads unlike = absurd (cc)
 reads_alike s r held read known (Read q v ∷ ops) long fits reads unlike =

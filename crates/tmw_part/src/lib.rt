@@ -2,7 +2,9 @@
 #![tactic(auto)]
 
 mod piece;
+mod reason;
 mod step;
 
 pub use piece::Piece;
+pub use reason::law_reason;
 pub use step::{Contradiction, Source, Step};
