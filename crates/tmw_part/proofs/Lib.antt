@@ -1,3 +1,5 @@
+mod Adding
 mod OrderFacts
 mod OrderValues
 mod StepsProof
+pub mod TestProof

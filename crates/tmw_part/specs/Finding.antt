@@ -22,18 +22,19 @@ IsNeeded criterion registers states window marks piece =
     ⊎ (IsFalse (keeps_part registers (without piece marks window) window)
     ⊎ HasOrderFrom criterion states (kept_of (without piece marks window) window))
 
--- What is kept, a mark for each event, has the last event and is a well-formed part of the window that has no order from any of the
--- states; and no piece more can be taken out.
-pub record IsLeastPart (criterion : Criterion) (registers : ℕ) (states : List State) (window : List Event) (marks : List Bool) : Type 0 where
+-- What is kept, a mark for each event, is a part of the window that has no order from any of the states, and minimal: no piece more can
+-- be taken out.
+pub record IsMinimalPart (criterion : Criterion) (registers : ℕ) (states : List State) (window : List Event) (marks : List Bool) : Type 0 where
   pub each : length marks ≡ length window
-  pub last : IsTrue (keeps_last marks)
-  pub formed : IsTrue (is_well_formed registers (kept_of marks window))
+  pub keeps : IsTrue (keeps_part registers marks window)
   pub part : IsPart (transactions (kept_of marks window)) (transactions window)
   pub none : HasOrderFrom criterion states (kept_of marks window) → ⊥
-  pub least : All (IsNeeded criterion registers states window marks) (pieces window)
+  pub minimal : All (IsNeeded criterion registers states window marks) (pieces window)
 
--- The window is searched: it is well-formed, of at most 1,000 events and eight transactions, and has no order from any of the states.
+-- The window is searched: it is well-formed, of at most 1,000 events and eight transactions, and has no order from any of the states, of
+-- which there are some.
 pub record IsSearched (criterion : Criterion) (registers : ℕ) (states : List State) (window : List Event) : Type 0 where
+  pub some : states ≢ []
   pub events : length window ≤ 1000
   pub transactions : length (transactions window) ≤ 8
   pub formed : IsTrue (is_well_formed registers window)
@@ -42,5 +43,5 @@ pub record IsSearched (criterion : Criterion) (registers : ℕ) (states : List S
 -- What is found in a window: such a part of one that is searched, and else each event.
 abbrev pub FindsPart : Criterion → ℕ → List State → List Event → List Bool → Type 0
 FindsPart criterion registers states window marks =
-    (IsSearched criterion registers states window × IsLeastPart criterion registers states window marks)
+    (IsSearched criterion registers states window × IsMinimalPart criterion registers states window marks)
     ⊎ ((IsSearched criterion registers states window → ⊥) × (marks ≡ all_kept window))

@@ -2,5 +2,6 @@ pub mod Finding
 pub mod Kept
 pub mod Pieces
 pub mod Reasons
+pub mod Shown
 pub mod Steps
 pub mod Test

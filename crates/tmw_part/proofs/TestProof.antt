@@ -1,0 +1,204 @@
+-- The test of a part is right.
+use Rattle.std.proofs.Common.{◌≡◌, ◌==◌, ◌+◌, ◌<◌, ℕ, zero, suc, Bool, true, false, List, [], ◌∷◌, length, map, Some, IsTrue, refl, sym, ap, ◌∙◌, inl, inr, arith}
+use Rattle.std.specs.Prelude.{remove, slice_get, slice_index_or}
+use Rattle.std.proofs.lemmas.Bool.{and_parts, cases_Bool, eqb-true}
+use Rattle.tmw_events.proofs.Same.{same_ix}
+use Rattle.tmw_defs.specs.declared.op.Op.{Op}
+use Rattle.tmw_defs.specs.declared.op.Op.TheVariants.{Read, Write, Add}
+use Rattle.tmw_defs.specs.declared.status.Status.{Status}
+use Rattle.tmw_defs.specs.declared.status.Status.TheVariants.{Live, Pending, Committed, Aborted}
+use Rattle.tmw_defs.specs.History.{Txn, status_of, operations}
+use Rattle.tmw_defs.specs.Opaque.{precedes}
+use Rattle.tmw_defs.specs.Part.{is_unread, may_go, may_go_whole, AreOpsLeft, IsLeftOf, AreStaying, Each, IsPart}
+use Rattle.tmw_part.specs.Test.{is_same_op, are_ops_left, is_same_status, is_left_of, are_left_of, is_same, is_same_row, are_same_rows, is_among, without, are_placed, nothing, staying_of, is_part_at}
+
+same_op : (x y : Op) → is_same_op x y ≡ true → x ≡ y
+same_op (Read q w) (Read r v) same =
+    let (one, two) = and_parts (q.number == r.number) _ same in
+    rw (same_ix q r (eqb-true q.number r.number one), eqb-true w v two) refl
+same_op (Write q w) (Write r v) same =
+    let (one, two) = and_parts (q.number == r.number) _ same in
+    rw (same_ix q r (eqb-true q.number r.number one), eqb-true w v two) refl
+same_op (Add q e w) (Add r d v) same =
+    let (one, more) = and_parts (q.number == r.number) _ same in
+    let (two, three) = and_parts (e == d) _ more in
+    rw (same_ix q r (eqb-true q.number r.number one), eqb-true e d two, eqb-true w v three) refl
+same_op (Read q w) (Write r v) same = absurd (cc)
+same_op (Read q w) (Add r d v) same = absurd (cc)
+same_op (Write q w) (Read r v) same = absurd (cc)
+same_op (Write q w) (Add r d v) same = absurd (cc)
+same_op (Add q e w) (Read r v) same = absurd (cc)
+same_op (Add q e w) (Write r v) same = absurd (cc)
+
+-- what the test passes is so
+pub ops_left-test : (unread : ℕ → ℕ → Bool) (left ops : List Op) → IsTrue (are_ops_left unread left ops) → AreOpsLeft unread left ops
+ops_left-test unread [] [] all = refl
+ops_left-test unread (x ∷ left) [] all = absurd (cc)
+ops_left-test unread [] (op ∷ ops) all =
+    let (here, more) = and_parts (may_go unread op) _ all in
+    inl (here, ops_left-test unread [] ops more)
+ops_left-test unread (x ∷ left) (op ∷ ops) all =
+    elim (cases_Bool (is_same_op x op)) [
+      | inl same ↦
+          let is : x ≡ op = same_op x op same in
+          inr (left, ap (λ (y : Op). y ∷ left) is, ops_left-test unread left ops (rw same at all))
+      | inr other ↦
+          let (here, more) = and_parts (may_go unread op) _ (rw other at all) in
+          inl (here, ops_left-test unread (x ∷ left) ops more)
+    ]
+
+same_status : (a b : Status) → is_same_status a b ≡ true → a ≡ b
+same_status Live Live same = refl
+same_status Pending Pending same = refl
+same_status Committed Committed same = refl
+same_status Aborted Aborted same = refl
+same_status Live Pending same = absurd (cc)
+same_status Live Committed same = absurd (cc)
+same_status Live Aborted same = absurd (cc)
+same_status Pending Live same = absurd (cc)
+same_status Pending Committed same = absurd (cc)
+same_status Pending Aborted same = absurd (cc)
+same_status Committed Live same = absurd (cc)
+same_status Committed Pending same = absurd (cc)
+same_status Committed Aborted same = absurd (cc)
+same_status Aborted Live same = absurd (cc)
+same_status Aborted Pending same = absurd (cc)
+same_status Aborted Committed same = absurd (cc)
+
+left-test : (unread : ℕ → ℕ → Bool) (ts us : List Txn) → IsTrue (are_left_of unread ts us) → Each (IsLeftOf unread) ts us
+left-test unread [] [] all = tt
+left-test unread [] (u ∷ us) all = absurd (cc)
+left-test unread (t ∷ ts) [] all = absurd (cc)
+left-test unread (t ∷ ts) (u ∷ us) all =
+    let (here, more) = and_parts (is_left_of unread t u) _ all in
+    let (status, ops) = and_parts (is_same_status (status_of u.text) (status_of t.text)) _ here in (
+      record {
+        status = same_status (status_of u.text) (status_of t.text) status;
+        ops = ops_left-test unread (operations u.text) (operations t.text) ops;
+      },
+      left-test unread ts us more,
+    )
+
+same-test : (a b : Bool) → IsTrue (is_same a b) → a ≡ b
+same-test true true same = refl
+same-test true false same = absurd (cc)
+same-test false true same = absurd (cc)
+same-test false false same = refl
+
+row-test : (a b : Txn) (ts us : List Txn) → IsTrue (is_same_row a b ts us) → map (λ x. precedes x b) us ≡ map (λ x. precedes x a) ts
+row-test a b [] [] all = refl
+row-test a b [] (u ∷ us) all = absurd (cc)
+row-test a b (t ∷ ts) [] all = absurd (cc)
+row-test a b (t ∷ ts) (u ∷ us) all =
+    let (here, more) = and_parts (is_same (precedes u b) (precedes t a)) _ all in
+    rw (same-test (precedes u b) (precedes t a) here, row-test a b ts us more) refl
+
+rows-test : (ts us as' bs : List Txn) → IsTrue (are_same_rows ts us as' bs)
+    → map (λ b. map (λ x. precedes x b) us) bs ≡ map (λ a. map (λ x. precedes x a) ts) as'
+rows-test ts us [] [] all = refl
+rows-test ts us [] (b ∷ bs) all = absurd (cc)
+rows-test ts us (a ∷ as') [] all = absurd (cc)
+rows-test ts us (a ∷ as') (b ∷ bs) all =
+    let (here, more) = and_parts (is_same_row a b ts us) _ all in
+    rw (row-test a b ts us here, rows-test ts us as' bs more) refl
+
+-- where the number is among the places, the transaction of that number is among those that stay
+found : (f : ℕ → Txn) (n : ℕ) (places : List ℕ) → IsTrue (is_among n places)
+    → (i : ℕ) × (slice_get (map f places) i ≡ Some (f n)) × (remove (map f places) i ≡ map f (without n places))
+found f n [] among = absurd (cc)
+found f n (p ∷ places) among =
+    elim (cases_Bool (p == n)) [
+      | inl is ↦ (0, ap (λ k. Some (f k)) (eqb-true p n is), rw is refl)
+      | inr other ↦
+          let (i, at, rest) = found f n places (rw other at among) in
+          (suc i, at, rw (other, rest) refl)
+    ]
+
+-- from a number on, the list has these
+abbrev GoesOnFrom : (ℕ → Txn) → ℕ → List Txn → Type 0
+GoesOnFrom f n [] = Unit {0}
+GoesOnFrom f n (t ∷ ts) = (f n ≡ t) × GoesOnFrom f (n + 1) ts
+
+placed-test : (unread : ℕ → ℕ → Bool) (f : ℕ → Txn) (n : ℕ) (places : List ℕ) (ts : List Txn) → GoesOnFrom f n ts
+    → IsTrue (are_placed unread n places ts) → AreStaying unread (map f places) ts
+placed-test unread f n [] [] goes all = refl
+placed-test unread f n (p ∷ places) [] goes all = absurd (cc)
+placed-test unread f n places (t ∷ ts) goes all =
+    elim (cases_Bool (is_among n places)) [
+      | inl is ↦
+          let (i, at, rest) = found f n places is in
+          let more = placed-test unread f (n + 1) (without n places) ts goes.1 (rw is at all) in
+          inr (i, at ∙ ap (λ (x : Txn). Some x) goes.0, rw rest more)
+      | inr none ↦
+          let (idle, more) = and_parts (may_go_whole unread t) _ (rw none at all) in
+          inl (idle, placed-test unread f (n + 1) places ts goes.1 more)
+    ]
+
+goes_on_from : (f g : ℕ → Txn) (n m : ℕ) (ts : List Txn) → ((k : ℕ) → f (k + n) ≡ g (k + m)) → GoesOnFrom f n ts → GoesOnFrom g m ts
+goes_on_from f g n m [] same goes = tt
+goes_on_from f g n m (t ∷ ts) same goes = (
+  let a : 0 + n ≡ n = omega arith in let b : 0 + m ≡ m = omega arith in
+      let first : f n ≡ g m = ap f (sym a) ∙ same 0 ∙ ap g b in sym first ∙ goes.0,
+  goes_on_from f g (n + 1) (m + 1) ts
+      (λ k. let a : k + (n + 1) ≡ suc k + n = omega arith in let b : k + (m + 1) ≡ suc k + m = omega arith in
+      ap f a ∙ same (suc k) ∙ ap g (sym b)) goes.1,
+)
+
+goes_whole : (whole : List Txn) → GoesOnFrom (λ n. slice_index_or whole n nothing) 0 whole
+goes_whole [] = tt
+goes_whole (t ∷ ts) = (
+  refl,
+  goes_on_from (λ n. slice_index_or ts n nothing) (λ n. slice_index_or (t ∷ ts) n nothing) 0 1 ts
+      (λ k. let a : k + 0 ≡ k = omega arith in let b : k + 1 ≡ suc k = omega arith in
+      ap (λ n. slice_index_or ts n nothing) a ∙ ap (λ n. slice_index_or (t ∷ ts) n nothing) (sym b)) (goes_whole ts),
+)
+
+-- What passes the test is a part.
+pub part-test : (places : List ℕ) (part whole : List Txn) → IsTrue (is_part_at places part whole) → IsPart part whole
+part-test places part whole all =
+    let (placed, others) = and_parts (are_placed (is_unread part) 0 places whole) _ all in
+    let (left, rows) = and_parts (are_left_of (is_unread part) (staying_of whole places) part) _ others in
+    record {
+      staying = staying_of whole places;
+      stay = placed-test (is_unread part) (λ n. slice_index_or whole n nothing) 0 places whole (goes_whole whole) placed;
+      left = left-test (is_unread part) (staying_of whole places) part left;
+      order = rows-test (staying_of whole places) part (staying_of whole places) part rows;
+    }
+
+-- Each number is below the bound.
+abbrev AreBelow : ℕ → List ℕ → Type 0
+AreBelow bound places = (k d : ℕ) → k < length places → slice_index_or places k d < bound
+
+below-with : (bound n : ℕ) (places : List ℕ) → n < bound → AreBelow bound (without n places) → AreBelow bound places
+below-with bound n [] here below k d within = absurd (omega (arith, within))
+below-with bound n (p ∷ places) here below k d within =
+    elim (cases_Bool (p == n)) [
+      | inl is ↦ first k within (eqb-true p n is) (rw is at below)
+      | inr other ↦
+          let left : AreBelow bound (p ∷ without n places) = rw other at below in
+          later k within left (below-with bound n places here (λ j e in_rest. left (suc j) e (omega (arith, in_rest))))
+    ]
+  where
+    first : (k : ℕ) → k < length (p ∷ places) → p ≡ n → AreBelow bound places → slice_index_or (p ∷ places) k d < bound
+    first zero within is rest = rw is here
+    first (suc k) within is rest = rest k d (omega (arith, within))
+
+    later : (k : ℕ) → k < length (p ∷ places) → AreBelow bound (p ∷ without n places) → AreBelow bound places
+        → slice_index_or (p ∷ places) k d < bound
+    later zero within left rest = left zero d (omega arith)
+    later (suc k) within left rest = rest k d (omega (arith, within))
+
+-- Each place is that of one of the whole.
+pub placed-below : (unread : ℕ → ℕ → Bool) (n : ℕ) (places : List ℕ) (ts : List Txn) → IsTrue (are_placed unread n places ts)
+    → AreBelow (n + length ts) places
+placed-below unread n [] [] all k d within = absurd (omega (arith, within))
+placed-below unread n (p ∷ places) [] all k d within = absurd (cc)
+placed-below unread n places (t ∷ ts) all k d within =
+    let same : n + 1 + length ts ≡ n + length (t ∷ ts) = omega arith in
+    rw (sym same) (elim (cases_Bool (is_among n places)) [
+      | inl is ↦
+          below-with (n + 1 + length ts) n places (omega arith) (placed-below unread (n + 1) (without n places) ts (rw is at all)) k d within
+      | inr none ↦
+          let (may, more) = and_parts (may_go_whole unread t) _ (rw none at all) in
+          placed-below unread (n + 1) places ts more k d within
+    ])

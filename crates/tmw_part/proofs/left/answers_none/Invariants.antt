@@ -1,0 +1,6 @@
+use Rattle.std.proofs.Common.{◌≡◌, drop}
+use Rattle.tmw_part.specs.Shown.{answers_none}
+use Rattle.tmw_part.proofs.left.answers_none.Given as goal
+
+abbrev pub invariant-loop-op : goal.invariant-loop-op
+invariant-loop-op l = answers_none l.register.number l.value (drop l.op-index l.ops) ≡ answers_none l.register.number l.value l.ops

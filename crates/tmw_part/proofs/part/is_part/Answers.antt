@@ -1,0 +1,18 @@
+use Rattle.std.proofs.Common.{rules, IsTrue, length, arith}
+use Rattle.std.proofs.lemmas.List.{length-map}
+use Rattle.tmw_part.specs.Test.{are_placed, is_part_at}
+use Rattle.tmw_part.specs.Shown.{txn_of, txns_of, unread_in}
+use Rattle.tmw_part.proofs.TestProof.{part-test, placed-below}
+use Rattle.tmw_part.proofs.part.is_part.Goals as goal
+
+pub returns-clause-part : goal.returns-clause-part
+returns-clause-part c = λ is.
+    let passes : IsTrue (is_part_at c.args.places.now (txns_of c.args.part.now) (txns_of c.args.whole.now)) = search rules in
+    part-test c.args.places.now (txns_of c.args.part.now) (txns_of c.args.whole.now) passes
+
+pub staying_of-requires : goal.staying_of-requires
+staying_of-requires c = λ k d within.
+    let placed : IsTrue (are_placed (unread_in c.args.part.now) 0 c.args.places.now (txns_of c.args.whole.now)) = search rules in
+    let below = placed-below (unread_in c.args.part.now) 0 c.args.places.now (txns_of c.args.whole.now) placed k d within in
+    let same = length-map c.args.whole.now txn_of in
+    omega (arith, below, same)

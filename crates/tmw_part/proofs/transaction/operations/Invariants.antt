@@ -1,0 +1,9 @@
+use Rattle.std.proofs.Common.{◌≡◌, ◌++◌, length}
+use Rattle.tmw_defs.specs.History.{operations}
+use Rattle.tmw_part.proofs.transaction.operations.Given as goal
+
+abbrev pub invariant-loop-rest : goal.invariant-loop-rest
+invariant-loop-rest l = l.ops.items ++ operations l.rest ≡ operations l.text
+
+abbrev pub decreases-loop-rest : goal.decreases-loop-rest
+decreases-loop-rest l = length l.rest

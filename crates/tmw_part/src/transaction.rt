@@ -1,0 +1,104 @@
+ghost use Rattle.std.specs.Prelude.{◌≡◌, IfOk, OnOk, position};
+ghost use Rattle.tmw_defs.specs.History.{add_event, is_ended, operations, status_of, transactions};
+ghost use Rattle.tmw_defs.specs.Opaque.{precedes};
+ghost use Rattle.tmw_part.specs.Shown.{joins, txn_of, txns_of};
+
+use std::alloc::{AllocError, Global};
+use tmw_cuts::{operation, status_after};
+use tmw_defs::{Op, Status};
+use tmw_events::{Event, Ix, Kind};
+
+/// A transaction of a history: its thread, the places of its first and its last event, and its text.
+#[derive(Debug, Drop)]
+pub struct Transaction {
+    pub thread: Ix,
+    pub first: usize,
+    pub last: usize,
+    pub text: Vec<Kind>,
+}
+
+/// Returns the answered operations of a transaction, in order.
+pub fn operations(alloc: Global, text: &[Kind]) -> Result<Vec<Op>, AllocError>
+    ensures { IfOk result (λ ops. ops.items ≡ operations text.now) }
+{
+    let mut ops = Vec::new(alloc);
+    let mut rest = text;
+    while let [call, answer, more @ ..] = rest {
+        if let Some(op) = operation(*call, *answer) {
+            ops.push(op)?;
+        }
+        rest = more;
+    }
+    Ok(ops)
+}
+
+/// Returns the status of a transaction with this text, by its last event.
+pub fn status_of(text: &[Kind]) -> Status
+    ensures { result ≡ status_of text.now }
+{
+    text.last()
+        .map_or(Status::Live, |kind| status_after(*kind))
+}
+
+/// Tells whether the transaction with this text has committed or aborted.
+fn is_ended(text: &[Kind]) -> bool
+    ensures { result ≡ is_ended text.now }
+{
+    matches!(status_of(text), Status::Committed | Status::Aborted)
+}
+
+/// Tells whether the one precedes the other in real time: it is completed, and its last event is before the other's first.
+pub fn precedes(one: &Transaction, other: &Transaction) -> bool
+    ensures { result ≡ precedes (txn_of one.now) (txn_of other.now) }
+{
+    is_ended(&one.text) && one.last < other.first
+}
+
+/// The place of the thread's transaction that has not ended, if it has one.
+fn open_transaction(list: &[Transaction], thread: Ix) -> Option<usize>
+    ensures { result ≡ position (joins thread.number) list.now }
+{
+    list.iter()
+        .position(|one| one.thread == thread && !is_ended(&one.text))
+}
+
+/// Adds the event at this place of the history to its transaction, or begins one.
+fn add(
+    alloc: Global,
+    list: &mut Vec<Transaction>,
+    place: usize,
+    event: &Event,
+) -> Result<(), AllocError>
+    ensures { OnOk result (txns_of list.new.items
+        ≡ add_event place event.now (txns_of list.old.items)) }
+{
+    match open_transaction(list, event.thread) {
+        Some(index) => {
+            let open = &mut list[index];
+            open.text.push(event.kind)?;
+            open.last = place;
+        }
+        None => {
+            let mut text = Vec::new(alloc);
+            text.push(event.kind)?;
+            list.push(Transaction {
+                thread: event.thread,
+                first: place,
+                last: place,
+                text,
+            })?;
+        }
+    }
+    Ok(())
+}
+
+/// Returns the transactions of a history, in the order of their first events.
+pub fn transactions(alloc: Global, events: &[Event]) -> Result<Vec<Transaction>, AllocError>
+    ensures { IfOk result (λ list. txns_of list.items ≡ transactions events.now) }
+{
+    let mut list = Vec::new(alloc);
+    for (place, event) in events.iter().enumerate() {
+        add(alloc, &mut list, place, event)?;
+    }
+    Ok(list)
+}
