@@ -1,4 +1,4 @@
-ghost use Rattle.std.specs.Prelude.{◌≡◌, None, Some, IfSome};
+ghost use Rattle.std.specs.Prelude.{◌≡◌, ◌≢◌, ℕ, None, Some, IfSome, IfNone, IsTrue};
 ghost use Rattle.tmw_defs.specs.History.{operations};
 ghost use Rattle.tmw_defs.specs.Part.{is_answered};
 ghost use Rattle.tmw_cuts.specs.Written.{writes, left_by};
@@ -68,4 +68,70 @@ pub(crate) fn writes(register: Ix, text: &[Kind]) -> bool
         rest = more;
     }
     false
+}
+
+/// The value that the operation was answered of the register.
+fn answer_of(register: Ix, op: Op) -> Option<u64>
+    ensures { (value : ℕ) → is_answered register.number value op ≡ is_some_of value result }
+{
+    let (other, value) = match op {
+        Op::Read(other, value) => (other, value),
+        Op::Write(_other, _value) => return None,
+        Op::Add(other, _added, value) => (other, value),
+    };
+    if other == register { Some(value) } else { None }
+}
+
+/// What the register holds after the operation, where this is known before it.
+fn known_after(register: Ix, known: Option<u64>, op: Op) -> Option<u64>
+    ensures { result ≡ known_after register.number known op }
+{
+    let (other, value) = match op {
+        Op::Read(other, value) => (other, value),
+        Op::Write(other, value) => (other, value),
+        Op::Add(other, added, value) => (other, value.wrapping_add(added)),
+    };
+    if other == register { Some(value) } else { known }
+}
+
+/// Whether an operation of a transaction was answered `read` of the register, which by those before it held `held`.
+pub(crate) fn reads_unlike(register: Ix, held: u64, read: u64, text: &[Kind]) -> bool
+    ensures { result ≡ reads_unlike register.number held read None (operations text.now) }
+{
+    let mut known = None;
+    let mut rest = text;
+    while let [call, answer, more @ ..] = rest {
+        if let Some(op) = operation(*call, *answer) {
+            if is_some_of(held, known) && is_some_of(read, answer_of(register, op)) {
+                return true;
+            }
+            known = known_after(register, known, op);
+        }
+        rest = more;
+    }
+    false
+}
+
+/// Finds an operation of a transaction that was answered another value of the register than it held by those before
+/// it. Returns what it held and what was answered.
+pub(crate) fn find_unlike(register: Ix, text: &[Kind]) -> Option<(u64, u64)>
+    ensures found { IfSome result (λ pair. (pair.0 ≢ pair.1)
+        × IsTrue (reads_unlike register.number pair.0 pair.1 None (operations text.now))) }
+    ensures none { IfNone result ((held read : ℕ)
+        → IsTrue (reads_unlike register.number held read None (operations text.now)) → held ≡ read) }
+{
+    let mut known = None;
+    let mut rest = text;
+    while let [call, answer, more @ ..] = rest {
+        if let Some(op) = operation(*call, *answer) {
+            if let (Some(held), Some(read)) = (known, answer_of(register, op)) {
+                if held != read {
+                    return Some((held, read));
+                }
+            }
+            known = known_after(register, known, op);
+        }
+        rest = more;
+    }
+    None
 }
