@@ -21,7 +21,7 @@ use Rattle.tmw_part.specs.declared.step.Step.TheVariants.{RealTime, From, ReadFi
 use Rattle.tmw_part.specs.declared.step.Contradiction.{Contradiction}
 use Rattle.tmw_part.specs.declared.step.Contradiction.TheVariants.{Cycle, NoSource, Unlike}
 use Rattle.tmw_part.specs.Test.{nothing}
-use Rattle.tmw_part.specs.Steps.{txn_at, ops_at, needed_of, is_some_of, is_same_writer, is_same_source, orders, gives, supplies, is_before, begins_before, ends_before, is_committed, is_held, has_place, may_come_from, may_leave, is_rival, is_excluded, from_else, all_writers, is_no_source, is_asked, follows, contradicts, Derives}
+use Rattle.tmw_part.specs.Steps.{txn_at, ops_at, needed_of, is_some_of, is_same_writer, is_same_source, orders, gives, supplies, is_before, begins_before, ends_before, is_committed, is_held, has_place, may_come_from, may_leave, is_rival, is_excluded, stands_between, from_else, is_no_source, comes_not_else, is_only, comes_from_none, is_asked, is_known_rival, follows, contradicts, Derives}
 use Rattle.tmw_part.specs.Reasons.{StandsAt, StandsBefore, Changes, IsUnchanged, ComesFrom, StandsBeforeWriter, HoldsIn, begin_apart, StepsLaw, ReasonLaw}
 use Rattle.tmw_part.proofs.OrderFacts.{IsPlaced, IsIn, IsSerial, apart, serial}
 use Rattle.tmw_part.proofs.OrderValues.{state_at, reads_at, length-state_at, LastLeft, NoneLeft, value_at, needed_holds, reads_alike}
@@ -314,7 +314,8 @@ module _ (criterion : Criterion) (states : List State) (ts : List Txn) (start : 
       ]
 
   -- the test that passes for each writer passes for that one
-  writer_passes : (test : Option ℕ → Bool) (w : Option ℕ) → IsWithin ts w → IsTrue (all_writers test ts) → IsTrue (test w)
+  writer_passes : (test : Option ℕ → Bool) (w : Option ℕ) → IsWithin ts w
+      → IsTrue (test None && list_all (λ a. test (Some a)) (range_with_len 0 (length ts))) → IsTrue (test w)
   writer_passes test None within all = (and_parts (test None) _ all).0
   writer_passes test (Some a) within all =
       let same : 0 + a ≡ a = omega arith in
@@ -401,15 +402,15 @@ module _ (criterion : Criterion) (states : List State) (ts : List Txn) (start : 
       let (asked, rest) = and_parts (is_asked criterion ts steps s) _ is in
       let only = (and_parts (may_leave states ts s) _ rest).1 in
       let found = actual s asked in
-      let passes = writer_passes (λ w. is_same_writer w s.writer || is_no_source states ts steps (from_else s w)) found.writer found.within only in
+      let passes = writer_passes (comes_not_else states ts steps s) found.writer found.within only in
       elim (or_cases (is_same_writer found.writer s.writer) _ passes) [
         | inl same ↦
             (found.place, found.stands, subst (ComesFrom ts order s.register.number found.place) (same_writer found.writer s.writer same) found.comes)
         | inr none ↦ absurd (is_source s found none)
       ]
   step_holds (ReadFirst s w) is = λ i j at there.
-      let (has, rest) = and_parts (list_any (gives s) steps) _ is in
-      let (rival, begins) = and_parts (is_rival ts steps s w) _ rest in
+      let (known, begins) = and_parts (is_known_rival ts steps s w) _ is in
+      let (has, rival) = and_parts (list_any (gives s) steps) _ known in
       let (k, stands, comes) = source_holds s has in
       let r = rival_at s w rival in
       let low = behind_reader s s.writer refl k stands comes w r begins in
@@ -417,8 +418,8 @@ module _ (criterion : Criterion) (states : List State) (ts : List Txn) (start : 
       let two : j ≡ r.place = stands_once w j r.place there r.stands in
       omega (arith, low)
   step_holds (ChangedFirst w s) is =
-      let (has, rest) = and_parts (list_any (gives s) steps) _ is in
-      let (rival, before) = and_parts (is_rival ts steps s w) _ rest in
+      let (known, before) = and_parts (is_known_rival ts steps s w) _ is in
+      let (has, rival) = and_parts (list_any (gives s) steps) _ known in
       let (k, stands, comes) = source_holds s has in
       let r = rival_at s w rival in
       before_writer s s.writer refl k comes w r (before_holds w s.reader before r.place k r.stands stands)

@@ -121,41 +121,55 @@ is_rival ts steps s a =
     not (a == s.reader)
     && (not (is_some_of a s.writer) && (is_held ts steps a && writes s.register.number (ops_at ts a)))
 
--- By these steps the value can't come from there: the reader stands before the writer, or a rival stands between the two.
+-- The transaction is a rival that by these steps stands between the writer and the reader.
+abbrev pub stands_between : List Txn → List Step → Source → ℕ → Bool
+stands_between ts steps s a = is_rival ts steps s a && (begins_before steps s.writer a && is_before steps a s.reader)
+
+-- By these steps the value can't come from there: the reader stands before the writer, or a rival between the two.
 abbrev pub is_excluded : List Txn → List Step → Source → Bool
 is_excluded ts steps s =
-    ends_before steps s.reader s.writer
-    || list_any (λ a. is_rival ts steps s a && (begins_before steps s.writer a && is_before steps a s.reader))
-       (range_with_len 0 (length ts))
+    ends_before steps s.reader s.writer || list_any (stands_between ts steps s) (range_with_len 0 (length ts))
 
 -- The same value from another source.
 abbrev pub from_else : Source → Option ℕ → Source
 from_else s w = record s { writer = w }
 
--- The test passes for the start and for each transaction.
-abbrev pub all_writers : (Option ℕ → Bool) → List Txn → Bool
-all_writers test ts = test None && list_all (λ a. test (Some a)) (range_with_len 0 (length ts))
-
 -- The value can't come from there.
 abbrev pub is_no_source : List State → List Txn → List Step → Source → Bool
 is_no_source states ts steps s = not (may_leave states ts s) || is_excluded ts steps s
+
+-- The value can't come from this writer, unless it is the source's own.
+abbrev pub comes_not_else : List State → List Txn → List Step → Source → Option ℕ → Bool
+comes_not_else states ts steps s w = is_same_writer w s.writer || is_no_source states ts steps (from_else s w)
+
+-- It comes from no other than the source's own writer; and from none at all.
+abbrev pub is_only : List State → List Txn → List Step → Source → Bool
+is_only states ts steps s =
+    comes_not_else states ts steps s None
+    && list_all (λ a. comes_not_else states ts steps s (Some a)) (range_with_len 0 (length ts))
+
+abbrev pub comes_from_none : List State → List Txn → List Step → Source → Bool
+comes_from_none states ts steps s =
+    is_no_source states ts steps (from_else s None)
+    && list_all (λ a. is_no_source states ts steps (from_else s (Some a))) (range_with_len 0 (length ts))
 
 -- The reader stands in each order, and needs the register to hold the value.
 abbrev pub is_asked : Criterion → List Txn → List Step → Source → Bool
 is_asked criterion ts steps s =
     has_place criterion ts steps s.reader && is_some_of s.value (needed_of s.register.number (ops_at ts s.reader))
 
+-- The source is known, and the transaction is a rival.
+abbrev pub is_known_rival : List Txn → List Step → Source → ℕ → Bool
+is_known_rival ts steps s a = list_any (gives s) steps && is_rival ts steps s a
+
 -- Whether a step follows from these.
 abbrev pub follows : Criterion → List State → List Txn → List Step → Step → Bool
 follows criterion states ts steps (RealTime one other) = not (one == other) && precedes (txn_at ts one) (txn_at ts other)
 follows criterion states ts steps (From s) =
     is_asked criterion ts steps s
-    && (may_leave states ts s
-    && all_writers (λ w. is_same_writer w s.writer || is_no_source states ts steps (from_else s w)) ts)
-follows criterion states ts steps (ReadFirst s w) =
-    list_any (gives s) steps && (is_rival ts steps s w && begins_before steps s.writer w)
-follows criterion states ts steps (ChangedFirst w s) =
-    list_any (gives s) steps && (is_rival ts steps s w && is_before steps w s.reader)
+    && (may_leave states ts s && is_only states ts steps s)
+follows criterion states ts steps (ReadFirst s w) = is_known_rival ts steps s w && begins_before steps s.writer w
+follows criterion states ts steps (ChangedFirst w s) = is_known_rival ts steps s w && is_before steps w s.reader
 follows criterion states ts steps (Through one between other) =
     has_place criterion ts steps between && (is_before steps one between && is_before steps between other)
 
@@ -164,7 +178,7 @@ abbrev pub contradicts : Criterion → List State → List Txn → List Step →
 contradicts criterion states ts steps (Cycle a) = has_place criterion ts steps a && is_before steps a a
 contradicts criterion states ts steps (NoSource b r v) =
     let s : Source = record { reader = b; register = r; value = v; writer = None } in
-    is_asked criterion ts steps s && all_writers (λ w. is_no_source states ts steps (from_else s w)) ts
+    is_asked criterion ts steps s && comes_from_none states ts steps s
 contradicts criterion states ts steps (Unlike a r held read) =
     has_place criterion ts steps a && (not (held == read) && reads_unlike r.number held read None (ops_at ts a))
 

@@ -2,6 +2,8 @@
 #![tactic(auto)]
 
 mod deeds;
+mod follows;
+mod known;
 mod left;
 mod part;
 mod piece;
