@@ -1,5 +1,10 @@
 mod Adding
+mod Fewer
+mod Growing
+mod Marking
 mod OrderFacts
 mod OrderValues
+mod Parts
 mod StepsProof
 pub mod TestProof
+mod Violation

@@ -4,4 +4,5 @@ pub mod Pieces
 pub mod Reasons
 pub mod Shown
 pub mod Steps
+pub mod Taking
 pub mod Test

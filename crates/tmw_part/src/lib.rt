@@ -2,15 +2,20 @@
 #![tactic(auto)]
 
 mod deeds;
+mod find;
 mod follows;
+mod kept_part;
 mod known;
 mod left;
+mod marks;
 mod part;
 mod piece;
 mod reason;
 mod step;
 mod transaction;
+mod violated;
 
+pub use find::{MOST_EVENTS, find_part};
 pub use part::{is_part, law_test};
 pub use piece::Piece;
 pub use reason::law_reason;

@@ -36,8 +36,7 @@ pub fn operations(alloc: Global, text: &[Kind]) -> Result<Vec<Op>, AllocError>
 pub fn status_of(text: &[Kind]) -> Status
     ensures { result ≡ status_of text.now }
 {
-    text.last()
-        .map_or(Status::Live, |kind| status_after(*kind))
+    text.last().map_or(Status::Live, |kind| status_after(*kind))
 }
 
 /// Tells whether the transaction with this text has committed or aborted.

@@ -1,4 +1,4 @@
-use Rattle.std.proofs.Common.{rules, IsTrue, length, arith}
+use Rattle.std.proofs.Common.{rules, IsTrue, arith}
 use Rattle.std.proofs.lemmas.List.{length-map}
 use Rattle.tmw_part.specs.Test.{are_placed, is_part_at}
 use Rattle.tmw_part.specs.Shown.{txn_of, txns_of, unread_in}

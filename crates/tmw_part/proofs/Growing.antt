@@ -1,0 +1,97 @@
+-- With more events a history has as many transactions as before or more, and does not become well-formed.
+use Rattle.std.proofs.Common.{◌≡◌, ◌&&◌, ◌⊎◌, ◌+◌, ◌<◌, ◌≤◌, ◌++◌, ℕ, Bool, true, false, not, List, [], ◌∷◌, length, take, drop, get_or, refl, sym, ap, subst, ◌∙◌, inl, inr, arith}
+use Rattle.std.specs.List.{list_all}
+use Rattle.std.proofs.lemmas.Bool.{and_parts, and_from, cases_Bool}
+use Rattle.std.proofs.lemmas.List.{take-append-drop, take_more}
+use Rattle.tmw_events.specs.declared.event.Event.{Event}
+use Rattle.tmw_events.specs.declared.event.Kind.{Kind}
+use Rattle.tmw_defs.specs.History.{Txn, is_call, answers, ends, is_text, is_well_formed, add_event, transactions, transactions_from}
+use Rattle.tmw_part.specs.Taking.{AreUnfit}
+use Rattle.tmw_defs.proofs.OneMore.{joins, add_event_here, add_event_past, transactions-push}
+use Rattle.tmw_defs.proofs.Places.{transactions_from-append}
+
+length-add_event : (place : ℕ) (e : Event) (ts : List Txn)
+    → (length (add_event place e ts) ≡ length ts) ⊎ (length (add_event place e ts) ≡ length ts + 1)
+length-add_event place e [] = inr (omega arith)
+length-add_event place e (t ∷ ts) =
+    elim (cases_Bool (joins e t)) [
+      | inl taken ↦ inl (rw (add_event_here place e t ts taken) refl)
+      | inr past ↦ rw (add_event_past place e t ts past) (
+          elim (length-add_event place e ts) [
+            | inl same ↦ inl (omega (arith, same))
+            | inr more ↦ inr (omega (arith, more))
+          ])
+    ]
+
+-- a history has one transaction more with the event, or as many as before
+pub length-push : (h : List Event) (e : Event)
+    → (length (transactions (h ++ e ∷ [])) ≡ length (transactions h)) ⊎ (length (transactions (h ++ e ∷ [])) ≡ length (transactions h) + 1)
+length-push h e = rw (transactions-push h e) (length-add_event (length h) e (transactions h))
+
+length-more : (place : ℕ) (ts : List Txn) (es : List Event) → length ts ≤ length (transactions_from place ts es)
+length-more place ts [] = omega arith
+length-more place ts (e ∷ es) =
+    let more = length-more (place + 1) (add_event place e ts) es in
+    elim (length-add_event place e ts) [
+      | inl same ↦ omega (arith, more, same)
+      | inr grown ↦ omega (arith, more, grown)
+    ]
+
+text-before : (registers : ℕ) (text : List Kind) (k : Kind) → is_text registers (text ++ k ∷ []) ≡ true → is_text registers text ≡ true
+text-before registers [] k formed = refl
+text-before registers (c ∷ []) k formed = (and_parts (is_call registers c) (answers c k) formed).0
+text-before registers (c ∷ a ∷ []) k formed =
+    let (front, rest) = and_parts (is_call registers c && answers c a && not (ends a)) (is_text registers (k ∷ [])) formed in
+    (and_parts (is_call registers c && answers c a) (not (ends a)) front).0
+text-before registers (c ∷ a ∷ b ∷ more) k formed =
+    let (front, rest) = and_parts (is_call registers c && answers c a && not (ends a)) (is_text registers (b ∷ more ++ k ∷ [])) formed in
+    and_from (is_call registers c && answers c a && not (ends a)) (is_text registers (b ∷ more)) front (text-before registers (b ∷ more) k rest)
+
+abbrev are_texts : ℕ → List Txn → Bool
+are_texts registers ts = list_all (λ t. is_text registers t.text) ts
+
+texts-add : (registers place : ℕ) (e : Event) (ts : List Txn) → are_texts registers (add_event place e ts) ≡ true → are_texts registers ts ≡ true
+texts-add registers place e [] formed = refl
+texts-add registers place e (t ∷ ts) formed =
+    elim (cases_Bool (joins e t)) [
+      | inl here ↦
+          let (first, rest) = and_parts (is_text registers (t.text ++ e.kind ∷ [])) (are_texts registers ts) (rw (add_event_here place e t ts here) at formed) in
+          and_from (is_text registers t.text) _ (text-before registers t.text e.kind first) rest
+      | inr past ↦
+          let (first, rest) = and_parts (is_text registers t.text) (are_texts registers (add_event place e ts)) (rw (add_event_past place e t ts past) at formed) in
+          and_from (is_text registers t.text) _ first (texts-add registers place e ts rest)
+    ]
+
+texts-more : (registers place : ℕ) (ts : List Txn) (es : List Event) → are_texts registers (transactions_from place ts es) ≡ true
+    → are_texts registers ts ≡ true
+texts-more registers place ts [] formed = formed
+texts-more registers place ts (e ∷ es) formed = texts-add registers place e ts (texts-more registers (place + 1) (add_event place e ts) es formed)
+
+-- the transactions of a history, from those of what it begins with
+transactions-begun : (n : ℕ) (h : List Event)
+    → transactions_from (0 + length (take n h)) (transactions (take n h)) (drop n h) ≡ transactions h
+transactions-begun n h = sym (transactions_from-append 0 [] (take n h) (drop n h)) ∙ ap transactions (take-append-drop n h)
+
+pub fewer-begun : (n : ℕ) (h : List Event) → length (transactions (take n h)) ≤ length (transactions h)
+fewer-begun n h =
+    subst (λ ts. length (transactions (take n h)) ≤ length ts) (transactions-begun n h)
+    (length-more (0 + length (take n h)) (transactions (take n h)) (drop n h))
+
+pub formed-begun : (registers n : ℕ) (h : List Event) → is_well_formed registers h ≡ true → is_well_formed registers (take n h) ≡ true
+formed-begun registers n h formed =
+    texts-more registers (0 + length (take n h)) (transactions (take n h)) (drop n h)
+    (ap (are_texts registers) (transactions-begun n h) ∙ formed)
+
+pub take-next : (events : List Event) (place : ℕ) (event : Event) → place < length events → event ≡ get_or events place event
+    → take place events ++ event ∷ [] ≡ take (place + 1) events
+take-next events place event within is =
+    ap (λ e. take place events ++ e ∷ []) is ∙ sym (take_more events place event within)
+
+-- what is unfit stays so with more events
+pub unfit-begun : (registers n : ℕ) (h : List Event) → AreUnfit registers (take n h) → AreUnfit registers h
+unfit-begun registers n h (inl ill_formed) =
+    elim (cases_Bool (is_well_formed registers h)) [
+      | inl formed ↦ let bad : true ≡ false = sym (formed-begun registers n h formed) ∙ ill_formed in absurd (cc)
+      | inr stays ↦ inl stays
+    ]
+unfit-begun registers n h (inr many) = let more = fewer-begun n h in inr (omega (arith, many, more))

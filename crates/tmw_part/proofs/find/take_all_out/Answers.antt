@@ -1,0 +1,20 @@
+use Rattle.std.proofs.Common.{◌≡◌, List, Bool, All, sym, subst}
+use Rattle.tmw_cuts.specs.Members.{members}
+use Rattle.tmw_part.specs.Finding.{IsNeeded}
+use Rattle.tmw_part.proofs.find.take_all_out.Goals as goal
+
+pub loop-took-preserved : goal.loop-took-preserved
+loop-took-preserved c = record {
+  part = c.in_ok-took.ensures.part;
+  needed = λ none.
+      let (same, needed) = c.in_ok-took.ensures.needed none in
+      let stays : c.take_out.new.marks.items ≡ c.loop-took.marks.items = same in
+      let IsNeededIn = λ (marks : List Bool). IsNeeded c.args.criterion c.args.registers.number (members c.args.states.now) c.args.events.now marks in
+      subst (λ (marks : List Bool). All (IsNeededIn marks) c.in_ok-pieces.pieces.items) (sym stays) (rw c.deref.ensures.value at needed);
+}
+
+pub returns : goal.returns
+returns c = record {
+  is = c.loop-took.invariant.part;
+  least = rw c.in_ok-pieces.ensures at (c.loop-took.invariant.needed c.loop-took-test.false);
+}

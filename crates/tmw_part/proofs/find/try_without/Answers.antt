@@ -1,0 +1,17 @@
+use Rattle.std.proofs.Common.{◌∙◌, sym, inl}
+use Rattle.tmw_part.proofs.Fewer.{length-without, fewer-kept, same-marks}
+use Rattle.tmw_part.proofs.find.try_without.Goals as goal
+
+pub returns-then-eq-clause-needed : goal.returns-then-eq-clause-needed
+returns-then-eq-clause-needed c =
+    let same = same-marks c.as_slice.result.now c.args.marks.now (sym c.eq.ensures ∙ c.if-eq.true) in
+    inl (sym c.in_ok-left.ensures ∙ sym c.as_slice.ensures.value ∙ same)
+
+pub is_violated_part-requires-clause-each : goal.is_violated_part-requires-clause-each
+is_violated_part-requires-clause-each c =
+    rw (c.deref.ensures.value, c.in_ok-left.ensures) (length-without c.args.piece.now 0 c.args.marks.now c.args.events.now c.requires.each)
+
+pub returns-clause-fewer : goal.returns-clause-fewer
+returns-clause-fewer c =
+    fewer-kept c.args.piece.now c.args.marks.now c.in_ok-left.left.items c.args.events.now c.requires.each c.in_ok-left.ensures
+    (rw c.as_slice.ensures.value at (sym c.eq.ensures ∙ c.if-eq.false))

@@ -1,0 +1,6 @@
+use Rattle.std.proofs.Common.{◌≡◌, ◌++◌, drop}
+use Rattle.tmw_part.specs.Kept.{places_from}
+use Rattle.tmw_part.proofs.marks.places_of.Given as goal
+
+abbrev pub invariant-loop-place : goal.invariant-loop-place
+invariant-loop-place l = l.places.items ++ places_from l.place (drop l.place l.marks) ≡ places_from 0 l.marks

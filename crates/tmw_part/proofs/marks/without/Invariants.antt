@@ -1,0 +1,7 @@
+use Rattle.std.proofs.Common.{◌≡◌, ◌++◌, drop}
+use Rattle.tmw_part.specs.Kept.{without, without_from}
+use Rattle.tmw_part.proofs.marks.without.Given as goal
+
+abbrev pub invariant-loop-place : goal.invariant-loop-place
+invariant-loop-place l =
+    l.left.items ++ without_from l.piece l.place (drop l.place l.marks) (drop l.place l.events) ≡ without l.piece l.marks l.events

@@ -1,0 +1,12 @@
+use Rattle.std.proofs.Common.{◌≡◌, ◌+◌, ◌++◌, length}
+use Rattle.tmw_part.specs.Pieces.{calls_from}
+use Rattle.tmw_part.proofs.piece.push_calls.Given as goal
+
+abbrev pub invariant-loop-rest : goal.invariant-loop-rest
+invariant-loop-rest l = record {
+  same : l.pieces.items ++ calls_from l.place l.rest ≡ l.initial.pieces.items ++ calls_from 0 l.events;
+  count : l.place + length l.rest ≡ length l.events;
+}
+
+abbrev pub decreases-loop-rest : goal.decreases-loop-rest
+decreases-loop-rest l = length l.rest

@@ -1,0 +1,6 @@
+use Rattle.std.proofs.Common.{take}
+use Rattle.tmw_part.specs.Taking.{AreTaken}
+use Rattle.tmw_part.proofs.violated.window_of.Given as goal
+
+abbrev pub invariant-loop-event : goal.invariant-loop-event
+invariant-loop-event l = AreTaken l.fn.registers.number (take l.event-index l.events) l.tracker l.window

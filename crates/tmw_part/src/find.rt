@@ -1,0 +1,127 @@
+ghost use Rattle.std.specs.Prelude.{◌≡◌, ◌≤◌, ◌<◌, All, IfOk, IfSome, IfNone, IsTrue, IsFalse, length};
+ghost use Rattle.tmw_defs.specs.History.{transactions};
+ghost use Rattle.tmw_cuts.specs.Members.{members};
+ghost use Rattle.tmw_part.specs.Finding.{FindsPart, IsLeastPart, IsNeeded, IsViolatedPart};
+ghost use Rattle.tmw_part.specs.Kept.{kept_of};
+ghost use Rattle.tmw_part.specs.Pieces.{pieces};
+
+use crate::kept_part::is_violated_part;
+use crate::marks::without;
+use crate::piece::{Piece, pieces};
+use crate::violated::is_violated;
+use std::alloc::{AllocError, Global};
+use tmw_cuts::States;
+use tmw_defs::Criterion;
+use tmw_events::{Event, Registers};
+
+/// How many events a window has at most that is searched.
+pub const MOST_EVENTS: usize = 1_000;
+
+/// What is kept without the piece, if that is less, and a violated part still.
+fn try_without(
+    criterion: Criterion,
+    alloc: Global,
+    registers: Registers,
+    states: &States,
+    events: &[Event],
+    piece: &Piece,
+    marks: &[bool],
+) -> Result<Option<Vec<bool>>, AllocError>
+    requires few { length (transactions events.now) ≤ 8 }
+    requires each { length marks.now ≡ length events.now }
+    ensures part { IfOk result (λ found. IfSome found (λ left. IsViolatedPart criterion
+        registers.number (members states.now) events.now left.items)) }
+    ensures fewer { IfOk result (λ found. IfSome found (λ left.
+        length (kept_of left.items events.now) < length (kept_of marks.now events.now))) }
+    ensures needed { IfOk result (λ found. IfNone found (IsNeeded criterion registers.number
+        (members states.now) events.now marks.now piece.now)) }
+{
+    let left = without(alloc, *piece, marks, events)?;
+    if left.as_slice() == marks {
+        return Ok(None);
+    }
+    if !is_violated_part(criterion, alloc, registers, states, events, &left)? {
+        return Ok(None);
+    }
+    Ok(Some(left))
+}
+
+/// Takes each of the pieces in turn out of what is kept, if what is left is a violated part still. Tells whether it took one.
+fn take_out(
+    criterion: Criterion,
+    alloc: Global,
+    registers: Registers,
+    states: &States,
+    events: &[Event],
+    pieces: &[Piece],
+    marks: &mut Vec<bool>,
+) -> Result<bool, AllocError>
+    requires few { length (transactions events.now) ≤ 8 }
+    requires part { IsViolatedPart criterion registers.number (members states.now) events.now
+        marks.old.items }
+    ensures part { IfOk result (λ _. IsViolatedPart criterion registers.number
+        (members states.now) events.now marks.new.items) }
+    ensures fewer { IfOk result (λ took. IsTrue took
+        → length (kept_of marks.new.items events.now) < length (kept_of marks.old.items events.now)) }
+    ensures needed { IfOk result (λ took. IsFalse took → (marks.new.items ≡ marks.old.items)
+        × All (IsNeeded criterion registers.number (members states.now) events.now marks.old.items)
+        pieces.now) }
+{
+    let mut took = false;
+    for piece in pieces {
+        let found = try_without(criterion, alloc, registers, states, events, piece, marks)?;
+        if let Some(left) = found {
+            *marks = left;
+            took = true;
+        }
+    }
+    Ok(took)
+}
+
+/// Takes pieces out of what is kept, until no more can be taken out.
+fn take_all_out(
+    criterion: Criterion,
+    alloc: Global,
+    registers: Registers,
+    states: &States,
+    events: &[Event],
+    marks: &mut Vec<bool>,
+) -> Result<(), AllocError>
+    requires few { length (transactions events.now) ≤ 8 }
+    requires part { IsViolatedPart criterion registers.number (members states.now) events.now
+        marks.old.items }
+    ensures { IfOk result (λ _. IsLeastPart criterion registers.number (members states.now)
+        events.now marks.new.items) }
+{
+    let pieces = pieces(alloc, events)?;
+    let mut took = true;
+    while took {
+        took = take_out(criterion, alloc, registers, states, events, &pieces, marks)?;
+    }
+    Ok(())
+}
+
+/// Finds a part of a window that is violated by itself, from any of the states, and of which nothing more can be taken
+/// out, one transaction or one call with its answer at a time: for each event, whether it is kept. The last event is.
+/// In a window of more than `MOST_EVENTS` events, and in one that is not violated, all are. It fails only if an
+/// allocation does.
+pub fn find_part(
+    criterion: Criterion,
+    alloc: Global,
+    registers: Registers,
+    states: &States,
+    events: &[Event],
+) -> Result<Vec<bool>, AllocError>
+    ensures { IfOk result (λ marks. FindsPart criterion registers.number (members states.now)
+        events.now marks.items) }
+{
+    let mut marks = vec![in alloc; true; events.len()]?;
+    if events.len() > MOST_EVENTS {
+        return Ok(marks);
+    }
+    if !is_violated(criterion, alloc, registers, states, events)? {
+        return Ok(marks);
+    }
+    take_all_out(criterion, alloc, registers, states, events, &mut marks)?;
+    Ok(marks)
+}

@@ -1,0 +1,68 @@
+ghost use Rattle.std.specs.Prelude.{ℕ, List, [], ◌∷◌, ◌++◌, IfOk, IfSome, IfNone, IsTrue, IsFalse};
+ghost use Rattle.tmw_events.specs.declared.event.Event.{Event};
+ghost use Rattle.tmw_wellformed.specs.declared.tracker.Tracker.{Tracker};
+ghost use Rattle.tmw_cuts.specs.Members.{members};
+ghost use Rattle.tmw_part.specs.Finding.{TellsViolated};
+ghost use Rattle.tmw_part.specs.Taking.{AreTaken, AreUnfit};
+
+use std::alloc::{AllocError, Global};
+use tmw_cuts::{States, Window};
+use tmw_defs::Criterion;
+use tmw_events::{Event, Registers};
+use tmw_search::possible;
+use tmw_wellformed::Tracker;
+
+/// How many transactions a window has at most.
+const MOST_TRANSACTIONS: u8 = 8;
+
+/// Takes the next event, if the history stays well-formed with it and the window has room for its transaction.
+fn take_event(tracker: &mut Tracker, window: &mut Window, event: Event) -> bool
+    ensures takes { IsTrue result → (registers : ℕ) (history : List Event)
+        → AreTaken registers history tracker.old window.old
+        → AreTaken registers (history ++ event ∷ []) tracker.new window.new }
+    ensures refuses { IsFalse result → (registers : ℕ) (history : List Event)
+        → AreTaken registers history tracker.old window.old
+        → AreUnfit registers (history ++ event ∷ []) }
+{
+    let Ok(note) = tracker.step(event) else {
+        return false;
+    };
+    if note.begins && window.count() >= MOST_TRANSACTIONS {
+        return false;
+    }
+    window.push(event, note);
+    true
+}
+
+/// Takes events in order: their window, if they are well-formed and their transactions are few enough.
+fn window_of(registers: Registers, events: &[Event]) -> Option<Window>
+    ensures some { IfSome result (λ window. (tracker : Tracker)
+        × AreTaken registers.number events.now tracker window) }
+    ensures none { IfNone result (AreUnfit registers.number events.now) }
+{
+    let mut tracker = Tracker::new(registers);
+    let mut window = Window::open(registers);
+    for event in events {
+        if !take_event(&mut tracker, &mut window, *event) {
+            return None;
+        }
+    }
+    Some(window)
+}
+
+/// Tells whether the events are violated: they are well-formed, have at most eight transactions, and these have no serial
+/// order from any of the states.
+pub fn is_violated(
+    criterion: Criterion,
+    alloc: Global,
+    registers: Registers,
+    states: &States,
+    events: &[Event],
+) -> Result<bool, AllocError>
+    ensures { IfOk result (TellsViolated criterion registers.number (members states.now) events.now) }
+{
+    let Some(window) = window_of(registers, events) else {
+        return Ok(false);
+    };
+    Ok(!possible(criterion, alloc, states, &window)?)
+}
