@@ -1,3 +1,4 @@
+pub mod Candidates
 pub mod Finding
 pub mod Kept
 pub mod Pieces

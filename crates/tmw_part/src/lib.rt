@@ -1,6 +1,7 @@
 //! Of a violated window, a part that contradicts itself and of which nothing more can be taken out.
 #![tactic(auto)]
 
+mod candidates;
 mod deeds;
 mod find;
 mod follows;

@@ -1,0 +1,44 @@
+-- The steps that are tried: each that may follow from some.
+use Rattle.std.specs.Prelude.{◌≡◌, ◌<◌, ℕ, List, [], ◌∷◌, ◌++◌, length, map, Option, Some, None}
+use Rattle.std.specs.List.{flat_map, range_with_len}
+use Rattle.tmw_defs.specs.History.{Txn}
+use Rattle.tmw_part.specs.declared.step.Source.{Source}
+use Rattle.tmw_part.specs.declared.step.Step.{Step}
+use Rattle.tmw_part.specs.declared.step.Step.TheVariants.{RealTime, From, ReadFirst, ChangedFirst, Through}
+use Rattle.tmw_part.specs.Steps.{ops_at, needed_of, from_else}
+
+-- Of transactions with these places, those that real time may order behind the one.
+abbrev pub real_times : List ℕ → ℕ → List Step
+real_times places one = map (RealTime one) places
+
+-- The steps of a source and a rival, and of a source and each rival.
+abbrev pub firsts_with : Source → ℕ → List Step
+firsts_with s a = ReadFirst s a ∷ (ChangedFirst a s ∷ [])
+
+abbrev pub firsts : List ℕ → Source → List Step
+firsts places s = flat_map (firsts_with s) places
+
+abbrev pub throughs_between : List ℕ → ℕ → ℕ → List Step
+throughs_between places one between = map (Through one between) places
+
+abbrev pub throughs : List ℕ → ℕ → List Step
+throughs places one = flat_map (throughs_between places one) places
+
+-- Each step of transactions with these places, where these are the sources.
+abbrev pub candidates : List Source → List ℕ → List Step
+candidates sources places =
+    ((flat_map (real_times places) places ++ map From sources) ++ flat_map (firsts places) sources) ++ flat_map (throughs places) places
+
+-- The writer is the start or one of so many transactions.
+abbrev pub IsWithin : ℕ → Option ℕ → Type 0
+IsWithin count None = Unit {0}
+IsWithin count (Some a) = a < count
+
+-- The reader needs the register to hold the value, and the writer is one of the transactions or the start.
+pub record MayBe (ts : List Txn) (s : Source) : Type 0 where
+  pub needed : needed_of s.register.number (ops_at ts s.reader) ≡ Some s.value
+  pub within : IsWithin (length ts) s.writer
+
+-- The sources of one value: the start, and each of the transactions.
+abbrev pub sources_like : List ℕ → Source → List Source
+sources_like places s = from_else s None ∷ map (λ a. from_else s (Some a)) places
