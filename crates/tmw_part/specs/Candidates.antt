@@ -1,6 +1,7 @@
 -- The steps that are tried: each that may follow from some.
 use Rattle.std.specs.Prelude.{◌≡◌, ◌<◌, ℕ, List, [], ◌∷◌, ◌++◌, length, map, Option, Some, None}
 use Rattle.std.specs.List.{flat_map, range_with_len}
+use Rattle.tmw_events.specs.declared.ix.Ix.{Ix}
 use Rattle.tmw_defs.specs.History.{Txn}
 use Rattle.tmw_part.specs.declared.step.Source.{Source}
 use Rattle.tmw_part.specs.declared.step.Step.{Step}
@@ -42,3 +43,17 @@ pub record MayBe (ts : List Txn) (s : Source) : Type 0 where
 -- The sources of one value: the start, and each of the transactions.
 abbrev pub sources_like : List ℕ → Source → List Source
 sources_like places s = from_else s None ∷ map (λ a. from_else s (Some a)) places
+
+-- The sources of what a reader needs a register to hold.
+abbrev pub sources_of : List ℕ → ℕ → Ix → Option ℕ → List Source
+sources_of places reader register None = []
+sources_of places reader register (Some value) =
+    sources_like places (record { reader = reader; register = register; value = value; writer = None })
+
+-- The sources of what a reader needs; and of what the transactions with these places do.
+abbrev pub sources_at : List Txn → List Ix → List ℕ → ℕ → List Source
+sources_at ts registers places reader =
+    flat_map (λ register. sources_of places reader register (needed_of register.number (ops_at ts reader))) registers
+
+abbrev pub sources : List Txn → List Ix → List ℕ → List Source
+sources ts registers places = flat_map (sources_at ts registers places) places

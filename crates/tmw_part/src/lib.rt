@@ -12,6 +12,7 @@ mod marks;
 mod part;
 mod piece;
 mod reason;
+mod sources;
 mod step;
 mod transaction;
 mod violated;
