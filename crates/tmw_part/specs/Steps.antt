@@ -91,6 +91,10 @@ abbrev pub ends_before : List Step → ℕ → Option ℕ → Bool
 ends_before steps a None = false
 ends_before steps a (Some b) = is_before steps a b
 
+abbrev pub is_before_writer : List Step → ℕ → Option ℕ → Bool
+is_before_writer steps a None = true
+is_before_writer steps a (Some b) = is_before steps a b
+
 abbrev pub is_committed : Status → Bool
 is_committed Committed = true
 is_committed _ = false
@@ -181,6 +185,14 @@ contradicts criterion states ts steps (NoSource b r v) =
     is_asked criterion ts steps s && comes_from_none states ts steps s
 contradicts criterion states ts steps (Unlike a r held read) =
     has_place criterion ts steps a && (not (held == read) && reads_unlike r.number held read None (ops_at ts a))
+
+-- By these steps it is known what the step says.
+abbrev pub tells : List Step → Step → Bool
+tells steps (RealTime one other) = is_before steps one other
+tells steps (From s) = list_any (gives s) steps
+tells steps (ReadFirst s w) = is_before steps s.reader w
+tells steps (ChangedFirst w s) = is_before_writer steps w s.writer
+tells steps (Through one between other) = is_before steps one other
 
 -- Each of the steps follows from those before it.
 abbrev pub Derives : Criterion → List State → List Txn → List Step → Type 0

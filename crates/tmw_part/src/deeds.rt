@@ -2,6 +2,7 @@ ghost use Rattle.std.specs.Prelude.{◌≡◌, ◌≢◌, ℕ, None, Some, IfSom
 ghost use Rattle.tmw_defs.specs.History.{operations};
 ghost use Rattle.tmw_defs.specs.Part.{is_answered};
 ghost use Rattle.tmw_cuts.specs.Written.{writes, left_by};
+ghost use Rattle.tmw_part.specs.Candidates.{answer_of, first_unlike};
 ghost use Rattle.tmw_part.specs.Steps.{is_some_of, known_after, needed_of, reads_unlike};
 
 use tmw_cuts::operation;
@@ -72,7 +73,8 @@ pub(crate) fn writes(register: Ix, text: &[Kind]) -> bool
 
 /// The value that the operation was answered of the register.
 fn answer_of(register: Ix, op: Op) -> Option<u64>
-    ensures { (value : ℕ) → is_answered register.number value op ≡ is_some_of value result }
+    ensures value { result ≡ answer_of register.number op }
+    ensures test { (value : ℕ) → is_answered register.number value op ≡ is_some_of value result }
 {
     let (other, value) = match op {
         Op::Read(other, value) => (other, value),
@@ -115,10 +117,7 @@ pub(crate) fn reads_unlike(register: Ix, held: u64, read: u64, text: &[Kind]) ->
 /// Finds an operation of a transaction that was answered another value of the register than it held by those before
 /// it. Returns what it held and what was answered.
 pub(crate) fn find_unlike(register: Ix, text: &[Kind]) -> Option<(u64, u64)>
-    ensures found { IfSome result (λ pair. (pair.0 ≢ pair.1)
-        × IsTrue (reads_unlike register.number pair.0 pair.1 None (operations text.now))) }
-    ensures none { IfNone result ((held read : ℕ)
-        → IsTrue (reads_unlike register.number held read None (operations text.now)) → held ≡ read) }
+    ensures { result ≡ first_unlike register.number None (operations text.now) }
 {
     let mut known = None;
     let mut rest = text;

@@ -2,7 +2,9 @@
 #![tactic(auto)]
 
 mod candidates;
+mod close;
 mod deeds;
+mod ends;
 mod find;
 mod follows;
 mod kept_part;
