@@ -1,4 +1,6 @@
 mod Adding
+mod Closing
+mod Covering
 mod Fewer
 mod Growing
 mod Marking
