@@ -1,5 +1,5 @@
 -- What the steps of a reason say of a serial order, and the law that they hold in each.
-use Rattle.std.specs.Prelude.{◌≡◌, ◌<◌, ◌≤◌, ◌==◌, ◌&&◌, ℕ, suc, Bool, true, not, List, [], ◌∷◌, length, slice_get, Option, Some, None, All, IsTrue}
+use Rattle.std.specs.Prelude.{◌≡◌, ◌<◌, ◌≤◌, ◌==◌, ◌&&◌, ℕ, suc, Bool, true, not, List, [], ◌∷◌, length, remove, slice_get, Option, Some, None, All, IsTrue}
 use Rattle.std.specs.List.{Contains, list_all}
 use Rattle.tmw_defs.specs.declared.criterion.Criterion.{Criterion}
 use Rattle.tmw_defs.specs.Criteria.{ExplainsBy}
@@ -53,6 +53,16 @@ HoldsIn ts order (From s) = (j : ℕ) × StandsAt ts order s.reader j × ComesFr
 HoldsIn ts order (ReadFirst s w) = StandsBefore ts order s.reader w
 HoldsIn ts order (ChangedFirst w s) = StandsBeforeWriter ts order w s.writer
 HoldsIn ts order (Through one between other) = StandsBefore ts order one other
+
+-- The steps are a reason: each follows from those before it, and together they contradict each other so.
+pub record IsReason (criterion : Criterion) (states : List State) (ts : List Txn) (steps : List Step) (end : Contradiction) : Type 0 where
+  pub derives : Derives criterion states ts steps
+  pub ends : IsTrue (contradicts criterion states ts steps end)
+
+-- None of the steps can be left out.
+abbrev pub IsNeededEach : Criterion → List State → List Txn → List Step → Contradiction → Type 0
+IsNeededEach criterion states ts steps end =
+    (i : ℕ) → i < length steps → IsReason criterion states ts (remove steps i) end → ⊥
 
 -- No two of the transactions begin at the same place of the history.
 abbrev pub begin_apart : List Txn → Bool

@@ -13,6 +13,7 @@ mod left;
 mod marks;
 mod part;
 mod piece;
+mod prune;
 mod reason;
 mod sources;
 mod step;
