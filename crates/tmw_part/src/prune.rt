@@ -65,3 +65,52 @@ fn leave_out(
     }
     Ok(false)
 }
+
+/// Leaves out each step that the rest does without, from the last to the first. Returns whether one was left out.
+fn leave_out_each(
+    criterion: Criterion,
+    alloc: Global,
+    states: &[State],
+    transactions: &[Transaction],
+    steps: &mut Vec<Step>,
+    end: &Contradiction,
+) -> Result<bool, AllocError>
+    ensures reason { IfOk result (λ out. IsReason criterion states.now (txns_of transactions.now) steps.old.items end.now
+        → IsReason criterion states.now (txns_of transactions.now) steps.new.items end.now) }
+    ensures fewer { IfOk result (λ out. IsTrue out → length steps.new.items < length steps.old.items) }
+    ensures needed { IfOk result (λ out. IsFalse out
+        → IsNeededEach criterion states.now (txns_of transactions.now) steps.new.items end.now) }
+{
+    let mut out = false;
+    let mut place = steps.len();
+    while place > 0 {
+        place -= 1;
+        if leave_out(criterion, alloc, states, transactions, steps, end, place)? {
+            out = true;
+        }
+    }
+    Ok(out)
+}
+
+/// Returns of a reason's steps those that are needed: none of them can be left out.
+pub(crate) fn prune(
+    criterion: Criterion,
+    alloc: Global,
+    states: &[State],
+    transactions: &[Transaction],
+    steps: Vec<Step>,
+    end: &Contradiction,
+) -> Result<Vec<Step>, AllocError>
+    requires { IsReason criterion states.now (txns_of transactions.now) steps.items end.now }
+    ensures reason { IfOk result (λ kept.
+        IsReason criterion states.now (txns_of transactions.now) kept.items end.now) }
+    ensures needed { IfOk result (λ kept.
+        IsNeededEach criterion states.now (txns_of transactions.now) kept.items end.now) }
+{
+    let mut kept = steps;
+    let mut more = true;
+    while more {
+        more = leave_out_each(criterion, alloc, states, transactions, &mut kept, end)?;
+    }
+    Ok(kept)
+}
