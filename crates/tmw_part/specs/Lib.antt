@@ -1,5 +1,6 @@
 pub mod Candidates
 pub mod Finding
+pub mod Found
 pub mod Kept
 pub mod Pieces
 pub mod Reasons
