@@ -27,7 +27,7 @@ or-mono a b c d one two is =
 and-mono : (a b c d : Bool) → (IsTrue a → IsTrue c) → (IsTrue b → IsTrue d) → IsTrue (a && b) → IsTrue (c && d)
 and-mono a b c d one two is = let (here, there) = and_parts a b is in and_from c d (one here) (two there)
 
-any-mono : {A : Type 0} (p q : A → Bool) (xs : List A) → ((x : A) → IsTrue (p x) → IsTrue (q x)) → IsTrue (list_any p xs) → IsTrue (list_any q xs)
+pub any-mono : {A : Type 0} (p q : A → Bool) (xs : List A) → ((x : A) → IsTrue (p x) → IsTrue (q x)) → IsTrue (list_any p xs) → IsTrue (list_any q xs)
 any-mono p q [] to any = absurd (cc)
 any-mono p q (x ∷ xs) to any = or-mono (p x) _ (q x) _ (to x) (any-mono p q xs to) any
 

@@ -1,5 +1,6 @@
 mod Adding
 mod Closing
+mod Complete
 mod Covering
 mod Fewer
 mod Growing

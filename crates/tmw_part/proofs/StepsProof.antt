@@ -35,12 +35,12 @@ record Case (criterion : Criterion) (states : List State) (ts : List Txn) (s : S
   known : AllByRecursion (HoldsIn ts order) steps
 
 -- one that passes the test, of those of which each has P
-record Found {A : Type 0} (P : A → Type 0) (test : A → Bool) : Type 0 where
-  one : A
-  has : P one
-  passes : IsTrue (test one)
+pub record Found {A : Type 0} (P : A → Type 0) (test : A → Bool) : Type 0 where
+  pub one : A
+  pub has : P one
+  pub passes : IsTrue (test one)
 
-find_any : {A : Type 0} (P : A → Type 0) (test : A → Bool) (xs : List A) → AllByRecursion P xs → IsTrue (list_any test xs) → Found P test
+pub find_any : {A : Type 0} (P : A → Type 0) (test : A → Bool) (xs : List A) → AllByRecursion P xs → IsTrue (list_any test xs) → Found P test
 find_any P test [] all any = absurd (cc)
 find_any P test (x ∷ xs) all any =
     elim (or_cases (test x) _ any) [
@@ -66,7 +66,7 @@ each_place test from (suc n) (suc a) all low =
     let same : from + 1 + a ≡ from + suc a = omega arith in
     rw (← same) (each_place test (from + 1) n a (and_parts (test from) _ all).1 (omega (arith, low)))
 
-some_of : (v : ℕ) (o : Option ℕ) → IsTrue (is_some_of v o) → o ≡ Some v
+pub some_of : (v : ℕ) (o : Option ℕ) → IsTrue (is_some_of v o) → o ≡ Some v
 some_of v None is = absurd (cc)
 some_of v (Some w) is = ap (λ x. Some x) (eqb-true w v is)
 
@@ -132,7 +132,7 @@ abbrev IsWithin : List Txn → Option ℕ → Type 0
 IsWithin ts None = Unit {0}
 IsWithin ts (Some a) = a < length ts
 
-same_writer : (v w : Option ℕ) → IsTrue (is_same_writer v w) → v ≡ w
+pub same_writer : (v w : Option ℕ) → IsTrue (is_same_writer v w) → v ≡ w
 same_writer None None is = refl
 same_writer None (Some b) is = absurd (cc)
 same_writer (Some a) None is = absurd (cc)
@@ -451,18 +451,18 @@ module _ (criterion : Criterion) (states : List State) (ts : List Txn) (start : 
       (length-state_at start order i ∙ c.long) tt (reads_at start order i at.placed c.serial.legal at.there) (rw same at unlike) in
       let e = sym (not-true (held == read) differ) ∙ eq-eqb held read alike in absurd (cc)
 
-none_all : {A : Type 0} (P : A → Type 0) (xs : List A) → AllByRecursion P (take 0 xs)
+pub none_all : {A : Type 0} (P : A → Type 0) (xs : List A) → AllByRecursion P (take 0 xs)
 none_all P [] = tt
 none_all P (x ∷ xs) = tt
 
 -- one more of the first so many
-all-more : {A : Type 0} (P : A → Type 0) (xs : List A) (n : ℕ) (x : A) → slice_get xs n ≡ Some x → P x → AllByRecursion P (take n xs)
+pub all-more : {A : Type 0} (P : A → Type 0) (xs : List A) (n : ℕ) (x : A) → slice_get xs n ≡ Some x → P x → AllByRecursion P (take n xs)
     → AllByRecursion P (take (suc n) xs)
 all-more P [] n x at holds all = absurd (cc)
 all-more P (y ∷ ys) zero x at holds all = let same : y ≡ x = cc in (rw same holds, none_all P ys)
 all-more P (y ∷ ys) (suc n) x at holds all = (all.0, all-more P ys n x at holds all.1)
 
-get_some : {A : Type 0} (xs : List A) (n : ℕ) → n < length xs → (x : A) × (slice_get xs n ≡ Some x)
+pub get_some : {A : Type 0} (xs : List A) (n : ℕ) → n < length xs → (x : A) × (slice_get xs n ≡ Some x)
 get_some [] n low = absurd (omega (arith, low))
 get_some (x ∷ xs) zero low = (x, refl)
 get_some (x ∷ xs) (suc n) low = get_some xs n (omega (arith, low))
