@@ -8,7 +8,7 @@ use crate::candidates::candidates;
 use crate::close::close;
 use crate::ends::{ends, find_end};
 use crate::prune::prune;
-use crate::sources::{registers, sources};
+use crate::sources::{places, registers, sources};
 use crate::step::{Contradiction, Step};
 use crate::transaction::{Transaction, transactions};
 use std::alloc::{AllocError, Global};
@@ -52,7 +52,7 @@ fn find_steps(
         (HasNoReason criterion states.now (txns_of transactions.now))
         (λ pair. IsLeastReason criterion states.now (txns_of transactions.now) pair.0.items pair.1)) }
 {
-    let places = Vec::from_iter(alloc, 0..transactions.len())?;
+    let places = places(alloc, transactions.len())?;
     let registers = registers(alloc)?;
     let sources = sources(alloc, transactions, &registers, &places)?;
     let ends = ends(alloc, transactions, &registers, &places, &sources)?;

@@ -1,5 +1,5 @@
 ghost use Rattle.std.specs.Prelude.{◌≡◌, ◌++◌, IfOk, OnOk};
-ghost use Rattle.std.specs.List.{Contains};
+ghost use Rattle.std.specs.List.{Contains, range_with_len};
 ghost use Rattle.tmw_events.specs.declared.ix.Ix.{Ix};
 ghost use Rattle.tmw_part.specs.Candidates.{sources, sources_at, sources_like, sources_of};
 ghost use Rattle.tmw_part.specs.Shown.{txns_of};
@@ -10,6 +10,17 @@ use crate::step::Source;
 use crate::transaction::Transaction;
 use std::alloc::{AllocError, Global};
 use tmw_events::Ix;
+
+/// Returns the places of so many transactions.
+pub(crate) fn places(alloc: Global, count: usize) -> Result<Vec<usize>, AllocError>
+    ensures { IfOk result (λ all. all.items ≡ range_with_len 0 count) }
+{
+    let mut all = Vec::new(alloc);
+    for place in 0..count {
+        all.push(place)?;
+    }
+    Ok(all)
+}
 
 /// Returns the eight registers.
 pub(crate) fn registers(alloc: Global) -> Result<Vec<Ix>, AllocError>
