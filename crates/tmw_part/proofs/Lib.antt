@@ -1,7 +1,12 @@
 mod Adding
+mod Closing
+mod Complete
+mod Covering
 mod Fewer
 mod Growing
 mod Marking
+mod OrderFacts
+mod OrderValues
 mod Parts
 mod TestProof
 mod Violation

@@ -1,6 +1,10 @@
+pub mod Candidates
 pub mod Finding
+pub mod Found
 pub mod Kept
 pub mod Pieces
+pub mod Reasons
 pub mod Shown
+pub mod Steps
 pub mod Taking
 pub mod Test

@@ -1,12 +1,22 @@
 //! Of a violated window, a part that is violated by itself, and from which no transaction and no call can be taken out on its own.
 #![tactic(auto)]
 
+mod candidates;
+mod close;
+mod deeds;
+mod ends;
 mod find;
+mod follows;
 mod kept_part;
+mod known;
 mod left;
 mod marks;
 mod part;
 mod piece;
+mod prune;
+mod reason;
+mod sources;
+mod step;
 mod transaction;
 mod violated;
 

@@ -1,0 +1,487 @@
+-- Where no candidate is new and no contradiction that is tried is met, there is no reason: each step that follows is a candidate.
+use Rattle.std.proofs.Common.{◌≡◌, ◌≢◌, ◌==◌, ◌&&◌, ◌||◌, ◌+◌, ◌<◌, ◌≤◌, ◌⊎◌, ℕ, zero, suc, Bool, true, false, not, cond, List, [], ◌∷◌, ◌++◌, length, map, Option, Some, None, IsTrue, refl, sym, ap, ◌∙◌, inl, inr, subst, arith}
+use Rattle.std.specs.Prelude.{slice_get, slice_index_or, take, find, nat_lt, if◌then◌else◌}
+use Rattle.std.specs.List.{Contains, flat_map, list_any, range_with_len, AllByRecursion}
+use Rattle.std.proofs.lemmas.Bool.{and_parts, and_from, or_cases, or_left, or_right, cases_Bool, cases_lt, eqb-true, eqb-false, eq-eqb, ne_eqb, not-true, not_from_false, ltb-true}
+use Rattle.std.proofs.lemmas.List.{take_all}
+use Rattle.std.proofs.lemmas.List.Folds.{list_any-append}
+use Rattle.tmw_events.specs.declared.ix.Ix.{Ix}
+use Rattle.tmw_events.proofs.Same.{same_ix}
+use Rattle.tmw_defs.specs.declared.criterion.Criterion.{Criterion}
+use Rattle.tmw_defs.specs.declared.op.Op.{Op}
+use Rattle.tmw_defs.specs.declared.op.Op.TheVariants.{Read, Write, Add}
+use Rattle.tmw_defs.specs.History.{Txn, is_ended, status_of, operations}
+use Rattle.tmw_defs.specs.Opaque.{State, precedes, may_hold}
+use Rattle.tmw_defs.specs.Part.{is_answered}
+use Rattle.tmw_cuts.specs.Written.{writes, left_by}
+use Rattle.tmw_part.specs.declared.step.Source.{Source}
+use Rattle.tmw_part.specs.declared.step.Step.{Step}
+use Rattle.tmw_part.specs.declared.step.Step.TheVariants.{RealTime, From, ReadFirst, ChangedFirst, Through}
+use Rattle.tmw_part.specs.declared.step.Contradiction.{Contradiction}
+use Rattle.tmw_part.specs.declared.step.Contradiction.TheVariants.{Cycle, NoSource, Unlike}
+use Rattle.tmw_part.specs.Test.{nothing}
+use Rattle.tmw_part.specs.Steps.{txn_at, ops_at, needed_of, known_after, is_some_of, is_same_writer, is_same_source, reads_unlike, orders, gives, supplies, is_before, has_place, may_leave, may_come_from, is_only, is_rival, is_held, from_else, is_asked, is_known_rival, comes_from_none, follows, contradicts, tells, Derives}
+use Rattle.tmw_part.specs.Candidates.{real_times, firsts_with, firsts, throughs_between, throughs, candidates, IsWithin, MayBe, sources_like, sources_of, sources_at, sources, is_new, answer_of, unlike_or, first_unlike, unlike_of, unlikes_at, without_source, ends}
+use Rattle.tmw_part.specs.Reasons.{IsReason}
+use Rattle.tmw_part.specs.Found.{HasNoReason}
+use Rattle.tmw_part.proofs.Covering.{Covers, any-mono, follows-mono, contradicts-mono}
+use Rattle.tmw_part.proofs.StepsProof.{Found, find_any, some_of, same_writer, none_all, all-more, get_some}
+
+-- x is a member
+abbrev In : {A : Type 0} → A → List A → Type 0
+In x [] = ⊥
+In x (y ∷ ys) = (y ≡ x) ⊎ In x ys
+
+in-left : {A : Type 0} (x : A) (xs ys : List A) → In x xs → In x (xs ++ ys)
+in-left x [] ys is = absurd is
+in-left x (y ∷ xs) ys is =
+    elim is [
+      | inl here ↦ inl here
+      | inr there ↦ inr (in-left x xs ys there)
+    ]
+
+in-right : {A : Type 0} (x : A) (xs ys : List A) → In x ys → In x (xs ++ ys)
+in-right x [] ys is = is
+in-right x (y ∷ xs) ys is = inr (in-right x xs ys is)
+
+in-map : {A B : Type 0} (f : A → B) (x : A) (xs : List A) → In x xs → In (f x) (map f xs)
+in-map f x [] is = absurd is
+in-map f x (y ∷ xs) is =
+    elim is [
+      | inl here ↦ inl (ap f here)
+      | inr there ↦ inr (in-map f x xs there)
+    ]
+
+in-flat_map : {A B : Type 0} (f : A → List B) (x : A) (y : B) (xs : List A) → In x xs → In y (f x) → In y (flat_map f xs)
+in-flat_map f x y [] is there = absurd is
+in-flat_map f x y (z ∷ xs) is there =
+    elim is [
+      | inl here ↦ in-left y (f z) (flat_map f xs) (rw here there)
+      | inr later ↦ in-right y (f z) (flat_map f xs) (in-flat_map f x y xs later there)
+    ]
+
+in-range : (from n a : ℕ) → a < n → In (from + a) (range_with_len from n)
+in-range from zero a low = absurd (omega (arith, low))
+in-range from (suc n) zero low = inl (omega arith)
+in-range from (suc n) (suc a) low =
+    let same : from + 1 + a ≡ from + suc a = omega arith in
+    inr (subst (λ (b : ℕ). In b (range_with_len (from + 1) n)) same (in-range (from + 1) n a (omega (arith, low))))
+
+in-places : (ts : List Txn) (a : ℕ) → a < length ts → In a (range_with_len 0 (length ts))
+in-places ts a low = let same : 0 + a ≡ a = omega arith in rw same at (in-range 0 (length ts) a low)
+
+in_from_contains : {A : Type 0} (xs : List A) (x : A) → Contains xs x → In x xs
+in_from_contains [] x (k, low, is) = absurd (omega (arith, low))
+in_from_contains (y ∷ ys) x (zero, low, is) = inl is
+in_from_contains (y ∷ ys) x (suc k, low, is) = inr (in_from_contains ys x (k, omega (arith, low), is))
+
+-- where nothing is found, no member passes
+none_passes : {A : Type 0} (p : A → Bool) (xs : List A) (x : A) → find p xs ≡ None → In x xs → p x ≡ false
+none_passes p [] x none is = absurd is
+none_passes p (y ∷ ys) x none is =
+    elim (cases_Bool (p y)) [
+      | inl passes ↦ absurd (let e = rw passes at none in cc)
+      | inr fails ↦ elim is [
+        | inl here ↦ rw (← here) fails
+        | inr there ↦ none_passes p ys x (rw fails at none) there
+        ]
+    ]
+
+-- what does something has a place
+txn_at-past : (ts : List Txn) (a : ℕ) → length ts ≤ a → txn_at ts a ≡ nothing
+txn_at-past [] a high = refl
+txn_at-past (x ∷ ts) zero high = absurd (omega (arith, high))
+txn_at-past (x ∷ ts) (suc a) high = txn_at-past ts a (omega (arith, high))
+
+within-unless : (ts : List Txn) (a : ℕ) → (txn_at ts a ≡ nothing → ⊥) → a < length ts
+within-unless ts a some =
+    elim (cases_lt a (length ts)) [
+      | inl low ↦ low
+      | inr high ↦ absurd (some (txn_at-past ts a high))
+    ]
+
+needs_within : (ts : List Txn) (r v a : ℕ) → needed_of r (ops_at ts a) ≡ Some v → a < length ts
+needs_within ts r v a needs = within-unless ts a (λ none. let e = rw none at needs in absurd (cc))
+
+writes_within : (ts : List Txn) (r a : ℕ) → IsTrue (writes r (ops_at ts a)) → a < length ts
+writes_within ts r a w = within-unless ts a (λ none. let e = rw none at w in absurd (cc))
+
+may_hold_within : (ts : List Txn) (a : ℕ) → IsTrue (may_hold (status_of (txn_at ts a).text) true) → a < length ts
+may_hold_within ts a may = within-unless ts a (λ none. let e = rw none at may in absurd (cc))
+
+unlike_within : (ts : List Txn) (r held read a : ℕ) → IsTrue (reads_unlike r held read None (ops_at ts a)) → a < length ts
+unlike_within ts r held read a unlike = within-unless ts a (λ none. let e = rw none at unlike in absurd (cc))
+
+precedes_within : (ts : List Txn) (a b : ℕ) → IsTrue (precedes (txn_at ts a) (txn_at ts b)) → (a < length ts) × (b < length ts)
+precedes_within ts a b is = (
+  within-unless ts a (λ none. let e = rw none at is in absurd (cc)),
+  within-unless ts b (λ none.
+  let late = (and_parts (is_ended (txn_at ts a).text) _ is).1 in
+  let low = ltb-true (txn_at ts a).last (txn_at ts b).first late in
+  let zero_at : (txn_at ts b).first ≡ 0 = ap (λ (t : Txn). t.first) none in
+  omega (arith, low, zero_at)),
+)
+
+-- the step's transactions are among these
+abbrev InRange : List Txn → Step → Type 0
+InRange ts (RealTime a b) = (a < length ts) × (b < length ts)
+InRange ts (From s) = MayBe ts s
+InRange ts (ReadFirst s w) = MayBe ts s × (w < length ts)
+InRange ts (ChangedFirst w s) = MayBe ts s × (w < length ts)
+InRange ts (Through a c b) = (a < length ts) × (c < length ts) × (b < length ts)
+
+same_source : (s t : Source) → IsTrue (is_same_source s t) → s ≡ t
+same_source s t is =
+    let (reader, rest) = and_parts (s.reader == t.reader) _ is in
+    let (register, more) = and_parts (s.register.number == t.register.number) _ rest in
+    let (value, writer) = and_parts (s.value == t.value) _ more in
+    let a = eqb-true s.reader t.reader reader in
+    let b = same_ix s.register t.register (eqb-true s.register.number t.register.number register) in
+    let c = eqb-true s.value t.value value in
+    let d = same_writer s.writer t.writer writer in
+    let made : ℕ → Ix → ℕ → Option ℕ → Source = λ x y z w. record { reader = x; register = y; value = z; writer = w } in
+    ap (λ x. made x s.register s.value s.writer) a ∙ ap (λ x. made t.reader x s.value s.writer) b ∙ ap (λ x. made t.reader t.register x s.writer) c
+    ∙ ap (λ x. made t.reader t.register t.value x) d
+
+module _ (criterion : Criterion) (states : List State) (ts : List Txn) where
+  -- a source that is asked for and may be is one of these
+  may_be : (steps : List Step) (s : Source) → IsTrue (is_asked criterion ts steps s) → IsTrue (may_leave states ts s) → MayBe ts s
+  may_be steps s asked may = record {
+    needed = some_of s.value _ (and_parts (has_place criterion ts steps s.reader) _ asked).1;
+    within = writer_within s.writer may;
+  }
+    where
+      writer_within : (w : Option ℕ) → IsTrue (may_come_from states ts s w) → IsWithin (length ts) w
+      writer_within None may = tt
+      writer_within (Some a) may =
+          let rest = (and_parts (not (a == s.reader)) _ may).1 in
+          may_hold_within ts a (and_parts (may_hold (status_of (txn_at ts a).text) true) _ rest).0
+
+  -- of steps that are in range, each that orders has both in range
+  ordered : (a b : ℕ) (step : Step) → InRange ts step → IsTrue (orders a b step) → (a < length ts) × (b < length ts)
+  ordered a b (RealTime one other) has is = both one other has is
+    where
+      both : (x y : ℕ) → (x < length ts) × (y < length ts) → IsTrue ((x == a) && (y == b)) → (a < length ts) × (b < length ts)
+      both x y (low, high) is = let (one, two) = and_parts (x == a) _ is in (rw (← eqb-true x a one) low, rw (← eqb-true y b two) high)
+  ordered a b (From s) has is =
+      let (writer, reader) = and_parts (is_some_of a s.writer) _ is in
+      let within : IsWithin (length ts) (Some a) = rw (some_of a s.writer writer) at has.within in
+      (within, rw (← eqb-true s.reader b reader) (needs_within ts s.register.number s.value s.reader has.needed))
+  ordered a b (ReadFirst s w) has is =
+      let (reader, writer) = and_parts (s.reader == a) _ is in
+      (rw (← eqb-true s.reader a reader) (needs_within ts s.register.number s.value s.reader has.0.needed), rw (← eqb-true w b writer) has.1)
+  ordered a b (ChangedFirst w s) has is =
+      let (one, writer) = and_parts (w == a) _ is in
+      let within : IsWithin (length ts) (Some b) = rw (some_of b s.writer writer) at has.0.within in
+      (rw (← eqb-true w a one) has.1, within)
+  ordered a b (Through one between other) has is =
+      let (first, last) = and_parts (one == a) _ is in (rw (← eqb-true one a first) has.0, rw (← eqb-true other b last) has.2)
+
+  before_within : (steps : List Step) → AllByRecursion (InRange ts) steps → (a b : ℕ) → IsTrue (is_before steps a b)
+      → (a < length ts) × (b < length ts)
+  before_within steps all a b is =
+      let found = find_any (InRange ts) (orders a b) steps all is in ordered a b found.one found.has found.passes
+
+  given_within : (steps : List Step) → AllByRecursion (InRange ts) steps → (s : Source) → IsTrue (list_any (gives s) steps) → MayBe ts s
+  given_within steps all s is =
+      let found = find_any (InRange ts) (gives s) steps all is in go found.one found.has found.passes
+    where
+      go : (step : Step) → InRange ts step → IsTrue (gives s step) → MayBe ts s
+      go (RealTime one other) has is = absurd (cc)
+      go (From t) has is = rw (same_source s t is) has
+      go (ReadFirst t w) has is = absurd (cc)
+      go (ChangedFirst w t) has is = absurd (cc)
+      go (Through one between other) has is = absurd (cc)
+
+  known_within : (steps : List Step) → AllByRecursion (InRange ts) steps → (s : Source) (w : ℕ) → IsTrue (is_known_rival ts steps s w)
+      → MayBe ts s × (w < length ts)
+  known_within steps all s w is =
+      let (given, rival) = and_parts (list_any (gives s) steps) _ is in
+      let rest = (and_parts (not (w == s.reader)) _ rival).1 in
+      let both = (and_parts (not (is_some_of w s.writer)) _ rest).1 in
+      (given_within steps all s given, writes_within ts s.register.number w (and_parts (is_held ts steps w) _ both).1)
+
+  -- so each step that follows from such is in range too
+  follows_within : (steps : List Step) → AllByRecursion (InRange ts) steps → (step : Step) → IsTrue (follows criterion states ts steps step)
+      → InRange ts step
+  follows_within steps all (RealTime one other) is = precedes_within ts one other (and_parts (not (one == other)) _ is).1
+  follows_within steps all (From s) is =
+      let (asked, rest) = and_parts (is_asked criterion ts steps s) _ is in
+      may_be steps s asked (and_parts (may_leave states ts s) _ rest).0
+  follows_within steps all (ReadFirst s w) is = known_within steps all s w (and_parts (is_known_rival ts steps s w) _ is).0
+  follows_within steps all (ChangedFirst w s) is = known_within steps all s w (and_parts (is_known_rival ts steps s w) _ is).0
+  follows_within steps all (Through one between other) is =
+      let rest = (and_parts (has_place criterion ts steps between) _ is).1 in
+      let (first, last) = and_parts (is_before steps one between) _ rest in
+      let (a, c) = before_within steps all one between first in
+      (a, c, (before_within steps all between other last).1)
+
+  first_within : (steps : List Step) → Derives criterion states ts steps → (n : ℕ) → n ≤ length steps → AllByRecursion (InRange ts) (take n steps)
+  first_within steps derives zero low = none_all (InRange ts) steps
+  first_within steps derives (suc n) low =
+      let before = first_within steps derives n (omega (arith, low)) in
+      let (step, at) = get_some steps n (omega (arith, low)) in
+      all-more (InRange ts) steps n step at (follows_within (take n steps) before step (derives n step at)) before
+
+  all_within : (steps : List Step) → Derives criterion states ts steps → AllByRecursion (InRange ts) steps
+  all_within steps derives =
+      subst (AllByRecursion (InRange ts)) (take_all (length steps) steps (omega arith)) (first_within steps derives (length steps) (omega arith))
+
+-- a source that may be is tried, and so is a step in range
+module _ (ts : List Txn) (registers : List Ix) (each : (register : Ix) → Contains registers register) where
+  in-like : (s : Source) (w : Option ℕ) → s.writer ≡ w → IsWithin (length ts) w
+      → In s (sources_like (range_with_len 0 (length ts)) (record { reader = s.reader; register = s.register; value = s.value; writer = None }))
+  in-like s None is within =
+      let made : Option ℕ → Source = λ v. record { reader = s.reader; register = s.register; value = s.value; writer = v } in
+      inl (ap made (sym is))
+  in-like s (Some a) is within =
+      let made : Option ℕ → Source = λ v. record { reader = s.reader; register = s.register; value = s.value; writer = v } in
+      inr (subst (λ (t : Source). In t (map (λ b. made (Some b)) (range_with_len 0 (length ts)))) (ap made (sym is))
+      (in-map (λ b. made (Some b)) a (range_with_len 0 (length ts)) (in-places ts a within)))
+
+  in-sources : (s : Source) → MayBe ts s → In s (sources ts registers (range_with_len 0 (length ts)))
+  in-sources s may =
+      let places = range_with_len 0 (length ts) in
+      let low = needs_within ts s.register.number s.value s.reader may.needed in
+      in-flat_map (sources_at ts registers places) s.reader s places (in-places ts s.reader low)
+      (in-flat_map (λ register. sources_of places s.reader register (needed_of register.number (ops_at ts s.reader))) s.register s registers
+      (in_from_contains registers s.register (each s.register)) (rw may.needed (in-like s s.writer refl may.within)))
+
+  in-candidates : (step : Step) → InRange ts step
+      → In step (candidates (sources ts registers (range_with_len 0 (length ts))) (range_with_len 0 (length ts)))
+  in-candidates (RealTime one other) (a, b) =
+      let places = range_with_len 0 (length ts) in
+      in-left _ _ _ (in-left _ _ _ (in-left _ _ _ (in-flat_map (real_times places) one (RealTime one other) places (in-places ts one a)
+      (in-map (RealTime one) other places (in-places ts other b)))))
+  in-candidates (From s) may =
+      let places = range_with_len 0 (length ts) in
+      in-left _ _ _ (in-left _ _ _ (in-right (From s) (flat_map (real_times places) places) (map From (sources ts registers places))
+      (in-map From s (sources ts registers places) (in-sources s may))))
+  in-candidates (ReadFirst s w) (may, low) =
+      let places = range_with_len 0 (length ts) in
+      in-left _ _ _ (in-right (ReadFirst s w) (flat_map (real_times places) places ++ map From (sources ts registers places)) _
+      (in-flat_map (firsts places) s (ReadFirst s w) (sources ts registers places) (in-sources s may)
+      (in-flat_map (firsts_with s) w (ReadFirst s w) places (in-places ts w low) (inl refl))))
+  in-candidates (ChangedFirst w s) (may, low) =
+      let places = range_with_len 0 (length ts) in
+      in-left _ _ _ (in-right (ChangedFirst w s) (flat_map (real_times places) places ++ map From (sources ts registers places)) _
+      (in-flat_map (firsts places) s (ChangedFirst w s) (sources ts registers places) (in-sources s may)
+      (in-flat_map (firsts_with s) w (ChangedFirst w s) places (in-places ts w low) (inr (inl refl)))))
+  in-candidates (Through one between other) (a, c, b) =
+      let places = range_with_len 0 (length ts) in
+      in-right (Through one between other)
+      ((flat_map (real_times places) places ++ map From (sources ts registers places)) ++ flat_map (firsts places) (sources ts registers places)) _
+      (in-flat_map (throughs places) one (Through one between other) places (in-places ts one a)
+      (in-flat_map (throughs_between places one) between (Through one between other) places (in-places ts between c)
+      (in-map (Through one between) other places (in-places ts other b))))
+
+-- what a step says that is told is known
+given_orders : (steps : List Step) (s : Source) (a b : ℕ) → IsTrue (list_any (gives s) steps) → IsTrue (orders a b (From s)) → IsTrue (is_before steps a b)
+given_orders steps s a b given is = any-mono (gives s) (orders a b) steps same given
+  where
+    same : (step : Step) → IsTrue (gives s step) → IsTrue (orders a b step)
+    same (RealTime one other) g = absurd (cc)
+    same (From t) g = rw (← same_source s t g) is
+    same (ReadFirst t w) g = absurd (cc)
+    same (ChangedFirst w t) g = absurd (cc)
+    same (Through one between other) g = absurd (cc)
+
+given_supplies : (steps : List Step) (s : Source) (a : ℕ) → IsTrue (list_any (gives s) steps) → IsTrue (supplies a (From s))
+    → IsTrue (list_any (supplies a) steps)
+given_supplies steps s a given is = any-mono (gives s) (supplies a) steps same given
+  where
+    same : (step : Step) → IsTrue (gives s step) → IsTrue (supplies a step)
+    same (RealTime one other) g = absurd (cc)
+    same (From t) g = rw (← same_source s t g) is
+    same (ReadFirst t w) g = absurd (cc)
+    same (ChangedFirst w t) g = absurd (cc)
+    same (Through one between other) g = absurd (cc)
+
+told_orders : (steps : List Step) (a b : ℕ) (x : Step) → IsTrue (tells steps x) → IsTrue (orders a b x) → IsTrue (is_before steps a b)
+told_orders steps a b (RealTime one other) told is =
+    let (first, last) = and_parts (one == a) _ is in rw (← eqb-true one a first, ← eqb-true other b last) told
+told_orders steps a b (From s) told is = given_orders steps s a b told is
+told_orders steps a b (ReadFirst s w) told is =
+    let (first, last) = and_parts (s.reader == a) _ is in rw (← eqb-true s.reader a first, ← eqb-true w b last) told
+told_orders steps a b (ChangedFirst w s) told is =
+    let (first, last) = and_parts (w == a) _ is in rw (← eqb-true w a first) (rw (some_of b s.writer last) at told)
+told_orders steps a b (Through one between other) told is =
+    let (first, last) = and_parts (one == a) _ is in rw (← eqb-true one a first, ← eqb-true other b last) told
+
+told_gives : (steps : List Step) (s : Source) (x : Step) → IsTrue (tells steps x) → IsTrue (gives s x) → IsTrue (list_any (gives s) steps)
+told_gives steps s (RealTime one other) told is = absurd (cc)
+told_gives steps s (From t) told is = rw (same_source s t is) told
+told_gives steps s (ReadFirst t w) told is = absurd (cc)
+told_gives steps s (ChangedFirst w t) told is = absurd (cc)
+told_gives steps s (Through one between other) told is = absurd (cc)
+
+told_supplies : (steps : List Step) (a : ℕ) (x : Step) → IsTrue (tells steps x) → IsTrue (supplies a x) → IsTrue (list_any (supplies a) steps)
+told_supplies steps a (RealTime one other) told is = absurd (cc)
+told_supplies steps a (From s) told is = given_supplies steps s a told is
+told_supplies steps a (ReadFirst s w) told is = absurd (cc)
+told_supplies steps a (ChangedFirst w s) told is = absurd (cc)
+told_supplies steps a (Through one between other) told is = absurd (cc)
+
+any_push : (p : Step → Bool) (others : List Step) (x : Step) (P : Type 0) → (IsTrue (list_any p others) → P) → (IsTrue (p x) → P)
+    → IsTrue (list_any p (others ++ x ∷ [])) → P
+any_push p others x P before last is =
+    elim (or_cases (list_any p others) _ (rw list_any-append at is)) [
+      | inl here ↦ before here
+      | inr there ↦ elim (or_cases (p x) false there) [
+        | inl now ↦ last now
+        | inr none ↦ absurd (cc)
+        ]
+    ]
+
+covers-push : (steps others : List Step) (x : Step) → Covers steps others → IsTrue (tells steps x) → Covers steps (others ++ x ∷ [])
+covers-push steps others x c told = record {
+  before = λ a b. any_push (orders a b) others x (IsTrue (is_before steps a b)) (c.before a b) (told_orders steps a b x told);
+  given = λ s. any_push (gives s) others x (IsTrue (list_any (gives s) steps)) (c.given s) (told_gives steps s x told);
+  supplied = λ a. any_push (supplies a) others x (IsTrue (list_any (supplies a) steps)) (c.supplied a) (told_supplies steps a x told);
+}
+
+covers-none : (steps others : List Step) → Covers steps (take 0 others)
+covers-none steps [] = record { before = λ a b is. absurd (cc); given = λ s is. absurd (cc); supplied = λ a is. absurd (cc) }
+covers-none steps (x ∷ others) = record { before = λ a b is. absurd (cc); given = λ s is. absurd (cc); supplied = λ a is. absurd (cc) }
+
+take-push : (xs : List Step) (n : ℕ) (x : Step) → slice_get xs n ≡ Some x → take (suc n) xs ≡ take n xs ++ x ∷ []
+take-push [] n x at = absurd (cc)
+take-push (y ∷ []) zero x at = let same : y ≡ x = cc in ap (λ (z : Step). z ∷ []) same
+take-push (y ∷ (z ∷ ys)) zero x at = let same : y ≡ x = cc in ap (λ (z : Step). z ∷ []) same
+take-push (y ∷ ys) (suc n) x at = ap (λ zs. y ∷ zs) (take-push ys n x at)
+
+-- the first answer that is unlike what is held, where there is one
+answered_is : (r v : ℕ) (op : Op) → is_answered r v op ≡ is_some_of v (answer_of r op)
+answered_is r v (Read q w) =
+    elim (cases_Bool (q.number == r)) [
+      | inl is ↦ rw is refl
+      | inr other ↦ rw other refl
+    ]
+answered_is r v (Write q w) = refl
+answered_is r v (Add q d w) =
+    elim (cases_Bool (q.number == r)) [
+      | inl is ↦ rw is refl
+      | inr other ↦ rw other refl
+    ]
+
+record FirstUnlike (r : ℕ) (known : Option ℕ) (ops : List Op) : Type 0 where
+  held : ℕ
+  read : ℕ
+  is : first_unlike r known ops ≡ Some (held, read)
+  differ : held ≡ read → ⊥
+  unlike : IsTrue (reads_unlike r held read known ops)
+
+first_found : (r held read : ℕ) (known : Option ℕ) (ops : List Op) → (held ≡ read → ⊥) → IsTrue (reads_unlike r held read known ops)
+    → FirstUnlike r known ops
+first_found r held read known [] differ unlike = absurd (cc)
+first_found r held read known (op ∷ ops) differ unlike =
+    go known (answer_of r op) refl (λ later. first_found r held read (known_after r known op) ops differ later) (rw answered_is at unlike)
+  where
+    rest : Option ℕ → Type 0
+    rest before = FirstUnlike r (known_after r before op) ops
+
+    on : (before answer : Option ℕ) → answer_of r op ≡ answer → unlike_or before answer (first_unlike r (known_after r before op) ops)
+        ≡ first_unlike r (known_after r before op) ops → rest before → FirstUnlike r before (op ∷ ops)
+    on before answer is same found = record {
+      held = found.held;
+      read = found.read;
+      is = rw is (same ∙ found.is);
+      differ = found.differ;
+      unlike = or_right (is_some_of found.held before && is_answered r found.read op) _ found.unlike;
+    }
+
+    go : (before answer : Option ℕ) → answer_of r op ≡ answer → (IsTrue (reads_unlike r held read (known_after r before op) ops) → rest before)
+        → IsTrue ((is_some_of held before && is_some_of read (answer_of r op)) || reads_unlike r held read (known_after r before op) ops)
+        → FirstUnlike r before (op ∷ ops)
+    go None answer is find is_so =
+        elim (or_cases (is_some_of held None && is_some_of read (answer_of r op)) _ is_so) [
+          | inl now ↦ absurd (cc)
+          | inr later ↦ on None answer is refl (find later)
+        ]
+    go (Some h) None is find is_so =
+        elim (or_cases (is_some_of held (Some h) && is_some_of read (answer_of r op)) _ is_so) [
+          | inl now ↦ absurd (let answered = rw is at (and_parts (h == held) _ now).1 in cc)
+          | inr later ↦ on (Some h) None is refl (find later)
+        ]
+    go (Some h) (Some e) is find is_so =
+        elim (cases_Bool (h == e)) [
+          | inl same ↦
+              elim (or_cases (is_some_of held (Some h) && is_some_of read (answer_of r op)) _ is_so) [
+                | inl now ↦
+                    let (one, two) = and_parts (h == held) _ now in
+                    let answered : IsTrue (e == read) = rw is at two in
+                    absurd (differ (sym (eqb-true h held one) ∙ eqb-true h e same ∙ eqb-true e read answered))
+                | inr later ↦ on (Some h) (Some e) is (rw same refl) (find later)
+              ]
+          | inr apart ↦
+              let here : IsTrue (is_answered r e op) = rw (answered_is r e op, is) (eq-eqb e e refl) in
+              record {
+                held = h;
+                read = e;
+                is = rw (is, apart) refl;
+                differ = eqb-false h e apart;
+                unlike = or_left (is_some_of h (Some h) && is_answered r e op) _ (and_from (h == h) _ (eq-eqb h h refl) here);
+              }
+        ]
+
+pub no_reason : (criterion : Criterion) (states : List State) (ts : List Txn) (registers : List Ix) (steps : List Step)
+    → ((register : Ix) → Contains registers register) → Derives criterion states ts steps
+    → find (is_new criterion states ts steps) (candidates (sources ts registers (range_with_len 0 (length ts))) (range_with_len 0 (length ts))) ≡ None
+    → find (contradicts criterion states ts steps)
+      (ends ts registers (range_with_len 0 (length ts)) (sources ts registers (range_with_len 0 (length ts)))) ≡ None
+    → HasNoReason criterion states ts
+no_reason criterion states ts registers steps all derives closed none = λ others end reason.
+    let covers = subst (Covers steps) (take_all (length others) others (omega arith)) (upto others reason.derives (length others) (omega arith)) in
+    met end (contradicts-mono criterion states ts steps others covers end reason.ends)
+  where
+    tried : (end : Contradiction) → In end (ends ts registers (range_with_len 0 (length ts)) (sources ts registers (range_with_len 0 (length ts))))
+        → IsTrue (contradicts criterion states ts steps end) → ⊥
+    tried end member is = let e = sym (none_passes (contradicts criterion states ts steps) _ end none member) ∙ is in cc
+
+    met : (end : Contradiction) → IsTrue (contradicts criterion states ts steps end) → ⊥
+    met (Cycle a) is =
+        let places = range_with_len 0 (length ts) in
+        let before = (and_parts (has_place criterion ts steps a) _ is).1 in
+        let low = (before_within criterion states ts steps (all_within criterion states ts steps derives) a a before).0 in
+        tried (Cycle a) (in-left _ _ _ (in-left _ _ _ (in-map Cycle a places (in-places ts a low)))) is
+    met (NoSource b r v) is =
+        let places = range_with_len 0 (length ts) in
+        let s : Source = record { reader = b; register = r; value = v; writer = None } in
+        let needs = (and_parts (has_place criterion ts steps b) _ (and_parts (is_asked criterion ts steps s) _ is).0).1 in
+        let may : MayBe ts s = record { needed = some_of v _ needs; within = tt } in
+        tried (NoSource b r v)
+        (in-right (NoSource b r v) (map Cycle places ++ flat_map (unlikes_at ts registers) places) _
+        (in-map without_source s (sources ts registers places) (in-sources ts registers all s may))) is
+    met (Unlike a r held read) is =
+        let places = range_with_len 0 (length ts) in
+        let (has, rest) = and_parts (has_place criterion ts steps a) _ is in
+        let (differ, unlike) = and_parts (not (held == read)) _ rest in
+        let low = unlike_within ts r.number held read a unlike in
+        let first = first_found r.number held read None (ops_at ts a)
+        (λ same. let e = sym (not-true (held == read) differ) ∙ eq-eqb held read same in absurd (cc)) unlike in
+        let other : Contradiction = Unlike a r first.held first.read in
+        let apart : IsTrue (not (first.held == first.read)) = rw (ne_eqb first.held first.read first.differ) refl in
+        tried other
+        (in-left _ _ _ (in-right other (map Cycle places) _ (in-flat_map (unlikes_at ts registers) a other places (in-places ts a low)
+        (in-flat_map (λ register. unlike_of a register (first_unlike register.number None (ops_at ts a))) r other registers
+        (in_from_contains registers r (all r)) (rw first.is (inl refl))))))
+        (and_from (has_place criterion ts steps a) _ has (and_from (not (first.held == first.read)) _ apart first.unlike))
+
+    told : (step : Step) → IsTrue (follows criterion states ts steps step) → IsTrue (tells steps step)
+    told step new =
+        elim (cases_Bool (tells steps step)) [
+          | inl is ↦ is
+          | inr untold ↦
+              let range = follows_within criterion states ts steps (all_within criterion states ts steps derives) step new in
+              let old = none_passes (is_new criterion states ts steps) _ step closed (in-candidates ts registers all step range) in
+              let is = and_from (not (tells steps step)) _ (not_from_false _ untold) new in
+              let e = sym old ∙ is in absurd (cc)
+        ]
+
+    upto : (others : List Step) → Derives criterion states ts others → (n : ℕ) → n ≤ length others → Covers steps (take n others)
+    upto others derived zero low = covers-none steps others
+    upto others derived (suc n) low =
+        let before = upto others derived n (omega (arith, low)) in
+        let (step, at) = get_some others n (omega (arith, low)) in
+        rw (take-push others n step at) (covers-push steps (take n others) step before
+        (told step (follows-mono criterion states ts steps (take n others) before step (derived n step at))))

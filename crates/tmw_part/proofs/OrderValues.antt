@@ -1,0 +1,281 @@
+-- What the registers hold along a serial order: what the last that is held and changes them left, or what the start has.
+use Rattle.std.proofs.Common.{◌≡◌, ◌==◌, ◌&&◌, ◌||◌, ◌+◌, ◌%◌, ◌^◌, ◌<◌, ◌≤◌, ◌⊎◌, ℕ, zero, suc, Bool, true, false, not, List, [], ◌∷◌, length, Option, Some, None, IsTrue, refl, sym, ap, ◌∙◌, inl, inr, arith}
+use Rattle.std.specs.Prelude.{slice_get, slice_index, slice_set, take, if◌then◌else◌}
+use Rattle.std.proofs.lemmas.Bool.{and_parts, and_from, or_cases, or_parts, cases_Bool, eqb-true, eqb-false}
+use Rattle.std.proofs.lemmas.List.{get_or-set_same, get_or-set_other, length-set}
+use Rattle.tmw_events.specs.declared.ix.Ix.{Ix}
+use Rattle.tmw_defs.specs.declared.op.Op.{Op}
+use Rattle.tmw_defs.specs.declared.op.Op.TheVariants.{Read, Write, Add}
+use Rattle.tmw_defs.specs.History.{operations}
+use Rattle.tmw_defs.specs.Opaque.{State, Placed, reads_hold, after_writes, after, is_legal}
+use Rattle.tmw_defs.specs.Outcomes.{end_state}
+use Rattle.tmw_defs.specs.Part.{is_answered}
+use Rattle.tmw_cuts.specs.Written.{writes, left_by}
+use Rattle.tmw_part.specs.Steps.{needed_of, known_after, is_some_of, reads_unlike}
+use Rattle.tmw_part.specs.Reasons.{Changes, IsUnchanged}
+
+-- a register that is set, and another
+set_here : (s : State) (q : Ix) (r v : ℕ) → length s ≡ 8 → IsTrue (q.number == r) → slice_index (slice_set s q.number v) r ≡ v
+set_here s q r v long is =
+    let same : q.number ≡ r = eqb-true q.number r is in
+    let below : q.number < 8 = q.below in
+    rw (← same) (get_or-set_same s q.number v 0 (omega (arith, below, long)))
+
+set_else : (s : State) (q : Ix) (r v : ℕ) → (q.number == r) ≡ false → slice_index (slice_set s q.number v) r ≡ slice_index s r
+set_else s q r v other = get_or-set_other s q.number r v 0 (λ is. eqb-false q.number r other (sym is))
+
+length-after_writes : (s : State) (ops : List Op) → length (after_writes s ops) ≡ length s
+length-after_writes s [] = refl
+length-after_writes s (Read q v ∷ ops) = length-after_writes s ops
+length-after_writes s (Write q v ∷ ops) = length-after_writes (slice_set s q.number v) ops ∙ length-set s q.number v
+length-after_writes s (Add q d v ∷ ops) =
+    length-after_writes (slice_set s q.number ((v + d) % 2 ^ 64)) ops ∙ length-set s q.number ((v + d) % 2 ^ 64)
+
+length-after : (s : State) (p : Placed) → length (after s p) ≡ length s
+length-after s p =
+    elim (cases_Bool p.held) [
+      | inl is ↦ rw is (length-after_writes s (operations p.txn.text))
+      | inr is ↦ rw is refl
+    ]
+
+-- what a write leaves in a register is what it holds then
+known-set : (s : State) (q : Ix) (r v : ℕ) (known : Option ℕ) → length s ≡ 8 → known ≡ Some (slice_index s r)
+    → (if q.number == r then Some v else known) ≡ Some (slice_index (slice_set s q.number v) r)
+known-set s q r v known long is =
+    elim (cases_Bool (q.number == r)) [
+      | inl here ↦ rw here (ap (λ x. Some x) (sym (set_here s q r v long here)))
+      | inr other ↦ rw other (is ∙ ap (λ x. Some x) (sym (set_else s q r v other)))
+    ]
+
+left-known : (s : State) (r : ℕ) (ops : List Op) (known : Option ℕ) → length s ≡ 8 → known ≡ Some (slice_index s r)
+    → left_by r known ops ≡ Some (slice_index (after_writes s ops) r)
+left-known s r [] known long is = is
+left-known s r (Read q v ∷ ops) known long is = left-known s r ops known long is
+left-known s r (Write q v ∷ ops) known long is =
+    left-known (slice_set s q.number v) r ops _ (length-set s q.number v ∙ long) (known-set s q r v known long is)
+left-known s r (Add q d v ∷ ops) known long is =
+    let sum = (v + d) % 2 ^ 64 in
+    left-known (slice_set s q.number sum) r ops _ (length-set s q.number sum ∙ long) (known-set s q r sum known long is)
+
+-- operations that write a register leave there what it holds after them
+left-written : (s : State) (r : ℕ) (ops : List Op) (before : Option ℕ) → length s ≡ 8 → IsTrue (writes r ops)
+    → left_by r before ops ≡ Some (slice_index (after_writes s ops) r)
+left-written s r [] before long w = absurd (cc)
+left-written s r (Read q v ∷ ops) before long w = left-written s r ops before long w
+left-written s r (Write q v ∷ ops) before long w =
+    elim (cases_Bool (q.number == r)) [
+      | inl here ↦
+          let held : Some v ≡ Some (slice_index (slice_set s q.number v) r) = ap (λ x. Some x) (sym (set_here s q r v long here)) in
+          rw here (left-known (slice_set s q.number v) r ops (Some v) (length-set s q.number v ∙ long) held)
+      | inr other ↦
+          rw other (left-written (slice_set s q.number v) r ops before (length-set s q.number v ∙ long) (rw other at w))
+    ]
+left-written s r (Add q d v ∷ ops) before long w =
+    let sum = (v + d) % 2 ^ 64 in
+    elim (cases_Bool (q.number == r)) [
+      | inl here ↦
+          let held : Some sum ≡ Some (slice_index (slice_set s q.number sum) r) = ap (λ x. Some x) (sym (set_here s q r sum long here)) in
+          rw here (left-known (slice_set s q.number sum) r ops (Some sum) (length-set s q.number sum ∙ long) held)
+      | inr other ↦
+          rw other (left-written (slice_set s q.number sum) r ops before (length-set s q.number sum ∙ long) (rw other at w))
+    ]
+
+-- and those that don't leave it as it was
+unwritten : (s : State) (r : ℕ) (ops : List Op) → writes r ops ≡ false → slice_index (after_writes s ops) r ≡ slice_index s r
+unwritten s r [] not_so = refl
+unwritten s r (Read q v ∷ ops) not_so = unwritten s r ops not_so
+unwritten s r (Write q v ∷ ops) not_so =
+    let (other, more) = or_parts (q.number == r) _ not_so in unwritten (slice_set s q.number v) r ops more ∙ set_else s q r v other
+unwritten s r (Add q d v ∷ ops) not_so =
+    let (other, more) = or_parts (q.number == r) _ not_so in
+    unwritten (slice_set s q.number ((v + d) % 2 ^ 64)) r ops more ∙ set_else s q r ((v + d) % 2 ^ 64) other
+
+-- what operations need is what the register holds before them
+pub needed_holds : (s : State) (r v : ℕ) (ops : List Op) → IsTrue (reads_hold s ops) → IsTrue (is_some_of v (needed_of r ops))
+    → slice_index s r ≡ v
+needed_holds s r v [] reads needs = absurd (cc)
+needed_holds s r v (Read q w ∷ ops) reads needs =
+    let (here, rest) = and_parts (slice_index s q.number == w) _ reads in
+    elim (cases_Bool (q.number == r)) [
+      | inl is ↦
+          let same : q.number ≡ r = eqb-true q.number r is in
+          ap (slice_index s) (sym same) ∙ eqb-true (slice_index s q.number) w here ∙ eqb-true w v (rw is at needs)
+      | inr other ↦ needed_holds s r v ops rest (rw other at needs)
+    ]
+needed_holds s r v (Write q w ∷ ops) reads needs =
+    elim (cases_Bool (q.number == r)) [
+      | inl is ↦ absurd (let not_so = rw is at needs in cc)
+      | inr other ↦ sym (set_else s q r w other) ∙ needed_holds (slice_set s q.number w) r v ops reads (rw other at needs)
+    ]
+needed_holds s r v (Add q d w ∷ ops) reads needs =
+    let (here, rest) = and_parts (slice_index s q.number == w) _ reads in
+    let sum = (w + d) % 2 ^ 64 in
+    elim (cases_Bool (q.number == r)) [
+      | inl is ↦
+          let same : q.number ≡ r = eqb-true q.number r is in
+          ap (slice_index s) (sym same) ∙ eqb-true (slice_index s q.number) w here ∙ eqb-true w v (rw is at needs)
+      | inr other ↦ sym (set_else s q r sum other) ∙ needed_holds (slice_set s q.number sum) r v ops rest (rw other at needs)
+    ]
+
+-- what is known of a register, where it is right
+abbrev pub Fits : State → ℕ → Option ℕ → Type 0
+Fits s r None = Unit {0}
+Fits s r (Some v) = slice_index s r ≡ v
+
+-- the state after one operation
+abbrev after_op : State → Op → State
+after_op s op = after_writes s (op ∷ [])
+
+fits-set : (s : State) (q : Ix) (r v : ℕ) (known : Option ℕ) → length s ≡ 8 → Fits s r known
+    → Fits (slice_set s q.number v) r (if q.number == r then Some v else known)
+fits-set s q r v None long fits =
+    elim (cases_Bool (q.number == r)) [
+      | inl here ↦ rw here (set_here s q r v long here)
+      | inr other ↦ rw other tt
+    ]
+fits-set s q r v (Some x) long fits =
+    elim (cases_Bool (q.number == r)) [
+      | inl here ↦ rw here (set_here s q r v long here)
+      | inr other ↦ rw other (set_else s q r v other ∙ fits)
+    ]
+
+fits-read : (s : State) (q : Ix) (r v : ℕ) (known : Option ℕ) → IsTrue (slice_index s q.number == v) → Fits s r known
+    → Fits s r (if q.number == r then Some v else known)
+fits-read s q r v known here fits =
+    elim (cases_Bool (q.number == r)) [
+      | inl is ↦
+          let same : q.number ≡ r = eqb-true q.number r is in
+          rw is (ap (slice_index s) (sym same) ∙ eqb-true (slice_index s q.number) v here)
+      | inr other ↦ rw other fits
+    ]
+
+-- an operation that is answered what the register holds was answered what is known
+same_known : (s : State) (r held read : ℕ) (known : Option ℕ) (q : Ix) (v : ℕ) → Fits s r known → IsTrue (slice_index s q.number == v)
+    → IsTrue (is_some_of held known && ((q.number == r) && (v == read))) → held ≡ read
+same_known s r held read None q v fits here is = absurd (cc)
+same_known s r held read (Some x) q v fits here is =
+    let (one, both) = and_parts (x == held) _ is in
+    let (register, value) = and_parts (q.number == r) _ both in
+    sym (eqb-true x held one) ∙ sym fits ∙ ap (slice_index s) (sym (eqb-true q.number r register))
+    ∙ eqb-true (slice_index s q.number) v here ∙ eqb-true v read value
+
+-- so operations that are answered what the registers hold don't read unlike
+pub reads_alike : (s : State) (r held read : ℕ) (known : Option ℕ) (ops : List Op) → length s ≡ 8 → Fits s r known
+    → IsTrue (reads_hold s ops) → IsTrue (reads_unlike r held read known ops) → held ≡ read
+reads_alike s r held read known [] long fits reads unlike = absurd (cc)
+reads_alike s r held read known (Read q v ∷ ops) long fits reads unlike =
+    let (here, rest) = and_parts (slice_index s q.number == v) _ reads in
+    elim (or_cases (is_some_of held known && ((q.number == r) && (v == read))) _ unlike) [
+      | inl now ↦ same_known s r held read known q v fits here now
+      | inr later ↦ reads_alike s r held read _ ops long (fits-read s q r v known here fits) rest later
+    ]
+reads_alike s r held read known (Write q v ∷ ops) long fits reads unlike =
+    elim (or_cases (is_some_of held known && false) _ unlike) [
+      | inl now ↦ absurd (let not_so = (and_parts (is_some_of held known) false now).1 in cc)
+      | inr later ↦
+          reads_alike (slice_set s q.number v) r held read _ ops (length-set s q.number v ∙ long) (fits-set s q r v known long fits) reads later
+    ]
+reads_alike s r held read known (Add q d v ∷ ops) long fits reads unlike =
+    let sum = (v + d) % 2 ^ 64 in
+    let (here, rest) = and_parts (slice_index s q.number == v) _ reads in
+    elim (or_cases (is_some_of held known && ((q.number == r) && (v == read))) _ unlike) [
+      | inl now ↦ same_known s r held read known q v fits here now
+      | inr later ↦
+          reads_alike (slice_set s q.number sum) r held read _ ops (length-set s q.number sum ∙ long) (fits-set s q r sum known long fits)
+          rest later
+    ]
+
+-- the state before a place of an order
+abbrev pub state_at : State → List Placed → ℕ → State
+state_at s order j = end_state s (take j order)
+
+-- what stands at a place reads what the state before it has
+pub reads_at : (s : State) (order : List Placed) (j : ℕ) (p : Placed) → IsTrue (is_legal s order) → slice_get order j ≡ Some p
+    → IsTrue (reads_hold (state_at s order j) (operations p.txn.text))
+reads_at s [] j p legal at = absurd (cc)
+reads_at s (x ∷ order) zero p legal at =
+    let same : x ≡ p = cc in rw (← same) (and_parts (reads_hold s (operations x.txn.text)) _ legal).0
+reads_at s (x ∷ order) (suc j) p legal at =
+    reads_at (after s x) order j p (and_parts (reads_hold s (operations x.txn.text)) _ legal).1 at
+
+pub length-state_at : (s : State) (order : List Placed) (j : ℕ) → length (state_at s order j) ≡ length s
+length-state_at s [] zero = refl
+length-state_at s [] (suc j) = refl
+length-state_at s (x ∷ order) zero = refl
+length-state_at s (x ∷ order) (suc j) = length-state_at (after s x) order j ∙ length-after s x
+
+-- the last that is held and writes the register before the place, and what it leaves
+pub record LastLeft (s : State) (order : List Placed) (r j : ℕ) : Type 0 where
+  pub place : ℕ
+  pub changes : Changes order r place
+  pub before : place < j
+  pub last : IsUnchanged order r (suc place) j
+  pub leaves : left_by r None (operations changes.placed.txn.text) ≡ Some (slice_index (state_at s order j) r)
+
+-- or there is none, and the register holds what it did
+pub record NoneLeft (s : State) (order : List Placed) (r j : ℕ) : Type 0 where
+  pub none : IsUnchanged order r 0 j
+  pub same : slice_index (state_at s order j) r ≡ slice_index s r
+
+changes-tail : (x : Placed) (order : List Placed) (r k : ℕ) → Changes (x ∷ order) r (suc k) → Changes order r k
+changes-tail x order r k c = record { placed = c.placed; there = c.there; held = c.held; writes = c.writes }
+
+unchanged-after : (x : Placed) (order : List Placed) (r i j : ℕ) → IsUnchanged order r i j → IsUnchanged (x ∷ order) r (suc i) (suc j)
+unchanged-after x order r i j un zero low high c = absurd (omega (arith, low))
+unchanged-after x order r i j un (suc k) low high c = un k (omega (arith, low)) (omega (arith, high)) (changes-tail x order r k c)
+
+unchanged-all : (x : Placed) (order : List Placed) (r j : ℕ) → (IsTrue x.held → IsTrue (writes r (operations x.txn.text)) → ⊥)
+    → IsUnchanged order r 0 j → IsUnchanged (x ∷ order) r 0 (suc j)
+unchanged-all x order r j not_so un zero low high c =
+    let same : x ≡ c.placed = some_same c.there in not_so (rw same c.held) (rw same c.writes)
+  where
+    some_same : {a b : Placed} → Some a ≡ Some b → a ≡ b
+    some_same e = cc
+unchanged-all x order r j not_so un (suc k) low high c = un k (omega arith) (omega (arith, high)) (changes-tail x order r k c)
+
+pub value_at : (s : State) (order : List Placed) (r j : ℕ) → length s ≡ 8 → LastLeft s order r j ⊎ NoneLeft s order r j
+value_at s [] r zero long = inr (record { none = λ k low high c. omega (arith, high); same = refl })
+value_at s [] r (suc j) long =
+    inr (record { none = λ k low high c. let at = c.there in absurd (cc); same = refl })
+value_at s (x ∷ order) r zero long = inr (record { none = λ k low high c. omega (arith, high); same = refl })
+value_at s (x ∷ order) r (suc j) long =
+    elim (value_at (after s x) order r j (length-after s x ∙ long)) [
+      | inl found ↦ inl (record {
+          place = suc found.place;
+          changes = record {
+            placed = found.changes.placed;
+            there = found.changes.there;
+            held = found.changes.held;
+            writes = found.changes.writes;
+          };
+          before = omega (arith, found.before);
+          last = unchanged-after x order r (suc found.place) j found.last;
+          leaves = found.leaves;
+        })
+      | inr none ↦ elim (cases_Bool x.held) [
+        | inl held ↦ elim (cases_Bool (writes r (operations x.txn.text))) [
+          | inl w ↦
+              let left = left-written s r (operations x.txn.text) None long w in
+              let now : after s x ≡ after_writes s (operations x.txn.text) = rw held refl in
+              inl (record {
+                place = zero;
+                changes = record { placed = x; there = refl; held = held; writes = w };
+                before = omega arith;
+                last = unchanged-after x order r 0 j none.none;
+                leaves = left ∙ ap (λ (t : State). Some (slice_index t r)) (sym now) ∙ ap (λ v. Some v) (sym none.same);
+              })
+          | inr not_so ↦
+              let now : after s x ≡ after_writes s (operations x.txn.text) = rw held refl in
+              inr (record {
+                none = unchanged-all x order r j (λ h w. let e = sym not_so ∙ w in absurd (cc)) none.none;
+                same = none.same ∙ ap (λ (t : State). slice_index t r) now ∙ unwritten s r (operations x.txn.text) not_so;
+              })
+          ]
+        | inr out ↦
+            let now : after s x ≡ s = rw out refl in
+            inr (record {
+              none = unchanged-all x order r j (λ h w. let e = sym out ∙ h in absurd (cc)) none.none;
+              same = none.same ∙ ap (λ (t : State). slice_index t r) now;
+            })
+        ]
+    ]

@@ -1,0 +1,501 @@
+-- Steps that follow from those before them hold in each serial order, and contradict each other in none.
+use Rattle.std.proofs.Common.{◌≡◌, ◌==◌, ◌&&◌, ◌||◌, ◌+◌, ◌<◌, ◌≤◌, ◌⊎◌, ℕ, zero, suc, Bool, true, false, not, List, [], ◌∷◌, ◌++◌, length, get_or, Option, Some, None, IsTrue, refl, sym, ap, ◌∙◌, inl, inr, subst, arith}
+use Rattle.std.specs.Prelude.{slice_get, slice_index, slice_index_or, take, nat_lt, All}
+use Rattle.std.specs.List.{Contains, list_all, list_any, range_with_len, AllByRecursion}
+use Rattle.std.proofs.lemmas.List.Folds.{list_any_at}
+use Rattle.std.proofs.lemmas.List.Elements.{All-contains, All-from_recursion}
+use Rattle.std.proofs.lemmas.List.{take_all}
+use Rattle.std.proofs.lemmas.Bool.{and_parts, and_from, or_cases, cases_Bool, cases_order, eqb-true, eq-eqb, ltb-true, not-true}
+use Rattle.tmw_events.specs.declared.ix.Ix.{Ix}
+use Rattle.tmw_defs.specs.declared.criterion.Criterion.{Criterion}
+use Rattle.tmw_defs.specs.declared.criterion.Criterion.TheVariants.{Opacity, Strict}
+use Rattle.tmw_defs.specs.declared.status.Status.{Status}
+use Rattle.tmw_defs.specs.declared.status.Status.TheVariants.{Live, Pending, Committed, Aborted}
+use Rattle.tmw_defs.specs.Criteria.{ExplainsBy}
+use Rattle.tmw_defs.specs.History.{Txn, status_of, operations}
+use Rattle.tmw_defs.specs.Opaque.{State, Placed, precedes, may_hold}
+use Rattle.tmw_cuts.specs.Written.{writes, left_by}
+use Rattle.tmw_part.specs.declared.step.Source.{Source}
+use Rattle.tmw_part.specs.declared.step.Step.{Step}
+use Rattle.tmw_part.specs.declared.step.Step.TheVariants.{RealTime, From, ReadFirst, ChangedFirst, Through}
+use Rattle.tmw_part.specs.declared.step.Contradiction.{Contradiction}
+use Rattle.tmw_part.specs.declared.step.Contradiction.TheVariants.{Cycle, NoSource, Unlike}
+use Rattle.tmw_part.specs.Test.{nothing}
+use Rattle.tmw_part.specs.Steps.{txn_at, ops_at, needed_of, is_some_of, is_same_writer, is_same_source, orders, gives, supplies, is_before, begins_before, ends_before, is_committed, is_held, has_place, may_come_from, may_leave, is_rival, is_excluded, stands_between, from_else, is_no_source, comes_not_else, is_only, comes_from_none, is_asked, is_known_rival, follows, contradicts, Derives}
+use Rattle.tmw_part.specs.Reasons.{StandsAt, StandsBefore, Changes, IsUnchanged, ComesFrom, StandsBeforeWriter, HoldsIn, begin_apart, StepsLaw, ReasonLaw}
+use Rattle.tmw_part.proofs.OrderFacts.{IsPlaced, IsIn, IsSerial, apart, serial}
+use Rattle.tmw_part.proofs.OrderValues.{state_at, reads_at, length-state_at, LastLeft, NoneLeft, value_at, needed_holds, reads_alike}
+
+-- what is used of transactions that begin apart, of an order of them, of the state that it begins in and of the steps that are known
+record Case (criterion : Criterion) (states : List State) (ts : List Txn) (s : State) (order : List Placed) (steps : List Step) : Type 0 where
+  begin : IsTrue (begin_apart ts)
+  start : Contains states s
+  long : length s ≡ 8
+  serial : IsSerial criterion s ts order
+  known : AllByRecursion (HoldsIn ts order) steps
+
+-- one that passes the test, of those of which each has P
+pub record Found {A : Type 0} (P : A → Type 0) (test : A → Bool) : Type 0 where
+  pub one : A
+  pub has : P one
+  pub passes : IsTrue (test one)
+
+pub find_any : {A : Type 0} (P : A → Type 0) (test : A → Bool) (xs : List A) → AllByRecursion P xs → IsTrue (list_any test xs) → Found P test
+find_any P test [] all any = absurd (cc)
+find_any P test (x ∷ xs) all any =
+    elim (or_cases (test x) _ any) [
+      | inl here ↦ record { one = x; has = all.0; passes = here }
+      | inr later ↦ find_any P test xs all.1 later
+    ]
+
+-- a place that passes the test
+find_place : (test : ℕ → Bool) (from n : ℕ) → IsTrue (list_any test (range_with_len from n)) → (a : ℕ) × IsTrue (test a)
+find_place test from zero any = absurd (cc)
+find_place test from (suc n) any =
+    elim (or_cases (test from) _ any) [
+      | inl here ↦ (from, here)
+      | inr later ↦ find_place test (from + 1) n later
+    ]
+
+-- each place passes
+each_place : (test : ℕ → Bool) (from n a : ℕ) → IsTrue (list_all test (range_with_len from n)) → a < n → IsTrue (test (from + a))
+each_place test from zero a all low = absurd (omega (arith, low))
+each_place test from (suc n) zero all low =
+    let same : from ≡ from + 0 = omega arith in rw (← same) (and_parts (test from) _ all).0
+each_place test from (suc n) (suc a) all low =
+    let same : from + 1 + a ≡ from + suc a = omega arith in
+    rw (← same) (each_place test (from + 1) n a (and_parts (test from) _ all).1 (omega (arith, low)))
+
+pub some_of : (v : ℕ) (o : Option ℕ) → IsTrue (is_some_of v o) → o ≡ Some v
+some_of v None is = absurd (cc)
+some_of v (Some w) is = ap (λ x. Some x) (eqb-true w v is)
+
+-- a transaction with a place in the list
+txn_at-get : (ts : List Txn) (a : ℕ) (t : Txn) → slice_get ts a ≡ Some t → txn_at ts a ≡ t
+txn_at-get [] a t at = absurd (cc)
+txn_at-get (x ∷ ts) zero t at = cc
+txn_at-get (x ∷ ts) (suc a) t at = txn_at-get ts a t at
+
+get-txn_at : (ts : List Txn) (a : ℕ) → a < length ts → slice_get ts a ≡ Some (txn_at ts a)
+get-txn_at [] a low = absurd (omega (arith, low))
+get-txn_at (x ∷ ts) zero low = refl
+get-txn_at (x ∷ ts) (suc a) low = get-txn_at ts a (omega (arith, low))
+
+get_within : (ts : List Txn) (a : ℕ) (t : Txn) → slice_get ts a ≡ Some t → a < length ts
+get_within [] a t at = absurd (cc)
+get_within (x ∷ ts) zero t at = omega arith
+get_within (x ∷ ts) (suc a) t at = let low = get_within ts a t at in omega (arith, low)
+
+-- a committed one has a place
+get-committed : (ts : List Txn) (a : ℕ) → IsTrue (is_committed (status_of (txn_at ts a).text)) → slice_get ts a ≡ Some (txn_at ts a)
+get-committed [] a is = absurd (cc)
+get-committed (x ∷ ts) zero is = refl
+get-committed (x ∷ ts) (suc a) is = get-committed ts a is
+
+committed : (x : Status) → IsTrue (is_committed x) → x ≡ Committed
+committed Live is = absurd (cc)
+committed Pending is = absurd (cc)
+committed Committed is = refl
+committed Aborted is = absurd (cc)
+
+first_same : (t u : Txn) → Some t ≡ Some u → t.first ≡ u.first
+first_same t u e = let same : t ≡ u = cc in ap (λ (x : Txn). x.first) same
+
+placed_same : {x y : Placed} → Some x ≡ Some y → x ≡ y
+placed_same e = cc
+
+-- where a transaction stands that is held
+record StandsHeld (ts : List Txn) (order : List Placed) (a : ℕ) : Type 0 where
+  place : ℕ
+  stands : StandsAt ts order a place
+  held : IsTrue stands.placed.held
+
+-- where a source's rival stands
+record RivalAt (ts : List Txn) (order : List Placed) (s : Source) (a : ℕ) : Type 0 where
+  other : a ≡ s.reader → ⊥
+  else : s.writer ≡ Some a → ⊥
+  place : ℕ
+  stands : StandsAt ts order a place
+  changes : Changes order s.register.number place
+
+in_it : (criterion : Criterion) (t : Txn) → status_of t.text ≡ Committed → IsIn criterion t
+in_it Opacity t is = tt
+in_it Strict t is = is
+
+changes_of : (ts : List Txn) (order : List Placed) (a r : ℕ) → (at : StandsHeld ts order a) → IsTrue (writes r (ops_at ts a))
+    → Changes order r at.place
+changes_of ts order a r at writes =
+    let same = txn_at-get ts a at.stands.placed.txn at.stands.is in
+    record { placed = at.stands.placed; there = at.stands.there; held = at.held; writes = rw same at writes }
+
+abbrev IsWithin : List Txn → Option ℕ → Type 0
+IsWithin ts None = Unit {0}
+IsWithin ts (Some a) = a < length ts
+
+pub same_writer : (v w : Option ℕ) → IsTrue (is_same_writer v w) → v ≡ w
+same_writer None None is = refl
+same_writer None (Some b) is = absurd (cc)
+same_writer (Some a) None is = absurd (cc)
+same_writer (Some a) (Some b) is = ap (λ x. Some x) (eqb-true a b is)
+
+module _ (criterion : Criterion) (states : List State) (ts : List Txn) (start : State) (order : List Placed) (steps : List Step)
+    (c : Case criterion states ts start order steps) where
+  -- a transaction stands in one place, and one transaction in a place
+  stands_once : (a i j : ℕ) → StandsAt ts order a i → StandsAt ts order a j → i ≡ j
+  stands_once a i j one two =
+      c.serial.once i j one.placed two.placed one.there two.there (first_same one.placed.txn two.placed.txn (sym one.is ∙ two.is))
+
+  stands_alone : (a b i : ℕ) → StandsAt ts order a i → StandsAt ts order b i → a ≡ b
+  stands_alone a b i one two =
+      let same : one.placed ≡ two.placed = placed_same (sym one.there ∙ two.there) in
+      apart ts c.begin a b one.placed.txn two.placed.txn one.is two.is (ap (λ (p : Placed). p.txn.first) same)
+
+  -- what says that one stands before another holds
+  both : (a b x y : ℕ) → IsTrue ((x == a) && (y == b)) → StandsBefore ts order x y → StandsBefore ts order a b
+  both a b x y is before =
+      let (one, two) = and_parts (x == a) _ is in
+      rw (← eqb-true x a one, ← eqb-true y b two) before
+
+  says_before : (a b : ℕ) (step : Step) → HoldsIn ts order step → IsTrue (orders a b step) → StandsBefore ts order a b
+  says_before a b (RealTime one other) holds is = both a b one other is holds
+  says_before a b (From s) holds is = λ i j at there.
+      let (writer, reader) = and_parts (is_some_of a s.writer) _ is in
+      let (k, stands, comes) = holds in
+      let (m, first, low, changes, last) = rw (some_of a s.writer writer) at comes in
+      let here : StandsAt ts order b k = rw (eqb-true s.reader b reader) at stands in
+      let one : i ≡ m = stands_once a i m at first in
+      let two : j ≡ k = stands_once b j k there here in
+      omega (arith, low)
+  says_before a b (ReadFirst s w) holds is = both a b s.reader w is holds
+  says_before a b (ChangedFirst w s) holds is =
+      let (one, two) = and_parts (w == a) _ is in
+      rw (← eqb-true w a one) (rw (some_of b s.writer two) at holds)
+  says_before a b (Through one between other) holds is = both a b one other is holds
+
+  before_holds : (a b : ℕ) → IsTrue (is_before steps a b) → StandsBefore ts order a b
+  before_holds a b is =
+      let found = find_any (HoldsIn ts order) (orders a b) steps c.known is in says_before a b found.one found.has found.passes
+
+  -- what is held in each order, and what each has
+  supplied_stands : (a : ℕ) (step : Step) → HoldsIn ts order step → IsTrue (supplies a step) → StandsHeld ts order a
+  supplied_stands a (RealTime one other) holds is = absurd (cc)
+  supplied_stands a (From s) holds is =
+      let (k, stands, comes) = holds in
+      let (m, first, low, changes, last) = rw (some_of a s.writer is) at comes in
+      let same : changes.placed ≡ first.placed = placed_same (sym changes.there ∙ first.there) in
+      record { place = m; stands = first; held = rw (← same) changes.held }
+  supplied_stands a (ReadFirst s w) holds is = absurd (cc)
+  supplied_stands a (ChangedFirst w s) holds is = absurd (cc)
+  supplied_stands a (Through one between other) holds is = absurd (cc)
+
+  held_stands : (a : ℕ) → IsTrue (is_held ts steps a) → StandsHeld ts order a
+  held_stands a is =
+      elim (or_cases (is_committed (status_of (txn_at ts a).text)) _ is) [
+        | inl ended ↦
+            let at = get-committed ts a ended in
+            let status = committed (status_of (txn_at ts a).text) ended in
+            let found = c.serial.has a (txn_at ts a) at (in_it criterion (txn_at ts a) status) in
+            let same : status_of found.placed.txn.text ≡ Committed = ap (λ (t : Txn). status_of t.text) found.is ∙ status in
+            let may : IsTrue (may_hold (status_of found.placed.txn.text) found.placed.held) = c.serial.may found.place found.placed found.there in
+            record {
+              place = found.place;
+              stands = record { placed = found.placed; there = found.there; is = at ∙ ap (λ (t : Txn). Some t) (sym found.is) };
+              held = rw same at may;
+            }
+        | inr supplied ↦
+            let found = find_any (HoldsIn ts order) (supplies a) steps c.known supplied in
+            supplied_stands a found.one found.has found.passes
+      ]
+
+  has_stands : (by : Criterion) → by ≡ criterion → (a : ℕ) → IsTrue (has_place by ts steps a) → (i : ℕ) × StandsAt ts order a i
+  has_stands Opacity same a is =
+      let at = get-txn_at ts a (ltb-true a (length ts) is) in
+      let found = c.serial.has a (txn_at ts a) at (subst (λ (x : Criterion). IsIn x (txn_at ts a)) same tt) in
+      (found.place, record { placed = found.placed; there = found.there; is = at ∙ ap (λ (t : Txn). Some t) (sym found.is) })
+  has_stands Strict same a is = let at = held_stands a is in (at.place, at.stands)
+
+  rival_at : (s : Source) (a : ℕ) → IsTrue (is_rival ts steps s a) → RivalAt ts order s a
+  rival_at s a is =
+      let (other, rest) = and_parts (not (a == s.reader)) _ is in
+      let (else', both) = and_parts (not (is_some_of a s.writer)) _ rest in
+      let (held, writes) = and_parts (is_held ts steps a) _ both in
+      let at = held_stands a held in
+      record {
+        other = λ same. let e = sym (not-true (a == s.reader) other) ∙ eq-eqb a s.reader same in absurd (cc);
+        else = λ same. let e : not (is_some_of a (Some a)) ≡ true = rw same at else' in absurd (let f = rw (eq-eqb a a refl) at e in cc);
+        place = at.place;
+        stands = at.stands;
+        changes = changes_of ts order a s.register.number at writes;
+      }
+
+  -- a source that is excluded is none
+  not_excluded : (s : Source) (w : Option ℕ) → s.writer ≡ w → (j : ℕ) → StandsAt ts order s.reader j
+      → ComesFrom ts order s.register.number j w → IsTrue (is_excluded ts steps s) → ⊥
+  not_excluded s None is j at comes excluded =
+      elim (or_cases (ends_before steps s.reader s.writer) _ excluded) [
+        | inl after ↦ absurd (let none = rw is at after in cc)
+        | inr between ↦
+            let (a, found) = find_place _ 0 (length ts) between in
+            let (rival, stands) = and_parts (is_rival ts steps s a) _ found in
+            let before = (and_parts (begins_before steps s.writer a) _ stands).1 in
+            let r = rival_at s a rival in
+            comes r.place (omega arith) (before_holds a s.reader before r.place j r.stands at) r.changes
+      ]
+  not_excluded s (Some b) is j at (i, first, low, changes, last) excluded =
+      elim (or_cases (ends_before steps s.reader s.writer) _ excluded) [
+        | inl after ↦
+            let high = before_holds s.reader b (rw is at after) j i at first in omega (arith, low, high)
+        | inr between ↦
+            let (a, found) = find_place _ 0 (length ts) between in
+            let (rival, stands) = and_parts (is_rival ts steps s a) _ found in
+            let (begins, before) = and_parts (begins_before steps s.writer a) _ stands in
+            let r = rival_at s a rival in
+            let behind = before_holds b a (subst (λ (o : Option ℕ). IsTrue (begins_before steps o a)) is begins) i r.place first r.stands in
+            last r.place (omega (arith, behind)) (before_holds a s.reader before r.place j r.stands at) r.changes
+      ]
+
+  -- where the value of a reader comes from
+  record Actual (s : Source) : Type 0 where
+    place : ℕ
+    stands : StandsAt ts order s.reader place
+    writer : Option ℕ
+    within : IsWithin ts writer
+    comes : ComesFrom ts order s.register.number place writer
+    may : IsTrue (may_come_from states ts s writer)
+
+  read_value : (s : Source) (j : ℕ) → StandsAt ts order s.reader j → IsTrue (is_some_of s.value (needed_of s.register.number (ops_at ts s.reader)))
+      → slice_index (state_at start order j) s.register.number ≡ s.value
+  read_value s j at needs =
+      let same = txn_at-get ts s.reader at.placed.txn at.is in
+      needed_holds (state_at start order j) s.register.number s.value (operations at.placed.txn.text)
+      (reads_at start order j at.placed c.serial.legal at.there) (rw same at needs)
+
+  actual : (s : Source) → IsTrue (is_asked criterion ts steps s) → Actual s
+  actual s asked =
+      let (has, needs) = and_parts (has_place criterion ts steps s.reader) _ asked in
+      let (j, at) = has_stands criterion refl s.reader has in
+      let r = s.register.number in
+      let value = read_value s j at needs in
+      elim (value_at start order r j c.long) [
+        | inl last ↦
+            let (a, get) = c.serial.from last.place last.changes.placed last.changes.there in
+            let stands : StandsAt ts order a last.place = record { placed = last.changes.placed; there = last.changes.there; is = get } in
+            let other : (a == s.reader) ≡ false =
+            elim (cases_Bool (a == s.reader)) [
+              | inl same ↦
+                  let here : StandsAt ts order s.reader last.place = rw (eqb-true a s.reader same) at stands in
+                  let one : last.place ≡ j = stands_once s.reader last.place j here at in
+                  absurd (omega (arith, last.before))
+              | inr differs ↦ differs
+            ] in
+            let status = txn_at-get ts a last.changes.placed.txn get in
+            let may : IsTrue (may_hold (status_of last.changes.placed.txn.text) last.changes.placed.held) = c.serial.may last.place last.changes.placed last.changes.there in
+            let held : IsTrue (may_hold (status_of (txn_at ts a).text) true) = rw status (rw last.changes.held at may) in
+            let leaves : IsTrue (is_some_of s.value (left_by r None (ops_at ts a))) = rw (status, last.leaves) (eq-eqb _ s.value value) in
+            record {
+              place = j;
+              stands = at;
+              writer = Some a;
+              within = get_within ts a last.changes.placed.txn get;
+              comes = (last.place, stands, last.before, last.changes, last.last);
+              may = and_from _ _ (rw other refl) (and_from _ _ held leaves);
+            }
+        | inr none ↦
+            let (k, low, is) = c.start in
+            record {
+              place = j;
+              stands = at;
+              writer = None;
+              within = tt;
+              comes = none.none;
+              may = list_any_at (λ state. slice_index state r == s.value) states k start low
+              (rw is (eq-eqb _ s.value (sym none.same ∙ value)));
+            }
+      ]
+
+  -- the test that passes for each writer passes for that one
+  writer_passes : (test : Option ℕ → Bool) (w : Option ℕ) → IsWithin ts w
+      → IsTrue (test None && list_all (λ a. test (Some a)) (range_with_len 0 (length ts))) → IsTrue (test w)
+  writer_passes test None within all = (and_parts (test None) _ all).0
+  writer_passes test (Some a) within all =
+      let same : 0 + a ≡ a = omega arith in
+      rw same at (each_place (λ b. test (Some b)) 0 (length ts) a (and_parts (test None) _ all).1 within)
+
+  is_source : (s : Source) → (found : Actual s) → IsTrue (is_no_source states ts steps (from_else s found.writer)) → ⊥
+  is_source s found none =
+      elim (or_cases (not (may_come_from states ts s found.writer)) _ none) [
+        | inl not_so ↦ let e = sym (not-true _ not_so) ∙ found.may in absurd (cc)
+        | inr excluded ↦ not_excluded (from_else s found.writer) found.writer refl found.place found.stands found.comes excluded
+      ]
+
+  -- a source that is known is one
+  given : (s : Source) (step : Step) → HoldsIn ts order step → IsTrue (gives s step) → HoldsIn ts order (From s)
+  given s (RealTime one other) holds is = absurd (cc)
+  given s (From t) holds is =
+      let (reader, rest) = and_parts (s.reader == t.reader) _ is in
+      let (register, more) = and_parts (s.register.number == t.register.number) _ rest in
+      let (value, writer) = and_parts (s.value == t.value) _ more in
+      let (j, at, comes) = holds in
+      let here : StandsAt ts order s.reader j = rw (eqb-true s.reader t.reader reader) at in
+      let there : ComesFrom ts order s.register.number j s.writer =
+      rw (eqb-true s.register.number t.register.number register, same_writer s.writer t.writer writer) comes in
+      (j, here, there)
+  given s (ReadFirst t w) holds is = absurd (cc)
+  given s (ChangedFirst w t) holds is = absurd (cc)
+  given s (Through one between other) holds is = absurd (cc)
+
+  source_holds : (s : Source) → IsTrue (list_any (gives s) steps) → HoldsIn ts order (From s)
+  source_holds s is = let found = find_any (HoldsIn ts order) (gives s) steps c.known is in given s found.one found.has found.passes
+
+  -- the rival of a source that it stands behind stands behind the reader
+  behind_reader : (s : Source) (v : Option ℕ) → s.writer ≡ v → (k : ℕ) → StandsAt ts order s.reader k
+      → ComesFrom ts order s.register.number k v → (w : ℕ) → (r : RivalAt ts order s w) → IsTrue (begins_before steps v w) → k < r.place
+  behind_reader s v is k at comes w r begins =
+      elim (cases_order k r.place) [
+        | inl same ↦ absurd (r.other (stands_alone w s.reader k (rw (← same) at r.stands) at))
+        | inr differ ↦ elim differ [
+          | inl low ↦ low
+          | inr high ↦ absurd (between v comes begins high)
+          ]
+      ]
+    where
+      between : (v : Option ℕ) → ComesFrom ts order s.register.number k v → IsTrue (begins_before steps v w) → r.place < k → ⊥
+      between None comes begins high = comes r.place (omega arith) high r.changes
+      between (Some b) (n, first, low, changes, last) begins high =
+          let behind = before_holds b w begins n r.place first r.stands in last r.place (omega (arith, behind)) high r.changes
+
+  -- and one that stands before the reader stands before the source
+  before_writer : (s : Source) (v : Option ℕ) → s.writer ≡ v → (k : ℕ) → ComesFrom ts order s.register.number k v → (w : ℕ)
+      → (r : RivalAt ts order s w) → r.place < k → StandsBeforeWriter ts order w v
+  before_writer s None is k comes w r high = comes r.place (omega arith) high r.changes
+  before_writer s (Some b) is k (n, first, low, changes, last) w r high = λ i j at there.
+      let one : i ≡ r.place = stands_once w i r.place at r.stands in
+      let two : j ≡ n = stands_once b j n there first in
+      elim (cases_order r.place n) [
+        | inl same ↦
+            let alone : w ≡ b = stands_alone w b n (rw same at r.stands) first in
+            absurd (r.else (is ∙ ap (λ x. Some x) (sym alone)))
+        | inr differ ↦ elim differ [
+          | inl before ↦ omega (arith, before)
+          | inr behind ↦ absurd (last r.place (omega (arith, behind)) high r.changes)
+          ]
+      ]
+
+  -- each step that follows holds
+  step_holds : (step : Step) → IsTrue (follows criterion states ts steps step) → HoldsIn ts order step
+  step_holds (RealTime one other) is = λ i j at there.
+      let (differ, before) = and_parts (not (one == other)) _ is in
+      elim (cases_order i j) [
+        | inl same ↦
+            let alone = stands_alone one other j (rw same at at) there in
+            absurd (let e = sym (not-true (one == other) differ) ∙ eq-eqb one other alone in cc)
+        | inr differ ↦ elim differ [
+          | inl low ↦ low
+          | inr high ↦
+              let kept = c.serial.kept j i there.placed at.placed high there.there at.there in
+              let first = txn_at-get ts one at.placed.txn at.is in
+              let second = txn_at-get ts other there.placed.txn there.is in
+              absurd (let e = rw (first, second) at before in let f = sym kept ∙ e in cc)
+          ]
+      ]
+  step_holds (From s) is =
+      let (asked, rest) = and_parts (is_asked criterion ts steps s) _ is in
+      let only = (and_parts (may_leave states ts s) _ rest).1 in
+      let found = actual s asked in
+      let passes = writer_passes (comes_not_else states ts steps s) found.writer found.within only in
+      elim (or_cases (is_same_writer found.writer s.writer) _ passes) [
+        | inl same ↦
+            (found.place, found.stands, subst (ComesFrom ts order s.register.number found.place) (same_writer found.writer s.writer same) found.comes)
+        | inr none ↦ absurd (is_source s found none)
+      ]
+  step_holds (ReadFirst s w) is = λ i j at there.
+      let (known, begins) = and_parts (is_known_rival ts steps s w) _ is in
+      let (has, rival) = and_parts (list_any (gives s) steps) _ known in
+      let (k, stands, comes) = source_holds s has in
+      let r = rival_at s w rival in
+      let low = behind_reader s s.writer refl k stands comes w r begins in
+      let one : i ≡ k = stands_once s.reader i k at stands in
+      let two : j ≡ r.place = stands_once w j r.place there r.stands in
+      omega (arith, low)
+  step_holds (ChangedFirst w s) is =
+      let (known, before) = and_parts (is_known_rival ts steps s w) _ is in
+      let (has, rival) = and_parts (list_any (gives s) steps) _ known in
+      let (k, stands, comes) = source_holds s has in
+      let r = rival_at s w rival in
+      before_writer s s.writer refl k comes w r (before_holds w s.reader before r.place k r.stands stands)
+  step_holds (Through one between other) is = λ i j at there.
+      let (has, rest) = and_parts (has_place criterion ts steps between) _ is in
+      let (first, second) = and_parts (is_before steps one between) _ rest in
+      let (k, middle) = has_stands criterion refl between has in
+      let low = before_holds one between first i k at middle in
+      let high = before_holds between other second k j middle there in
+      omega (arith, low, high)
+
+  -- and no contradiction does
+  none_contradicts : (end : Contradiction) → IsTrue (contradicts criterion states ts steps end) → ⊥
+  none_contradicts (Cycle a) is =
+      let (has, before) = and_parts (has_place criterion ts steps a) _ is in
+      let (i, at) = has_stands criterion refl a has in
+      let low = before_holds a a before i i at at in omega (arith, low)
+  none_contradicts (NoSource b r v) is =
+      let s : Source = record { reader = b; register = r; value = v; writer = None } in
+      let (asked, all) = and_parts (is_asked criterion ts steps s) _ is in
+      let found = actual s asked in
+      is_source s found (writer_passes (λ w. is_no_source states ts steps (from_else s w)) found.writer found.within all)
+  none_contradicts (Unlike a r held read) is =
+      let (has, rest) = and_parts (has_place criterion ts steps a) _ is in
+      let (differ, unlike) = and_parts (not (held == read)) _ rest in
+      let (i, at) = has_stands criterion refl a has in
+      let same = txn_at-get ts a at.placed.txn at.is in
+      let alike = reads_alike (state_at start order i) r.number held read None (operations at.placed.txn.text)
+      (length-state_at start order i ∙ c.long) tt (reads_at start order i at.placed c.serial.legal at.there) (rw same at unlike) in
+      let e = sym (not-true (held == read) differ) ∙ eq-eqb held read alike in absurd (cc)
+
+pub none_all : {A : Type 0} (P : A → Type 0) (xs : List A) → AllByRecursion P (take 0 xs)
+none_all P [] = tt
+none_all P (x ∷ xs) = tt
+
+-- one more of the first so many
+pub all-more : {A : Type 0} (P : A → Type 0) (xs : List A) (n : ℕ) (x : A) → slice_get xs n ≡ Some x → P x → AllByRecursion P (take n xs)
+    → AllByRecursion P (take (suc n) xs)
+all-more P [] n x at holds all = absurd (cc)
+all-more P (y ∷ ys) zero x at holds all = let same : y ≡ x = cc in (rw same holds, none_all P ys)
+all-more P (y ∷ ys) (suc n) x at holds all = (all.0, all-more P ys n x at holds all.1)
+
+pub get_some : {A : Type 0} (xs : List A) (n : ℕ) → n < length xs → (x : A) × (slice_get xs n ≡ Some x)
+get_some [] n low = absurd (omega (arith, low))
+get_some (x ∷ xs) zero low = (x, refl)
+get_some (x ∷ xs) (suc n) low = get_some xs n (omega (arith, low))
+
+module _ (criterion : Criterion) (states : List State) (ts : List Txn) (steps : List Step) (begin : IsTrue (begin_apart ts))
+    (long : All (λ s. length s ≡ 8) states) (derives : Derives criterion states ts steps) (s : State) (order : List Placed)
+    (start : Contains states s) (explains : ExplainsBy criterion s ts order) where
+  case_at : (known : List Step) → AllByRecursion (HoldsIn ts order) known → Case criterion states ts s order known
+  case_at known all = record {
+    begin = begin;
+    start = start;
+    long = All-contains (λ s. length s ≡ 8) states s long start;
+    serial = serial criterion s ts order begin explains;
+    known = all;
+  }
+
+  first_hold : (n : ℕ) → n ≤ length steps → AllByRecursion (HoldsIn ts order) (take n steps)
+  first_hold zero low = none_all (HoldsIn ts order) steps
+  first_hold (suc n) low =
+      let before = first_hold n (omega (arith, low)) in
+      let (step, at) = get_some steps n (omega (arith, low)) in
+      all-more (HoldsIn ts order) steps n step at
+      (step_holds criterion states ts s order (take n steps) (case_at (take n steps) before) step (derives n step at)) before
+
+  all_hold : AllByRecursion (HoldsIn ts order) steps
+  all_hold = subst (AllByRecursion (HoldsIn ts order)) (take_all (length steps) steps (omega arith)) (first_hold (length steps) (omega arith))
+
+  contradict_none : (end : Contradiction) → IsTrue (contradicts criterion states ts steps end) → ⊥
+  contradict_none = none_contradicts criterion states ts s order steps (case_at steps all_hold)
+
+pub reason_law : ReasonLaw
+reason_law criterion states ts steps begin long derives = record {
+  hold = λ s order start explains.
+  All-from_recursion (HoldsIn ts order) steps (all_hold criterion states ts steps begin long derives s order start explains);
+  none = λ end is s order start explains. contradict_none criterion states ts steps begin long derives s order start explains end is;
+}

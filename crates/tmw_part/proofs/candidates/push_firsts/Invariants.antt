@@ -1,0 +1,9 @@
+use Rattle.std.proofs.Common.{◌≡◌, ◌++◌, drop}
+use Rattle.std.specs.List.{flat_map}
+use Rattle.tmw_part.specs.declared.step.Step.TheVariants.{RealTime, From, Through}
+use Rattle.tmw_part.specs.Candidates.{firsts, firsts_with, real_times, throughs, throughs_between}
+use Rattle.tmw_part.proofs.candidates.push_firsts.Given as goal
+
+abbrev pub invariant-loop-writer : goal.invariant-loop-writer
+invariant-loop-writer l =
+    l.steps.items ++ flat_map (firsts_with l.source) (drop l.writer-index l.places) ≡ l.fn.steps.items ++ flat_map (firsts_with l.source) l.places

@@ -1,0 +1,9 @@
+use Rattle.std.proofs.Common.{◌≡◌, ◌++◌, drop, map}
+use Rattle.std.specs.List.{flat_map}
+use Rattle.tmw_part.specs.declared.step.Step.TheVariants.{RealTime, From, Through}
+use Rattle.tmw_part.specs.Candidates.{firsts, firsts_with, real_times, throughs, throughs_between}
+use Rattle.tmw_part.proofs.candidates.push_throughs_between.Given as goal
+
+abbrev pub invariant-loop-other : goal.invariant-loop-other
+invariant-loop-other l =
+    l.steps.items ++ map (Through l.one l.between) (drop l.other-index l.places) ≡ l.fn.steps.items ++ map (Through l.one l.between) l.places

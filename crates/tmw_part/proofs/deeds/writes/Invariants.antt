@@ -1,0 +1,10 @@
+use Rattle.std.proofs.Common.{◌≡◌, length}
+use Rattle.tmw_defs.specs.History.{operations}
+use Rattle.tmw_cuts.specs.Written.{writes}
+use Rattle.tmw_part.proofs.deeds.writes.Given as goal
+
+abbrev pub invariant-loop-rest : goal.invariant-loop-rest
+invariant-loop-rest l = writes l.register.number (operations l.rest) ≡ writes l.register.number (operations l.text)
+
+abbrev pub decreases-loop-rest : goal.decreases-loop-rest
+decreases-loop-rest l = length l.rest

@@ -1,0 +1,10 @@
+use Rattle.std.proofs.Common.{◌≡◌, drop}
+use Rattle.std.specs.Prelude.{find}
+use Rattle.tmw_part.specs.Shown.{txns_of}
+use Rattle.tmw_part.specs.Steps.{contradicts}
+use Rattle.tmw_part.proofs.ends.find_end.Given as goal
+
+abbrev pub invariant-loop-end : goal.invariant-loop-end
+invariant-loop-end l =
+    find (contradicts l.criterion l.states (txns_of l.transactions) l.steps) (drop l.end-index l.ends)
+    ≡ find (contradicts l.criterion l.states (txns_of l.transactions) l.steps) l.ends

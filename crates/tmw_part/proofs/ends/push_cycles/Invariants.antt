@@ -1,0 +1,7 @@
+use Rattle.std.proofs.Common.{◌≡◌, ◌++◌, drop, map}
+use Rattle.tmw_part.specs.declared.step.Contradiction.TheVariants.{Cycle}
+use Rattle.tmw_part.proofs.ends.push_cycles.Given as goal
+
+abbrev pub invariant-loop-place : goal.invariant-loop-place
+invariant-loop-place l =
+    l.list.items ++ map Cycle (drop l.place-index l.places) ≡ l.fn.list.items ++ map Cycle l.places

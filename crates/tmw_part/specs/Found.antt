@@ -1,0 +1,32 @@
+-- What is found of a reason why transactions have no serial order.
+use Rattle.std.specs.Prelude.{◌≡◌, ◌⊎◌, ◌<◌, ◌≤◌, ℕ, List, length, map, Option, Some, None}
+use Rattle.tmw_defs.specs.declared.criterion.Criterion.{Criterion}
+use Rattle.tmw_defs.specs.History.{Txn}
+use Rattle.tmw_defs.specs.Opaque.{State}
+use Rattle.tmw_part.specs.declared.reason.Reason.{Reason}
+use Rattle.tmw_part.specs.declared.step.Step.{Step}
+use Rattle.tmw_part.specs.declared.step.Contradiction.{Contradiction}
+use Rattle.tmw_part.specs.Reasons.{IsNeededEach, IsReason}
+
+-- The threads of transactions.
+abbrev pub threads_of : List Txn → List ℕ
+threads_of ts = map (λ t. t.thread) ts
+
+-- No steps that follow contradict each other.
+abbrev pub HasNoReason : Criterion → List State → List Txn → Type 0
+HasNoReason criterion states ts = (steps : List Step) (end : Contradiction) → IsReason criterion states ts steps end → ⊥
+
+-- The steps are a reason, none of which can be left out.
+pub record IsLeastReason (criterion : Criterion) (states : List State) (ts : List Txn) (steps : List Step) (end : Contradiction) : Type 0 where
+  pub is : IsReason criterion states ts steps end
+  pub needed : IsNeededEach criterion states ts steps end
+
+-- Such a reason, with the threads of the transactions, which are at most eight. If none is found, they are more, or have none.
+pub record IsFound (criterion : Criterion) (states : List State) (ts : List Txn) (reason : Reason) : Type 0 where
+  pub few : length ts ≤ 8
+  pub threads : map (λ ix. ix.number) reason.threads.items ≡ threads_of ts
+  pub least : IsLeastReason criterion states ts reason.steps.items reason.end
+
+abbrev pub FindsReason : Criterion → List State → List Txn → Option Reason → Type 0
+FindsReason criterion states ts None = (8 < length ts) ⊎ HasNoReason criterion states ts
+FindsReason criterion states ts (Some reason) = IsFound criterion states ts reason

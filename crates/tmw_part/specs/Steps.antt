@@ -1,0 +1,200 @@
+-- Steps of a reason why transactions have no serial order: when a step follows from those before it, and when they contradict each other.
+-- Transactions are told by their places in a list of them. The start stands before each and leaves each register its value.
+use Rattle.std.specs.Prelude.{◌≡◌, ◌==◌, ◌&&◌, ◌||◌, ◌+◌, ◌%◌, ◌^◌, ℕ, Bool, true, false, not, nat_lt, List, [], ◌∷◌, length, map, take, slice_get, slice_index, slice_index_or, Option, Some, None, IsTrue, if◌then◌else◌}
+use Rattle.std.specs.List.{list_all, list_any, range_with_len}
+use Rattle.tmw_events.specs.declared.ix.Ix.{Ix}
+use Rattle.tmw_defs.specs.declared.criterion.Criterion.{Criterion}
+use Rattle.tmw_defs.specs.declared.criterion.Criterion.TheVariants.{Opacity, Strict}
+use Rattle.tmw_defs.specs.declared.op.Op.{Op}
+use Rattle.tmw_defs.specs.declared.op.Op.TheVariants.{Read, Write, Add}
+use Rattle.tmw_defs.specs.declared.status.Status.{Status}
+use Rattle.tmw_defs.specs.declared.status.Status.TheVariants.{Live, Pending, Committed, Aborted}
+use Rattle.tmw_defs.specs.History.{Txn, status_of, operations}
+use Rattle.tmw_defs.specs.Opaque.{State, precedes, may_hold}
+use Rattle.tmw_defs.specs.Part.{is_answered}
+use Rattle.tmw_cuts.specs.Written.{writes, left_by}
+use Rattle.tmw_part.specs.declared.step.Source.{Source}
+use Rattle.tmw_part.specs.declared.step.Step.{Step}
+use Rattle.tmw_part.specs.declared.step.Step.TheVariants.{RealTime, From, ReadFirst, ChangedFirst, Through}
+use Rattle.tmw_part.specs.declared.step.Contradiction.{Contradiction}
+use Rattle.tmw_part.specs.declared.step.Contradiction.TheVariants.{Cycle, NoSource, Unlike}
+use Rattle.tmw_part.specs.Test.{nothing}
+
+-- The transaction at this place, and its operations.
+abbrev pub txn_at : List Txn → ℕ → Txn
+txn_at ts a = slice_index_or ts a nothing
+
+abbrev pub ops_at : List Txn → ℕ → List Op
+ops_at ts a = operations (txn_at ts a).text
+
+-- What the operations need the register to hold before them: the first of them on the register is a read or an add that was answered it.
+abbrev pub needed_of : ℕ → List Op → Option ℕ
+needed_of r [] = None
+needed_of r (Read q v ∷ ops) = if q.number == r then Some v else needed_of r ops
+needed_of r (Write q v ∷ ops) = if q.number == r then None else needed_of r ops
+needed_of r (Add q d v ∷ ops) = if q.number == r then Some v else needed_of r ops
+
+-- What the register holds after the operation, where before it this is known.
+abbrev pub known_after : ℕ → Option ℕ → Op → Option ℕ
+known_after r known (Read q v) = if q.number == r then Some v else known
+known_after r known (Write q v) = if q.number == r then Some v else known
+known_after r known (Add q d v) = if q.number == r then Some ((v + d) % 2 ^ 64) else known
+
+abbrev pub is_some_of : ℕ → Option ℕ → Bool
+is_some_of v None = false
+is_some_of v (Some w) = w == v
+
+-- One of the operations was answered `read` of the register, which by those before it held `held`.
+abbrev pub reads_unlike : ℕ → ℕ → ℕ → Option ℕ → List Op → Bool
+reads_unlike r held read known [] = false
+reads_unlike r held read known (op ∷ ops) =
+    (is_some_of held known && is_answered r read op) || reads_unlike r held read (known_after r known op) ops
+
+abbrev pub is_same_writer : Option ℕ → Option ℕ → Bool
+is_same_writer None None = true
+is_same_writer None (Some b) = false
+is_same_writer (Some a) None = false
+is_same_writer (Some a) (Some b) = a == b
+
+abbrev pub is_same_source : Source → Source → Bool
+is_same_source s t =
+    (s.reader == t.reader)
+    && ((s.register.number == t.register.number) && ((s.value == t.value) && is_same_writer s.writer t.writer))
+
+-- The step says that the one stands before the other.
+abbrev pub orders : ℕ → ℕ → Step → Bool
+orders a b (RealTime one other) = (one == a) && (other == b)
+orders a b (From s) = is_some_of a s.writer && (s.reader == b)
+orders a b (ReadFirst s w) = (s.reader == a) && (w == b)
+orders a b (ChangedFirst w s) = (w == a) && is_some_of b s.writer
+orders a b (Through one between other) = (one == a) && (other == b)
+
+-- The step says that this is the source.
+abbrev pub gives : Source → Step → Bool
+gives s (From t) = is_same_source s t
+gives s _ = false
+
+-- The step says that the transaction is some value's source.
+abbrev pub supplies : ℕ → Step → Bool
+supplies a (From s) = is_some_of a s.writer
+supplies a _ = false
+
+-- By these steps the one stands before the other. The start stands before each, and none before it.
+abbrev pub is_before : List Step → ℕ → ℕ → Bool
+is_before steps a b = list_any (orders a b) steps
+
+abbrev pub begins_before : List Step → Option ℕ → ℕ → Bool
+begins_before steps None b = true
+begins_before steps (Some a) b = is_before steps a b
+
+abbrev pub ends_before : List Step → ℕ → Option ℕ → Bool
+ends_before steps a None = false
+ends_before steps a (Some b) = is_before steps a b
+
+abbrev pub is_before_writer : List Step → ℕ → Option ℕ → Bool
+is_before_writer steps a None = true
+is_before_writer steps a (Some b) = is_before steps a b
+
+abbrev pub is_committed : Status → Bool
+is_committed Committed = true
+is_committed _ = false
+
+-- The transaction is held in each order: it has committed, or what another read comes from it.
+abbrev pub is_held : List Txn → List Step → ℕ → Bool
+is_held ts steps a = is_committed (status_of (txn_at ts a).text) || list_any (supplies a) steps
+
+-- Each order has the transaction.
+abbrev pub has_place : Criterion → List Txn → List Step → ℕ → Bool
+has_place Opacity ts steps a = nat_lt a (length ts)
+has_place Strict ts steps a = is_held ts steps a
+
+-- Whether the reader's value may come from this writer, or from the start, as far as one can tell without an order: one of the states has it, or the
+-- writer may be held and leaves it.
+abbrev pub may_come_from : List State → List Txn → Source → Option ℕ → Bool
+may_come_from states ts s None = list_any (λ state. slice_index state s.register.number == s.value) states
+may_come_from states ts s (Some a) =
+    not (a == s.reader)
+    && (may_hold (status_of (txn_at ts a).text) true && is_some_of s.value (left_by s.register.number None (ops_at ts a)))
+
+abbrev pub may_leave : List State → List Txn → Source → Bool
+may_leave states ts s = may_come_from states ts s s.writer
+
+-- The transaction is held, changes the source's register and is neither the reader nor the writer.
+abbrev pub is_rival : List Txn → List Step → Source → ℕ → Bool
+is_rival ts steps s a =
+    not (a == s.reader)
+    && (not (is_some_of a s.writer) && (is_held ts steps a && writes s.register.number (ops_at ts a)))
+
+-- The transaction is a rival that by these steps stands between the writer and the reader.
+abbrev pub stands_between : List Txn → List Step → Source → ℕ → Bool
+stands_between ts steps s a = is_rival ts steps s a && (begins_before steps s.writer a && is_before steps a s.reader)
+
+-- By these steps the value can't come from there: the reader stands before the writer, or a rival between the two.
+abbrev pub is_excluded : List Txn → List Step → Source → Bool
+is_excluded ts steps s =
+    ends_before steps s.reader s.writer || list_any (stands_between ts steps s) (range_with_len 0 (length ts))
+
+-- The same value from another source.
+abbrev pub from_else : Source → Option ℕ → Source
+from_else s w = record s { writer = w }
+
+-- The value can't come from there.
+abbrev pub is_no_source : List State → List Txn → List Step → Source → Bool
+is_no_source states ts steps s = not (may_leave states ts s) || is_excluded ts steps s
+
+-- The value can't come from this writer, unless it is the source's own.
+abbrev pub comes_not_else : List State → List Txn → List Step → Source → Option ℕ → Bool
+comes_not_else states ts steps s w = is_same_writer w s.writer || is_no_source states ts steps (from_else s w)
+
+-- It comes from no other than the source's own writer; and from none at all.
+abbrev pub is_only : List State → List Txn → List Step → Source → Bool
+is_only states ts steps s =
+    comes_not_else states ts steps s None
+    && list_all (λ a. comes_not_else states ts steps s (Some a)) (range_with_len 0 (length ts))
+
+abbrev pub comes_from_none : List State → List Txn → List Step → Source → Bool
+comes_from_none states ts steps s =
+    is_no_source states ts steps (from_else s None)
+    && list_all (λ a. is_no_source states ts steps (from_else s (Some a))) (range_with_len 0 (length ts))
+
+-- The reader stands in each order, and needs the register to hold the value.
+abbrev pub is_asked : Criterion → List Txn → List Step → Source → Bool
+is_asked criterion ts steps s =
+    has_place criterion ts steps s.reader && is_some_of s.value (needed_of s.register.number (ops_at ts s.reader))
+
+-- The source is known, and the transaction is a rival.
+abbrev pub is_known_rival : List Txn → List Step → Source → ℕ → Bool
+is_known_rival ts steps s a = list_any (gives s) steps && is_rival ts steps s a
+
+-- Whether a step follows from these.
+abbrev pub follows : Criterion → List State → List Txn → List Step → Step → Bool
+follows criterion states ts steps (RealTime one other) = not (one == other) && precedes (txn_at ts one) (txn_at ts other)
+follows criterion states ts steps (From s) =
+    is_asked criterion ts steps s
+    && (may_leave states ts s && is_only states ts steps s)
+follows criterion states ts steps (ReadFirst s w) = is_known_rival ts steps s w && begins_before steps s.writer w
+follows criterion states ts steps (ChangedFirst w s) = is_known_rival ts steps s w && is_before steps w s.reader
+follows criterion states ts steps (Through one between other) =
+    has_place criterion ts steps between && (is_before steps one between && is_before steps between other)
+
+-- Whether these steps can be so in no order.
+abbrev pub contradicts : Criterion → List State → List Txn → List Step → Contradiction → Bool
+contradicts criterion states ts steps (Cycle a) = has_place criterion ts steps a && is_before steps a a
+contradicts criterion states ts steps (NoSource b r v) =
+    let s : Source = record { reader = b; register = r; value = v; writer = None } in
+    is_asked criterion ts steps s && comes_from_none states ts steps s
+contradicts criterion states ts steps (Unlike a r held read) =
+    has_place criterion ts steps a && (not (held == read) && reads_unlike r.number held read None (ops_at ts a))
+
+-- By these steps it is known what the step says.
+abbrev pub tells : List Step → Step → Bool
+tells steps (RealTime one other) = is_before steps one other
+tells steps (From s) = list_any (gives s) steps
+tells steps (ReadFirst s w) = is_before steps s.reader w
+tells steps (ChangedFirst w s) = is_before_writer steps w s.writer
+tells steps (Through one between other) = is_before steps one other
+
+-- Each of the steps follows from those before it.
+abbrev pub Derives : Criterion → List State → List Txn → List Step → Type 0
+Derives criterion states ts steps =
+    (i : ℕ) (step : Step) → slice_get steps i ≡ Some step → IsTrue (follows criterion states ts (take i steps) step)

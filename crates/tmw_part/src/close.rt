@@ -1,0 +1,91 @@
+ghost use Rattle.std.specs.Prelude.{◌≡◌, IfOk, None, find};
+ghost use Rattle.tmw_part.specs.Candidates.{is_new};
+ghost use Rattle.tmw_part.specs.Shown.{txns_of};
+ghost use Rattle.tmw_part.specs.Steps.{Derives, is_before_writer, tells};
+
+use crate::follows::follows;
+use crate::known::{is_before, is_given};
+use crate::step::Step;
+use crate::transaction::Transaction;
+use std::alloc::{AllocError, Global};
+use tmw_cuts::State;
+use tmw_defs::Criterion;
+
+/// Whether by these steps the one transaction stands before the writer, if there is one.
+fn is_before_writer(steps: &[Step], one: usize, writer: Option<usize>) -> bool
+    ensures { result ≡ is_before_writer steps.now one writer }
+{
+    match writer {
+        None => true,
+        Some(other) => is_before(steps, one, other),
+    }
+}
+
+/// Whether by these steps it is known what the step says.
+fn tells(steps: &[Step], step: &Step) -> bool
+    ensures { result ≡ tells steps.now step.now }
+{
+    match *step {
+        Step::RealTime { one, other } => is_before(steps, one, other),
+        Step::From(source) => is_given(steps, &source),
+        Step::ReadFirst { source, writer } => is_before(steps, source.reader, writer),
+        Step::ChangedFirst { writer, source } => is_before_writer(steps, writer, source.writer),
+        Step::Through {
+            one,
+            between: _between,
+            other,
+        } => is_before(steps, one, other),
+    }
+}
+
+/// Whether the step follows from these, which don't tell it yet.
+fn is_new(
+    criterion: Criterion,
+    states: &[State],
+    transactions: &[Transaction],
+    steps: &[Step],
+    step: &Step,
+) -> bool
+    ensures { result ≡ is_new criterion states.now (txns_of transactions.now) steps.now step.now }
+{
+    !tells(steps, step) && follows(criterion, states, transactions, steps, step)
+}
+
+/// Finds the first of the candidates that follows from the steps and isn't told by them.
+fn find_step(
+    criterion: Criterion,
+    states: &[State],
+    transactions: &[Transaction],
+    steps: &[Step],
+    candidates: &[Step],
+) -> Option<Step>
+    ensures { result
+        ≡ find (is_new criterion states.now (txns_of transactions.now) steps.now) candidates.now }
+{
+    for candidate in candidates {
+        if is_new(criterion, states, transactions, steps, candidate) {
+            return Some(*candidate);
+        }
+    }
+    None
+}
+
+/// Returns steps, each of which follows from those before it, so that no candidate follows that they don't tell.
+pub(crate) fn close(
+    criterion: Criterion,
+    alloc: Global,
+    states: &[State],
+    transactions: &[Transaction],
+    candidates: &[Step],
+) -> Result<Vec<Step>, AllocError>
+    ensures derives { IfOk result (λ steps.
+        Derives criterion states.now (txns_of transactions.now) steps.items) }
+    ensures closed { IfOk result (λ steps.
+        find (is_new criterion states.now (txns_of transactions.now) steps.items) candidates.now ≡ None) }
+{
+    let mut steps = Vec::new(alloc);
+    while let Some(step) = find_step(criterion, states, transactions, &steps, candidates) {
+        steps.push(step)?;
+    }
+    Ok(steps)
+}

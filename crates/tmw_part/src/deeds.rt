@@ -1,0 +1,136 @@
+ghost use Rattle.std.specs.Prelude.{◌≡◌, ◌≢◌, ℕ, None, Some, IfSome, IfNone, IsTrue};
+ghost use Rattle.tmw_defs.specs.History.{operations};
+ghost use Rattle.tmw_defs.specs.Part.{is_answered};
+ghost use Rattle.tmw_cuts.specs.Written.{writes, left_by};
+ghost use Rattle.tmw_part.specs.Candidates.{answer_of, first_unlike};
+ghost use Rattle.tmw_part.specs.Steps.{is_some_of, known_after, needed_of, reads_unlike};
+
+use tmw_cuts::operation;
+use tmw_defs::Op;
+use tmw_events::{Ix, Kind};
+
+/// Whether the value is there and is this.
+pub(crate) fn is_some_of(value: u64, option: Option<u64>) -> bool
+    ensures { result ≡ is_some_of value option }
+{
+    match option {
+        Some(other) => other == value,
+        None => false,
+    }
+}
+
+/// The value of the register that the operations of a transaction need before them.
+pub(crate) fn needed_of(register: Ix, text: &[Kind]) -> Option<u64>
+    ensures { result ≡ needed_of register.number (operations text.now) }
+{
+    let mut rest = text;
+    while let [call, answer, more @ ..] = rest {
+        match operation(*call, *answer) {
+            Some(Op::Read(other, value)) if other == register => return Some(value),
+            Some(Op::Write(other, _value)) if other == register => return None,
+            Some(Op::Add(other, _added, value)) if other == register => return Some(value),
+            _ => {}
+        }
+        rest = more;
+    }
+    None
+}
+
+/// The value that the operations of a transaction leave in the register, if they write or add to it.
+pub(crate) fn left_by(register: Ix, text: &[Kind]) -> Option<u64>
+    ensures { result ≡ left_by register.number None (operations text.now) }
+{
+    let mut left = None;
+    let mut rest = text;
+    while let [call, answer, more @ ..] = rest {
+        match operation(*call, *answer) {
+            Some(Op::Write(other, value)) if other == register => left = Some(value),
+            Some(Op::Add(other, added, value)) if other == register => {
+                left = Some(value.wrapping_add(added));
+            }
+            _ => {}
+        }
+        rest = more;
+    }
+    left
+}
+
+/// Whether one of the operations of a transaction writes or adds to the register.
+pub(crate) fn writes(register: Ix, text: &[Kind]) -> bool
+    ensures { result ≡ writes register.number (operations text.now) }
+{
+    let mut rest = text;
+    while let [call, answer, more @ ..] = rest {
+        match operation(*call, *answer) {
+            Some(Op::Write(other, _value)) if other == register => return true,
+            Some(Op::Add(other, _added, _value)) if other == register => return true,
+            _ => {}
+        }
+        rest = more;
+    }
+    false
+}
+
+/// The value that the operation was answered of the register.
+fn answer_of(register: Ix, op: Op) -> Option<u64>
+    ensures value { result ≡ answer_of register.number op }
+    ensures test { (value : ℕ) → is_answered register.number value op ≡ is_some_of value result }
+{
+    let (other, value) = match op {
+        Op::Read(other, value) => (other, value),
+        Op::Write(_other, _value) => return None,
+        Op::Add(other, _added, value) => (other, value),
+    };
+    if other == register { Some(value) } else { None }
+}
+
+/// What the register holds after the operation, where this is known before it.
+fn known_after(register: Ix, known: Option<u64>, op: Op) -> Option<u64>
+    ensures { result ≡ known_after register.number known op }
+{
+    let (other, value) = match op {
+        Op::Read(other, value) => (other, value),
+        Op::Write(other, value) => (other, value),
+        Op::Add(other, added, value) => (other, value.wrapping_add(added)),
+    };
+    if other == register { Some(value) } else { known }
+}
+
+/// Whether an operation of a transaction was answered `read` of the register, which by those before it held `held`.
+pub(crate) fn reads_unlike(register: Ix, held: u64, read: u64, text: &[Kind]) -> bool
+    ensures { result ≡ reads_unlike register.number held read None (operations text.now) }
+{
+    let mut known = None;
+    let mut rest = text;
+    while let [call, answer, more @ ..] = rest {
+        if let Some(op) = operation(*call, *answer) {
+            if is_some_of(held, known) && is_some_of(read, answer_of(register, op)) {
+                return true;
+            }
+            known = known_after(register, known, op);
+        }
+        rest = more;
+    }
+    false
+}
+
+/// Finds an operation of a transaction that was answered another value of the register than it held by those before
+/// it. Returns what it held and what was answered.
+pub(crate) fn find_unlike(register: Ix, text: &[Kind]) -> Option<(u64, u64)>
+    ensures { result ≡ first_unlike register.number None (operations text.now) }
+{
+    let mut known = None;
+    let mut rest = text;
+    while let [call, answer, more @ ..] = rest {
+        if let Some(op) = operation(*call, *answer) {
+            if let (Some(held), Some(read)) = (known, answer_of(register, op)) {
+                if held != read {
+                    return Some((held, read));
+                }
+            }
+            known = known_after(register, known, op);
+        }
+        rest = more;
+    }
+    None
+}

@@ -1,0 +1,330 @@
+ghost use Rattle.std.specs.Prelude.{◌≡◌, ◌==◌, Some, length, slice_index};
+ghost use Rattle.std.specs.List.{list_all, list_any, range_with_len};
+ghost use Rattle.tmw_defs.specs.Opaque.{precedes};
+ghost use Rattle.tmw_part.specs.Shown.{txns_of};
+ghost use Rattle.tmw_part.specs.Steps.{comes_from_none, comes_not_else, contradicts, follows, from_else, has_place, is_asked, is_excluded, is_held, is_known_rival, is_no_source, is_only, is_rival, is_same_writer, may_come_from, stands_between, txn_at};
+
+use crate::deeds::{is_some_of, left_by, needed_of, reads_unlike, writes};
+use crate::known::{begins_before, ends_before, is_before, is_given, is_same_writer, is_supplied};
+use crate::step::{Contradiction, Source, Step};
+use crate::transaction::{Transaction, precedes, status_of};
+use tmw_cuts::State;
+use tmw_defs::{Criterion, Status};
+use tmw_events::{Ix, Kind};
+
+/// The text of the transaction at this place.
+pub(crate) fn text_at(transactions: &[Transaction], place: usize) -> &[Kind]
+    ensures { result.now ≡ (txn_at (txns_of transactions.now) place).text }
+{
+    match transactions.get(place) {
+        Some(transaction) => &transaction.text,
+        None => &[],
+    }
+}
+
+/// Whether the transaction at this place is held in each order.
+fn is_held(transactions: &[Transaction], steps: &[Step], place: usize) -> bool
+    ensures { result ≡ is_held (txns_of transactions.now) steps.now place }
+{
+    status_of(text_at(transactions, place)) == Status::Committed || is_supplied(steps, place)
+}
+
+/// Whether each order has the transaction at this place.
+fn has_place(
+    criterion: Criterion,
+    transactions: &[Transaction],
+    steps: &[Step],
+    place: usize,
+) -> bool
+    ensures { result ≡ has_place criterion (txns_of transactions.now) steps.now place }
+{
+    match criterion {
+        Criterion::Opacity => place < transactions.len(),
+        Criterion::Strict => is_held(transactions, steps, place),
+    }
+}
+
+/// Whether one of the states has this value in the register.
+fn has_value(states: &[State], register: Ix, value: u64) -> bool
+    ensures { result ≡ list_any (λ state. slice_index state register.number == value) states.now }
+{
+    states
+        .iter()
+        .any(|state| state[register.get() as usize] == value)
+}
+
+/// Whether a reader's value may come from this writer, or from the start, as far as one can tell without an order.
+fn may_come_from(
+    states: &[State],
+    transactions: &[Transaction],
+    source: &Source,
+    writer: Option<usize>,
+) -> bool
+    ensures { result ≡ may_come_from states.now (txns_of transactions.now) source.now writer }
+{
+    match writer {
+        None => has_value(states, source.register, source.value),
+        Some(place) => {
+            let text = text_at(transactions, place);
+            place != source.reader
+                && matches!(status_of(text), Status::Committed | Status::Pending)
+                && is_some_of(source.value, left_by(source.register, text))
+        }
+    }
+}
+
+/// Whether the transaction is held, changes the source's register and is neither the reader nor the writer.
+fn is_rival(
+    transactions: &[Transaction],
+    steps: &[Step],
+    source: &Source,
+    place: usize,
+) -> bool
+    ensures { result ≡ is_rival (txns_of transactions.now) steps.now source.now place }
+{
+    place != source.reader
+        && !is_same_writer(source.writer, Some(place))
+        && is_held(transactions, steps, place)
+        && writes(source.register, text_at(transactions, place))
+}
+
+/// Whether the transaction is a rival that by these steps stands between the writer and the reader.
+fn stands_between(
+    transactions: &[Transaction],
+    steps: &[Step],
+    source: &Source,
+    place: usize,
+) -> bool
+    ensures { result ≡ stands_between (txns_of transactions.now) steps.now source.now place }
+{
+    is_rival(transactions, steps, source, place)
+        && begins_before(steps, source.writer, place)
+        && is_before(steps, place, source.reader)
+}
+
+/// Whether by these steps a rival stands between the writer and the reader.
+fn is_overwritten(transactions: &[Transaction], steps: &[Step], source: &Source) -> bool
+    ensures { result ≡ list_any (stands_between (txns_of transactions.now) steps.now source.now)
+        (range_with_len 0 (length transactions.now)) }
+{
+    (0..transactions.len()).any(|place| stands_between(transactions, steps, source, place))
+}
+
+/// Whether by these steps the value can't come from there: the reader stands before the writer, or a rival stands
+/// between the two.
+fn is_excluded(transactions: &[Transaction], steps: &[Step], source: &Source) -> bool
+    ensures { result ≡ is_excluded (txns_of transactions.now) steps.now source.now }
+{
+    ends_before(steps, source.reader, source.writer) || is_overwritten(transactions, steps, source)
+}
+
+/// Whether the value can't come from there.
+fn is_no_source(
+    states: &[State],
+    transactions: &[Transaction],
+    steps: &[Step],
+    source: &Source,
+) -> bool
+    ensures { result ≡ is_no_source states.now (txns_of transactions.now) steps.now source.now }
+{
+    !may_come_from(states, transactions, source, source.writer)
+        || is_excluded(transactions, steps, source)
+}
+
+/// Whether each order has the reader, which needs the register to hold the value.
+fn is_asked(
+    criterion: Criterion,
+    transactions: &[Transaction],
+    steps: &[Step],
+    source: &Source,
+) -> bool
+    ensures { result ≡ is_asked criterion (txns_of transactions.now) steps.now source.now }
+{
+    let needed = needed_of(source.register, text_at(transactions, source.reader));
+    has_place(criterion, transactions, steps, source.reader) && is_some_of(source.value, needed)
+}
+
+/// Whether the value can't come from this writer, unless it is the source's own.
+fn comes_not_else(
+    states: &[State],
+    transactions: &[Transaction],
+    steps: &[Step],
+    source: &Source,
+    writer: Option<usize>,
+) -> bool
+    ensures { result ≡ comes_not_else states.now (txns_of transactions.now) steps.now source.now writer }
+{
+    let other = Source { writer, ..*source };
+    is_same_writer(writer, source.writer) || is_no_source(states, transactions, steps, &other)
+}
+
+/// Whether the value comes from no other transaction than the source's own writer.
+fn from_no_other(
+    states: &[State],
+    transactions: &[Transaction],
+    steps: &[Step],
+    source: &Source,
+) -> bool
+    ensures { result
+        ≡ list_all (λ a. comes_not_else states.now (txns_of transactions.now) steps.now source.now (Some a))
+          (range_with_len 0 (length transactions.now)) }
+{
+    (0..transactions.len())
+        .all(|place| comes_not_else(states, transactions, steps, source, Some(place)))
+}
+
+/// Whether the value comes from nowhere but the source's own writer.
+fn is_only(
+    states: &[State],
+    transactions: &[Transaction],
+    steps: &[Step],
+    source: &Source,
+) -> bool
+    ensures { result ≡ is_only states.now (txns_of transactions.now) steps.now source.now }
+{
+    comes_not_else(states, transactions, steps, source, None)
+        && from_no_other(states, transactions, steps, source)
+}
+
+/// Whether the value can't come from this writer.
+fn comes_not_from(
+    states: &[State],
+    transactions: &[Transaction],
+    steps: &[Step],
+    source: &Source,
+    writer: Option<usize>,
+) -> bool
+    ensures { result
+        ≡ is_no_source states.now (txns_of transactions.now) steps.now (from_else source.now writer) }
+{
+    let other = Source { writer, ..*source };
+    is_no_source(states, transactions, steps, &other)
+}
+
+/// Whether the value can't come from any transaction.
+fn from_no_transaction(
+    states: &[State],
+    transactions: &[Transaction],
+    steps: &[Step],
+    source: &Source,
+) -> bool
+    ensures { result
+        ≡ list_all (λ a. is_no_source states.now (txns_of transactions.now) steps.now (from_else source.now (Some a)))
+          (range_with_len 0 (length transactions.now)) }
+{
+    (0..transactions.len())
+        .all(|place| comes_not_from(states, transactions, steps, source, Some(place)))
+}
+
+/// Whether the value can come neither from the start nor from any transaction.
+fn comes_from_none(
+    states: &[State],
+    transactions: &[Transaction],
+    steps: &[Step],
+    source: &Source,
+) -> bool
+    ensures { result ≡ comes_from_none states.now (txns_of transactions.now) steps.now source.now }
+{
+    comes_not_from(states, transactions, steps, source, None)
+        && from_no_transaction(states, transactions, steps, source)
+}
+
+/// Whether the one transaction precedes the other in real time, by their places.
+fn precedes_at(transactions: &[Transaction], one: usize, other: usize) -> bool
+    ensures { result ≡ precedes (txn_at (txns_of transactions.now) one) (txn_at (txns_of transactions.now) other) }
+{
+    match (transactions.get(one), transactions.get(other)) {
+        (Some(first), Some(second)) => precedes(first, second),
+        _ => false,
+    }
+}
+
+/// Whether the transaction is a rival of a source that is known.
+fn is_known_rival(
+    transactions: &[Transaction],
+    steps: &[Step],
+    source: &Source,
+    place: usize,
+) -> bool
+    ensures { result ≡ is_known_rival (txns_of transactions.now) steps.now source.now place }
+{
+    is_given(steps, source) && is_rival(transactions, steps, source, place)
+}
+
+/// Tells whether the step follows from these.
+pub(crate) fn follows(
+    criterion: Criterion,
+    states: &[State],
+    transactions: &[Transaction],
+    steps: &[Step],
+    step: &Step,
+) -> bool
+    ensures { result ≡ follows criterion states.now (txns_of transactions.now) steps.now step.now }
+{
+    match *step {
+        Step::RealTime { one, other } => one != other && precedes_at(transactions, one, other),
+        Step::From(source) => {
+            is_asked(criterion, transactions, steps, &source)
+                && may_come_from(states, transactions, &source, source.writer)
+                && is_only(states, transactions, steps, &source)
+        }
+        Step::ReadFirst { source, writer } => {
+            is_known_rival(transactions, steps, &source, writer)
+                && begins_before(steps, source.writer, writer)
+        }
+        Step::ChangedFirst { writer, source } => {
+            is_known_rival(transactions, steps, &source, writer)
+                && is_before(steps, writer, source.reader)
+        }
+        Step::Through {
+            one,
+            between,
+            other,
+        } => {
+            has_place(criterion, transactions, steps, between)
+                && is_before(steps, one, between)
+                && is_before(steps, between, other)
+        }
+    }
+}
+
+/// Tells whether these steps contradict each other so.
+pub(crate) fn contradicts(
+    criterion: Criterion,
+    states: &[State],
+    transactions: &[Transaction],
+    steps: &[Step],
+    end: &Contradiction,
+) -> bool
+    ensures { result ≡ contradicts criterion states.now (txns_of transactions.now) steps.now end.now }
+{
+    match *end {
+        Contradiction::Cycle(place) => {
+            has_place(criterion, transactions, steps, place) && is_before(steps, place, place)
+        }
+        Contradiction::NoSource {
+            reader,
+            register,
+            value,
+        } => {
+            let source = Source {
+                reader,
+                register,
+                value,
+                writer: None,
+            };
+            is_asked(criterion, transactions, steps, &source)
+                && comes_from_none(states, transactions, steps, &source)
+        }
+        Contradiction::Unlike {
+            reader,
+            register,
+            held,
+            read,
+        } => {
+            has_place(criterion, transactions, steps, reader)
+                && held != read
+                && reads_unlike(register, held, read, text_at(transactions, reader))
+        }
+    }
+}

@@ -1,0 +1,50 @@
+use tmw_events::Ix;
+
+/// Where a value comes from that a transaction read of a register. Transactions are told by their places among all, which count from 0.
+#[derive(Clone, Copy, PartialEq, Eq, Debug)]
+pub struct Source {
+    pub reader: usize,
+    pub register: Ix,
+    pub value: u64,
+    /// The transaction that left the value. If there is none, it stood there from the start.
+    pub writer: Option<usize>,
+}
+
+/// What holds in each serial order of some transactions, and why.
+#[derive(Clone, Copy, PartialEq, Eq, Debug)]
+pub enum Step {
+    /// `one` stands before `other`: it was completed before `other` began.
+    RealTime { one: usize, other: usize },
+    /// The value comes from there: nobody else can have left it.
+    From(Source),
+    /// The reader stands before `writer`, which changes the register too and stands behind the source.
+    ReadFirst { source: Source, writer: usize },
+    /// `writer` stands before the source: it changes the register too and stands before the reader.
+    ChangedFirst { writer: usize, source: Source },
+    /// `one` stands before `other`: it stands before `between`, and `between` before `other`.
+    Through {
+        one: usize,
+        between: usize,
+        other: usize,
+    },
+}
+
+/// What can be so in no serial order.
+#[derive(Clone, Copy, PartialEq, Eq, Debug)]
+pub enum Contradiction {
+    /// The transaction at this place stands before itself.
+    Cycle(usize),
+    /// The reader read the value of the register, and nobody can have left it there.
+    NoSource {
+        reader: usize,
+        register: Ix,
+        value: u64,
+    },
+    /// The transaction read `read` of the register, where by its own earlier operations it held `held`.
+    Unlike {
+        reader: usize,
+        register: Ix,
+        held: u64,
+        read: u64,
+    },
+}
