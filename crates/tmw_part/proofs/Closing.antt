@@ -70,7 +70,7 @@ count-le p q (x ∷ xs) to =
       | inr not_so ↦ elim (cases_Bool (p x)) [
         | inl is ↦ rw (not_so, is) (omega (arith, rest))
         | inr neither ↦ rw (not_so, neither) (omega (arith, rest))
-        ]
+      ]
     ]
 
 count-falls : {A : Type 0} (p q r : A → Bool) (xs : List A) (x : A) → ((y : A) → IsTrue (q y) → IsTrue (p y)) → find r xs ≡ Some x
@@ -92,7 +92,7 @@ count-falls p q r (y ∷ ys) x to is has lacks =
             | inr not_so ↦ elim (cases_Bool (p y)) [
               | inl so ↦ rw (not_so, so) (omega (arith, rest))
               | inr neither ↦ rw (not_so, neither) (omega (arith, rest))
-              ]
+            ]
           ]
     ]
 

@@ -84,7 +84,7 @@ none_passes p (y ∷ ys) x none is =
       | inr fails ↦ elim is [
         | inl here ↦ rw (← here) fails
         | inr there ↦ none_passes p ys x (rw fails at none) there
-        ]
+      ]
     ]
 
 -- what does something has a place
@@ -116,10 +116,10 @@ precedes_within : (ts : List Txn) (a b : ℕ) → IsTrue (precedes (txn_at ts a)
 precedes_within ts a b is = (
   within-unless ts a (λ none. let e = rw none at is in absurd (cc)),
   within-unless ts b (λ none.
-  let late = (and_parts (is_ended (txn_at ts a).text) _ is).1 in
-  let low = ltb-true (txn_at ts a).last (txn_at ts b).first late in
-  let zero_at : (txn_at ts b).first ≡ 0 = ap (λ (t : Txn). t.first) none in
-  omega (arith, low, zero_at)),
+      let late = (and_parts (is_ended (txn_at ts a).text) _ is).1 in
+      let low = ltb-true (txn_at ts a).last (txn_at ts b).first late in
+      let zero_at : (txn_at ts b).first ≡ 0 = ap (λ (t : Txn). t.first) none in
+      omega (arith, low, zero_at)),
 )
 
 -- the step's transactions are among these
@@ -330,7 +330,7 @@ any_push p others x P before last is =
       | inr there ↦ elim (or_cases (p x) false there) [
         | inl now ↦ last now
         | inr none ↦ absurd (cc)
-        ]
+      ]
     ]
 
 covers-push : (steps others : List Step) (x : Step) → Covers steps others → IsTrue (tells steps x) → Covers steps (others ++ x ∷ [])
@@ -428,7 +428,7 @@ pub no_reason : (criterion : Criterion) (states : List State) (ts : List Txn) (r
     → ((register : Ix) → Contains registers register) → Derives criterion states ts steps
     → find (is_new criterion states ts steps) (candidates (sources ts registers (range_with_len 0 (length ts))) (range_with_len 0 (length ts))) ≡ None
     → find (contradicts criterion states ts steps)
-      (ends ts registers (range_with_len 0 (length ts)) (sources ts registers (range_with_len 0 (length ts)))) ≡ None
+    (ends ts registers (range_with_len 0 (length ts)) (sources ts registers (range_with_len 0 (length ts)))) ≡ None
     → HasNoReason criterion states ts
 no_reason criterion states ts registers steps all derives closed none = λ others end reason.
     let covers = subst (Covers steps) (take_all (length others) others (omega arith)) (upto others reason.derives (length others) (omega arith)) in

@@ -8,5 +8,6 @@ mod Marking
 mod OrderFacts
 mod OrderValues
 mod Parts
+mod StepsProof
 mod TestProof
 mod Violation

@@ -216,7 +216,7 @@ serial Strict s ts order all a =
     record {
       from = λ i p at. let found = placed_from a.members order e.each i p at in held_from ts a.members a.are found.0 p.txn found.1;
       has = λ b t at in_it.
-      let found = committed_held ts a.members a.are b t at in_it in each_placed a.members order e.each found.0 t found.1;
+          let found = committed_held ts a.members a.are b t at in_it in each_placed a.members order e.each found.0 t found.1;
       once = placed_once a.members order e.each (held_apart ts a.members a.are all);
       kept = kept_at order e.kept;
       may = λ i p at. all_at may_be order i p e.completed at;

@@ -241,17 +241,17 @@ value_at s (x ∷ order) r zero long = inr (record { none = λ k low high c. ome
 value_at s (x ∷ order) r (suc j) long =
     elim (value_at (after s x) order r j (length-after s x ∙ long)) [
       | inl found ↦ inl (record {
-          place = suc found.place;
-          changes = record {
-            placed = found.changes.placed;
-            there = found.changes.there;
-            held = found.changes.held;
-            writes = found.changes.writes;
-          };
-          before = omega (arith, found.before);
-          last = unchanged-after x order r (suc found.place) j found.last;
-          leaves = found.leaves;
-        })
+        place = suc found.place;
+        changes = record {
+          placed = found.changes.placed;
+          there = found.changes.there;
+          held = found.changes.held;
+          writes = found.changes.writes;
+        };
+        before = omega (arith, found.before);
+        last = unchanged-after x order r (suc found.place) j found.last;
+        leaves = found.leaves;
+      })
       | inr none ↦ elim (cases_Bool x.held) [
         | inl held ↦ elim (cases_Bool (writes r (operations x.txn.text))) [
           | inl w ↦
@@ -270,12 +270,12 @@ value_at s (x ∷ order) r (suc j) long =
                 none = unchanged-all x order r j (λ h w. let e = sym not_so ∙ w in absurd (cc)) none.none;
                 same = none.same ∙ ap (λ (t : State). slice_index t r) now ∙ unwritten s r (operations x.txn.text) not_so;
               })
-          ]
+        ]
         | inr out ↦
             let now : after s x ≡ s = rw out refl in
             inr (record {
               none = unchanged-all x order r j (λ h w. let e = sym out ∙ h in absurd (cc)) none.none;
               same = none.same ∙ ap (λ (t : State). slice_index t r) now;
             })
-        ]
+      ]
     ]

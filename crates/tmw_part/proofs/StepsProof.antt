@@ -309,7 +309,7 @@ module _ (criterion : Criterion) (states : List State) (ts : List Txn) (start : 
               within = tt;
               comes = none.none;
               may = list_any_at (λ state. slice_index state r == s.value) states k start low
-              (rw is (eq-eqb _ s.value (sym none.same ∙ value)));
+                  (rw is (eq-eqb _ s.value (sym none.same ∙ value)));
             }
       ]
 
@@ -356,7 +356,7 @@ module _ (criterion : Criterion) (states : List State) (ts : List Txn) (start : 
         | inr differ ↦ elim differ [
           | inl low ↦ low
           | inr high ↦ absurd (between v comes begins high)
-          ]
+        ]
       ]
     where
       between : (v : Option ℕ) → ComesFrom ts order s.register.number k v → IsTrue (begins_before steps v w) → r.place < k → ⊥
@@ -378,7 +378,7 @@ module _ (criterion : Criterion) (states : List State) (ts : List Txn) (start : 
         | inr differ ↦ elim differ [
           | inl before ↦ omega (arith, before)
           | inr behind ↦ absurd (last r.place (omega (arith, behind)) high r.changes)
-          ]
+        ]
       ]
 
   -- each step that follows holds
@@ -396,7 +396,7 @@ module _ (criterion : Criterion) (states : List State) (ts : List Txn) (start : 
               let first = txn_at-get ts one at.placed.txn at.is in
               let second = txn_at-get ts other there.placed.txn there.is in
               absurd (let e = rw (first, second) at before in let f = sym kept ∙ e in cc)
-          ]
+        ]
       ]
   step_holds (From s) is =
       let (asked, rest) = and_parts (is_asked criterion ts steps s) _ is in
@@ -496,6 +496,6 @@ module _ (criterion : Criterion) (states : List State) (ts : List Txn) (steps : 
 pub reason_law : ReasonLaw
 reason_law criterion states ts steps begin long derives = record {
   hold = λ s order start explains.
-  All-from_recursion (HoldsIn ts order) steps (all_hold criterion states ts steps begin long derives s order start explains);
+      All-from_recursion (HoldsIn ts order) steps (all_hold criterion states ts steps begin long derives s order start explains);
   none = λ end is s order start explains. contradict_none criterion states ts steps begin long derives s order start explains end is;
 }

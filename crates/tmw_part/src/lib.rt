@@ -24,3 +24,5 @@ pub use find::{MOST_EVENTS, find_part};
 pub use marks::kept_of;
 pub use part::law_test;
 pub use piece::Piece;
+pub use reason::{Reason, find_reason, law_reason};
+pub use step::{Contradiction, Source, Step};
