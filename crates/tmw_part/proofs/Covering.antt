@@ -31,7 +31,7 @@ pub any-mono : {A : Type 0} (p q : A → Bool) (xs : List A) → ((x : A) → Is
 any-mono p q [] to any = absurd (cc)
 any-mono p q (x ∷ xs) to any = or-mono (p x) _ (q x) _ (to x) (any-mono p q xs to) any
 
-all-mono : {A : Type 0} (p q : A → Bool) (xs : List A) → ((x : A) → IsTrue (p x) → IsTrue (q x)) → IsTrue (list_all p xs) → IsTrue (list_all q xs)
+pub all-mono : {A : Type 0} (p q : A → Bool) (xs : List A) → ((x : A) → IsTrue (p x) → IsTrue (q x)) → IsTrue (list_all p xs) → IsTrue (list_all q xs)
 all-mono p q [] to all = refl
 all-mono p q (x ∷ xs) to all = and-mono (p x) _ (q x) _ (to x) (all-mono p q xs to) all
 

@@ -1,7 +1,7 @@
 ghost use Rattle.std.specs.Prelude.{◌≡◌, IfOk, MatchOption, map};
 ghost use Rattle.tmw_defs.specs.History.{transactions};
 ghost use Rattle.tmw_part.specs.Found.{FindsReason, HasNoReason, IsLeastReason, threads_of};
-ghost use Rattle.tmw_part.specs.Reasons.{ReasonLaw};
+ghost use Rattle.tmw_part.specs.Reasons.{ReasonLaw, ReasonTells};
 ghost use Rattle.tmw_part.specs.Shown.{txns_of};
 
 use crate::candidates::candidates;
@@ -95,7 +95,9 @@ pub fn find_reason(
     }))
 }
 
-/// Proves that the steps of a reason hold in each serial order, and that steps that contradict each other leave none.
+/// Proves that the steps of a reason hold in each serial order, over all lists of transactions that begin at different
+/// places, and that steps that contradict each other leave no order. So where a reason is found there is none.
 pub fn law_reason()
-    ensures { ReasonLaw }
+    ensures steps { ReasonLaw }
+    ensures events { ReasonTells }
 {}
