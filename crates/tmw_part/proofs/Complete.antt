@@ -1,6 +1,6 @@
 -- Where no candidate is new and no contradiction that is tried is met, there is no reason: each step that follows is a candidate.
-use Rattle.std.proofs.Common.{◌≡◌, ◌≢◌, ◌==◌, ◌&&◌, ◌||◌, ◌+◌, ◌<◌, ◌≤◌, ◌⊎◌, ℕ, zero, suc, Bool, true, false, not, cond, List, [], ◌∷◌, ◌++◌, length, map, Option, Some, None, IsTrue, refl, sym, ap, ◌∙◌, inl, inr, subst, arith}
-use Rattle.std.specs.Prelude.{slice_get, slice_index_or, take, find, nat_lt, if◌then◌else◌}
+use Rattle.std.proofs.Common.{◌≡◌, ◌==◌, ◌&&◌, ◌||◌, ◌+◌, ◌<◌, ◌≤◌, ◌⊎◌, ℕ, zero, suc, Bool, true, false, not, List, [], ◌∷◌, ◌++◌, length, map, Option, Some, None, IsTrue, refl, sym, ap, ◌∙◌, inl, inr, subst, arith}
+use Rattle.std.specs.Prelude.{slice_get, take, find}
 use Rattle.std.specs.List.{Contains, flat_map, list_any, range_with_len, AllByRecursion}
 use Rattle.std.proofs.lemmas.Bool.{and_parts, and_from, or_cases, or_left, or_right, cases_Bool, cases_lt, eqb-true, eqb-false, eq-eqb, ne_eqb, not-true, not_from_false, ltb-true}
 use Rattle.std.proofs.lemmas.List.{take_all}
@@ -10,22 +10,21 @@ use Rattle.tmw_events.proofs.Same.{same_ix}
 use Rattle.tmw_defs.specs.declared.criterion.Criterion.{Criterion}
 use Rattle.tmw_defs.specs.declared.op.Op.{Op}
 use Rattle.tmw_defs.specs.declared.op.Op.TheVariants.{Read, Write, Add}
-use Rattle.tmw_defs.specs.History.{Txn, is_ended, status_of, operations}
+use Rattle.tmw_defs.specs.History.{Txn, is_ended, status_of}
 use Rattle.tmw_defs.specs.Opaque.{State, precedes, may_hold}
 use Rattle.tmw_defs.specs.Part.{is_answered}
-use Rattle.tmw_cuts.specs.Written.{writes, left_by}
+use Rattle.tmw_cuts.specs.Written.{writes}
 use Rattle.tmw_part.specs.declared.step.Source.{Source}
 use Rattle.tmw_part.specs.declared.step.Step.{Step}
 use Rattle.tmw_part.specs.declared.step.Step.TheVariants.{RealTime, From, ReadFirst, ChangedFirst, Through}
 use Rattle.tmw_part.specs.declared.step.Contradiction.{Contradiction}
 use Rattle.tmw_part.specs.declared.step.Contradiction.TheVariants.{Cycle, NoSource, Unlike}
 use Rattle.tmw_part.specs.Test.{nothing}
-use Rattle.tmw_part.specs.Steps.{txn_at, ops_at, needed_of, known_after, is_some_of, is_same_writer, is_same_source, reads_unlike, orders, gives, supplies, is_before, has_place, may_leave, may_come_from, is_only, is_rival, is_held, from_else, is_asked, is_known_rival, comes_from_none, follows, contradicts, tells, Derives}
+use Rattle.tmw_part.specs.Steps.{txn_at, ops_at, needed_of, known_after, is_some_of, is_same_source, reads_unlike, orders, gives, supplies, is_before, has_place, may_leave, may_come_from, is_held, is_asked, is_known_rival, follows, contradicts, tells, Derives}
 use Rattle.tmw_part.specs.Candidates.{real_times, firsts_with, firsts, throughs_between, throughs, candidates, IsWithin, MayBe, sources_like, sources_of, sources_at, sources, is_new, answer_of, unlike_or, first_unlike, unlike_of, unlikes_at, without_source, ends}
-use Rattle.tmw_part.specs.Reasons.{IsReason}
 use Rattle.tmw_part.specs.Found.{HasNoReason}
 use Rattle.tmw_part.proofs.Covering.{Covers, any-mono, follows-mono, contradicts-mono}
-use Rattle.tmw_part.proofs.StepsProof.{Found, find_any, some_of, same_writer, none_all, all-more, get_some}
+use Rattle.tmw_part.proofs.StepsProof.{find_any, some_of, same_writer, none_all, all-more, get_some}
 
 -- x is a member
 abbrev In : {A : Type 0} → A → List A → Type 0
@@ -84,7 +83,7 @@ none_passes p (y ∷ ys) x none is =
       | inr fails ↦ elim is [
         | inl here ↦ rw (← here) fails
         | inr there ↦ none_passes p ys x (rw fails at none) there
-        ]
+      ]
     ]
 
 -- what does something has a place
@@ -116,10 +115,10 @@ precedes_within : (ts : List Txn) (a b : ℕ) → IsTrue (precedes (txn_at ts a)
 precedes_within ts a b is = (
   within-unless ts a (λ none. let e = rw none at is in absurd (cc)),
   within-unless ts b (λ none.
-  let late = (and_parts (is_ended (txn_at ts a).text) _ is).1 in
-  let low = ltb-true (txn_at ts a).last (txn_at ts b).first late in
-  let zero_at : (txn_at ts b).first ≡ 0 = ap (λ (t : Txn). t.first) none in
-  omega (arith, low, zero_at)),
+      let late = (and_parts (is_ended (txn_at ts a).text) _ is).1 in
+      let low = ltb-true (txn_at ts a).last (txn_at ts b).first late in
+      let zero_at : (txn_at ts b).first ≡ 0 = ap (λ (t : Txn). t.first) none in
+      omega (arith, low, zero_at)),
 )
 
 -- the step's transactions are among these
@@ -330,7 +329,7 @@ any_push p others x P before last is =
       | inr there ↦ elim (or_cases (p x) false there) [
         | inl now ↦ last now
         | inr none ↦ absurd (cc)
-        ]
+      ]
     ]
 
 covers-push : (steps others : List Step) (x : Step) → Covers steps others → IsTrue (tells steps x) → Covers steps (others ++ x ∷ [])
@@ -428,7 +427,7 @@ pub no_reason : (criterion : Criterion) (states : List State) (ts : List Txn) (r
     → ((register : Ix) → Contains registers register) → Derives criterion states ts steps
     → find (is_new criterion states ts steps) (candidates (sources ts registers (range_with_len 0 (length ts))) (range_with_len 0 (length ts))) ≡ None
     → find (contradicts criterion states ts steps)
-      (ends ts registers (range_with_len 0 (length ts)) (sources ts registers (range_with_len 0 (length ts)))) ≡ None
+    (ends ts registers (range_with_len 0 (length ts)) (sources ts registers (range_with_len 0 (length ts)))) ≡ None
     → HasNoReason criterion states ts
 no_reason criterion states ts registers steps all derives closed none = λ others end reason.
     let covers = subst (Covers steps) (take_all (length others) others (omega arith)) (upto others reason.derives (length others) (omega arith)) in

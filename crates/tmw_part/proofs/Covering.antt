@@ -1,20 +1,18 @@
 -- Steps that tell what others do: what follows from the others follows from them.
-use Rattle.std.proofs.Common.{◌≡◌, ◌==◌, ◌&&◌, ◌||◌, ◌+◌, ℕ, zero, suc, Bool, true, false, not, List, [], ◌∷◌, ◌++◌, length, Option, Some, None, IsTrue, refl, sym, ap, ◌∙◌, inl, inr, arith}
-use Rattle.std.specs.List.{list_all, list_any, range_with_len, AllByRecursion}
-use Rattle.std.proofs.lemmas.Bool.{and_parts, and_from, or_cases, or_left, or_right, eqb-true, eq-eqb}
+use Rattle.std.proofs.Common.{◌==◌, ◌&&◌, ◌||◌, ℕ, Bool, not, List, [], ◌∷◌, ◌++◌, length, Option, Some, None, IsTrue, refl, inl, inr}
+use Rattle.std.specs.List.{list_all, list_any, range_with_len}
+use Rattle.std.proofs.lemmas.Bool.{and_parts, and_from, or_cases, or_left, or_right}
 use Rattle.std.proofs.lemmas.List.Folds.{list_any-append}
 use Rattle.tmw_defs.specs.declared.criterion.Criterion.{Criterion}
 use Rattle.tmw_defs.specs.declared.criterion.Criterion.TheVariants.{Opacity, Strict}
 use Rattle.tmw_defs.specs.History.{Txn, status_of}
 use Rattle.tmw_defs.specs.Opaque.{State}
-use Rattle.tmw_cuts.specs.Written.{writes}
 use Rattle.tmw_part.specs.declared.step.Source.{Source}
 use Rattle.tmw_part.specs.declared.step.Step.{Step}
 use Rattle.tmw_part.specs.declared.step.Step.TheVariants.{RealTime, From, ReadFirst, ChangedFirst, Through}
 use Rattle.tmw_part.specs.declared.step.Contradiction.{Contradiction}
 use Rattle.tmw_part.specs.declared.step.Contradiction.TheVariants.{Cycle, NoSource, Unlike}
-use Rattle.tmw_part.specs.Steps.{txn_at, ops_at, is_some_of, is_same_writer, is_same_source, orders, gives, supplies, is_before, begins_before, ends_before, is_before_writer, is_committed, is_held, has_place, may_leave, is_rival, stands_between, is_excluded, from_else, is_no_source, comes_not_else, is_only, comes_from_none, is_asked, is_known_rival, follows, contradicts, tells}
-use Rattle.tmw_part.specs.Reasons.{begin_apart}
+use Rattle.tmw_part.specs.Steps.{txn_at, is_some_of, is_same_writer, orders, gives, supplies, is_before, begins_before, ends_before, is_before_writer, is_committed, is_held, has_place, may_leave, is_rival, stands_between, is_excluded, from_else, is_no_source, comes_not_else, is_only, comes_from_none, is_asked, is_known_rival, follows, contradicts, tells}
 
 -- a disjunction and a conjunction of what is so when others are
 or-mono : (a b c d : Bool) → (IsTrue a → IsTrue c) → (IsTrue b → IsTrue d) → IsTrue (a || b) → IsTrue (c || d)

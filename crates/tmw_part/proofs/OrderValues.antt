@@ -1,7 +1,7 @@
 -- What the registers hold along a serial order: what the last that is held and changes them left, or what the start has.
-use Rattle.std.proofs.Common.{◌≡◌, ◌==◌, ◌&&◌, ◌||◌, ◌+◌, ◌%◌, ◌^◌, ◌<◌, ◌≤◌, ◌⊎◌, ℕ, zero, suc, Bool, true, false, not, List, [], ◌∷◌, length, Option, Some, None, IsTrue, refl, sym, ap, ◌∙◌, inl, inr, arith}
+use Rattle.std.proofs.Common.{◌≡◌, ◌==◌, ◌&&◌, ◌+◌, ◌%◌, ◌^◌, ◌<◌, ◌⊎◌, ℕ, zero, suc, false, List, [], ◌∷◌, length, Option, Some, None, IsTrue, refl, sym, ap, ◌∙◌, inl, inr, arith}
 use Rattle.std.specs.Prelude.{slice_get, slice_index, slice_set, take, if◌then◌else◌}
-use Rattle.std.proofs.lemmas.Bool.{and_parts, and_from, or_cases, or_parts, cases_Bool, eqb-true, eqb-false}
+use Rattle.std.proofs.lemmas.Bool.{and_parts, or_cases, or_parts, cases_Bool, eqb-true, eqb-false}
 use Rattle.std.proofs.lemmas.List.{get_or-set_same, get_or-set_other, length-set}
 use Rattle.tmw_events.specs.declared.ix.Ix.{Ix}
 use Rattle.tmw_defs.specs.declared.op.Op.{Op}
@@ -9,9 +9,8 @@ use Rattle.tmw_defs.specs.declared.op.Op.TheVariants.{Read, Write, Add}
 use Rattle.tmw_defs.specs.History.{operations}
 use Rattle.tmw_defs.specs.Opaque.{State, Placed, reads_hold, after_writes, after, is_legal}
 use Rattle.tmw_defs.specs.Outcomes.{end_state}
-use Rattle.tmw_defs.specs.Part.{is_answered}
 use Rattle.tmw_cuts.specs.Written.{writes, left_by}
-use Rattle.tmw_part.specs.Steps.{needed_of, known_after, is_some_of, reads_unlike}
+use Rattle.tmw_part.specs.Steps.{needed_of, is_some_of, reads_unlike}
 use Rattle.tmw_part.specs.Reasons.{Changes, IsUnchanged}
 
 -- a register that is set, and another
@@ -241,17 +240,17 @@ value_at s (x ∷ order) r zero long = inr (record { none = λ k low high c. ome
 value_at s (x ∷ order) r (suc j) long =
     elim (value_at (after s x) order r j (length-after s x ∙ long)) [
       | inl found ↦ inl (record {
-          place = suc found.place;
-          changes = record {
-            placed = found.changes.placed;
-            there = found.changes.there;
-            held = found.changes.held;
-            writes = found.changes.writes;
-          };
-          before = omega (arith, found.before);
-          last = unchanged-after x order r (suc found.place) j found.last;
-          leaves = found.leaves;
-        })
+        place = suc found.place;
+        changes = record {
+          placed = found.changes.placed;
+          there = found.changes.there;
+          held = found.changes.held;
+          writes = found.changes.writes;
+        };
+        before = omega (arith, found.before);
+        last = unchanged-after x order r (suc found.place) j found.last;
+        leaves = found.leaves;
+      })
       | inr none ↦ elim (cases_Bool x.held) [
         | inl held ↦ elim (cases_Bool (writes r (operations x.txn.text))) [
           | inl w ↦
@@ -270,12 +269,12 @@ value_at s (x ∷ order) r (suc j) long =
                 none = unchanged-all x order r j (λ h w. let e = sym not_so ∙ w in absurd (cc)) none.none;
                 same = none.same ∙ ap (λ (t : State). slice_index t r) now ∙ unwritten s r (operations x.txn.text) not_so;
               })
-          ]
+        ]
         | inr out ↦
             let now : after s x ≡ s = rw out refl in
             inr (record {
               none = unchanged-all x order r j (λ h w. let e = sym out ∙ h in absurd (cc)) none.none;
               same = none.same ∙ ap (λ (t : State). slice_index t r) now;
             })
-        ]
+      ]
     ]

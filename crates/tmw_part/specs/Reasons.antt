@@ -7,7 +7,6 @@ use Rattle.tmw_defs.specs.History.{Txn, operations, transactions}
 use Rattle.tmw_defs.specs.Opaque.{State, Placed}
 use Rattle.tmw_cuts.specs.Written.{writes}
 use Rattle.tmw_events.specs.declared.event.Event.{Event}
-use Rattle.tmw_part.specs.declared.step.Source.{Source}
 use Rattle.tmw_part.specs.declared.step.Step.{Step}
 use Rattle.tmw_part.specs.declared.step.Step.TheVariants.{RealTime, From, ReadFirst, ChangedFirst, Through}
 use Rattle.tmw_part.specs.declared.step.Contradiction.{Contradiction}

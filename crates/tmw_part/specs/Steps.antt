@@ -1,14 +1,13 @@
 -- Steps of a reason why transactions have no serial order: when a step follows from those before it, and when they contradict each other.
 -- Transactions are told by their places in a list of them. The start stands before each and leaves each register its value.
-use Rattle.std.specs.Prelude.{◌≡◌, ◌==◌, ◌&&◌, ◌||◌, ◌+◌, ◌%◌, ◌^◌, ℕ, Bool, true, false, not, nat_lt, List, [], ◌∷◌, length, map, take, slice_get, slice_index, slice_index_or, Option, Some, None, IsTrue, if◌then◌else◌}
+use Rattle.std.specs.Prelude.{◌≡◌, ◌==◌, ◌&&◌, ◌||◌, ◌+◌, ◌%◌, ◌^◌, ℕ, Bool, true, false, not, nat_lt, List, [], ◌∷◌, length, take, slice_get, slice_index, slice_index_or, Option, Some, None, IsTrue, if◌then◌else◌}
 use Rattle.std.specs.List.{list_all, list_any, range_with_len}
-use Rattle.tmw_events.specs.declared.ix.Ix.{Ix}
 use Rattle.tmw_defs.specs.declared.criterion.Criterion.{Criterion}
 use Rattle.tmw_defs.specs.declared.criterion.Criterion.TheVariants.{Opacity, Strict}
 use Rattle.tmw_defs.specs.declared.op.Op.{Op}
 use Rattle.tmw_defs.specs.declared.op.Op.TheVariants.{Read, Write, Add}
 use Rattle.tmw_defs.specs.declared.status.Status.{Status}
-use Rattle.tmw_defs.specs.declared.status.Status.TheVariants.{Live, Pending, Committed, Aborted}
+use Rattle.tmw_defs.specs.declared.status.Status.TheVariants.{Committed}
 use Rattle.tmw_defs.specs.History.{Txn, status_of, operations}
 use Rattle.tmw_defs.specs.Opaque.{State, precedes, may_hold}
 use Rattle.tmw_defs.specs.Part.{is_answered}

@@ -93,7 +93,11 @@ fn known_after(register: Ix, known: Option<u64>, op: Op) -> Option<u64>
         Op::Write(other, value) => (other, value),
         Op::Add(other, added, value) => (other, value.wrapping_add(added)),
     };
-    if other == register { Some(value) } else { known }
+    if other == register {
+        Some(value)
+    } else {
+        known
+    }
 }
 
 /// Whether an operation of a transaction was answered `read` of the register, which by those before it held `held`.

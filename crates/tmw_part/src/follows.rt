@@ -74,12 +74,7 @@ fn may_come_from(
 }
 
 /// Whether the transaction is held, changes the source's register and is neither the reader nor the writer.
-fn is_rival(
-    transactions: &[Transaction],
-    steps: &[Step],
-    source: &Source,
-    place: usize,
-) -> bool
+fn is_rival(transactions: &[Transaction], steps: &[Step], source: &Source, place: usize) -> bool
     ensures { result ≡ is_rival (txns_of transactions.now) steps.now source.now place }
 {
     place != source.reader
@@ -167,19 +162,19 @@ fn from_no_other(
 ) -> bool
     ensures { result
         ≡ list_all (λ a. comes_not_else states.now (txns_of transactions.now) steps.now source.now (Some a))
-          (range_with_len 0 (length transactions.now)) }
+        (range_with_len 0 (length transactions.now)) }
 {
-    (0..transactions.len())
-        .all(|place| comes_not_else(states, transactions, steps, source, Some(place)))
+    (0..transactions.len()).all(|place| comes_not_else(
+        states,
+        transactions,
+        steps,
+        source,
+        Some(place),
+    ))
 }
 
 /// Whether the value comes from nowhere but the source's own writer.
-fn is_only(
-    states: &[State],
-    transactions: &[Transaction],
-    steps: &[Step],
-    source: &Source,
-) -> bool
+fn is_only(states: &[State], transactions: &[Transaction], steps: &[Step], source: &Source) -> bool
     ensures { result ≡ is_only states.now (txns_of transactions.now) steps.now source.now }
 {
     comes_not_else(states, transactions, steps, source, None)
@@ -210,10 +205,15 @@ fn from_no_transaction(
 ) -> bool
     ensures { result
         ≡ list_all (λ a. is_no_source states.now (txns_of transactions.now) steps.now (from_else source.now (Some a)))
-          (range_with_len 0 (length transactions.now)) }
+        (range_with_len 0 (length transactions.now)) }
 {
-    (0..transactions.len())
-        .all(|place| comes_not_from(states, transactions, steps, source, Some(place)))
+    (0..transactions.len()).all(|place| comes_not_from(
+        states,
+        transactions,
+        steps,
+        source,
+        Some(place),
+    ))
 }
 
 /// Whether the value can come neither from the start nor from any transaction.

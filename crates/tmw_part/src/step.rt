@@ -14,13 +14,22 @@ pub struct Source {
 #[derive(Clone, Copy, PartialEq, Eq, Debug)]
 pub enum Step {
     /// `one` stands before `other`: it was completed before `other` began.
-    RealTime { one: usize, other: usize },
+    RealTime {
+        one: usize,
+        other: usize,
+    },
     /// The value comes from there: nobody else can have left it.
     From(Source),
     /// The reader stands before `writer`, which changes the register too and stands behind the source.
-    ReadFirst { source: Source, writer: usize },
+    ReadFirst {
+        source: Source,
+        writer: usize,
+    },
     /// `writer` stands before the source: it changes the register too and stands before the reader.
-    ChangedFirst { writer: usize, source: Source },
+    ChangedFirst {
+        writer: usize,
+        source: Source,
+    },
     /// `one` stands before `other`: it stands before `between`, and `between` before `other`.
     Through {
         one: usize,
