@@ -10,5 +10,5 @@ mod OrderFacts
 mod OrderValues
 mod Parts
 mod StepsProof
-pub mod TestProof
+mod TestProof
 mod Violation

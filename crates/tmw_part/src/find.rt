@@ -46,7 +46,8 @@ fn try_without(
     Ok(Some(left))
 }
 
-/// Takes each of the pieces in turn out of what is kept, if what is left is a violated part still. Tells whether it took one.
+/// Takes each of the pieces in turn out of what is kept, if what is left is a violated part still. Tells whether it took
+/// one.
 fn take_out(
     criterion: Criterion,
     alloc: Global,
@@ -61,8 +62,8 @@ fn take_out(
         marks.old.items }
     ensures part { IfOk result (λ _. IsViolatedPart criterion registers.number
         (members states.now) events.now marks.new.items) }
-    ensures fewer { IfOk result (λ took. IsTrue took
-        → length (kept_of marks.new.items events.now) < length (kept_of marks.old.items events.now)) }
+    ensures fewer { IfOk result (λ took. IsTrue took → length (kept_of marks.new.items events.now)
+        < length (kept_of marks.old.items events.now)) }
     ensures needed { IfOk result (λ took. IsFalse took → (marks.new.items ≡ marks.old.items)
         × All (IsNeeded criterion registers.number (members states.now) events.now marks.old.items)
         pieces.now) }

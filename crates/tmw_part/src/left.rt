@@ -117,7 +117,8 @@ pub(crate) fn may_go_whole(
     part: &[Transaction],
     transaction: &Transaction,
 ) -> Result<bool, AllocError>
-    ensures { IfOk result (λ may. may ≡ may_go_whole (unread_in part.now) (txn_of transaction.now)) }
+    ensures { IfOk result (λ may. may
+        ≡ may_go_whole (unread_in part.now) (txn_of transaction.now)) }
 {
     let ops = operations(alloc, &transaction.text)?;
     may_all_go(alloc, part, &ops)
@@ -205,8 +206,8 @@ fn is_same_row(
 
 /// Whether the precedence of the part is that of those that stay.
 pub(crate) fn are_same_rows(staying: &[&Transaction], part: &[Transaction]) -> bool
-    ensures { result
-        ≡ are_same_rows (shown staying.now) (txns_of part.now) (shown staying.now) (txns_of part.now) }
+    ensures { result ≡ are_same_rows (shown staying.now) (txns_of part.now)
+        (shown staying.now) (txns_of part.now) }
 {
     let mut ones = staying;
     let mut others = part;

@@ -21,8 +21,7 @@ mod transaction;
 mod violated;
 
 pub use find::{MOST_EVENTS, find_part};
-pub use part::{is_part, law_test};
+pub use part::law_test;
 pub use piece::Piece;
 pub use reason::{Reason, find_reason, law_reason};
 pub use step::{Contradiction, Source, Step};
-pub use transaction::Transaction;

@@ -70,7 +70,8 @@ fn staying_of<'a>(
     places: &[usize],
 ) -> Result<Vec<&'a Transaction>, AllocError>
     requires { All (λ place. place < length whole.now) places.now }
-    ensures { IfOk result (λ staying. shown staying.items ≡ staying_of (txns_of whole.now) places.now) }
+    ensures { IfOk result (λ staying. shown staying.items
+        ≡ staying_of (txns_of whole.now) places.now) }
 {
     let mut staying = Vec::new(alloc);
     for place in places {
@@ -92,9 +93,8 @@ pub fn is_part(
     part: &[Transaction],
     whole: &[Transaction],
 ) -> Result<bool, AllocError>
-    ensures exact { IfOk result (λ is. is
+    ensures { IfOk result (λ is. is
         ≡ is_part_at places.now (txns_of part.now) (txns_of whole.now)) }
-    ensures part { IfOk result (λ is. IsTrue is → IsPart (txns_of part.now) (txns_of whole.now)) }
 {
     if !are_placed(alloc, part, places, whole)? {
         return Ok(false);

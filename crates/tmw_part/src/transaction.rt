@@ -46,7 +46,8 @@ fn is_ended(text: &[Kind]) -> bool
     matches!(status_of(text), Status::Committed | Status::Aborted)
 }
 
-/// Tells whether the one precedes the other in real time: it is completed, and its last event is before the other's first.
+/// Tells whether the one precedes the other in real time: it is completed, and its last event is before the other's
+/// first.
 pub fn precedes(one: &Transaction, other: &Transaction) -> bool
     ensures { result ≡ precedes (txn_of one.now) (txn_of other.now) }
 {

@@ -50,8 +50,8 @@ fn window_of(registers: Registers, events: &[Event]) -> Option<Window>
     Some(window)
 }
 
-/// Tells whether the events are violated: they are well-formed, have at most eight transactions, and these have no serial
-/// order from any of the states.
+/// Tells whether the events are violated: they are well-formed, have at most eight transactions, and these have no
+/// serial order from any of the states.
 pub fn is_violated(
     criterion: Criterion,
     alloc: Global,
@@ -59,7 +59,8 @@ pub fn is_violated(
     states: &States,
     events: &[Event],
 ) -> Result<bool, AllocError>
-    ensures { IfOk result (TellsViolated criterion registers.number (members states.now) events.now) }
+    ensures { IfOk result (TellsViolated criterion registers.number (members states.now)
+        events.now) }
 {
     let Some(window) = window_of(registers, events) else {
         return Ok(false);

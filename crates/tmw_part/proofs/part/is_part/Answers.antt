@@ -1,14 +1,9 @@
 use Rattle.std.proofs.Common.{rules, IsTrue, arith}
 use Rattle.std.proofs.lemmas.List.{length-map}
-use Rattle.tmw_part.specs.Test.{are_placed, is_part_at}
+use Rattle.tmw_part.specs.Test.{are_placed}
 use Rattle.tmw_part.specs.Shown.{txn_of, txns_of, unread_in}
-use Rattle.tmw_part.proofs.TestProof.{part-test, placed-below}
+use Rattle.tmw_part.proofs.TestProof.{placed-below}
 use Rattle.tmw_part.proofs.part.is_part.Goals as goal
-
-pub returns-clause-part : goal.returns-clause-part
-returns-clause-part c = λ is.
-    let passes : IsTrue (is_part_at c.args.places.now (txns_of c.args.part.now) (txns_of c.args.whole.now)) = search rules in
-    part-test c.args.places.now (txns_of c.args.part.now) (txns_of c.args.whole.now) passes
 
 pub staying_of-requires : goal.staying_of-requires
 staying_of-requires c = λ k d within.
