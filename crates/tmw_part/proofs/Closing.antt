@@ -11,8 +11,8 @@ use Rattle.tmw_defs.specs.Opaque.{State}
 use Rattle.tmw_part.specs.declared.step.Source.{Source}
 use Rattle.tmw_part.specs.declared.step.Step.{Step}
 use Rattle.tmw_part.specs.declared.step.Step.TheVariants.{RealTime, From, ReadFirst, ChangedFirst, Through}
-use Rattle.tmw_part.specs.Candidates.{is_new}
-use Rattle.tmw_part.specs.Steps.{is_some_of, is_same_writer, is_same_source, orders, gives, is_before_writer, tells, follows, Derives}
+use Rattle.tmw_part.specs.Candidates.{is_new, is_before_writer, tells}
+use Rattle.tmw_part.specs.Steps.{is_some_of, is_same_writer, is_same_source, orders, gives, follows, Derives}
 use Rattle.tmw_part.proofs.Covering.{covers-more, tells-mono}
 
 -- the last step passes the test

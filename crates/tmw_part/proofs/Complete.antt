@@ -20,8 +20,8 @@ use Rattle.tmw_part.specs.declared.step.Step.TheVariants.{RealTime, From, ReadFi
 use Rattle.tmw_part.specs.declared.step.Contradiction.{Contradiction}
 use Rattle.tmw_part.specs.declared.step.Contradiction.TheVariants.{Cycle, NoSource, Unlike}
 use Rattle.tmw_part.specs.Test.{nothing}
-use Rattle.tmw_part.specs.Steps.{txn_at, ops_at, needed_of, known_after, is_some_of, is_same_source, reads_unlike, orders, gives, supplies, is_before, has_place, may_leave, may_come_from, is_held, is_asked, is_known_rival, follows, contradicts, tells, Derives}
-use Rattle.tmw_part.specs.Candidates.{real_times, firsts_with, firsts, throughs_between, throughs, candidates, IsWithin, MayBe, sources_like, sources_of, sources_at, sources, is_new, answer_of, unlike_or, first_unlike, unlike_of, unlikes_at, without_source, ends}
+use Rattle.tmw_part.specs.Steps.{txn_at, ops_at, needed_of, known_after, is_some_of, is_same_source, reads_unlike, orders, gives, supplies, is_before, has_place, may_be_source, may_come_from, is_held, is_asked, is_known_rival, follows, contradicts, Derives}
+use Rattle.tmw_part.specs.Candidates.{real_times, firsts_with, firsts, throughs_between, throughs, candidates, IsWithin, MayBe, sources_like, sources_of, sources_at, sources, is_new, answer_of, unlike_or, first_unlike, unlike_of, unlikes_at, without_source, ends, tells}
 use Rattle.tmw_part.specs.Found.{HasNoReason}
 use Rattle.tmw_part.proofs.Covering.{Covers, any-mono, follows-mono, contradicts-mono}
 use Rattle.tmw_part.proofs.StepsProof.{find_any, some_of, same_writer, none_all, all-more, get_some}
@@ -144,7 +144,7 @@ same_source s t is =
 
 module _ (criterion : Criterion) (states : List State) (ts : List Txn) where
   -- a source that is asked for and may be is one of these
-  may_be : (steps : List Step) (s : Source) → IsTrue (is_asked criterion ts steps s) → IsTrue (may_leave states ts s) → MayBe ts s
+  may_be : (steps : List Step) (s : Source) → IsTrue (is_asked criterion ts steps s) → IsTrue (may_be_source states ts s) → MayBe ts s
   may_be steps s asked may = record {
     needed = some_of s.value _ (and_parts (has_place criterion ts steps s.reader) _ asked).1;
     within = writer_within s.writer may;
@@ -206,7 +206,7 @@ module _ (criterion : Criterion) (states : List State) (ts : List Txn) where
   follows_within steps all (RealTime one other) is = precedes_within ts one other (and_parts (not (one == other)) _ is).1
   follows_within steps all (From s) is =
       let (asked, rest) = and_parts (is_asked criterion ts steps s) _ is in
-      may_be steps s asked (and_parts (may_leave states ts s) _ rest).0
+      may_be steps s asked (and_parts (may_be_source states ts s) _ rest).0
   follows_within steps all (ReadFirst s w) is = known_within steps all s w (and_parts (is_known_rival ts steps s w) _ is).0
   follows_within steps all (ChangedFirst w s) is = known_within steps all s w (and_parts (is_known_rival ts steps s w) _ is).0
   follows_within steps all (Through one between other) is =

@@ -19,7 +19,7 @@ use Rattle.tmw_part.specs.declared.step.Step.{Step}
 use Rattle.tmw_part.specs.declared.step.Step.TheVariants.{RealTime, From, ReadFirst, ChangedFirst, Through}
 use Rattle.tmw_part.specs.declared.step.Contradiction.{Contradiction}
 use Rattle.tmw_part.specs.declared.step.Contradiction.TheVariants.{Cycle, NoSource, Unlike}
-use Rattle.tmw_part.specs.Steps.{txn_at, ops_at, needed_of, is_some_of, is_same_writer, orders, gives, supplies, is_before, begins_before, ends_before, is_committed, is_held, has_place, may_come_from, may_leave, is_rival, is_excluded, from_else, is_no_source, comes_not_else, is_asked, is_known_rival, follows, contradicts, Derives}
+use Rattle.tmw_part.specs.Steps.{txn_at, ops_at, needed_of, is_some_of, is_same_writer, orders, gives, supplies, is_before, begins_before, ends_before, is_committed, is_held, has_place, may_come_from, may_be_source, is_rival, is_excluded, from_else, is_no_source, comes_not_else, is_asked, is_known_rival, follows, contradicts, Derives}
 use Rattle.tmw_part.specs.Reasons.{StandsAt, StandsBefore, Changes, ComesFrom, StandsBeforeWriter, HoldsIn, begin_apart, ReasonLaw}
 use Rattle.tmw_part.proofs.OrderFacts.{IsIn, IsSerial, apart, serial}
 use Rattle.tmw_part.proofs.OrderValues.{state_at, reads_at, length-state_at, value_at, needed_holds, reads_alike}
@@ -398,7 +398,7 @@ module _ (criterion : Criterion) (states : List State) (ts : List Txn) (start : 
       ]
   step_holds (From s) is =
       let (asked, rest) = and_parts (is_asked criterion ts steps s) _ is in
-      let only = (and_parts (may_leave states ts s) _ rest).1 in
+      let only = (and_parts (may_be_source states ts s) _ rest).1 in
       let found = actual s asked in
       let passes = writer_passes (comes_not_else states ts steps s) found.writer found.within only in
       elim (or_cases (is_same_writer found.writer s.writer) _ passes) [

@@ -1,4 +1,5 @@
-//! Of a violated window, a part that contradicts itself and of which nothing more can be taken out.
+//! Of a violated window, a part that contradicts itself and of which nothing more can be taken out, and a reason why no serial order
+//! explains it.
 #![tactic(auto)]
 
 mod candidates;
