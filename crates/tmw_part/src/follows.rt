@@ -147,7 +147,8 @@ fn comes_not_else(
     source: &Source,
     writer: Option<usize>,
 ) -> bool
-    ensures { result ≡ comes_not_else states.now (txns_of transactions.now) steps.now source.now writer }
+    ensures { result
+        ≡ comes_not_else states.now (txns_of transactions.now) steps.now source.now writer }
 {
     let other = Source { writer, ..*source };
     is_same_writer(writer, source.writer) || is_no_source(states, transactions, steps, &other)
@@ -160,8 +161,8 @@ fn from_no_other(
     steps: &[Step],
     source: &Source,
 ) -> bool
-    ensures { result
-        ≡ list_all (λ a. comes_not_else states.now (txns_of transactions.now) steps.now source.now (Some a))
+    ensures { let ts = txns_of transactions.now in
+        result ≡ list_all (λ a. comes_not_else states.now ts steps.now source.now (Some a))
         (range_with_len 0 (length transactions.now)) }
 {
     (0..transactions.len()).all(|place| comes_not_else(
@@ -189,8 +190,8 @@ fn comes_not_from(
     source: &Source,
     writer: Option<usize>,
 ) -> bool
-    ensures { result
-        ≡ is_no_source states.now (txns_of transactions.now) steps.now (from_else source.now writer) }
+    ensures { let other = from_else source.now writer in
+        result ≡ is_no_source states.now (txns_of transactions.now) steps.now other }
 {
     let other = Source { writer, ..*source };
     is_no_source(states, transactions, steps, &other)
@@ -203,8 +204,9 @@ fn from_no_transaction(
     steps: &[Step],
     source: &Source,
 ) -> bool
-    ensures { result
-        ≡ list_all (λ a. is_no_source states.now (txns_of transactions.now) steps.now (from_else source.now (Some a)))
+    ensures { let ts = txns_of transactions.now in
+        result
+        ≡ list_all (λ a. is_no_source states.now ts steps.now (from_else source.now (Some a)))
         (range_with_len 0 (length transactions.now)) }
 {
     (0..transactions.len()).all(|place| comes_not_from(
@@ -231,7 +233,8 @@ fn comes_from_none(
 
 /// Whether the one transaction precedes the other in real time, by their places.
 fn precedes_at(transactions: &[Transaction], one: usize, other: usize) -> bool
-    ensures { result ≡ precedes (txn_at (txns_of transactions.now) one) (txn_at (txns_of transactions.now) other) }
+    ensures { let ts = txns_of transactions.now in
+        result ≡ precedes (txn_at ts one) (txn_at ts other) }
 {
     match (transactions.get(one), transactions.get(other)) {
         (Some(first), Some(second)) => precedes(first, second),
@@ -296,7 +299,8 @@ pub(crate) fn contradicts(
     steps: &[Step],
     end: &Contradiction,
 ) -> bool
-    ensures { result ≡ contradicts criterion states.now (txns_of transactions.now) steps.now end.now }
+    ensures { result
+        ≡ contradicts criterion states.now (txns_of transactions.now) steps.now end.now }
 {
     match *end {
         Contradiction::Cycle(place) => {

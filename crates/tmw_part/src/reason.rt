@@ -32,7 +32,8 @@ const MOST_TRANSACTIONS: usize = 8;
 
 /// The threads of the transactions.
 fn threads_of(alloc: Global, transactions: &[Transaction]) -> Result<Vec<Ix>, AllocError>
-    ensures { IfOk result (λ threads. map (λ ix. ix.number) threads.items ≡ threads_of (txns_of transactions.now)) }
+    ensures { IfOk result (λ threads. map (λ ix. ix.number) threads.items
+        ≡ threads_of (txns_of transactions.now)) }
 {
     let mut threads = Vec::new(alloc);
     for transaction in transactions {
@@ -41,16 +42,16 @@ fn threads_of(alloc: Global, transactions: &[Transaction]) -> Result<Vec<Ix>, Al
     Ok(threads)
 }
 
-/// Finds a reason, of the transactions with these places and sources, where these contradictions are tried.
+/// Finds the steps of a reason, none of which can be left out, and what they come to.
 fn find_steps(
     criterion: Criterion,
     alloc: Global,
     states: &[State],
     transactions: &[Transaction],
 ) -> Result<Option<(Vec<Step>, Contradiction)>, AllocError>
-    ensures { IfOk result (λ found. MatchOption found
-        (HasNoReason criterion states.now (txns_of transactions.now))
-        (λ pair. IsLeastReason criterion states.now (txns_of transactions.now) pair.0.items pair.1)) }
+    ensures { let ts = txns_of transactions.now in IfOk result (λ found. MatchOption found
+        (HasNoReason criterion states.now ts)
+        (λ pair. IsLeastReason criterion states.now ts pair.0.items pair.1)) }
 {
     let places = places(alloc, transactions.len())?;
     let registers = registers(alloc)?;
