@@ -1,8 +1,8 @@
 -- A step that is new is told once it is added, so that fewer candidates are left untold; and steps that follow can be put together.
-use Rattle.std.proofs.Common.{◌≡◌, ◌==◌, ◌&&◌, ◌||◌, ◌+◌, ◌<◌, ◌≤◌, ◌⊎◌, ℕ, zero, suc, Bool, true, false, not, cond, List, [], ◌∷◌, ◌++◌, length, Option, Some, None, IsTrue, refl, sym, ap, ◌∙◌, inl, inr, arith}
+use Rattle.std.proofs.Common.{◌≡◌, ◌==◌, ◌&&◌, ◌+◌, ◌<◌, ◌≤◌, ◌⊎◌, ℕ, zero, suc, Bool, true, false, not, cond, List, [], ◌∷◌, ◌++◌, length, Option, Some, None, IsTrue, refl, sym, ap, ◌∙◌, inl, inr, arith}
 use Rattle.std.specs.Prelude.{slice_get, take, find}
-use Rattle.std.specs.List.{list_any, Contains}
-use Rattle.std.proofs.lemmas.Bool.{and_parts, and_from, or_left, or_right, cases_Bool, cases_lt, eq-eqb, not-true, not_from_true, not_from_false, cases_order}
+use Rattle.std.specs.List.{list_any}
+use Rattle.std.proofs.lemmas.Bool.{and_parts, and_from, or_left, or_right, cases_Bool, eq-eqb, not-true, not_from_true}
 use Rattle.std.proofs.lemmas.List.{take-append-le}
 use Rattle.std.proofs.lemmas.List.Folds.{list_any-append}
 use Rattle.tmw_defs.specs.declared.criterion.Criterion.{Criterion}
@@ -11,9 +11,9 @@ use Rattle.tmw_defs.specs.Opaque.{State}
 use Rattle.tmw_part.specs.declared.step.Source.{Source}
 use Rattle.tmw_part.specs.declared.step.Step.{Step}
 use Rattle.tmw_part.specs.declared.step.Step.TheVariants.{RealTime, From, ReadFirst, ChangedFirst, Through}
-use Rattle.tmw_part.specs.Candidates.{is_new}
-use Rattle.tmw_part.specs.Steps.{is_some_of, is_same_writer, is_same_source, orders, gives, is_before, is_before_writer, tells, follows, Derives}
-use Rattle.tmw_part.proofs.Covering.{Covers, covers-more, tells-mono}
+use Rattle.tmw_part.specs.Candidates.{is_new, is_before_writer, tells}
+use Rattle.tmw_part.specs.Steps.{is_some_of, is_same_writer, is_same_source, orders, gives, follows, Derives}
+use Rattle.tmw_part.proofs.Covering.{covers-more, tells-mono}
 
 -- the last step passes the test
 any_last : (p : Step → Bool) (steps : List Step) (x : Step) → IsTrue (p x) → IsTrue (list_any p (steps ++ x ∷ []))

@@ -1,6 +1,6 @@
 -- Where no candidate is new and no contradiction that is tried is met, there is no reason: each step that follows is a candidate.
-use Rattle.std.proofs.Common.{◌≡◌, ◌≢◌, ◌==◌, ◌&&◌, ◌||◌, ◌+◌, ◌<◌, ◌≤◌, ◌⊎◌, ℕ, zero, suc, Bool, true, false, not, cond, List, [], ◌∷◌, ◌++◌, length, map, Option, Some, None, IsTrue, refl, sym, ap, ◌∙◌, inl, inr, subst, arith}
-use Rattle.std.specs.Prelude.{slice_get, slice_index_or, take, find, nat_lt, if◌then◌else◌}
+use Rattle.std.proofs.Common.{◌≡◌, ◌==◌, ◌&&◌, ◌||◌, ◌+◌, ◌<◌, ◌≤◌, ◌⊎◌, ℕ, zero, suc, Bool, true, false, not, List, [], ◌∷◌, ◌++◌, length, map, Option, Some, None, IsTrue, refl, sym, ap, ◌∙◌, inl, inr, subst, arith}
+use Rattle.std.specs.Prelude.{slice_get, take, find}
 use Rattle.std.specs.List.{Contains, flat_map, list_any, range_with_len, AllByRecursion}
 use Rattle.std.proofs.lemmas.Bool.{and_parts, and_from, or_cases, or_left, or_right, cases_Bool, cases_lt, eqb-true, eqb-false, eq-eqb, ne_eqb, not-true, not_from_false, ltb-true}
 use Rattle.std.proofs.lemmas.List.{take_all}
@@ -10,22 +10,21 @@ use Rattle.tmw_events.proofs.Same.{same_ix}
 use Rattle.tmw_defs.specs.declared.criterion.Criterion.{Criterion}
 use Rattle.tmw_defs.specs.declared.op.Op.{Op}
 use Rattle.tmw_defs.specs.declared.op.Op.TheVariants.{Read, Write, Add}
-use Rattle.tmw_defs.specs.History.{Txn, is_ended, status_of, operations}
+use Rattle.tmw_defs.specs.History.{Txn, is_ended, status_of}
 use Rattle.tmw_defs.specs.Opaque.{State, precedes, may_hold}
 use Rattle.tmw_defs.specs.Part.{is_answered}
-use Rattle.tmw_cuts.specs.Written.{writes, left_by}
+use Rattle.tmw_cuts.specs.Written.{writes}
 use Rattle.tmw_part.specs.declared.step.Source.{Source}
 use Rattle.tmw_part.specs.declared.step.Step.{Step}
 use Rattle.tmw_part.specs.declared.step.Step.TheVariants.{RealTime, From, ReadFirst, ChangedFirst, Through}
 use Rattle.tmw_part.specs.declared.step.Contradiction.{Contradiction}
 use Rattle.tmw_part.specs.declared.step.Contradiction.TheVariants.{Cycle, NoSource, Unlike}
 use Rattle.tmw_part.specs.Test.{nothing}
-use Rattle.tmw_part.specs.Steps.{txn_at, ops_at, needed_of, known_after, is_some_of, is_same_writer, is_same_source, reads_unlike, orders, gives, supplies, is_before, has_place, may_leave, may_come_from, is_only, is_rival, is_held, from_else, is_asked, is_known_rival, comes_from_none, follows, contradicts, tells, Derives}
-use Rattle.tmw_part.specs.Candidates.{real_times, firsts_with, firsts, throughs_between, throughs, candidates, IsWithin, MayBe, sources_like, sources_of, sources_at, sources, is_new, answer_of, unlike_or, first_unlike, unlike_of, unlikes_at, without_source, ends}
-use Rattle.tmw_part.specs.Reasons.{IsReason}
+use Rattle.tmw_part.specs.Steps.{txn_at, ops_at, needed_of, known_after, is_some_of, is_same_source, reads_unlike, orders, gives, supplies, is_before, has_place, may_be_source, may_come_from, is_held, is_asked, is_known_rival, follows, contradicts, Derives}
+use Rattle.tmw_part.specs.Candidates.{real_times, firsts_with, firsts, throughs_between, throughs, candidates, IsWithin, MayBe, sources_like, sources_of, sources_at, sources, is_new, answer_of, unlike_or, first_unlike, unlike_of, unlikes_at, without_source, ends, tells}
 use Rattle.tmw_part.specs.Found.{HasNoReason}
 use Rattle.tmw_part.proofs.Covering.{Covers, any-mono, follows-mono, contradicts-mono}
-use Rattle.tmw_part.proofs.StepsProof.{Found, find_any, some_of, same_writer, none_all, all-more, get_some}
+use Rattle.tmw_part.proofs.StepsProof.{find_any, some_of, same_writer, none_all, all-more, get_some}
 
 -- x is a member
 abbrev In : {A : Type 0} → A → List A → Type 0
@@ -145,7 +144,7 @@ same_source s t is =
 
 module _ (criterion : Criterion) (states : List State) (ts : List Txn) where
   -- a source that is asked for and may be is one of these
-  may_be : (steps : List Step) (s : Source) → IsTrue (is_asked criterion ts steps s) → IsTrue (may_leave states ts s) → MayBe ts s
+  may_be : (steps : List Step) (s : Source) → IsTrue (is_asked criterion ts steps s) → IsTrue (may_be_source states ts s) → MayBe ts s
   may_be steps s asked may = record {
     needed = some_of s.value _ (and_parts (has_place criterion ts steps s.reader) _ asked).1;
     within = writer_within s.writer may;
@@ -207,7 +206,7 @@ module _ (criterion : Criterion) (states : List State) (ts : List Txn) where
   follows_within steps all (RealTime one other) is = precedes_within ts one other (and_parts (not (one == other)) _ is).1
   follows_within steps all (From s) is =
       let (asked, rest) = and_parts (is_asked criterion ts steps s) _ is in
-      may_be steps s asked (and_parts (may_leave states ts s) _ rest).0
+      may_be steps s asked (and_parts (may_be_source states ts s) _ rest).0
   follows_within steps all (ReadFirst s w) is = known_within steps all s w (and_parts (is_known_rival ts steps s w) _ is).0
   follows_within steps all (ChangedFirst w s) is = known_within steps all s w (and_parts (is_known_rival ts steps s w) _ is).0
   follows_within steps all (Through one between other) is =

@@ -1,20 +1,19 @@
 -- Steps that tell what others do: what follows from the others follows from them.
-use Rattle.std.proofs.Common.{◌≡◌, ◌==◌, ◌&&◌, ◌||◌, ◌+◌, ℕ, zero, suc, Bool, true, false, not, List, [], ◌∷◌, ◌++◌, length, Option, Some, None, IsTrue, refl, sym, ap, ◌∙◌, inl, inr, arith}
-use Rattle.std.specs.List.{list_all, list_any, range_with_len, AllByRecursion}
-use Rattle.std.proofs.lemmas.Bool.{and_parts, and_from, or_cases, or_left, or_right, eqb-true, eq-eqb}
+use Rattle.std.proofs.Common.{◌==◌, ◌&&◌, ◌||◌, ℕ, Bool, not, List, [], ◌∷◌, ◌++◌, length, Option, Some, None, IsTrue, refl, inl, inr}
+use Rattle.std.specs.List.{list_all, list_any, range_with_len}
+use Rattle.std.proofs.lemmas.Bool.{and_parts, and_from, or_cases, or_left, or_right}
 use Rattle.std.proofs.lemmas.List.Folds.{list_any-append}
 use Rattle.tmw_defs.specs.declared.criterion.Criterion.{Criterion}
 use Rattle.tmw_defs.specs.declared.criterion.Criterion.TheVariants.{Opacity, Strict}
 use Rattle.tmw_defs.specs.History.{Txn, status_of}
 use Rattle.tmw_defs.specs.Opaque.{State}
-use Rattle.tmw_cuts.specs.Written.{writes}
 use Rattle.tmw_part.specs.declared.step.Source.{Source}
 use Rattle.tmw_part.specs.declared.step.Step.{Step}
 use Rattle.tmw_part.specs.declared.step.Step.TheVariants.{RealTime, From, ReadFirst, ChangedFirst, Through}
 use Rattle.tmw_part.specs.declared.step.Contradiction.{Contradiction}
 use Rattle.tmw_part.specs.declared.step.Contradiction.TheVariants.{Cycle, NoSource, Unlike}
-use Rattle.tmw_part.specs.Steps.{txn_at, ops_at, is_some_of, is_same_writer, is_same_source, orders, gives, supplies, is_before, begins_before, ends_before, is_before_writer, is_committed, is_held, has_place, may_leave, is_rival, stands_between, is_excluded, from_else, is_no_source, comes_not_else, is_only, comes_from_none, is_asked, is_known_rival, follows, contradicts, tells}
-use Rattle.tmw_part.specs.Reasons.{begin_apart}
+use Rattle.tmw_part.specs.Candidates.{is_before_writer, tells}
+use Rattle.tmw_part.specs.Steps.{txn_at, is_some_of, is_same_writer, orders, gives, supplies, is_before, begins_before, ends_before, is_committed, is_held, has_place, may_be_source, is_rival, stands_between, is_excluded, from_else, is_no_source, comes_not_else, is_only, comes_from_none, is_asked, is_known_rival, follows, contradicts}
 
 -- a disjunction and a conjunction of what is so when others are
 or-mono : (a b c d : Bool) → (IsTrue a → IsTrue c) → (IsTrue b → IsTrue d) → IsTrue (a || b) → IsTrue (c || d)
@@ -31,7 +30,7 @@ pub any-mono : {A : Type 0} (p q : A → Bool) (xs : List A) → ((x : A) → Is
 any-mono p q [] to any = absurd (cc)
 any-mono p q (x ∷ xs) to any = or-mono (p x) _ (q x) _ (to x) (any-mono p q xs to) any
 
-all-mono : {A : Type 0} (p q : A → Bool) (xs : List A) → ((x : A) → IsTrue (p x) → IsTrue (q x)) → IsTrue (list_all p xs) → IsTrue (list_all q xs)
+pub all-mono : {A : Type 0} (p q : A → Bool) (xs : List A) → ((x : A) → IsTrue (p x) → IsTrue (q x)) → IsTrue (list_all p xs) → IsTrue (list_all q xs)
 all-mono p q [] to all = refl
 all-mono p q (x ∷ xs) to all = and-mono (p x) _ (q x) _ (to x) (all-mono p q xs to) all
 
@@ -92,7 +91,7 @@ module _ (criterion : Criterion) (states : List State) (ts : List Txn) (steps ot
       (any-mono (stands_between ts others s) (stands_between ts steps s) (range_with_len 0 (length ts)) (between-mono s))
 
   source-mono : (s : Source) → IsTrue (is_no_source states ts others s) → IsTrue (is_no_source states ts steps s)
-  source-mono s = or-mono (not (may_leave states ts s)) _ (not (may_leave states ts s)) _ (same _) (excluded-mono s)
+  source-mono s = or-mono (not (may_be_source states ts s)) _ (not (may_be_source states ts s)) _ (same _) (excluded-mono s)
 
   else-mono : (s : Source) (w : Option ℕ) → IsTrue (comes_not_else states ts others s w) → IsTrue (comes_not_else states ts steps s w)
   else-mono s w = or-mono (is_same_writer w s.writer) _ (is_same_writer w s.writer) _ (same _) (source-mono (from_else s w))
@@ -120,7 +119,7 @@ module _ (criterion : Criterion) (states : List State) (ts : List Txn) (steps ot
   follows-mono (RealTime one other) is = is
   follows-mono (From s) is =
       and-mono (is_asked criterion ts others s) _ (is_asked criterion ts steps s) _ (asked-mono s)
-      (and-mono (may_leave states ts s) _ (may_leave states ts s) _ (same _) (only-mono s)) is
+      (and-mono (may_be_source states ts s) _ (may_be_source states ts s) _ (same _) (only-mono s)) is
   follows-mono (ReadFirst s w) is =
       and-mono (is_known_rival ts others s w) _ (is_known_rival ts steps s w) _ (known-mono s w) (begins-mono s.writer w) is
   follows-mono (ChangedFirst w s) is =

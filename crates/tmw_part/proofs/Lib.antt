@@ -2,6 +2,7 @@ mod Adding
 mod Closing
 mod Complete
 mod Covering
+mod EventsProof
 mod Fewer
 mod Growing
 mod Marking

@@ -1,7 +1,7 @@
 -- What the registers hold along a serial order: what the last that is held and changes them left, or what the start has.
-use Rattle.std.proofs.Common.{◌≡◌, ◌==◌, ◌&&◌, ◌||◌, ◌+◌, ◌%◌, ◌^◌, ◌<◌, ◌≤◌, ◌⊎◌, ℕ, zero, suc, Bool, true, false, not, List, [], ◌∷◌, length, Option, Some, None, IsTrue, refl, sym, ap, ◌∙◌, inl, inr, arith}
+use Rattle.std.proofs.Common.{◌≡◌, ◌==◌, ◌&&◌, ◌+◌, ◌%◌, ◌^◌, ◌<◌, ◌⊎◌, ℕ, zero, suc, false, List, [], ◌∷◌, length, Option, Some, None, IsTrue, refl, sym, ap, ◌∙◌, inl, inr, arith}
 use Rattle.std.specs.Prelude.{slice_get, slice_index, slice_set, take, if◌then◌else◌}
-use Rattle.std.proofs.lemmas.Bool.{and_parts, and_from, or_cases, or_parts, cases_Bool, eqb-true, eqb-false}
+use Rattle.std.proofs.lemmas.Bool.{and_parts, or_cases, or_parts, cases_Bool, eqb-true, eqb-false}
 use Rattle.std.proofs.lemmas.List.{get_or-set_same, get_or-set_other, length-set}
 use Rattle.tmw_events.specs.declared.ix.Ix.{Ix}
 use Rattle.tmw_defs.specs.declared.op.Op.{Op}
@@ -9,9 +9,8 @@ use Rattle.tmw_defs.specs.declared.op.Op.TheVariants.{Read, Write, Add}
 use Rattle.tmw_defs.specs.History.{operations}
 use Rattle.tmw_defs.specs.Opaque.{State, Placed, reads_hold, after_writes, after, is_legal}
 use Rattle.tmw_defs.specs.Outcomes.{end_state}
-use Rattle.tmw_defs.specs.Part.{is_answered}
 use Rattle.tmw_cuts.specs.Written.{writes, left_by}
-use Rattle.tmw_part.specs.Steps.{needed_of, known_after, is_some_of, reads_unlike}
+use Rattle.tmw_part.specs.Steps.{needed_of, is_some_of, reads_unlike}
 use Rattle.tmw_part.specs.Reasons.{Changes, IsUnchanged}
 
 -- a register that is set, and another

@@ -1,30 +1,28 @@
 -- Steps that follow from those before them hold in each serial order, and contradict each other in none.
-use Rattle.std.proofs.Common.{◌≡◌, ◌==◌, ◌&&◌, ◌||◌, ◌+◌, ◌<◌, ◌≤◌, ◌⊎◌, ℕ, zero, suc, Bool, true, false, not, List, [], ◌∷◌, ◌++◌, length, get_or, Option, Some, None, IsTrue, refl, sym, ap, ◌∙◌, inl, inr, subst, arith}
-use Rattle.std.specs.Prelude.{slice_get, slice_index, slice_index_or, take, nat_lt, All}
+use Rattle.std.proofs.Common.{◌≡◌, ◌==◌, ◌&&◌, ◌+◌, ◌<◌, ◌≤◌, ℕ, zero, suc, Bool, true, false, not, List, [], ◌∷◌, length, Option, Some, None, IsTrue, refl, sym, ap, ◌∙◌, inl, inr, subst, arith}
+use Rattle.std.specs.Prelude.{slice_get, slice_index, take, All}
 use Rattle.std.specs.List.{Contains, list_all, list_any, range_with_len, AllByRecursion}
 use Rattle.std.proofs.lemmas.List.Folds.{list_any_at}
 use Rattle.std.proofs.lemmas.List.Elements.{All-contains, All-from_recursion}
 use Rattle.std.proofs.lemmas.List.{take_all}
 use Rattle.std.proofs.lemmas.Bool.{and_parts, and_from, or_cases, cases_Bool, cases_order, eqb-true, eq-eqb, ltb-true, not-true}
-use Rattle.tmw_events.specs.declared.ix.Ix.{Ix}
 use Rattle.tmw_defs.specs.declared.criterion.Criterion.{Criterion}
 use Rattle.tmw_defs.specs.declared.criterion.Criterion.TheVariants.{Opacity, Strict}
 use Rattle.tmw_defs.specs.declared.status.Status.{Status}
 use Rattle.tmw_defs.specs.declared.status.Status.TheVariants.{Live, Pending, Committed, Aborted}
 use Rattle.tmw_defs.specs.Criteria.{ExplainsBy}
 use Rattle.tmw_defs.specs.History.{Txn, status_of, operations}
-use Rattle.tmw_defs.specs.Opaque.{State, Placed, precedes, may_hold}
+use Rattle.tmw_defs.specs.Opaque.{State, Placed, may_hold}
 use Rattle.tmw_cuts.specs.Written.{writes, left_by}
 use Rattle.tmw_part.specs.declared.step.Source.{Source}
 use Rattle.tmw_part.specs.declared.step.Step.{Step}
 use Rattle.tmw_part.specs.declared.step.Step.TheVariants.{RealTime, From, ReadFirst, ChangedFirst, Through}
 use Rattle.tmw_part.specs.declared.step.Contradiction.{Contradiction}
 use Rattle.tmw_part.specs.declared.step.Contradiction.TheVariants.{Cycle, NoSource, Unlike}
-use Rattle.tmw_part.specs.Test.{nothing}
-use Rattle.tmw_part.specs.Steps.{txn_at, ops_at, needed_of, is_some_of, is_same_writer, is_same_source, orders, gives, supplies, is_before, begins_before, ends_before, is_committed, is_held, has_place, may_come_from, may_leave, is_rival, is_excluded, stands_between, from_else, is_no_source, comes_not_else, is_only, comes_from_none, is_asked, is_known_rival, follows, contradicts, Derives}
-use Rattle.tmw_part.specs.Reasons.{StandsAt, StandsBefore, Changes, IsUnchanged, ComesFrom, StandsBeforeWriter, HoldsIn, begin_apart, StepsLaw, ReasonLaw}
-use Rattle.tmw_part.proofs.OrderFacts.{IsPlaced, IsIn, IsSerial, apart, serial}
-use Rattle.tmw_part.proofs.OrderValues.{state_at, reads_at, length-state_at, LastLeft, NoneLeft, value_at, needed_holds, reads_alike}
+use Rattle.tmw_part.specs.Steps.{txn_at, ops_at, needed_of, is_some_of, is_same_writer, orders, gives, supplies, is_before, begins_before, ends_before, is_committed, is_held, has_place, may_come_from, may_be_source, is_rival, is_excluded, from_else, is_no_source, comes_not_else, is_asked, is_known_rival, follows, contradicts, Derives}
+use Rattle.tmw_part.specs.Reasons.{StandsAt, StandsBefore, Changes, ComesFrom, StandsBeforeWriter, HoldsIn, begin_apart, ReasonLaw}
+use Rattle.tmw_part.proofs.OrderFacts.{IsIn, IsSerial, apart, serial}
+use Rattle.tmw_part.proofs.OrderValues.{state_at, reads_at, length-state_at, value_at, needed_holds, reads_alike}
 
 -- what is used of transactions that begin apart, of an order of them, of the state that it begins in and of the steps that are known
 record Case (criterion : Criterion) (states : List State) (ts : List Txn) (s : State) (order : List Placed) (steps : List Step) : Type 0 where
@@ -400,7 +398,7 @@ module _ (criterion : Criterion) (states : List State) (ts : List Txn) (start : 
       ]
   step_holds (From s) is =
       let (asked, rest) = and_parts (is_asked criterion ts steps s) _ is in
-      let only = (and_parts (may_leave states ts s) _ rest).1 in
+      let only = (and_parts (may_be_source states ts s) _ rest).1 in
       let found = actual s asked in
       let passes = writer_passes (comes_not_else states ts steps s) found.writer found.within only in
       elim (or_cases (is_same_writer found.writer s.writer) _ passes) [

@@ -1,6 +1,6 @@
 -- The steps and contradictions that are tried: each that may follow from some.
-use Rattle.std.specs.Prelude.{◌≡◌, ◌==◌, ◌&&◌, ◌<◌, ℕ, Bool, not, List, [], ◌∷◌, ◌++◌, length, map, Option, Some, None, if◌then◌else◌}
-use Rattle.std.specs.List.{flat_map, range_with_len}
+use Rattle.std.specs.Prelude.{◌≡◌, ◌==◌, ◌&&◌, ◌<◌, ℕ, Bool, true, not, List, [], ◌∷◌, ◌++◌, length, map, Option, Some, None, if◌then◌else◌}
+use Rattle.std.specs.List.{flat_map, list_any}
 use Rattle.tmw_events.specs.declared.ix.Ix.{Ix}
 use Rattle.tmw_defs.specs.declared.criterion.Criterion.{Criterion}
 use Rattle.tmw_defs.specs.declared.op.Op.{Op}
@@ -12,7 +12,7 @@ use Rattle.tmw_part.specs.declared.step.Contradiction.TheVariants.{Cycle, NoSour
 use Rattle.tmw_part.specs.declared.step.Source.{Source}
 use Rattle.tmw_part.specs.declared.step.Step.{Step}
 use Rattle.tmw_part.specs.declared.step.Step.TheVariants.{RealTime, From, ReadFirst, ChangedFirst, Through}
-use Rattle.tmw_part.specs.Steps.{ops_at, needed_of, known_after, from_else, tells, follows}
+use Rattle.tmw_part.specs.Steps.{ops_at, needed_of, known_after, from_else, gives, is_before, follows}
 
 -- Of transactions with these places, those that real time may order behind the one.
 abbrev pub real_times : List ℕ → ℕ → List Step
@@ -63,6 +63,19 @@ sources_at ts registers places reader =
 
 abbrev pub sources : List Txn → List Ix → List ℕ → List Source
 sources ts registers places = flat_map (sources_at ts registers places) places
+
+-- The one stands before the writer, if there is one.
+abbrev pub is_before_writer : List Step → ℕ → Option ℕ → Bool
+is_before_writer steps a None = true
+is_before_writer steps a (Some b) = is_before steps a b
+
+-- By these steps it is known what the step says.
+abbrev pub tells : List Step → Step → Bool
+tells steps (RealTime one other) = is_before steps one other
+tells steps (From s) = list_any (gives s) steps
+tells steps (ReadFirst s w) = is_before steps s.reader w
+tells steps (ChangedFirst w s) = is_before_writer steps w s.writer
+tells steps (Through one between other) = is_before steps one other
 
 -- The step follows from these, which don't tell it yet.
 abbrev pub is_new : Criterion → List State → List Txn → List Step → Step → Bool

@@ -7,7 +7,6 @@ use Rattle.tmw_defs.specs.History.{Txn, operations, transactions}
 use Rattle.tmw_defs.specs.Opaque.{State, Placed}
 use Rattle.tmw_cuts.specs.Written.{writes}
 use Rattle.tmw_events.specs.declared.event.Event.{Event}
-use Rattle.tmw_part.specs.declared.step.Source.{Source}
 use Rattle.tmw_part.specs.declared.step.Step.{Step}
 use Rattle.tmw_part.specs.declared.step.Step.TheVariants.{RealTime, From, ReadFirst, ChangedFirst, Through}
 use Rattle.tmw_part.specs.declared.step.Contradiction.{Contradiction}
@@ -79,3 +78,8 @@ pub record StepsLaw (criterion : Criterion) (states : List State) (ts : List Txn
 abbrev pub ReasonLaw : Type 0
 ReasonLaw = (criterion : Criterion) (states : List State) (ts : List Txn) (steps : List Step) → IsTrue (begin_apart ts)
     → All (λ s. length s ≡ 8) states → Derives criterion states ts steps → StepsLaw criterion states ts steps
+
+-- A reason of the events' transactions tells that they have no order from any of the states.
+abbrev pub ReasonTells : Type 0
+ReasonTells = (criterion : Criterion) (states : List State) (events : List Event) (steps : List Step) (end : Contradiction)
+    → All (λ s. length s ≡ 8) states → IsReason criterion states (transactions events) steps end → HasOrderFrom criterion states events → ⊥

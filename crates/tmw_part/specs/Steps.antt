@@ -1,14 +1,13 @@
 -- Steps of a reason why transactions have no serial order: when a step follows from those before it, and when they contradict each other.
--- Transactions are told by their places in a list of them. The start stands before each and leaves each register its value.
-use Rattle.std.specs.Prelude.{◌≡◌, ◌==◌, ◌&&◌, ◌||◌, ◌+◌, ◌%◌, ◌^◌, ℕ, Bool, true, false, not, nat_lt, List, [], ◌∷◌, length, map, take, slice_get, slice_index, slice_index_or, Option, Some, None, IsTrue, if◌then◌else◌}
+-- A transaction is told by its place in the list of all. A value comes from the transaction that left it, or from the start.
+use Rattle.std.specs.Prelude.{◌≡◌, ◌==◌, ◌&&◌, ◌||◌, ◌+◌, ◌%◌, ◌^◌, ℕ, Bool, true, false, not, nat_lt, List, [], ◌∷◌, length, take, slice_get, slice_index, slice_index_or, Option, Some, None, IsTrue, if◌then◌else◌}
 use Rattle.std.specs.List.{list_all, list_any, range_with_len}
-use Rattle.tmw_events.specs.declared.ix.Ix.{Ix}
 use Rattle.tmw_defs.specs.declared.criterion.Criterion.{Criterion}
 use Rattle.tmw_defs.specs.declared.criterion.Criterion.TheVariants.{Opacity, Strict}
 use Rattle.tmw_defs.specs.declared.op.Op.{Op}
 use Rattle.tmw_defs.specs.declared.op.Op.TheVariants.{Read, Write, Add}
 use Rattle.tmw_defs.specs.declared.status.Status.{Status}
-use Rattle.tmw_defs.specs.declared.status.Status.TheVariants.{Live, Pending, Committed, Aborted}
+use Rattle.tmw_defs.specs.declared.status.Status.TheVariants.{Committed}
 use Rattle.tmw_defs.specs.History.{Txn, status_of, operations}
 use Rattle.tmw_defs.specs.Opaque.{State, precedes, may_hold}
 use Rattle.tmw_defs.specs.Part.{is_answered}
@@ -34,7 +33,7 @@ needed_of r (Read q v ∷ ops) = if q.number == r then Some v else needed_of r o
 needed_of r (Write q v ∷ ops) = if q.number == r then None else needed_of r ops
 needed_of r (Add q d v ∷ ops) = if q.number == r then Some v else needed_of r ops
 
--- What the register holds after the operation, where before it this is known.
+-- What is known of the register's value after the operation, where this is known before it.
 abbrev pub known_after : ℕ → Option ℕ → Op → Option ℕ
 known_after r known (Read q v) = if q.number == r then Some v else known
 known_after r known (Write q v) = if q.number == r then Some v else known
@@ -44,7 +43,7 @@ abbrev pub is_some_of : ℕ → Option ℕ → Bool
 is_some_of v None = false
 is_some_of v (Some w) = w == v
 
--- One of the operations was answered `read` of the register, which by those before it held `held`.
+-- One of the operations was answered `read` of the register, which held `held` by those before it.
 abbrev pub reads_unlike : ℕ → ℕ → ℕ → Option ℕ → List Op → Bool
 reads_unlike r held read known [] = false
 reads_unlike r held read known (op ∷ ops) =
@@ -79,10 +78,11 @@ abbrev pub supplies : ℕ → Step → Bool
 supplies a (From s) = is_some_of a s.writer
 supplies a _ = false
 
--- By these steps the one stands before the other. The start stands before each, and none before it.
+-- By these steps the one stands before the other.
 abbrev pub is_before : List Step → ℕ → ℕ → Bool
 is_before steps a b = list_any (orders a b) steps
 
+-- The start stands before each transaction, and none stands before it.
 abbrev pub begins_before : List Step → Option ℕ → ℕ → Bool
 begins_before steps None b = true
 begins_before steps (Some a) b = is_before steps a b
@@ -90,10 +90,6 @@ begins_before steps (Some a) b = is_before steps a b
 abbrev pub ends_before : List Step → ℕ → Option ℕ → Bool
 ends_before steps a None = false
 ends_before steps a (Some b) = is_before steps a b
-
-abbrev pub is_before_writer : List Step → ℕ → Option ℕ → Bool
-is_before_writer steps a None = true
-is_before_writer steps a (Some b) = is_before steps a b
 
 abbrev pub is_committed : Status → Bool
 is_committed Committed = true
@@ -108,16 +104,16 @@ abbrev pub has_place : Criterion → List Txn → List Step → ℕ → Bool
 has_place Opacity ts steps a = nat_lt a (length ts)
 has_place Strict ts steps a = is_held ts steps a
 
--- Whether the reader's value may come from this writer, or from the start, as far as one can tell without an order: one of the states has it, or the
--- writer may be held and leaves it.
+-- The reader's value may come from there, as far as one can tell without an order: one of the states has it in the register, or a
+-- completion may hold the writer, which leaves it there.
 abbrev pub may_come_from : List State → List Txn → Source → Option ℕ → Bool
 may_come_from states ts s None = list_any (λ state. slice_index state s.register.number == s.value) states
 may_come_from states ts s (Some a) =
     not (a == s.reader)
     && (may_hold (status_of (txn_at ts a).text) true && is_some_of s.value (left_by s.register.number None (ops_at ts a)))
 
-abbrev pub may_leave : List State → List Txn → Source → Bool
-may_leave states ts s = may_come_from states ts s s.writer
+abbrev pub may_be_source : List State → List Txn → Source → Bool
+may_be_source states ts s = may_come_from states ts s s.writer
 
 -- The transaction is held, changes the source's register and is neither the reader nor the writer.
 abbrev pub is_rival : List Txn → List Step → Source → ℕ → Bool
@@ -140,7 +136,7 @@ from_else s w = record s { writer = w }
 
 -- The value can't come from there.
 abbrev pub is_no_source : List State → List Txn → List Step → Source → Bool
-is_no_source states ts steps s = not (may_leave states ts s) || is_excluded ts steps s
+is_no_source states ts steps s = not (may_be_source states ts s) || is_excluded ts steps s
 
 -- The value can't come from this writer, unless it is the source's own.
 abbrev pub comes_not_else : List State → List Txn → List Step → Source → Option ℕ → Bool
@@ -166,18 +162,18 @@ is_asked criterion ts steps s =
 abbrev pub is_known_rival : List Txn → List Step → Source → ℕ → Bool
 is_known_rival ts steps s a = list_any (gives s) steps && is_rival ts steps s a
 
--- Whether a step follows from these.
+-- Whether a step follows from these: by real time; because the value can come from nowhere else; because the reader or the writer would
+-- else have a rival between them; or by a third transaction.
 abbrev pub follows : Criterion → List State → List Txn → List Step → Step → Bool
 follows criterion states ts steps (RealTime one other) = not (one == other) && precedes (txn_at ts one) (txn_at ts other)
 follows criterion states ts steps (From s) =
-    is_asked criterion ts steps s
-    && (may_leave states ts s && is_only states ts steps s)
+    is_asked criterion ts steps s && (may_be_source states ts s && is_only states ts steps s)
 follows criterion states ts steps (ReadFirst s w) = is_known_rival ts steps s w && begins_before steps s.writer w
 follows criterion states ts steps (ChangedFirst w s) = is_known_rival ts steps s w && is_before steps w s.reader
 follows criterion states ts steps (Through one between other) =
     has_place criterion ts steps between && (is_before steps one between && is_before steps between other)
 
--- Whether these steps can be so in no order.
+-- Whether no order can be as these steps say: one stands before itself; a value can come from nowhere; or a transaction contradicts itself.
 abbrev pub contradicts : Criterion → List State → List Txn → List Step → Contradiction → Bool
 contradicts criterion states ts steps (Cycle a) = has_place criterion ts steps a && is_before steps a a
 contradicts criterion states ts steps (NoSource b r v) =
@@ -185,14 +181,6 @@ contradicts criterion states ts steps (NoSource b r v) =
     is_asked criterion ts steps s && comes_from_none states ts steps s
 contradicts criterion states ts steps (Unlike a r held read) =
     has_place criterion ts steps a && (not (held == read) && reads_unlike r.number held read None (ops_at ts a))
-
--- By these steps it is known what the step says.
-abbrev pub tells : List Step → Step → Bool
-tells steps (RealTime one other) = is_before steps one other
-tells steps (From s) = list_any (gives s) steps
-tells steps (ReadFirst s w) = is_before steps s.reader w
-tells steps (ChangedFirst w s) = is_before_writer steps w s.writer
-tells steps (Through one between other) = is_before steps one other
 
 -- Each of the steps follows from those before it.
 abbrev pub Derives : Criterion → List State → List Txn → List Step → Type 0

@@ -18,7 +18,8 @@ fn push_real_times(steps: &mut Vec<Step>, one: usize, places: &[usize]) -> Resul
 
 /// Adds the steps from real time.
 fn push_all_real_times(steps: &mut Vec<Step>, places: &[usize]) -> Result<(), AllocError>
-    ensures { OnOk result (steps.new.items ≡ steps.old.items ++ flat_map (real_times places.now) places.now) }
+    ensures { OnOk result (steps.new.items
+        ≡ steps.old.items ++ flat_map (real_times places.now) places.now) }
 {
     for one in places {
         push_real_times(steps, *one, places)?;
@@ -59,7 +60,8 @@ fn push_all_firsts(
     sources: &[Source],
     places: &[usize],
 ) -> Result<(), AllocError>
-    ensures { OnOk result (steps.new.items ≡ steps.old.items ++ flat_map (firsts places.now) sources.now) }
+    ensures { OnOk result (steps.new.items
+        ≡ steps.old.items ++ flat_map (firsts places.now) sources.now) }
 {
     for source in sources {
         push_firsts(steps, source, places)?;
@@ -74,7 +76,8 @@ fn push_throughs_between(
     between: usize,
     places: &[usize],
 ) -> Result<(), AllocError>
-    ensures { OnOk result (steps.new.items ≡ steps.old.items ++ throughs_between places.now one between) }
+    ensures { OnOk result (steps.new.items
+        ≡ steps.old.items ++ throughs_between places.now one between) }
 {
     for other in places {
         steps.push(Step::Through {
@@ -98,7 +101,8 @@ fn push_throughs(steps: &mut Vec<Step>, one: usize, places: &[usize]) -> Result<
 
 /// Adds the steps that lead from a transaction to another by a third.
 fn push_all_throughs(steps: &mut Vec<Step>, places: &[usize]) -> Result<(), AllocError>
-    ensures { OnOk result (steps.new.items ≡ steps.old.items ++ flat_map (throughs places.now) places.now) }
+    ensures { OnOk result (steps.new.items
+        ≡ steps.old.items ++ flat_map (throughs places.now) places.now) }
 {
     for one in places {
         push_throughs(steps, *one, places)?;

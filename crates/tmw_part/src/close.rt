@@ -1,7 +1,7 @@
 ghost use Rattle.std.specs.Prelude.{◌≡◌, IfOk, None, find};
-ghost use Rattle.tmw_part.specs.Candidates.{is_new};
+ghost use Rattle.tmw_part.specs.Candidates.{is_new, is_before_writer, tells};
 ghost use Rattle.tmw_part.specs.Shown.{txns_of};
-ghost use Rattle.tmw_part.specs.Steps.{Derives, is_before_writer, tells};
+ghost use Rattle.tmw_part.specs.Steps.{Derives};
 
 use crate::follows::follows;
 use crate::known::{is_before, is_given};
@@ -81,7 +81,8 @@ pub(crate) fn close(
     ensures derives { IfOk result (λ steps.
         Derives criterion states.now (txns_of transactions.now) steps.items) }
     ensures closed { IfOk result (λ steps.
-        find (is_new criterion states.now (txns_of transactions.now) steps.items) candidates.now ≡ None) }
+        find (is_new criterion states.now (txns_of transactions.now) steps.items) candidates.now
+        ≡ None) }
 {
     let mut steps = Vec::new(alloc);
     while let Some(step) = find_step(criterion, states, transactions, &steps, candidates) {

@@ -69,7 +69,8 @@ fn push_unlikes(
     places: &[usize],
 ) -> Result<(), AllocError>
     ensures { OnOk result (list.new.items
-        ≡ list.old.items ++ flat_map (unlikes_at (txns_of transactions.now) registers.now) places.now) }
+        ≡ list.old.items
+        ++ flat_map (unlikes_at (txns_of transactions.now) registers.now) places.now) }
 {
     for reader in places {
         push_unlikes_at(list, transactions, registers, *reader)?;

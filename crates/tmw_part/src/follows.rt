@@ -147,7 +147,8 @@ fn comes_not_else(
     source: &Source,
     writer: Option<usize>,
 ) -> bool
-    ensures { result ≡ comes_not_else states.now (txns_of transactions.now) steps.now source.now writer }
+    ensures { result
+        ≡ comes_not_else states.now (txns_of transactions.now) steps.now source.now writer }
 {
     let other = Source { writer, ..*source };
     is_same_writer(writer, source.writer) || is_no_source(states, transactions, steps, &other)
@@ -189,8 +190,8 @@ fn comes_not_from(
     source: &Source,
     writer: Option<usize>,
 ) -> bool
-    ensures { result
-        ≡ is_no_source states.now (txns_of transactions.now) steps.now (from_else source.now writer) }
+    ensures { let other = from_else source.now writer in
+        result ≡ is_no_source states.now (txns_of transactions.now) steps.now other }
 {
     let other = Source { writer, ..*source };
     is_no_source(states, transactions, steps, &other)
@@ -231,7 +232,8 @@ fn comes_from_none(
 
 /// Whether the one transaction precedes the other in real time, by their places.
 fn precedes_at(transactions: &[Transaction], one: usize, other: usize) -> bool
-    ensures { result ≡ precedes (txn_at (txns_of transactions.now) one) (txn_at (txns_of transactions.now) other) }
+    ensures { let ts = txns_of transactions.now in
+        result ≡ precedes (txn_at ts one) (txn_at ts other) }
 {
     match (transactions.get(one), transactions.get(other)) {
         (Some(first), Some(second)) => precedes(first, second),
@@ -296,7 +298,8 @@ pub(crate) fn contradicts(
     steps: &[Step],
     end: &Contradiction,
 ) -> bool
-    ensures { result ≡ contradicts criterion states.now (txns_of transactions.now) steps.now end.now }
+    ensures { result
+        ≡ contradicts criterion states.now (txns_of transactions.now) steps.now end.now }
 {
     match *end {
         Contradiction::Cycle(place) => {

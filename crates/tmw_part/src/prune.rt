@@ -35,7 +35,8 @@ fn is_reason(
     steps: &[Step],
     end: &Contradiction,
 ) -> bool
-    ensures { IsTrue result ↔ IsReason criterion states.now (txns_of transactions.now) steps.now end.now }
+    ensures { IsTrue result
+        ↔ IsReason criterion states.now (txns_of transactions.now) steps.now end.now }
 {
     contradicts(criterion, states, transactions, steps, end)
         && derives(criterion, states, transactions, steps)
@@ -54,8 +55,9 @@ fn leave_out(
     requires { place < length steps.old.items }
     ensures out { IfOk result (λ out. IsTrue out → steps.new.items ≡ remove steps.old.items place
         × IsReason criterion states.now (txns_of transactions.now) steps.new.items end.now) }
-    ensures stays { IfOk result (λ out. IsFalse out → steps.new.items ≡ steps.old.items
-        × (IsReason criterion states.now (txns_of transactions.now) (remove steps.old.items place) end.now → ⊥)) }
+    ensures stays { let rest = remove steps.old.items place in
+        IfOk result (λ out. IsFalse out → steps.new.items ≡ steps.old.items
+        × (IsReason criterion states.now (txns_of transactions.now) rest end.now → ⊥)) }
 {
     let mut rest = steps.to_vec(alloc)?;
     let _step = rest.remove(place);
@@ -75,9 +77,11 @@ fn leave_out_each(
     steps: &mut Vec<Step>,
     end: &Contradiction,
 ) -> Result<bool, AllocError>
-    ensures reason { IfOk result (λ out. IsReason criterion states.now (txns_of transactions.now) steps.old.items end.now
-        → IsReason criterion states.now (txns_of transactions.now) steps.new.items end.now) }
-    ensures fewer { IfOk result (λ out. IsTrue out → length steps.new.items < length steps.old.items) }
+    ensures reason { let ts = txns_of transactions.now in
+        IfOk result (λ out. IsReason criterion states.now ts steps.old.items end.now
+        → IsReason criterion states.now ts steps.new.items end.now) }
+    ensures fewer { IfOk result (λ out. IsTrue out
+        → length steps.new.items < length steps.old.items) }
     ensures needed { IfOk result (λ out. IsFalse out
         → IsNeededEach criterion states.now (txns_of transactions.now) steps.new.items end.now) }
 {

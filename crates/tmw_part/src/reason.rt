@@ -1,7 +1,7 @@
 ghost use Rattle.std.specs.Prelude.{◌≡◌, IfOk, MatchOption, map};
 ghost use Rattle.tmw_defs.specs.History.{transactions};
 ghost use Rattle.tmw_part.specs.Found.{FindsReason, HasNoReason, IsLeastReason, threads_of};
-ghost use Rattle.tmw_part.specs.Reasons.{ReasonLaw};
+ghost use Rattle.tmw_part.specs.Reasons.{ReasonLaw, ReasonTells};
 ghost use Rattle.tmw_part.specs.Shown.{txns_of};
 
 use crate::candidates::candidates;
@@ -32,7 +32,8 @@ const MOST_TRANSACTIONS: usize = 8;
 
 /// The threads of the transactions.
 fn threads_of(alloc: Global, transactions: &[Transaction]) -> Result<Vec<Ix>, AllocError>
-    ensures { IfOk result (λ threads. map (λ ix. ix.number) threads.items ≡ threads_of (txns_of transactions.now)) }
+    ensures { IfOk result (λ threads. map (λ ix. ix.number) threads.items
+        ≡ threads_of (txns_of transactions.now)) }
 {
     let mut threads = Vec::new(alloc);
     for transaction in transactions {
@@ -41,16 +42,16 @@ fn threads_of(alloc: Global, transactions: &[Transaction]) -> Result<Vec<Ix>, Al
     Ok(threads)
 }
 
-/// Finds a reason, of the transactions with these places and sources, where these contradictions are tried.
+/// Finds the steps of a reason, none of which can be left out, and what they come to.
 fn find_steps(
     criterion: Criterion,
     alloc: Global,
     states: &[State],
     transactions: &[Transaction],
 ) -> Result<Option<(Vec<Step>, Contradiction)>, AllocError>
-    ensures { IfOk result (λ found. MatchOption found
-        (HasNoReason criterion states.now (txns_of transactions.now))
-        (λ pair. IsLeastReason criterion states.now (txns_of transactions.now) pair.0.items pair.1)) }
+    ensures { let ts = txns_of transactions.now in IfOk result (λ found. MatchOption found
+        (HasNoReason criterion states.now ts)
+        (λ pair. IsLeastReason criterion states.now ts pair.0.items pair.1)) }
 {
     let places = places(alloc, transactions.len())?;
     let registers = registers(alloc)?;
@@ -95,7 +96,9 @@ pub fn find_reason(
     }))
 }
 
-/// Proves that the steps of a reason hold in each serial order, and that steps that contradict each other leave none.
+/// Proves that the steps of a reason hold in each serial order, over all lists of transactions that begin at different
+/// places, and that steps that contradict each other leave no order. So where a reason is found there is none.
 pub fn law_reason()
-    ensures { ReasonLaw }
+    ensures steps { ReasonLaw }
+    ensures events { ReasonTells }
 {}

@@ -62,7 +62,8 @@ fn push_sources_of(
     register: Ix,
     needed: Option<u64>,
 ) -> Result<(), AllocError>
-    ensures { OnOk result (list.new.items ≡ list.old.items ++ sources_of places.now reader register needed) }
+    ensures { OnOk result (list.new.items
+        ≡ list.old.items ++ sources_of places.now reader register needed) }
 {
     let Some(value) = needed else {
         return Ok(());
@@ -84,8 +85,8 @@ fn push_sources_at(
     places: &[usize],
     reader: usize,
 ) -> Result<(), AllocError>
-    ensures { OnOk result (list.new.items
-        ≡ list.old.items ++ sources_at (txns_of transactions.now) registers.now places.now reader) }
+    ensures { OnOk result (list.new.items ≡ list.old.items
+        ++ sources_at (txns_of transactions.now) registers.now places.now reader) }
 {
     for register in registers {
         let needed = needed_of(*register, text_at(transactions, reader));
@@ -101,7 +102,8 @@ pub(crate) fn sources(
     registers: &[Ix],
     places: &[usize],
 ) -> Result<Vec<Source>, AllocError>
-    ensures { IfOk result (λ list. list.items ≡ sources (txns_of transactions.now) registers.now places.now) }
+    ensures { IfOk result (λ list. list.items
+        ≡ sources (txns_of transactions.now) registers.now places.now) }
 {
     let mut list = Vec::new(alloc);
     for reader in places {

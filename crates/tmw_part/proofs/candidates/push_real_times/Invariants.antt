@@ -1,7 +1,5 @@
 use Rattle.std.proofs.Common.{◌≡◌, ◌++◌, drop, map}
-use Rattle.std.specs.List.{flat_map}
-use Rattle.tmw_part.specs.declared.step.Step.TheVariants.{RealTime, From, Through}
-use Rattle.tmw_part.specs.Candidates.{firsts, firsts_with, real_times, throughs, throughs_between}
+use Rattle.tmw_part.specs.declared.step.Step.TheVariants.{RealTime}
 use Rattle.tmw_part.proofs.candidates.push_real_times.Given as goal
 
 abbrev pub invariant-loop-other : goal.invariant-loop-other

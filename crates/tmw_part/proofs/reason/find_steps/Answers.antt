@@ -1,15 +1,13 @@
-use Rattle.std.proofs.Common.{◌≡◌, ◌<◌, ℕ, List, [], Some, None, length, IsTrue, refl, sym, ap, ◌∙◌, subst, arith}
-use Rattle.std.specs.Prelude.{find, slice_get, remove}
+use Rattle.std.proofs.Common.{◌≡◌, List, [], Some, None, length, IsTrue, sym, ap, ◌∙◌, arith}
+use Rattle.std.specs.Prelude.{find}
 use Rattle.std.specs.List.{range_with_len}
 use Rattle.std.proofs.lemmas.List.{length-map}
 use Rattle.tmw_defs.specs.declared.criterion.Criterion.{Criterion}
 use Rattle.tmw_defs.specs.History.{Txn}
 use Rattle.tmw_defs.specs.Opaque.{State}
-use Rattle.tmw_part.specs.declared.step.Step.{Step}
 use Rattle.tmw_part.specs.declared.step.Contradiction.{Contradiction}
 use Rattle.tmw_part.specs.Candidates.{candidates, ends, is_new, sources}
 use Rattle.tmw_part.specs.Found.{IsLeastReason}
-use Rattle.tmw_part.specs.Reasons.{IsReason}
 use Rattle.tmw_part.specs.Shown.{txn_of, txns_of}
 use Rattle.tmw_part.specs.Steps.{contradicts}
 use Rattle.tmw_part.proofs.Closing.{found_passes}

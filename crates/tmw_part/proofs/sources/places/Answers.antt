@@ -1,4 +1,4 @@
-use Rattle.std.proofs.Common.{◌≡◌, ◌++◌, ◌+◌, ℕ, zero, suc, [], ◌∷◌, sym, ap, ◌∙◌, refl, add-one, arith}
+use Rattle.std.proofs.Common.{◌≡◌, ◌++◌, ◌+◌, ℕ, zero, suc, [], ◌∷◌, sym, ap, ◌∙◌, add-one, arith}
 use Rattle.std.specs.List.{range_with_len}
 use Rattle.tmw_part.proofs.sources.places.Goals as goal
 
