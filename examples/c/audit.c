@@ -4,7 +4,8 @@ Money that the transactions of a little memory move, an auditor who adds it up, 
     audit ROUNDS [broken]
 
 Two tellers move money from one account to another, and an auditor adds all accounts up. A broken memory doesn't look whether what a
-transaction has read is still there. The exit status is the number of the verdict, as that of `tmwatch judge`.
+transaction has read is still there. In the first round all money moves between two readings of the auditor, so that a broken memory is
+always violated. The exit status is the number of the verdict, as that of `tmwatch judge`.
 */
 #define _POSIX_C_SOURCE 200809L
 #include "tmwatch.h"
@@ -110,7 +111,8 @@ static bool move(struct tx *tx, int from, int to)
     return commit(tx);
 }
 
-static bool audit(struct tx *tx)
+/* If it waits, the tellers move their money between its first two readings. */
+static bool audit(struct tx *tx, bool waits)
 {
     uint64_t sum = 0, value;
     for (int account = 0; account < ACCOUNTS; account++) {
@@ -118,6 +120,10 @@ static bool audit(struct tx *tx)
             return false;
         sum += value;
         sched_yield();
+        if (waits && account == 0) {
+            pthread_barrier_wait(&barrier);
+            pthread_barrier_wait(&barrier);
+        }
     }
     if (!commit(tx))
         return false;
@@ -133,12 +139,16 @@ static void *work(void *recorder)
     int thread = (int)((tmwatch_recorder *)recorder - recorders);
     for (unsigned long round = 0; round < rounds; round++) {
         int from = (int)(round + (unsigned long)thread) % ACCOUNTS, to = (from + 1 + (int)(round / 4 % 3)) % ACCOUNTS;
-        bool has_committed = false;
+        bool has_committed = false, moves_in_audit = round == 0 && thread != AUDITOR;
         pthread_barrier_wait(&barrier);
+        if (moves_in_audit)
+            pthread_barrier_wait(&barrier);
         for (int attempt = 0; attempt < ATTEMPTS && !has_committed; attempt++) {
             struct tx tx = {.recorder = recorder};
-            has_committed = thread == AUDITOR ? audit(&tx) : move(&tx, from, to);
+            has_committed = thread == AUDITOR ? audit(&tx, round == 0 && attempt == 0) : move(&tx, from, to);
         }
+        if (moves_in_audit)
+            pthread_barrier_wait(&barrier);
     }
     ended++;
     return NULL;
