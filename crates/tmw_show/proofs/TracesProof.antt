@@ -34,7 +34,7 @@ use Rattle.tmw_show.specs.Explaining.{IsNeededOf, marks_of}
 use Rattle.tmw_show.specs.Running.{shown_events}
 use Rattle.tmw_show.specs.TracesLaw.{IsHeaderFor, IsContradictory, AreJudgedLike, TellOf, TracesLaw, rules_from}
 use Rattle.tmw_show.specs.declared.command.needed.Needed.{Needed}
-use Rattle.tmw_show.specs.declared.command.needed.Needed.TheVariants.{Unasked, NotViolated, Marks}
+use Rattle.tmw_show.specs.declared.command.needed.Needed.TheVariants.{Unasked, NotViolated, Part}
 use Rattle.tmw_show.specs.declared.command.shown.Shown.{Shown}
 use Rattle.tmw_show.proofs.Shows.{shown-numbered}
 use Rattle.tmw_show.proofs.StateHeaders.{header_of, headers_of, initials-headers_of, each-headers_of, headers_of-each, heads-header_of, text-headers_of}
@@ -143,7 +143,7 @@ tells-by : (c : Criterion) (bounds : Bounds) (shown : Shown) (start : State) (wh
     → IsJudgedAlike (rules_for c shown.registers start bounds) shown.showing.verdict (members shown.showing.states) shown.showing.events.items
     → All (IsHeaderFor shown.registers (shown_events shown)) (headers_of shown.registers (members shown.showing.states) fit)
     → TellOf c bounds shown needed (headers_of shown.registers (members shown.showing.states) fit)
-tells-by c bounds shown start why (Marks marks) fit is of alike heads =
+tells-by c bounds shown start why (Part marks reason) fit is of alike heads =
     let registers = shown.registers in
     let states = members shown.showing.states in
     let events = shown.showing.events.items in

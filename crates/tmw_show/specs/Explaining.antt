@@ -1,5 +1,5 @@
 -- Which events of a window are shown: all, or those that contradict each other, where it is asked why the window is violated.
-use Rattle.std.specs.Prelude.{◌≡◌, ℕ, Bool, true, false, List, [], ◌++◌, length, nat_lt, codes, if◌then◌else◌}
+use Rattle.std.specs.Prelude.{◌≡◌, ℕ, Bool, true, false, List, [], ◌++◌, length, nat_lt, codes, if◌then◌else◌, Option, None}
 use Rattle.std.specs.Fmt.{decimal}
 use Rattle.tmw_cuts.specs.Members.{members}
 use Rattle.tmw_defs.specs.declared.criterion.Criterion.{Criterion}
@@ -8,23 +8,27 @@ use Rattle.tmw_defs.specs.declared.verdict.Verdict.TheVariants.{Violated}
 use Rattle.tmw_events.specs.declared.event.Event.{Event}
 use Rattle.tmw_events.specs.declared.registers.Registers.{Registers}
 use Rattle.tmw_lines.specs.Text.{line}
+use Rattle.tmw_defs.specs.History.{transactions}
 use Rattle.tmw_part.specs.Finding.{FindsPart}
+use Rattle.tmw_part.specs.Found.{FindsReason}
+use Rattle.tmw_part.specs.declared.reason.Reason.{Reason}
 use Rattle.tmw_part.specs.Kept.{all_kept, kept_of}
 use Rattle.tmw_window.specs.declared.showing.Showing.{Showing}
 use Rattle.tmw_show.specs.declared.command.needed.Needed.{Needed}
 use Rattle.tmw_show.specs.declared.command.shown.Shown.{Shown}
-use Rattle.tmw_show.specs.declared.command.needed.Needed.TheVariants.{Unasked, NotViolated, Marks}
+use Rattle.tmw_show.specs.declared.command.needed.Needed.TheVariants.{Unasked, NotViolated, Part}
 
 -- The verdict is that the run is violated.
 abbrev pub IsViolation : Verdict → Type 0
 IsViolation verdict = (at : ℕ) × (verdict ≡ Violated at)
 
--- Only where it is asked why a window is violated that is, a part of it is found.
+-- Only where it is asked why a window is violated that is, a part of it is found, and a reason why that is violated, if there is one.
 abbrev pub IsNeededOf : Criterion → Bool → Registers → Showing → Needed → Type 0
 IsNeededOf criterion why registers showing Unasked = why ≡ false
 IsNeededOf criterion why registers showing NotViolated = (why ≡ true) × (IsViolation showing.verdict → ⊥)
-IsNeededOf criterion why registers showing (Marks marks) = (why ≡ true)
+IsNeededOf criterion why registers showing (Part marks reason) = (why ≡ true)
     × IsViolation showing.verdict × FindsPart criterion registers.number (members showing.states) showing.events.items marks.items
+    × FindsReason criterion (members showing.states) (transactions (kept_of marks.items showing.events.items)) reason
 
 -- This is what is shown, where it is so asked, of a run with so many registers whose last window this is.
 pub record IsShownFor (criterion : Criterion) (why : Bool) (registers : Registers) (showing : Showing) (shown : Shown) : Type 0 where
@@ -34,7 +38,7 @@ pub record IsShownFor (criterion : Criterion) (why : Bool) (registers : Register
 
 -- The marks of the events that are shown.
 abbrev pub marks_of : Needed → List Event → List Bool
-marks_of (Marks marks) events = marks.items
+marks_of (Part marks reason) events = marks.items
 marks_of _ events = all_kept events
 
 -- how many events of how many are shown
@@ -50,4 +54,9 @@ part_words shown all =
 abbrev pub needed_text : Needed → List Event → List ℕ
 needed_text Unasked events = []
 needed_text NotViolated events = line (codes "    part   all events: the run isn't violated")
-needed_text (Marks marks) events = line (codes "    part   " ++ part_words (length (kept_of marks.items events)) (length events))
+needed_text (Part marks reason) events = line (codes "    part   " ++ part_words (length (kept_of marks.items events)) (length events))
+
+-- The reason that is told, if one is.
+abbrev pub reason_of : Needed → Option Reason
+reason_of (Part marks reason) = reason
+reason_of _ = None

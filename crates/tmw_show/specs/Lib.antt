@@ -2,5 +2,6 @@ pub mod Drawing
 pub mod Explaining
 pub mod Page
 pub mod Running
+pub mod Sentences
 pub mod TracesLaw
 pub mod TracesText

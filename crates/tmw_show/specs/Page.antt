@@ -17,7 +17,7 @@ use Rattle.tmw_show.specs.Drawing.{told_text}
 use Rattle.tmw_report.specs.Lines.{report_by}
 use Rattle.tmw_show.specs.declared.command.page.parts.TheConstants.{HEAD, TAIL}
 use Rattle.tmw_show.specs.declared.command.needed.Needed.{Needed}
-use Rattle.tmw_show.specs.declared.command.needed.Needed.TheVariants.{Marks}
+use Rattle.tmw_show.specs.declared.command.needed.Needed.TheVariants.{Part}
 use Rattle.tmw_show.specs.declared.command.shown.Shown.{Shown}
 use Rattle.tmw_show.specs.declared.command.told.Told.{Told}
 
@@ -80,7 +80,7 @@ digit true = 49
 digit false = 48
 
 abbrev pub needed_json : Needed → List ℕ
-needed_json (Marks marks) = codes ",\"needed\":\"" ++ (flat_map (λ mark. digit mark ∷ []) marks.items ++ codes "\"")
+needed_json (Part marks reason) = codes ",\"needed\":\"" ++ (flat_map (λ mark. digit mark ∷ []) marks.items ++ codes "\"")
 needed_json _ = []
 
 -- what is shown, as one JSON object and a line feed

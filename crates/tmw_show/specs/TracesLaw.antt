@@ -19,7 +19,7 @@ use Rattle.tmw_monitor.specs.Fitting.{rules_for}
 use Rattle.tmw_window.specs.WindowLaw.{at_end}
 use Rattle.tmw_show.specs.declared.command.form.Form.TheVariants.{Traces}
 use Rattle.tmw_show.specs.declared.command.needed.Needed.{Needed}
-use Rattle.tmw_show.specs.declared.command.needed.Needed.TheVariants.{Marks}
+use Rattle.tmw_show.specs.declared.command.needed.Needed.TheVariants.{Part}
 use Rattle.tmw_show.specs.declared.command.options.ShowOptions.{ShowOptions}
 use Rattle.tmw_show.specs.declared.command.shown.Shown.{Shown}
 use Rattle.tmw_show.specs.Running.{IsShownOf, shown_events, shown_text}
@@ -51,7 +51,7 @@ pub record IsContradictory (criterion : Criterion) (events : List Event) (header
 
 -- How the traces are judged tells of the run: those of the whole window are judged like the run; those of a part contradict themselves.
 abbrev pub TellOf : Criterion → Bounds → Shown → Needed → List Header → Type 0
-TellOf criterion bounds shown (Marks marks) headers = All (IsContradictory criterion (shown_events shown)) headers
+TellOf criterion bounds shown (Part marks reason) headers = All (IsContradictory criterion (shown_events shown)) headers
 TellOf criterion bounds shown _ headers = AreJudgedLike criterion bounds shown.showing.verdict (shown_events shown) headers
 
 -- With `--trace` the texts of traces are written, one behind the other: one trace for each state that is shown, in order, which begins

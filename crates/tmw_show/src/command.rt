@@ -12,12 +12,14 @@ mod page;
 mod part;
 mod reading;
 mod run;
+mod sentences;
 mod shown;
 mod states;
 mod text;
 mod told;
 mod traces;
 mod window;
+mod word;
 
 pub use form::Form;
 pub use law::law_traces;

@@ -4,7 +4,7 @@ ghost use Rattle.tmw_show.specs.Explaining.{counts_words, marks_of, needed_text,
 use crate::command::numbers::push_number;
 use std::alloc::{AllocError, Global};
 use tmw_events::Event;
-use tmw_part::{MOST_EVENTS, kept_of};
+use tmw_part::{MOST_EVENTS, Reason, kept_of};
 
 /// Which events of a window are shown.
 #[derive(Debug, Drop)]
@@ -13,8 +13,11 @@ pub enum Needed {
     Unasked,
     /// All: the window isn't violated.
     NotViolated,
-    /// Those that have the mark, which are violated by themselves.
-    Marks(Vec<bool>),
+    /// Those that have the mark, which are violated by themselves, and why, if a reason was found.
+    Part {
+        marks: Vec<bool>,
+        reason: Option<Reason>,
+    },
 }
 
 /// The marks of the events that are shown.
@@ -23,7 +26,7 @@ pub fn marks_of(alloc: Global, needed: &Needed, events: &[Event]) -> Result<Vec<
 {
     match needed {
         Needed::Unasked | Needed::NotViolated => Vec::from_elem(alloc, true, events.len()),
-        Needed::Marks(marks) => marks.clone(),
+        Needed::Part { marks, .. } => marks.clone(),
     }
 }
 
@@ -36,7 +39,7 @@ pub fn push_needed(text: &mut Vec<u8>, needed: &Needed, events: &[Event]) -> Res
         Needed::NotViolated => {
             text.extend_from_slice(b"    part   all events: the run isn't violated\n")?;
         }
-        Needed::Marks(marks) => {
+        Needed::Part { marks, .. } => {
             let kept = kept_of(*text.allocator(), marks, events)?;
             text.extend_from_slice(b"    part   ")?;
             push_part_words(text, kept.len(), events.len())?;

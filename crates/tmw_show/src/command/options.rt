@@ -7,7 +7,7 @@ use tmw_monitor::Bounds;
 pub struct ShowOptions {
     pub criterion: Criterion,
     pub form: Form,
-    /// Of a violated window it shows a part that is violated by itself.
+    /// Of a violated window it shows a part that is violated by itself, and says why.
     pub why: bool,
     pub bounds: Bounds,
 }

@@ -1,12 +1,15 @@
-ghost use Rattle.std.specs.Prelude.{◌≡◌, ◌+◌, ◌≤◌, IfOk, length};
+ghost use Rattle.std.specs.Prelude.{◌≡◌, ◌+◌, ◌≤◌, ◌++◌, IfOk, OnOk, length};
 ghost use Rattle.tmw_cuts.specs.Members.{members};
 ghost use Rattle.tmw_show.specs.Running.{drawn_text, shown_events, shown_text};
+ghost use Rattle.tmw_show.specs.Explaining.{reason_of};
+ghost use Rattle.tmw_show.specs.Sentences.{reason_text};
 ghost use Rattle.tmw_show.specs.TracesText.{traces_text};
 
 use crate::command::form::Form;
-use crate::command::needed::{marks_of, push_needed};
+use crate::command::needed::{Needed, marks_of, push_needed};
 use crate::command::page::page_text;
 use crate::command::part::push_each;
+use crate::command::sentences::push_reason;
 use crate::command::shown::Shown;
 use crate::command::states::StateLine;
 use crate::command::told::Told;
@@ -57,7 +60,18 @@ fn drawn_text(alloc: Global, criterion: Criterion, shown: &Shown) -> Result<Vec<
     };
     let marks = marks_of(alloc, &shown.needed, &showing.events)?;
     push_window(&mut text, told, showing.from, &marks, &showing.events)?;
+    push_reason_of(&mut text, &shown.needed)?;
     Ok(text)
+}
+
+/// Adds the reason that is told, if one is.
+fn push_reason_of(text: &mut Vec<u8>, needed: &Needed) -> Result<(), AllocError>
+    ensures { OnOk result (text.new.items ≡ text.old.items ++ reason_text (reason_of needed.now)) }
+{
+    match needed {
+        Needed::Part { reason, .. } => push_reason(text, reason),
+        Needed::Unasked | Needed::NotViolated => Ok(()),
+    }
 }
 
 /// The traces of the events that are shown.

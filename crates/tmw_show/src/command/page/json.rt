@@ -157,7 +157,7 @@ fn push_mark(text: &mut Vec<u8>, told: Told) -> Result<(), AllocError>
 fn push_needed(text: &mut Vec<u8>, needed: &Needed) -> Result<(), AllocError>
     ensures { OnOk result (text.new.items ≡ text.old.items ++ needed_json needed.now) }
 {
-    if let Needed::Marks(marks) = needed {
+    if let Needed::Part { marks, .. } = needed {
         text.extend_from_slice(b",\"needed\":\"")?;
         push_each(text, &MarkDigit, marks)?;
         text.push(b'"')?;

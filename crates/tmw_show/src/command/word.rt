@@ -1,0 +1,29 @@
+/// A word of a sentence that tells why a part is violated.
+#[derive(Clone, Copy, PartialEq, Eq, Debug)]
+pub enum Word {
+    /// The transaction at this place.
+    Transaction(usize),
+    /// A value, or the number of a register.
+    Number(u64),
+    Saying(Phrase),
+}
+
+/// What such a sentence says of transactions and numbers.
+#[derive(Clone, Copy, PartialEq, Eq, Debug)]
+pub enum Phrase {
+    Ended,
+    Began,
+    Read,
+    OfRegister,
+    Which,
+    LeftThere,
+    FromStart,
+    Before,
+    ChangedIt,
+    Changed,
+    Did,
+    Since,
+    NobodyLeft,
+    HadToFind,
+    Cycle,
+}
