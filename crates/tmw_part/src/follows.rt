@@ -1,4 +1,4 @@
-ghost use Rattle.std.specs.Prelude.{◌≡◌, ◌==◌, Some, length, slice_index};
+ghost use Rattle.std.specs.Prelude.{◌≡◌, ◌==◌, ◌&&◌, Some, length, slice_index};
 ghost use Rattle.std.specs.List.{list_all, list_any, range_with_len};
 ghost use Rattle.tmw_defs.specs.Opaque.{precedes};
 ghost use Rattle.tmw_part.specs.Shown.{txns_of};
@@ -230,6 +230,22 @@ fn comes_from_none(
         && from_no_transaction(states, transactions, steps, source)
 }
 
+/// Whether each order has the reader, which needs the value, and the value can come from nowhere.
+fn is_without_source(
+    criterion: Criterion,
+    states: &[State],
+    transactions: &[Transaction],
+    steps: &[Step],
+    source: &Source,
+) -> bool
+    ensures { let ts = txns_of transactions.now in
+        result ≡ (is_asked criterion ts steps.now source.now
+        && comes_from_none states.now ts steps.now source.now) }
+{
+    is_asked(criterion, transactions, steps, source)
+        && comes_from_none(states, transactions, steps, source)
+}
+
 /// Whether the one transaction precedes the other in real time, by their places.
 fn precedes_at(transactions: &[Transaction], one: usize, other: usize) -> bool
     ensures { let ts = txns_of transactions.now in
@@ -316,8 +332,7 @@ pub(crate) fn contradicts(
                 value,
                 writer: None,
             };
-            is_asked(criterion, transactions, steps, &source)
-                && comes_from_none(states, transactions, steps, &source)
+            is_without_source(criterion, states, transactions, steps, &source)
         }
         Contradiction::Unlike {
             reader,
