@@ -12,7 +12,7 @@ use Rattle.tmw_part.specs.declared.step.Step.TheVariants.{RealTime, From, ReadFi
 use Rattle.tmw_show.specs.declared.command.word.Word.{Word}
 use Rattle.tmw_show.specs.declared.command.word.Word.TheVariants.{Transaction, Number, Saying}
 use Rattle.tmw_show.specs.declared.command.word.Phrase.{Phrase}
-use Rattle.tmw_show.specs.declared.command.word.Phrase.TheVariants.{Ended, Began, Read, OfRegister, Which, LeftThere, FromStart, Before, ChangedIt, Changed, Did, Since, NobodyLeft, HadToFind, Cycle as IsCycle}
+use Rattle.tmw_show.specs.declared.command.word.Phrase.TheVariants.{Ended, Began, Read, OfRegister, Which, LeftThere, Before, ChangedIt, Changed, Did, Since, NobodyLeft, HadToFind, Cycle as IsCycle}
 
 -- the numbers of the threads
 abbrev pub numbers_of : Reason → List ℕ
@@ -43,7 +43,6 @@ phrase_text Read = codes " read "
 phrase_text OfRegister = codes " of register "
 phrase_text Which = codes ", which "
 phrase_text LeftThere = codes " left there"
-phrase_text FromStart = codes " as it was at the start"
 phrase_text Before = codes " before "
 phrase_text ChangedIt = codes " changed it"
 phrase_text Changed = codes " changed register "
@@ -51,7 +50,7 @@ phrase_text Did = codes " did"
 phrase_text Since = codes ", since "
 phrase_text NobodyLeft = codes ", which nobody can have left there"
 phrase_text HadToFind = codes ", where it had to find "
-phrase_text IsCycle = codes " stands before itself: a cycle"
+phrase_text IsCycle = codes " would stand before itself: a cycle"
 
 -- a word of a sentence, where the transactions have these threads
 abbrev pub word_text : List ℕ → Word → List ℕ
@@ -71,13 +70,13 @@ of_source s = read_words s.reader s.value s.register.number
 abbrev pub real_time_words : ℕ → ℕ → List Word
 real_time_words one other = Transaction one ∷ Saying Ended ∷ Transaction other ∷ Saying Began ∷ []
 
--- where it comes from
-abbrev pub writer_words : Option ℕ → List Word
-writer_words None = Saying FromStart ∷ []
-writer_words (Some writer) = Saying Which ∷ Transaction writer ∷ Saying LeftThere ∷ []
+-- who left it there, if it did not stand there from the start
+abbrev pub left_words : Source → Option ℕ → List Word
+left_words s None = []
+left_words s (Some writer) = of_source s ++ (Saying Which ∷ Transaction writer ∷ Saying LeftThere ∷ [])
 
 abbrev pub source_words : Source → List Word
-source_words s = of_source s ++ writer_words s.writer
+source_words s = left_words s s.writer
 
 abbrev pub read_first_words : Source → ℕ → List Word
 read_first_words s writer = of_source s ++ (Saying Before ∷ Transaction writer ∷ Saying ChangedIt ∷ [])
@@ -91,7 +90,8 @@ abbrev pub changed_first_words : ℕ → Source → List Word
 changed_first_words writer s =
     Transaction writer ∷ Saying Changed ∷ Number s.register.number ∷ (later_words s.writer ++ (Saying Since ∷ of_source s))
 
--- The sentence of a step. What follows through a third transaction is in the sentences of the others.
+-- The sentence of a step. What follows through a third transaction is in the sentences of the others, and that a value stood there from the
+-- start is in the sentence that tells who changed it.
 abbrev pub step_words : Step → List Word
 step_words (RealTime one other) = real_time_words one other
 step_words (From s) = source_words s

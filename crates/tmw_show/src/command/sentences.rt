@@ -86,7 +86,6 @@ fn phrase_text(phrase: Phrase) -> &'static str
         Phrase::OfRegister => " of register ",
         Phrase::Which => ", which ",
         Phrase::LeftThere => " left there",
-        Phrase::FromStart => " as it was at the start",
         Phrase::Before => " before ",
         Phrase::ChangedIt => " changed it",
         Phrase::Changed => " changed register ",
@@ -94,7 +93,7 @@ fn phrase_text(phrase: Phrase) -> &'static str
         Phrase::Since => ", since ",
         Phrase::NobodyLeft => ", which nobody can have left there",
         Phrase::HadToFind => ", where it had to find ",
-        Phrase::Cycle => " stands before itself: a cycle",
+        Phrase::Cycle => " would stand before itself: a cycle",
     }
 }
 
@@ -208,19 +207,17 @@ fn real_time_words(alloc: Global, one: usize, other: usize) -> Result<Vec<Word>,
     Ok(words)
 }
 
-/// Where a value comes from.
+/// Who left a value that was read, if it did not stand there from the start.
 fn source_words(alloc: Global, source: &Source) -> Result<Vec<Word>, AllocError>
     ensures { IfOk result (λ words. words.items ≡ source_words source.now) }
 {
+    let Some(writer) = source.writer else {
+        return Ok(Vec::new(alloc));
+    };
     let mut words = read_words(alloc, source.reader, source.value, source.register)?;
-    match source.writer {
-        Some(writer) => {
-            words.push(Word::Saying(Phrase::Which))?;
-            words.push(Word::Transaction(writer))?;
-            words.push(Word::Saying(Phrase::LeftThere))?;
-        }
-        None => words.push(Word::Saying(Phrase::FromStart))?,
-    }
+    words.push(Word::Saying(Phrase::Which))?;
+    words.push(Word::Transaction(writer))?;
+    words.push(Word::Saying(Phrase::LeftThere))?;
     Ok(words)
 }
 

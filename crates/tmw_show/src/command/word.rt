@@ -17,7 +17,6 @@ pub enum Phrase {
     OfRegister,
     Which,
     LeftThere,
-    FromStart,
     Before,
     ChangedIt,
     Changed,
