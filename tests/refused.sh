@@ -267,6 +267,7 @@ row 'judge, 64 outcomes and a reader of none' 1 4 "$folder/impossible" judge
 row 'judge, 64 outcomes by layers' 0 4 "$folder/layers" judge
 row 'show, one window' 0 1 "$top/examples/own_write.trace" show
 row 'show, violated' 1 4 "$top/examples/dirty_read.trace" show
+row 'show, violated, why' 1 4 "$top/examples/dirty_read.trace" show --why
 row 'show, 64 outcomes and a reader of none' 1 4 "$folder/impossible" show
 row 'show, 64 outcomes and a reader of none, as traces' 1 4 "$folder/impossible" show --trace
 row 'show, 64 outcomes and a reader of none, as a page' 1 1024 "$folder/impossible" show --page
