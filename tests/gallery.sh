@@ -1,6 +1,7 @@
 #!/usr/bin/env bash
 # Judges each trace of examples/ by each criterion, and compares the lines and the exit status with its row in examples/verdicts.txt. Then
-# it draws each trace that docs/GALLERY.md shows, and compares that with the page; and compares the window that `show` draws with both.
+# it draws each trace that docs/GALLERY.md shows, with the reason if it is violated, and compares that with the page; and compares the
+# window that `show` draws, and the part that `show --why` draws, with both.
 #
 #   tests/gallery.sh
 #   tests/gallery.sh draw NAME
@@ -28,13 +29,20 @@ settled() {
     sed -n 's/.*"at":\([0-9]*\).*/\1/p' <<<"$1"
 }
 
-# A trace as the page shows it: its events in a column for each thread, then the command and its two lines.
+# Why a trace is violated by opacity.
+explain() {
+    printf '    $ ./tmwatch show --why < examples/%s.trace | grep why\n' "$1"
+    "$top/tmwatch" show --why <"$top/examples/$1.trace" | sed -n 's/^    why/        why/p'
+}
+
+# A trace as the page shows it: its events in a column for each thread, then the command and its two lines, and why it is violated by opacity.
 draw() {
     judge "$1" both
     awk -v opacity="$(settled "${output%%$'\n'*}")" -v strict="$(settled "${output##*$'\n'}")" -f "$top/examples/draw.awk" \
         "$top/examples/$1.trace"
     printf '\n    $ ./tmwatch judge --criterion both < examples/%s.trace\n' "$1"
     sed 's/^/    /' <<<"$output"
+    [ -z "$(settled "${output%%$'\n'*}")" ] || explain "$1"
 }
 
 if [ "${1:-}" = draw ]; then
@@ -63,14 +71,17 @@ for name in $(sed -n 's/^    \$ .* examples\/\(.*\)\.trace$/\1/p' "$top/docs/GAL
     esac
 done
 
-# the rows of the window that the page has: up to the first mark by opacity, for a run that opacity forbids
+# the rows of the window, and of a part of it, that the page has: up to the first mark by opacity, for a run that opacity forbids
 for name in $(sed -n 's/^    \$ .* examples\/\(.*\)\.trace$/\1/p' "$top/docs/GALLERY.md"); do
     drawn=$(draw "$name" | sed 's/violated, by both$/violated, by opacity/')
-    how=right
-    while IFS= read -r row; do
-        grep -qxF -- "$row" <<<"$drawn" || how="has no line '$row' in the page"
-    done < <("$top/tmwatch" show <"$top/examples/$name.trace" | grep '^ *[0-9]')
-    count "show of $name" "$how"
+    for words in 'show' 'show --why'; do
+        read -r -a command <<<"$words"
+        how=right
+        while IFS= read -r row; do
+            grep -qxF -- "$row" <<<"$drawn" || how="has no line '$row' in the page"
+        done < <("$top/tmwatch" "${command[@]}" <"$top/examples/$name.trace" | grep '^ *[0-9]')
+        count "$words of $name" "$how"
+    done
 done
 
 end_rows
