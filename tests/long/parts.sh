@@ -1,0 +1,24 @@
+#!/usr/bin/env bash
+# Compares the parts that `tmwatch show --why` finds with the plain definitions of a serial order and of a part.
+#
+#   tests/long/parts.sh [HISTORIES]
+#
+# tests/long/parts.py makes HISTORIES (20000) random histories of at most five transactions, and the program judges each by a random
+# criterion. For each one violated:
+# - Each permutation with each completion is tried: neither the window nor its part has a serial order from any of its states.
+# - The part is one by Part.antt of tmw_defs, with whole calls and the last event, each transaction left of its events' own. A write is
+#   missing only if the part doesn't read its value.
+# - What is left without one more transaction, or without one more call and its answer, is no such part, or has an order.
+# - The drawing and the traces of `--trace` have the part's events. `judge` finds each trace violated: if there is one, at its end.
+#
+# Of each other one it makes random parts: each has an order. Made by each of three broken rules, some has none. That takes thousands of
+# histories: with fewer a broken rule may not be noticed, and its row fails.
+#
+# Each history that fails is printed. Then come how many had each verdict, and how many parts noticed each broken rule; none has failed.
+# The last line is 'N passed, M failed'. The exit status is 1 if one failed, 2 if the program is not built.
+# Environment: SEED (1).
+set -eu
+# shellcheck source=tests/common.sh
+. "$(dirname "${BASH_SOURCE[0]}")/../common.sh"
+[ -x "$program" ] || { echo 'parts.sh: the program is not built: ./build' >&2 && exit 2; }
+python3 "$top/tests/long/parts.py" "$program" "${1:-20000}" "${SEED:-1}"
