@@ -22,7 +22,7 @@ set -l show '__fish_seen_subcommand_from show'
 complete -c tmwatch -n $show -l criterion -x -a 'opacity strict' -d 'By opacity or strict, not both'
 complete -c tmwatch -n $show -l trace -d 'Write only the window, as traces'
 complete -c tmwatch -n $show -l page -d 'Write the window as a page of HTML'
-complete -c tmwatch -n $show -l why -d 'Show a part of the window that is violated by itself'
+complete -c tmwatch -n $show -l why -d 'Show a part that is violated by itself'
 
 set -l run '__fish_seen_subcommand_from drive bench'
 complete -c tmwatch -n $run -l memory -x -a 'norec lock torn' -d 'Memory: norec, lock or torn (faulty)'
@@ -31,7 +31,7 @@ complete -c tmwatch -n $run -l trace-only -d "Write only the run's trace"
 
 set -l bench '__fish_seen_subcommand_from bench'
 complete -c tmwatch -n $bench -l show -d 'Write what `show` writes in place of the report'
-complete -c tmwatch -n $bench -l why -d 'Show a part of the window that is violated by itself'
+complete -c tmwatch -n $bench -l why -d 'Show a part that is violated by itself'
 complete -c tmwatch -n $bench -l quiet -d 'Show no progress on a terminal'
 complete -c tmwatch -n $bench -l ring -x -d 'Cells, from one per script to 4096'
 complete -c tmwatch -n $bench -l patience -x -d 'Tries if the ring is full, 1 to 10^9'

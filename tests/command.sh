@@ -296,7 +296,7 @@ expect_help 'Usage: tmwatch <COMMAND>' help
 expect_help 'Usage: tmwatch judge [OPTIONS]' judge --help
 expect_help 'Usage: tmwatch judge [OPTIONS]' help judge
 expect_help 'Usage: tmwatch show [OPTIONS]' show --help
-expect_help 'Example: tmwatch show < run.trace' help show
+expect_help 'Example: tmwatch show --why < run.trace' help show
 expect_help 'Usage: tmwatch drive [OPTIONS]' drive --help
 expect_help 'Usage: tmwatch drive [OPTIONS]' help drive
 expect_help 'Usage: tmwatch bench [OPTIONS]' bench --help

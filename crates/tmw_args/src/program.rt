@@ -36,7 +36,7 @@ const SHOW_TRACE_HELP: &str = "Write only the window, as traces";
 
 const SHOW_PAGE_HELP: &str = "Write the window as a page of HTML";
 
-const WHY_HELP: &str = "Show a part of the window that is violated by itself";
+const WHY_HELP: &str = "Show a part that is violated by itself";
 
 const BENCH_SHOW_HELP: &str = "Write what `show` writes in place of the report";
 
@@ -96,8 +96,8 @@ column per thread. The window begins where no transaction was open, and ends at
 the event where the run went wrong, or at the last event. Beside that event
 stands what is wrong; if malformed, which rule it broke.
 
-With --why it writes, of a violated window, a part that is violated by itself: as
-few transactions and calls as it finds, with all that they read.
+With --why it writes, of a violated window, a part that is violated by itself,
+of as few transactions and calls as it finds, and says why it is violated.
 
 With --trace it writes, for each state, a trace that starts with this state and
 has the events shown, and nothing else. With --page it writes one page of HTML
@@ -133,8 +133,8 @@ with --trace the run's trace before both, and with --summary the counts of
 run, with --why what `show --why` does, then the ends, and the counts if asked
 for; with --trace too only the traces that `show` writes. With --trace-only it
 writes the run's trace and nothing else, whatever other flags there are, so that
-`judge` or `show` can read it. A thread that has found the ring full as often as --patience
-says stops; its end is `full`.
+`judge` or `show` can read it. A thread that has found the ring full as often as
+--patience says stops; its end is `full`.
 
 Exit status: 0 opaque so far, 1 violated, 2 undecided,
 4 for a fault, which one line on standard output names.
