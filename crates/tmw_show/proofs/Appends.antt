@@ -25,3 +25,11 @@ module _ (before first second third fourth : List ℕ) {a b c d : List ℕ} (is_
   five fifth is_fifth =
       four before (first ++ second) third fourth (two before first is_first second is_second) is_third is_fourth fifth is_fifth
       ∙ ap (λ xs. before ++ xs) (append_assoc first second (third ++ (fourth ++ fifth)))
+
+module _ (before first second third fourth fifth : List ℕ) {a b c d e : List ℕ} (is_first : a ≡ before ++ first) (is_second : b ≡ a ++ second)
+    (is_third : c ≡ b ++ third) (is_fourth : d ≡ c ++ fourth) (is_fifth : e ≡ d ++ fifth) where
+  pub six : (sixth : List ℕ) {f : List ℕ} → f ≡ e ++ sixth
+      → f ≡ before ++ (first ++ (second ++ (third ++ (fourth ++ (fifth ++ sixth)))))
+  six sixth is_sixth =
+      five before (first ++ second) third fourth fifth (two before first is_first second is_second) is_third is_fourth is_fifth sixth is_sixth
+      ∙ ap (λ xs. before ++ xs) (append_assoc first second (third ++ (fourth ++ (fifth ++ sixth))))

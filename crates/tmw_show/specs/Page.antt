@@ -18,6 +18,9 @@ use Rattle.tmw_report.specs.Lines.{report_by}
 use Rattle.tmw_show.specs.declared.command.page.parts.TheConstants.{HEAD, TAIL}
 use Rattle.tmw_show.specs.declared.command.needed.Needed.{Needed}
 use Rattle.tmw_show.specs.declared.command.needed.Needed.TheVariants.{Part}
+use Rattle.tmw_part.specs.declared.reason.Reason.{Reason}
+use Rattle.tmw_show.specs.Explaining.{reason_of}
+use Rattle.tmw_show.specs.Sentences.{clauses_text}
 use Rattle.tmw_show.specs.declared.command.shown.Shown.{Shown}
 use Rattle.tmw_show.specs.declared.command.told.Told.{Told}
 
@@ -83,12 +86,17 @@ abbrev pub needed_json : Needed → List ℕ
 needed_json (Part marks reason) = codes ",\"needed\":\"" ++ (flat_map (λ mark. digit mark ∷ []) marks.items ++ codes "\"")
 needed_json _ = []
 
+-- and the reason, if one is told
+abbrev pub why_json : Option Reason → List ℕ
+why_json None = []
+why_json (Some reason) = codes ",\"why\":\"" ++ (clauses_text reason ++ codes "\"")
+
 -- what is shown, as one JSON object and a line feed
 abbrev pub json_text : Criterion → Shown → List ℕ
 json_text criterion shown =
     about_json criterion shown
     ++ (window_json shown.registers (members shown.showing.states) shown.showing.events.items
-    ++ (mark_json (told_of criterion shown) ++ (needed_json shown.needed ++ codes "}\n")))
+    ++ (mark_json (told_of criterion shown) ++ (needed_json shown.needed ++ (why_json (reason_of shown.needed) ++ codes "}\n"))))
 
 -- the page
 abbrev pub page_text : Criterion → Shown → List ℕ

@@ -12,7 +12,7 @@ use Rattle.tmw_part.specs.declared.step.Step.TheVariants.{RealTime, From, ReadFi
 use Rattle.tmw_show.specs.declared.command.word.Word.{Word}
 use Rattle.tmw_show.specs.declared.command.word.Word.TheVariants.{Transaction, Number, Saying}
 use Rattle.tmw_show.specs.declared.command.word.Phrase.{Phrase}
-use Rattle.tmw_show.specs.declared.command.word.Phrase.TheVariants.{Ended, Began, Read, OfRegister, Which, LeftThere, Before, ChangedIt, Changed, Did, Since, NobodyLeft, HadToFind, Cycle as IsCycle}
+use Rattle.tmw_show.specs.declared.command.word.Phrase.TheVariants.{Ended, Began, Read, OfRegister, SoAfter, WhichLeftIt, SoBefore, WhichChangedIt, Changed, Whose, ReadThere, NobodyLeft, HadToFind, Cycle as IsCycle}
 
 -- the numbers of the threads
 abbrev pub numbers_of : Reason → List ℕ
@@ -41,14 +41,14 @@ phrase_text Ended = codes " had ended before "
 phrase_text Began = codes " began"
 phrase_text Read = codes " read "
 phrase_text OfRegister = codes " of register "
-phrase_text Which = codes ", which "
-phrase_text LeftThere = codes " left there"
-phrase_text Before = codes " before "
-phrase_text ChangedIt = codes " changed it"
+phrase_text SoAfter = codes ", so it stands after "
+phrase_text WhichLeftIt = codes ", which left it there"
+phrase_text SoBefore = codes ", so it stands before "
+phrase_text WhichChangedIt = codes ", which changed it"
 phrase_text Changed = codes " changed register "
-phrase_text Did = codes " did"
-phrase_text Since = codes ", since "
-phrase_text NobodyLeft = codes ", which nobody can have left there"
+phrase_text Whose = codes ", whose value "
+phrase_text ReadThere = codes " read there"
+phrase_text NobodyLeft = codes ", which neither the start nor a commit can have left there"
 phrase_text HadToFind = codes ", where it had to find "
 phrase_text IsCycle = codes " would stand before itself: a cycle"
 
@@ -73,22 +73,23 @@ real_time_words one other = Transaction one ∷ Saying Ended ∷ Transaction oth
 -- who left it there, if it did not stand there from the start
 abbrev pub left_words : Source → Option ℕ → List Word
 left_words s None = []
-left_words s (Some writer) = of_source s ++ (Saying Which ∷ Transaction writer ∷ Saying LeftThere ∷ [])
+left_words s (Some writer) = of_source s ++ (Saying SoAfter ∷ Transaction writer ∷ Saying WhichLeftIt ∷ [])
 
 abbrev pub source_words : Source → List Word
 source_words s = left_words s s.writer
 
 abbrev pub read_first_words : Source → ℕ → List Word
-read_first_words s writer = of_source s ++ (Saying Before ∷ Transaction writer ∷ Saying ChangedIt ∷ [])
+read_first_words s writer = of_source s ++ (Saying SoBefore ∷ Transaction writer ∷ Saying WhichChangedIt ∷ [])
 
--- before whom it was changed: the source's writer, if there is one
+-- before whom it stands: the source's writer, if there is one
 abbrev pub later_words : Option ℕ → List Word
 later_words None = []
-later_words (Some writer) = Saying Before ∷ Transaction writer ∷ Saying Did ∷ []
+later_words (Some writer) = Saying SoBefore ∷ Transaction writer ∷ []
 
 abbrev pub changed_first_words : ℕ → Source → List Word
 changed_first_words writer s =
-    Transaction writer ∷ Saying Changed ∷ Number s.register.number ∷ (later_words s.writer ++ (Saying Since ∷ of_source s))
+    Transaction writer ∷ Saying Changed ∷ Number s.register.number
+    ∷ (later_words s.writer ++ (Saying Whose ∷ Transaction s.reader ∷ Saying ReadThere ∷ []))
 
 -- The sentence of a step. What follows through a third transaction is in the sentences of the others, and that a value stood there from the
 -- start is in the sentence that tells who changed it.
@@ -125,3 +126,13 @@ reason_text None = []
 reason_text (Some reason) =
     flat_map (λ step. sentence_line (numbers_of reason) (step_words step)) reason.steps.items
     ++ sentence_line (numbers_of reason) (end_words reason.end)
+
+-- the same sentences in one line, each but the last with a semicolon
+abbrev pub clause_text : List ℕ → List Word → List ℕ
+clause_text threads [] = []
+clause_text threads (word ∷ words) = flat_map (word_text threads) (word ∷ words) ++ codes "; "
+
+abbrev pub clauses_text : Reason → List ℕ
+clauses_text reason =
+    flat_map (λ step. clause_text (numbers_of reason) (step_words step)) reason.steps.items
+    ++ flat_map (word_text (numbers_of reason)) (end_words reason.end)

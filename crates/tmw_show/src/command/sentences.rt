@@ -1,6 +1,7 @@
 //! The sentences that tell why a part is violated.
+ghost use Rattle.std.specs.List.{flat_map};
 ghost use Rattle.std.specs.Prelude.{◌≡◌, ◌++◌, IfOk, OnOk, map, nat_lt, slice_index_or, take};
-ghost use Rattle.tmw_show.specs.Sentences.{changed_first_words, count_of, cycle_words, end_words, name_by, name_text, no_source_words, nth_text, phrase_text, read_first_words, read_words, real_time_words, reason_text, sentence_line, source_words, step_words, unlike_words, word_text};
+ghost use Rattle.tmw_show.specs.Sentences.{changed_first_words, clause_text, clauses_text, count_of, cycle_words, end_words, name_by, name_text, no_source_words, nth_text, phrase_text, read_first_words, read_words, real_time_words, reason_text, sentence_line, source_words, step_words, unlike_words, word_text};
 
 use crate::command::numbers::push_number;
 use crate::command::part::{Part, push_each};
@@ -27,6 +28,53 @@ pub fn push_reason(text: &mut Vec<u8>, reason: &Option<Reason>) -> Result<(), Al
     push_sentence(text, &reason.threads, &words)
 }
 
+/// Adds the same sentences in one line, each but the last with a semicolon.
+pub fn push_clauses(text: &mut Vec<u8>, reason: &Reason) -> Result<(), AllocError>
+    ensures { OnOk result (text.new.items ≡ text.old.items ++ clauses_text reason.now) }
+{
+    let threads = &reason.threads;
+    push_each(text, &StepClause { threads }, &reason.steps)?;
+    let words = end_words(*text.allocator(), &reason.end)?;
+    push_words(text, threads, &words)?;
+    Ok(())
+}
+
+/// Adds the words of a sentence, where the transactions have these threads.
+fn push_words(text: &mut Vec<u8>, threads: &[Ix], words: &[Word]) -> Result<(), AllocError>
+    ensures { OnOk result (text.new.items ≡ text.old.items
+        ++ flat_map (word_text (map (λ thread. thread.number) threads.now)) words.now) }
+{
+    push_each(text, &Spoken { threads }, words)
+}
+
+/// The clause of a step, where the transactions have these threads.
+#[derive(Drop)]
+struct StepClause<'a> {
+    threads: &'a [Ix],
+}
+
+impl Part<Step> for StepClause<'_> {
+    ghost part = { λ own step. clause_text (map (λ thread. thread.number) own.threads.now) (step_words step) };
+
+    fn push(&self, text: &mut Vec<u8>, step: &Step) -> Result<(), AllocError> {
+        let words = step_words(*text.allocator(), step)?;
+        push_clause(text, self.threads, &words)
+    }
+}
+
+/// Adds a sentence and a semicolon, unless it has no word.
+fn push_clause(text: &mut Vec<u8>, threads: &[Ix], words: &[Word]) -> Result<(), AllocError>
+    ensures { OnOk result (text.new.items
+        ≡ text.old.items ++ clause_text (map (λ thread. thread.number) threads.now) words.now) }
+{
+    if words.is_empty() {
+        return Ok(());
+    }
+    push_words(text, threads, words)?;
+    text.extend_from_slice(b"; ")?;
+    Ok(())
+}
+
 /// The line of a step, where the transactions have these threads.
 #[derive(Drop)]
 struct StepLine<'a> {
@@ -51,7 +99,7 @@ fn push_sentence(text: &mut Vec<u8>, threads: &[Ix], words: &[Word]) -> Result<(
         return Ok(());
     }
     text.extend_from_slice(b"    why    ")?;
-    push_each(text, &Spoken { threads }, words)?;
+    push_words(text, threads, words)?;
     text.push(b'\n')?;
     Ok(())
 }
@@ -84,14 +132,14 @@ fn phrase_text(phrase: Phrase) -> &'static str
         Phrase::Began => " began",
         Phrase::Read => " read ",
         Phrase::OfRegister => " of register ",
-        Phrase::Which => ", which ",
-        Phrase::LeftThere => " left there",
-        Phrase::Before => " before ",
-        Phrase::ChangedIt => " changed it",
+        Phrase::SoAfter => ", so it stands after ",
+        Phrase::WhichLeftIt => ", which left it there",
+        Phrase::SoBefore => ", so it stands before ",
+        Phrase::WhichChangedIt => ", which changed it",
         Phrase::Changed => " changed register ",
-        Phrase::Did => " did",
-        Phrase::Since => ", since ",
-        Phrase::NobodyLeft => ", which nobody can have left there",
+        Phrase::Whose => ", whose value ",
+        Phrase::ReadThere => " read there",
+        Phrase::NobodyLeft => ", which neither the start nor a commit can have left there",
         Phrase::HadToFind => ", where it had to find ",
         Phrase::Cycle => " would stand before itself: a cycle",
     }
@@ -215,9 +263,9 @@ fn source_words(alloc: Global, source: &Source) -> Result<Vec<Word>, AllocError>
         return Ok(Vec::new(alloc));
     };
     let mut words = read_words(alloc, source.reader, source.value, source.register)?;
-    words.push(Word::Saying(Phrase::Which))?;
+    words.push(Word::Saying(Phrase::SoAfter))?;
     words.push(Word::Transaction(writer))?;
-    words.push(Word::Saying(Phrase::LeftThere))?;
+    words.push(Word::Saying(Phrase::WhichLeftIt))?;
     Ok(words)
 }
 
@@ -226,9 +274,9 @@ fn read_first_words(alloc: Global, source: &Source, writer: usize) -> Result<Vec
     ensures { IfOk result (λ words. words.items ≡ read_first_words source.now writer) }
 {
     let mut words = read_words(alloc, source.reader, source.value, source.register)?;
-    words.push(Word::Saying(Phrase::Before))?;
+    words.push(Word::Saying(Phrase::SoBefore))?;
     words.push(Word::Transaction(writer))?;
-    words.push(Word::Saying(Phrase::ChangedIt))?;
+    words.push(Word::Saying(Phrase::WhichChangedIt))?;
     Ok(words)
 }
 
@@ -245,13 +293,12 @@ fn changed_first_words(
     words.push(Word::Saying(Phrase::Changed))?;
     words.push(Word::Number(source.register.get() as u64))?;
     if let Some(later) = source.writer {
-        words.push(Word::Saying(Phrase::Before))?;
+        words.push(Word::Saying(Phrase::SoBefore))?;
         words.push(Word::Transaction(later))?;
-        words.push(Word::Saying(Phrase::Did))?;
     }
-    words.push(Word::Saying(Phrase::Since))?;
-    let read = read_words(alloc, source.reader, source.value, source.register)?;
-    words.extend_from_slice(&read)?;
+    words.push(Word::Saying(Phrase::Whose))?;
+    words.push(Word::Transaction(source.reader))?;
+    words.push(Word::Saying(Phrase::ReadThere))?;
     Ok(words)
 }
 

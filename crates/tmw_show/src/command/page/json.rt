@@ -1,10 +1,12 @@
 ghost use Rattle.std.specs.Prelude.{◌≡◌, [], ◌∷◌, ◌++◌, OnOk};
-ghost use Rattle.tmw_show.specs.Page.{about_json, criterion_json, digit, event_json, json_text, mark_json, needed_json, numbers_json, settled_at, state_json, window_json};
+ghost use Rattle.tmw_show.specs.Explaining.{reason_of};
+ghost use Rattle.tmw_show.specs.Page.{about_json, criterion_json, digit, event_json, json_text, mark_json, needed_json, numbers_json, settled_at, state_json, why_json, window_json};
 
 use crate::command::event_text::push_event;
 use crate::command::needed::Needed;
 use crate::command::numbers::{push_number, push_values};
 use crate::command::part::{Part, push_each, push_list};
+use crate::command::sentences::push_clauses;
 use crate::command::shown::Shown;
 use crate::command::told::{Told, told_of};
 use std::alloc::{AllocError, Global};
@@ -38,6 +40,7 @@ pub fn push_json(
     };
     push_mark(text, told)?;
     push_needed(text, &shown.needed)?;
+    push_why(text, &shown.needed)?;
     text.extend_from_slice(b"}\n")?;
     Ok(())
 }
@@ -160,6 +163,22 @@ fn push_needed(text: &mut Vec<u8>, needed: &Needed) -> Result<(), AllocError>
     if let Needed::Part { marks, .. } = needed {
         text.extend_from_slice(b",\"needed\":\"")?;
         push_each(text, &MarkDigit, marks)?;
+        text.push(b'"')?;
+    }
+    Ok(())
+}
+
+/// Adds the reason, if one is told.
+fn push_why(text: &mut Vec<u8>, needed: &Needed) -> Result<(), AllocError>
+    ensures { OnOk result (text.new.items ≡ text.old.items ++ why_json (reason_of needed.now)) }
+{
+    if let Needed::Part {
+        reason: Some(reason),
+        ..
+    } = needed
+    {
+        text.extend_from_slice(b",\"why\":\"")?;
+        push_clauses(text, reason)?;
         text.push(b'"')?;
     }
     Ok(())

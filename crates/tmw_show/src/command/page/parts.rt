@@ -116,6 +116,7 @@ button { font: inherit; color: inherit; background: var(--band); border: 1px sol
 <div id="board"><div id="names"></div><div id="scroll"></div></div>
 <div id="print"></div>
 <div id="below">
+<section id="why" hidden><h2>Why</h2><ul></ul></section>
 <section id="told" aria-live="polite"></section>
 <section id="states"><h2 id="held"></h2><div id="tables"></div></section>
 </div>
@@ -368,6 +369,10 @@ document.addEventListener('keydown', key => {
 for (const [name, word] of [['committed', 'committed'], ['aborted', 'aborted'], ['pending', 'commit-pending'], ['live', 'live'], ['marked', `event ${mark}: ${wrong}`]]) {
   if (name === 'marked' ? mark === undefined : !shown.some(tx => tx.status === word)) continue;
   make('i', { class: name }, make('span', {}, byId('legend'))).after(word);
+}
+if (run.why !== undefined) {
+  byId('why').hidden = false;
+  for (const sentence of run.why.split('; ')) make('li', {}, byId('why').querySelector('ul'), sentence);
 }
 if (needed !== undefined) {
   const all = make('button', { type: 'button' }, byId('legend'), 'Show all events');
