@@ -23,7 +23,6 @@ BROKEN = {
     "precedence": "precedence isn't compared",
 }
 
-
 # An event: its number in the history, its thread, and the letter and the numbers of its kind.
 Event = namedtuple("Event", "number thread kind")
 
@@ -83,7 +82,7 @@ def transactions(events):
 
 
 def end_of(state, order, held):
-    """The state that an order leaves of which these are held, or None if it is not legal."""
+    """The state after an order, of whose transactions these are held, or None if it is not legal."""
     for t in order:
         own = list(state)
         for register, found, left in t.operations:
@@ -141,7 +140,7 @@ def random_part(rng, window, broken):
     for _ in range(rng.randint(1, 6)):
         gone = rng.choices(choices, k=rng.choice([1, 1, 1, 2, 3]))
         less = without([event for piece in gone for event in piece], part)
-        part = less if less and is_part(less, window, broken) else part
+        part = less if is_part(less, window, broken) else part
     return part
 
 

@@ -11,11 +11,11 @@
 # - What is left without one more transaction, or without one more call and its answer, is no such part, or has an order.
 # - The drawing and the traces of `--trace` have the part's events. `judge` finds each trace violated: if there is one, at its end.
 #
-# Of each other one it makes random parts: each has an order. Made by each of three broken rules, some has none. That takes thousands of
-# histories: with fewer a broken rule may not be noticed, and its row fails.
+# Each other history has an order, and so has each random part of it, made without the program. Each of three broken rules has to make a
+# part that has none. That takes thousands of histories: with fewer, its row may fail.
 #
-# Each history that fails is printed. Then come how many had each verdict, and how many parts noticed each broken rule; none has failed.
-# The last line is 'N passed, M failed'. The exit status is 1 if one failed, 2 if the program is not built.
+# Each history that fails is printed. Then come how many had each verdict, and how many parts showed each rule to be broken. A count of 0
+# has failed. The last line is 'N passed, M failed'. The exit status is 1 if one failed, 2 if the program is not built.
 # Environment: SEED (1).
 set -eu
 # shellcheck source=tests/common.sh
