@@ -124,7 +124,8 @@ def wanted(trace, text):
     mark = re.search(r'  (violated, by.*|undecided, by.*|malformed: .*)$', text, re.M)
     rows = {int(number) for number in re.findall(r'^ *(\d+)  ', text, re.M)}
     is_part = re.search(r'^    part   \d', text, re.M)
-    return {'needed': ''.join('01'[number in rows] for number in range(cut + 1, end + 1)) if is_part else None,
+    why = [line.split(None, 1)[1] for line in lines if line.startswith('    why    ')]
+    return {'why': '; '.join(why) or None, 'needed': ''.join('01'[number in rows] for number in range(cut + 1, end + 1)) if is_part else None,
             'report': report, 'line': lines[0], 'start': max(cut + 1, end - MOST + 1), 'cut': cut, 'end': end, 'transactions': transactions,
             'events': events[cut:end], 'states': [line.split()[1:] for line in lines if line.startswith('    state')],
             'mark': report.get('at'), 'told': mark and mark.group(1)}
@@ -152,6 +153,9 @@ def differences(page, text, want):
     same('the events in the page', run['events'], want['events'])
     same('the number before them', run['before'], want['cut'])
     same('what is needed', run.get('needed'), want['needed'])
+    same('why', run.get('why'), want['why'])
+    told = text.split('<section id="why"', 1)[1].split('</section>', 1)[0]
+    same('the sentences below', '; '.join(html.unescape(item) for item in re.findall(r'<li>([^<]*)</li>', told)) or None, want['why'])
     faint = [bar[0] for bar in bars if want['needed'] and want['needed'][bar[0] - want['cut'] - 1] == '0']
     same('what is faint', sorted(int(first) for first in every(r'<g class="op spare[^>]*data-first="(\d+)"')), sorted(faint))
     same('the mark in the page', (run.get('mark'), run.get('told')), (want['mark'], want['told']))
