@@ -11,8 +11,8 @@ use Rattle.tmw_defs.specs.Opaque.{State}
 use Rattle.tmw_part.specs.declared.step.Source.{Source}
 use Rattle.tmw_part.specs.declared.step.Step.{Step}
 use Rattle.tmw_part.specs.declared.step.Step.TheVariants.{RealTime, From, ReadFirst, ChangedFirst, Through}
-use Rattle.tmw_part.specs.Candidates.{is_new, is_before_writer, tells}
-use Rattle.tmw_part.specs.Steps.{is_some_of, is_same_writer, is_same_source, orders, gives, follows, Derives}
+use Rattle.tmw_part.specs.Candidates.{is_new, tells}
+use Rattle.tmw_part.specs.Steps.{is_some_of, is_same_writer, is_same_source, has_writer, orders, gives, ends_before, is_known_rival, follows, Derives}
 use Rattle.tmw_part.proofs.Covering.{covers-more, tells-mono}
 
 -- the last step passes the test
@@ -32,19 +32,22 @@ same_source-self s =
     (and_from (s.register.number == s.register.number) _ (eq-eqb s.register.number s.register.number refl)
     (and_from (s.value == s.value) _ (eq-eqb s.value s.value refl) (same_writer-self s.writer)))
 
--- a step tells what it says
-tells_itself : (steps : List Step) (x : Step) → IsTrue (tells (steps ++ x ∷ []) x)
-tells_itself steps (RealTime one other) = any_last (orders one other) steps (RealTime one other) (both_same one other)
-tells_itself steps (From s) = any_last (gives s) steps (From s) (same_source-self s)
-tells_itself steps (ReadFirst s w) = any_last (orders s.reader w) steps (ReadFirst s w) (both_same s.reader w)
-tells_itself steps (ChangedFirst w s) = by_writer s.writer refl
+-- a step that follows tells what it says
+tells_itself : (criterion : Criterion) (states : List State) (ts : List Txn) (steps : List Step) (x : Step)
+    → IsTrue (follows criterion states ts steps x) → IsTrue (tells (steps ++ x ∷ []) x)
+tells_itself criterion states ts steps (RealTime one other) is = any_last (orders one other) steps (RealTime one other) (both_same one other)
+tells_itself criterion states ts steps (From s) is = any_last (gives s) steps (From s) (same_source-self s)
+tells_itself criterion states ts steps (ReadFirst s w) is = any_last (orders s.reader w) steps (ReadFirst s w) (both_same s.reader w)
+tells_itself criterion states ts steps (ChangedFirst w s) is =
+    by_writer s.writer refl (and_parts (has_writer s) _ (and_parts (is_known_rival ts steps s w) _ is).1).0
   where
-    by_writer : (v : Option ℕ) → s.writer ≡ v → IsTrue (is_before_writer (steps ++ ChangedFirst w s ∷ []) w v)
-    by_writer None is = refl
-    by_writer (Some b) is =
-        let here : IsTrue (is_some_of b s.writer) = rw is (eq-eqb b b refl) in
+    by_writer : (v : Option ℕ) → s.writer ≡ v → IsTrue (has_writer s) → IsTrue (ends_before (steps ++ ChangedFirst w s ∷ []) w v)
+    by_writer None none has = let not_so : IsTrue (not (is_same_writer None None)) = rw none at has in absurd (cc)
+    by_writer (Some b) some has =
+        let here : IsTrue (is_some_of b s.writer) = rw some (eq-eqb b b refl) in
         any_last (orders w b) steps (ChangedFirst w s) (and_from (w == w) _ (eq-eqb w w refl) here)
-tells_itself steps (Through one between other) = any_last (orders one other) steps (Through one between other) (both_same one other)
+tells_itself criterion states ts steps (Through one between other) is =
+    any_last (orders one other) steps (Through one between other) (both_same one other)
 
 -- what is found passes the test
 pub found_passes : {A : Type 0} (p : A → Bool) (xs : List A) (x : A) → find p xs ≡ Some x → IsTrue (p x)
@@ -103,9 +106,9 @@ untold steps candidates = count_of (λ c. not (tells steps c)) candidates
 pub untold-falls : (criterion : Criterion) (states : List State) (ts : List Txn) (steps candidates : List Step) (x : Step)
     → find (is_new criterion states ts steps) candidates ≡ Some x → untold (steps ++ x ∷ []) candidates < untold steps candidates
 untold-falls criterion states ts steps candidates x is =
-    let new = (and_parts (not (tells steps x)) _ (found_passes (is_new criterion states ts steps) candidates x is)).0 in
+    let (new, follows_it) = and_parts (not (tells steps x)) _ (found_passes (is_new criterion states ts steps) candidates x is) in
     count-falls (λ c. not (tells steps c)) (λ c. not (tells (steps ++ x ∷ []) c)) (is_new criterion states ts steps) candidates x fewer is new
-    (not_from_true _ (tells_itself steps x))
+    (not_from_true _ (tells_itself criterion states ts steps x follows_it))
   where
     fewer : (y : Step) → IsTrue (not (tells (steps ++ x ∷ []) y)) → IsTrue (not (tells steps y))
     fewer y none =

@@ -1,18 +1,15 @@
 -- Where no candidate is new and no contradiction that is tried is met, there is no reason: each step that follows is a candidate.
-use Rattle.std.proofs.Common.{◌≡◌, ◌==◌, ◌&&◌, ◌||◌, ◌+◌, ◌<◌, ◌≤◌, ◌⊎◌, ℕ, zero, suc, Bool, true, false, not, List, [], ◌∷◌, ◌++◌, length, map, Option, Some, None, IsTrue, refl, sym, ap, ◌∙◌, inl, inr, subst, arith}
+use Rattle.std.proofs.Common.{◌≡◌, ◌==◌, ◌&&◌, ◌+◌, ◌<◌, ◌≤◌, ◌⊎◌, ℕ, zero, suc, Bool, true, false, not, List, [], ◌∷◌, ◌++◌, length, map, Option, Some, None, IsTrue, refl, sym, ap, ◌∙◌, inl, inr, subst, arith}
 use Rattle.std.specs.Prelude.{slice_get, take, find}
 use Rattle.std.specs.List.{Contains, flat_map, list_any, range_with_len, AllByRecursion}
-use Rattle.std.proofs.lemmas.Bool.{and_parts, and_from, or_cases, or_left, or_right, cases_Bool, cases_lt, eqb-true, eqb-false, eq-eqb, ne_eqb, not-true, not_from_false, ltb-true}
+use Rattle.std.proofs.lemmas.Bool.{and_parts, and_from, or_cases, cases_Bool, cases_lt, eqb-true, not_from_false, ltb-true}
 use Rattle.std.proofs.lemmas.List.{take_all}
 use Rattle.std.proofs.lemmas.List.Folds.{list_any-append}
 use Rattle.tmw_events.specs.declared.ix.Ix.{Ix}
 use Rattle.tmw_events.proofs.Same.{same_ix}
 use Rattle.tmw_defs.specs.declared.criterion.Criterion.{Criterion}
-use Rattle.tmw_defs.specs.declared.op.Op.{Op}
-use Rattle.tmw_defs.specs.declared.op.Op.TheVariants.{Read, Write, Add}
 use Rattle.tmw_defs.specs.History.{Txn, is_ended, status_of}
 use Rattle.tmw_defs.specs.Opaque.{State, precedes, may_hold}
-use Rattle.tmw_defs.specs.Part.{is_answered}
 use Rattle.tmw_cuts.specs.Written.{writes}
 use Rattle.tmw_part.specs.declared.step.Source.{Source}
 use Rattle.tmw_part.specs.declared.step.Step.{Step}
@@ -20,8 +17,8 @@ use Rattle.tmw_part.specs.declared.step.Step.TheVariants.{RealTime, From, ReadFi
 use Rattle.tmw_part.specs.declared.step.Contradiction.{Contradiction}
 use Rattle.tmw_part.specs.declared.step.Contradiction.TheVariants.{Cycle, NoSource, Unlike}
 use Rattle.tmw_part.specs.Test.{nothing}
-use Rattle.tmw_part.specs.Steps.{txn_at, ops_at, needed_of, known_after, is_some_of, is_same_source, reads_unlike, orders, gives, supplies, is_before, has_place, may_be_source, may_come_from, is_held, is_asked, is_known_rival, follows, contradicts, Derives}
-use Rattle.tmw_part.specs.Candidates.{real_times, firsts_with, firsts, throughs_between, throughs, candidates, IsWithin, MayBe, sources_like, sources_of, sources_at, sources, is_new, answer_of, unlike_or, first_unlike, unlike_of, unlikes_at, without_source, ends, tells}
+use Rattle.tmw_part.specs.Steps.{txn_at, ops_at, needed_of, first_unlike, is_pair, is_some_of, is_same_source, orders, gives, supplies, is_before, has_place, may_come_from, is_held, is_asked, is_known_rival, follows, contradicts, Derives}
+use Rattle.tmw_part.specs.Candidates.{real_times, firsts_with, firsts, throughs_between, throughs, candidates, IsWithin, MayBe, sources_like, sources_of, sources_at, sources, is_new, unlike_of, unlikes_at, without_source, ends, tells}
 use Rattle.tmw_part.specs.Found.{HasNoReason}
 use Rattle.tmw_part.proofs.Covering.{Covers, any-mono, follows-mono, contradicts-mono}
 use Rattle.tmw_part.proofs.StepsProof.{find_any, some_of, same_writer, none_all, all-more, get_some}
@@ -108,8 +105,8 @@ writes_within ts r a w = within-unless ts a (λ none. let e = rw none at w in ab
 may_hold_within : (ts : List Txn) (a : ℕ) → IsTrue (may_hold (status_of (txn_at ts a).text) true) → a < length ts
 may_hold_within ts a may = within-unless ts a (λ none. let e = rw none at may in absurd (cc))
 
-unlike_within : (ts : List Txn) (r held read a : ℕ) → IsTrue (reads_unlike r held read None (ops_at ts a)) → a < length ts
-unlike_within ts r held read a unlike = within-unless ts a (λ none. let e = rw none at unlike in absurd (cc))
+unlike_within : (ts : List Txn) (r a : ℕ) (pair : ℕ × ℕ) → first_unlike r None (ops_at ts a) ≡ Some pair → a < length ts
+unlike_within ts r a pair unlike = within-unless ts a (λ none. let e = rw none at unlike in absurd (cc))
 
 precedes_within : (ts : List Txn) (a b : ℕ) → IsTrue (precedes (txn_at ts a) (txn_at ts b)) → (a < length ts) × (b < length ts)
 precedes_within ts a b is = (
@@ -144,7 +141,7 @@ same_source s t is =
 
 module _ (criterion : Criterion) (states : List State) (ts : List Txn) where
   -- a source that is asked for and may be is one of these
-  may_be : (steps : List Step) (s : Source) → IsTrue (is_asked criterion ts steps s) → IsTrue (may_be_source states ts s) → MayBe ts s
+  may_be : (steps : List Step) (s : Source) → IsTrue (is_asked criterion ts steps s) → IsTrue (may_come_from states ts s s.writer) → MayBe ts s
   may_be steps s asked may = record {
     needed = some_of s.value _ (and_parts (has_place criterion ts steps s.reader) _ asked).1;
     within = writer_within s.writer may;
@@ -206,7 +203,7 @@ module _ (criterion : Criterion) (states : List State) (ts : List Txn) where
   follows_within steps all (RealTime one other) is = precedes_within ts one other (and_parts (not (one == other)) _ is).1
   follows_within steps all (From s) is =
       let (asked, rest) = and_parts (is_asked criterion ts steps s) _ is in
-      may_be steps s asked (and_parts (may_be_source states ts s) _ rest).0
+      may_be steps s asked (and_parts (may_come_from states ts s s.writer) _ rest).0
   follows_within steps all (ReadFirst s w) is = known_within steps all s w (and_parts (is_known_rival ts steps s w) _ is).0
   follows_within steps all (ChangedFirst w s) is = known_within steps all s w (and_parts (is_known_rival ts steps s w) _ is).0
   follows_within steps all (Through one between other) is =
@@ -349,79 +346,11 @@ take-push (y ∷ []) zero x at = let same : y ≡ x = cc in ap (λ (z : Step). z
 take-push (y ∷ (z ∷ ys)) zero x at = let same : y ≡ x = cc in ap (λ (z : Step). z ∷ []) same
 take-push (y ∷ ys) (suc n) x at = ap (λ zs. y ∷ zs) (take-push ys n x at)
 
--- the first answer that is unlike what is held, where there is one
-answered_is : (r v : ℕ) (op : Op) → is_answered r v op ≡ is_some_of v (answer_of r op)
-answered_is r v (Read q w) =
-    elim (cases_Bool (q.number == r)) [
-      | inl is ↦ rw is refl
-      | inr other ↦ rw other refl
-    ]
-answered_is r v (Write q w) = refl
-answered_is r v (Add q d w) =
-    elim (cases_Bool (q.number == r)) [
-      | inl is ↦ rw is refl
-      | inr other ↦ rw other refl
-    ]
-
-record FirstUnlike (r : ℕ) (known : Option ℕ) (ops : List Op) : Type 0 where
-  held : ℕ
-  read : ℕ
-  is : first_unlike r known ops ≡ Some (held, read)
-  differ : held ≡ read → ⊥
-  unlike : IsTrue (reads_unlike r held read known ops)
-
-first_found : (r held read : ℕ) (known : Option ℕ) (ops : List Op) → (held ≡ read → ⊥) → IsTrue (reads_unlike r held read known ops)
-    → FirstUnlike r known ops
-first_found r held read known [] differ unlike = absurd (cc)
-first_found r held read known (op ∷ ops) differ unlike =
-    go known (answer_of r op) refl (λ later. first_found r held read (known_after r known op) ops differ later) (rw answered_is at unlike)
-  where
-    rest : Option ℕ → Type 0
-    rest before = FirstUnlike r (known_after r before op) ops
-
-    on : (before answer : Option ℕ) → answer_of r op ≡ answer → unlike_or before answer (first_unlike r (known_after r before op) ops)
-        ≡ first_unlike r (known_after r before op) ops → rest before → FirstUnlike r before (op ∷ ops)
-    on before answer is same found = record {
-      held = found.held;
-      read = found.read;
-      is = rw is (same ∙ found.is);
-      differ = found.differ;
-      unlike = or_right (is_some_of found.held before && is_answered r found.read op) _ found.unlike;
-    }
-
-    go : (before answer : Option ℕ) → answer_of r op ≡ answer → (IsTrue (reads_unlike r held read (known_after r before op) ops) → rest before)
-        → IsTrue ((is_some_of held before && is_some_of read (answer_of r op)) || reads_unlike r held read (known_after r before op) ops)
-        → FirstUnlike r before (op ∷ ops)
-    go None answer is find is_so =
-        elim (or_cases (is_some_of held None && is_some_of read (answer_of r op)) _ is_so) [
-          | inl now ↦ absurd (cc)
-          | inr later ↦ on None answer is refl (find later)
-        ]
-    go (Some h) None is find is_so =
-        elim (or_cases (is_some_of held (Some h) && is_some_of read (answer_of r op)) _ is_so) [
-          | inl now ↦ absurd (let answered = rw is at (and_parts (h == held) _ now).1 in cc)
-          | inr later ↦ on (Some h) None is refl (find later)
-        ]
-    go (Some h) (Some e) is find is_so =
-        elim (cases_Bool (h == e)) [
-          | inl same ↦
-              elim (or_cases (is_some_of held (Some h) && is_some_of read (answer_of r op)) _ is_so) [
-                | inl now ↦
-                    let (one, two) = and_parts (h == held) _ now in
-                    let answered : IsTrue (e == read) = rw is at two in
-                    absurd (differ (sym (eqb-true h held one) ∙ eqb-true h e same ∙ eqb-true e read answered))
-                | inr later ↦ on (Some h) (Some e) is (rw same refl) (find later)
-              ]
-          | inr apart ↦
-              let here : IsTrue (is_answered r e op) = rw (answered_is r e op, is) (eq-eqb e e refl) in
-              record {
-                held = h;
-                read = e;
-                is = rw (is, apart) refl;
-                differ = eqb-false h e apart;
-                unlike = or_left (is_some_of h (Some h) && is_answered r e op) _ (and_from (h == h) _ (eq-eqb h h refl) here);
-              }
-        ]
+pair_of : (a b : ℕ) (o : Option (ℕ × ℕ)) → IsTrue (is_pair a b o) → o ≡ Some (a, b)
+pair_of a b None is = absurd (cc)
+pair_of a b (Some (x, y)) is =
+    let (one, two) = and_parts (x == a) _ is in
+    rw (eqb-true x a one, eqb-true y b two) refl
 
 pub no_reason : (criterion : Criterion) (states : List State) (ts : List Txn) (registers : List Ix) (steps : List Step)
     → ((register : Ix) → Contains registers register) → Derives criterion states ts steps
@@ -451,20 +380,15 @@ no_reason criterion states ts registers steps all derives closed none = λ other
         tried (NoSource b r v)
         (in-right (NoSource b r v) (map Cycle places ++ flat_map (unlikes_at ts registers) places) _
         (in-map without_source s (sources ts registers places) (in-sources ts registers all s may))) is
-    met (Unlike a r held read) is =
+    met (Unlike a r expected read) is =
         let places = range_with_len 0 (length ts) in
-        let (has, rest) = and_parts (has_place criterion ts steps a) _ is in
-        let (differ, unlike) = and_parts (not (held == read)) _ rest in
-        let low = unlike_within ts r.number held read a unlike in
-        let first = first_found r.number held read None (ops_at ts a)
-        (λ same. let e = sym (not-true (held == read) differ) ∙ eq-eqb held read same in absurd (cc)) unlike in
-        let other : Contradiction = Unlike a r first.held first.read in
-        let apart : IsTrue (not (first.held == first.read)) = rw (ne_eqb first.held first.read first.differ) refl in
-        tried other
-        (in-left _ _ _ (in-right other (map Cycle places) _ (in-flat_map (unlikes_at ts registers) a other places (in-places ts a low)
-        (in-flat_map (λ register. unlike_of a register (first_unlike register.number None (ops_at ts a))) r other registers
-        (in_from_contains registers r (all r)) (rw first.is (inl refl))))))
-        (and_from (has_place criterion ts steps a) _ has (and_from (not (first.held == first.read)) _ apart first.unlike))
+        let first = pair_of expected read _ (and_parts (has_place criterion ts steps a) _ is).1 in
+        let low = unlike_within ts r.number a (expected, read) first in
+        let end : Contradiction = Unlike a r expected read in
+        tried end
+        (in-left _ _ _ (in-right end (map Cycle places) _ (in-flat_map (unlikes_at ts registers) a end places (in-places ts a low)
+        (in-flat_map (λ register. unlike_of a register (first_unlike register.number None (ops_at ts a))) r end registers
+        (in_from_contains registers r (all r)) (rw first (inl refl)))))) is
 
     told : (step : Step) → IsTrue (follows criterion states ts steps step) → IsTrue (tells steps step)
     told step new =

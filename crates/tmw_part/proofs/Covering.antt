@@ -12,8 +12,8 @@ use Rattle.tmw_part.specs.declared.step.Step.{Step}
 use Rattle.tmw_part.specs.declared.step.Step.TheVariants.{RealTime, From, ReadFirst, ChangedFirst, Through}
 use Rattle.tmw_part.specs.declared.step.Contradiction.{Contradiction}
 use Rattle.tmw_part.specs.declared.step.Contradiction.TheVariants.{Cycle, NoSource, Unlike}
-use Rattle.tmw_part.specs.Candidates.{is_before_writer, tells}
-use Rattle.tmw_part.specs.Steps.{txn_at, is_some_of, is_same_writer, orders, gives, supplies, is_before, begins_before, ends_before, is_committed, is_held, has_place, may_be_source, is_rival, stands_between, is_excluded, from_else, is_no_source, comes_not_else, is_only, comes_from_none, is_asked, is_known_rival, follows, contradicts}
+use Rattle.tmw_part.specs.Candidates.{tells}
+use Rattle.tmw_part.specs.Steps.{txn_at, is_some_of, is_same_writer, orders, gives, supplies, is_before, begins_before, ends_before, is_committed, is_held, has_place, has_writer, may_come_from, is_rival, stands_between, is_excluded, from_else, comes_not_else, is_only, is_asked, is_known_rival, follows, contradicts}
 
 -- a disjunction and a conjunction of what is so when others are
 or-mono : (a b c d : Bool) → (IsTrue a → IsTrue c) → (IsTrue b → IsTrue d) → IsTrue (a || b) → IsTrue (c || d)
@@ -63,10 +63,6 @@ module _ (criterion : Criterion) (states : List State) (ts : List Txn) (steps ot
   ends-mono a None is = absurd (cc)
   ends-mono a (Some b) is = c.before a b is
 
-  writer-mono : (a : ℕ) (w : Option ℕ) → IsTrue (is_before_writer others a w) → IsTrue (is_before_writer steps a w)
-  writer-mono a None is = refl
-  writer-mono a (Some b) is = c.before a b is
-
   held-mono : (a : ℕ) → IsTrue (is_held ts others a) → IsTrue (is_held ts steps a)
   held-mono a = or-mono (is_committed (status_of (txn_at ts a).text)) _ (is_committed (status_of (txn_at ts a).text)) _ (same _) (c.supplied a)
 
@@ -90,24 +86,16 @@ module _ (criterion : Criterion) (states : List State) (ts : List Txn) (steps ot
       or-mono (ends_before others s.reader s.writer) _ (ends_before steps s.reader s.writer) _ (ends-mono s.reader s.writer)
       (any-mono (stands_between ts others s) (stands_between ts steps s) (range_with_len 0 (length ts)) (between-mono s))
 
-  source-mono : (s : Source) → IsTrue (is_no_source states ts others s) → IsTrue (is_no_source states ts steps s)
-  source-mono s = or-mono (not (may_be_source states ts s)) _ (not (may_be_source states ts s)) _ (same _) (excluded-mono s)
-
   else-mono : (s : Source) (w : Option ℕ) → IsTrue (comes_not_else states ts others s w) → IsTrue (comes_not_else states ts steps s w)
-  else-mono s w = or-mono (is_same_writer w s.writer) _ (is_same_writer w s.writer) _ (same _) (source-mono (from_else s w))
+  else-mono s w =
+      or-mono (is_same_writer w s.writer) _ (is_same_writer w s.writer) _ (same _)
+      (or-mono (not (may_come_from states ts s w)) _ (not (may_come_from states ts s w)) _ (same _) (excluded-mono (from_else s w)))
 
   only-mono : (s : Source) → IsTrue (is_only states ts others s) → IsTrue (is_only states ts steps s)
   only-mono s =
       and-mono (comes_not_else states ts others s None) _ (comes_not_else states ts steps s None) _ (else-mono s None)
       (all-mono (λ a. comes_not_else states ts others s (Some a)) (λ a. comes_not_else states ts steps s (Some a)) (range_with_len 0 (length ts))
       (λ a. else-mono s (Some a)))
-
-  none-mono : (s : Source) → IsTrue (comes_from_none states ts others s) → IsTrue (comes_from_none states ts steps s)
-  none-mono s =
-      and-mono (is_no_source states ts others (from_else s None)) _ (is_no_source states ts steps (from_else s None)) _
-      (source-mono (from_else s None))
-      (all-mono (λ a. is_no_source states ts others (from_else s (Some a))) (λ a. is_no_source states ts steps (from_else s (Some a)))
-      (range_with_len 0 (length ts)) (λ a. source-mono (from_else s (Some a))))
 
   asked-mono : (s : Source) → IsTrue (is_asked criterion ts others s) → IsTrue (is_asked criterion ts steps s)
   asked-mono s = and-mono (has_place criterion ts others s.reader) _ (has_place criterion ts steps s.reader) _ (place-mono criterion s.reader) (same _)
@@ -119,11 +107,12 @@ module _ (criterion : Criterion) (states : List State) (ts : List Txn) (steps ot
   follows-mono (RealTime one other) is = is
   follows-mono (From s) is =
       and-mono (is_asked criterion ts others s) _ (is_asked criterion ts steps s) _ (asked-mono s)
-      (and-mono (may_be_source states ts s) _ (may_be_source states ts s) _ (same _) (only-mono s)) is
+      (and-mono (may_come_from states ts s s.writer) _ (may_come_from states ts s s.writer) _ (same _) (only-mono s)) is
   follows-mono (ReadFirst s w) is =
       and-mono (is_known_rival ts others s w) _ (is_known_rival ts steps s w) _ (known-mono s w) (begins-mono s.writer w) is
   follows-mono (ChangedFirst w s) is =
-      and-mono (is_known_rival ts others s w) _ (is_known_rival ts steps s w) _ (known-mono s w) (c.before w s.reader) is
+      and-mono (is_known_rival ts others s w) _ (is_known_rival ts steps s w) _ (known-mono s w)
+      (and-mono (has_writer s) _ (has_writer s) _ (same _) (c.before w s.reader)) is
   follows-mono (Through one between other) is =
       and-mono (has_place criterion ts others between) _ (has_place criterion ts steps between) _ (place-mono criterion between)
       (and-mono (is_before others one between) _ (is_before steps one between) _ (c.before one between) (c.before between other)) is
@@ -133,13 +122,13 @@ module _ (criterion : Criterion) (states : List State) (ts : List Txn) (steps ot
       and-mono (has_place criterion ts others a) _ (has_place criterion ts steps a) _ (place-mono criterion a) (c.before a a) is
   contradicts-mono (NoSource b r v) is =
       let s : Source = record { reader = b; register = r; value = v; writer = None } in
-      and-mono (is_asked criterion ts others s) _ (is_asked criterion ts steps s) _ (asked-mono s) (none-mono s) is
-  contradicts-mono (Unlike a r held read) is =
+      and-mono (is_asked criterion ts others s) _ (is_asked criterion ts steps s) _ (asked-mono s) (same _) is
+  contradicts-mono (Unlike a r expected read) is =
       and-mono (has_place criterion ts others a) _ (has_place criterion ts steps a) _ (place-mono criterion a) (same _) is
 
   pub tells-mono : (step : Step) → IsTrue (tells others step) → IsTrue (tells steps step)
   tells-mono (RealTime one other) is = c.before one other is
   tells-mono (From s) is = c.given s is
   tells-mono (ReadFirst s w) is = c.before s.reader w is
-  tells-mono (ChangedFirst w s) is = writer-mono w s.writer is
+  tells-mono (ChangedFirst w s) is = ends-mono w s.writer is
   tells-mono (Through one between other) is = c.before one other is

@@ -1,7 +1,7 @@
 -- What the registers hold along a serial order: what the last that is held and changes them left, or what the start has.
-use Rattle.std.proofs.Common.{◌≡◌, ◌==◌, ◌&&◌, ◌+◌, ◌%◌, ◌^◌, ◌<◌, ◌⊎◌, ℕ, zero, suc, false, List, [], ◌∷◌, length, Option, Some, None, IsTrue, refl, sym, ap, ◌∙◌, inl, inr, arith}
+use Rattle.std.proofs.Common.{◌≡◌, ◌==◌, ◌+◌, ◌%◌, ◌^◌, ◌<◌, ◌⊎◌, ℕ, zero, suc, false, List, [], ◌∷◌, length, Option, Some, None, IsTrue, refl, sym, ap, ◌∙◌, inl, inr, arith}
 use Rattle.std.specs.Prelude.{slice_get, slice_index, slice_set, take, if◌then◌else◌}
-use Rattle.std.proofs.lemmas.Bool.{and_parts, or_cases, or_parts, cases_Bool, eqb-true, eqb-false}
+use Rattle.std.proofs.lemmas.Bool.{and_parts, or_parts, cases_Bool, eqb-true, eqb-false, eq-eqb}
 use Rattle.std.proofs.lemmas.List.{get_or-set_same, get_or-set_other, length-set}
 use Rattle.tmw_events.specs.declared.ix.Ix.{Ix}
 use Rattle.tmw_defs.specs.declared.op.Op.{Op}
@@ -10,7 +10,7 @@ use Rattle.tmw_defs.specs.History.{operations}
 use Rattle.tmw_defs.specs.Opaque.{State, Placed, reads_hold, after_writes, after, is_legal}
 use Rattle.tmw_defs.specs.Outcomes.{end_state}
 use Rattle.tmw_cuts.specs.Written.{writes, left_by}
-use Rattle.tmw_part.specs.Steps.{needed_of, is_some_of, reads_unlike}
+use Rattle.tmw_part.specs.Steps.{needed_of, is_some_of, first_unlike, unlike_or}
 use Rattle.tmw_part.specs.Reasons.{Changes, IsUnchanged}
 
 -- a register that is set, and another
@@ -148,41 +148,37 @@ fits-read s q r v known here fits =
       | inr other ↦ rw other fits
     ]
 
--- an operation that is answered what the register holds was answered what is known
-same_known : (s : State) (r held read : ℕ) (known : Option ℕ) (q : Ix) (v : ℕ) → Fits s r known → IsTrue (slice_index s q.number == v)
-    → IsTrue (is_some_of held known && ((q.number == r) && (v == read))) → held ≡ read
-same_known s r held read None q v fits here is = absurd (cc)
-same_known s r held read (Some x) q v fits here is =
-    let (one, both) = and_parts (x == held) _ is in
-    let (register, value) = and_parts (q.number == r) _ both in
-    sym (eqb-true x held one) ∙ sym fits ∙ ap (slice_index s) (sym (eqb-true q.number r register))
-    ∙ eqb-true (slice_index s q.number) v here ∙ eqb-true v read value
+unlike-none : (known : Option ℕ) (rest : Option (ℕ × ℕ)) → unlike_or known None rest ≡ rest
+unlike-none None rest = refl
+unlike-none (Some x) rest = refl
 
--- so operations that are answered what the registers hold don't read unlike
-pub reads_alike : (s : State) (r held read : ℕ) (known : Option ℕ) (ops : List Op) → length s ≡ 8 → Fits s r known
-    → IsTrue (reads_hold s ops) → IsTrue (reads_unlike r held read known ops) → held ≡ read
-reads_alike s r held read known [] long fits reads unlike = absurd (cc)
-reads_alike s r held read known (Read q v ∷ ops) long fits reads unlike =
+-- an operation that is answered what the register holds is answered what is known
+like_known : (s : State) (r : ℕ) (known : Option ℕ) (q : Ix) (v : ℕ) (rest : Option (ℕ × ℕ)) → Fits s r known → IsTrue (slice_index s q.number == v)
+    → unlike_or known (if q.number == r then Some v else None) rest ≡ rest
+like_known s r None q v rest fits here = refl
+like_known s r (Some x) q v rest fits here =
+    elim (cases_Bool (q.number == r)) [
+      | inl is ↦
+          let same : x ≡ v = sym fits ∙ ap (slice_index s) (sym (eqb-true q.number r is)) ∙ eqb-true (slice_index s q.number) v here in
+          rw (is, eq-eqb x v same) refl
+      | inr other ↦ rw other refl
+    ]
+
+-- so operations that are answered what the registers hold read nothing unlike
+pub reads_alike : (s : State) (r : ℕ) (known : Option ℕ) (ops : List Op) → length s ≡ 8 → Fits s r known → IsTrue (reads_hold s ops)
+    → first_unlike r known ops ≡ None
+reads_alike s r known [] long fits reads = refl
+reads_alike s r known (Read q v ∷ ops) long fits reads =
     let (here, rest) = and_parts (slice_index s q.number == v) _ reads in
-    elim (or_cases (is_some_of held known && ((q.number == r) && (v == read))) _ unlike) [
-      | inl now ↦ same_known s r held read known q v fits here now
-      | inr later ↦ reads_alike s r held read _ ops long (fits-read s q r v known here fits) rest later
-    ]
-reads_alike s r held read known (Write q v ∷ ops) long fits reads unlike =
-    elim (or_cases (is_some_of held known && false) _ unlike) [
-      | inl now ↦ absurd (let not_so = (and_parts (is_some_of held known) false now).1 in cc)
-      | inr later ↦
-          reads_alike (slice_set s q.number v) r held read _ ops (length-set s q.number v ∙ long) (fits-set s q r v known long fits) reads later
-    ]
-reads_alike s r held read known (Add q d v ∷ ops) long fits reads unlike =
+    like_known s r known q v _ fits here ∙ reads_alike s r _ ops long (fits-read s q r v known here fits) rest
+reads_alike s r known (Write q v ∷ ops) long fits reads =
+    unlike-none known _
+    ∙ reads_alike (slice_set s q.number v) r _ ops (length-set s q.number v ∙ long) (fits-set s q r v known long fits) reads
+reads_alike s r known (Add q d v ∷ ops) long fits reads =
     let sum = (v + d) % 2 ^ 64 in
     let (here, rest) = and_parts (slice_index s q.number == v) _ reads in
-    elim (or_cases (is_some_of held known && ((q.number == r) && (v == read))) _ unlike) [
-      | inl now ↦ same_known s r held read known q v fits here now
-      | inr later ↦
-          reads_alike (slice_set s q.number sum) r held read _ ops (length-set s q.number sum ∙ long) (fits-set s q r sum known long fits)
-          rest later
-    ]
+    like_known s r known q v _ fits here
+    ∙ reads_alike (slice_set s q.number sum) r _ ops (length-set s q.number sum ∙ long) (fits-set s q r sum known long fits) rest
 
 -- the state before a place of an order
 abbrev pub state_at : State → List Placed → ℕ → State

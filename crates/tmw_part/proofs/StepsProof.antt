@@ -1,5 +1,5 @@
 -- Steps that follow from those before them hold in each serial order, and contradict each other in none.
-use Rattle.std.proofs.Common.{◌≡◌, ◌==◌, ◌&&◌, ◌+◌, ◌<◌, ◌≤◌, ℕ, zero, suc, Bool, true, false, not, List, [], ◌∷◌, length, Option, Some, None, IsTrue, refl, sym, ap, ◌∙◌, inl, inr, subst, arith}
+use Rattle.std.proofs.Common.{◌≡◌, ◌==◌, ◌&&◌, ◌||◌, ◌+◌, ◌<◌, ◌≤◌, ℕ, zero, suc, Bool, true, false, not, List, [], ◌∷◌, length, Option, Some, None, IsTrue, refl, sym, ap, ◌∙◌, inl, inr, subst, arith}
 use Rattle.std.specs.Prelude.{slice_get, slice_index, take, All}
 use Rattle.std.specs.List.{Contains, list_all, list_any, range_with_len, AllByRecursion}
 use Rattle.std.proofs.lemmas.List.Folds.{list_any_at}
@@ -19,7 +19,7 @@ use Rattle.tmw_part.specs.declared.step.Step.{Step}
 use Rattle.tmw_part.specs.declared.step.Step.TheVariants.{RealTime, From, ReadFirst, ChangedFirst, Through}
 use Rattle.tmw_part.specs.declared.step.Contradiction.{Contradiction}
 use Rattle.tmw_part.specs.declared.step.Contradiction.TheVariants.{Cycle, NoSource, Unlike}
-use Rattle.tmw_part.specs.Steps.{txn_at, ops_at, needed_of, is_some_of, is_same_writer, orders, gives, supplies, is_before, begins_before, ends_before, is_committed, is_held, has_place, may_come_from, may_be_source, is_rival, is_excluded, from_else, is_no_source, comes_not_else, is_asked, is_known_rival, follows, contradicts, Derives}
+use Rattle.tmw_part.specs.Steps.{txn_at, ops_at, needed_of, is_some_of, is_same_writer, orders, gives, supplies, is_before, begins_before, ends_before, is_committed, is_held, has_place, may_come_from, is_rival, is_excluded, from_else, comes_not_else, is_asked, is_known_rival, is_pair, has_writer, follows, contradicts, Derives}
 use Rattle.tmw_part.specs.Reasons.{StandsAt, StandsBefore, Changes, ComesFrom, StandsBeforeWriter, HoldsIn, begin_apart, ReasonLaw}
 use Rattle.tmw_part.proofs.OrderFacts.{IsIn, IsSerial, apart, serial}
 use Rattle.tmw_part.proofs.OrderValues.{state_at, reads_at, length-state_at, value_at, needed_holds, reads_alike}
@@ -319,7 +319,8 @@ module _ (criterion : Criterion) (states : List State) (ts : List Txn) (start : 
       let same : 0 + a ≡ a = omega arith in
       rw same at (each_place (λ b. test (Some b)) 0 (length ts) a (and_parts (test None) _ all).1 within)
 
-  is_source : (s : Source) → (found : Actual s) → IsTrue (is_no_source states ts steps (from_else s found.writer)) → ⊥
+  is_source : (s : Source) → (found : Actual s)
+      → IsTrue (not (may_come_from states ts s found.writer) || is_excluded ts steps (from_else s found.writer)) → ⊥
   is_source s found none =
       elim (or_cases (not (may_come_from states ts s found.writer)) _ none) [
         | inl not_so ↦ let e = sym (not-true _ not_so) ∙ found.may in absurd (cc)
@@ -398,7 +399,7 @@ module _ (criterion : Criterion) (states : List State) (ts : List Txn) (start : 
       ]
   step_holds (From s) is =
       let (asked, rest) = and_parts (is_asked criterion ts steps s) _ is in
-      let only = (and_parts (may_be_source states ts s) _ rest).1 in
+      let only = (and_parts (may_come_from states ts s s.writer) _ rest).1 in
       let found = actual s asked in
       let passes = writer_passes (comes_not_else states ts steps s) found.writer found.within only in
       elim (or_cases (is_same_writer found.writer s.writer) _ passes) [
@@ -416,7 +417,8 @@ module _ (criterion : Criterion) (states : List State) (ts : List Txn) (start : 
       let two : j ≡ r.place = stands_once w j r.place there r.stands in
       omega (arith, low)
   step_holds (ChangedFirst w s) is =
-      let (known, before) = and_parts (is_known_rival ts steps s w) _ is in
+      let (known, more) = and_parts (is_known_rival ts steps s w) _ is in
+      let before = (and_parts (has_writer s) _ more).1 in
       let (has, rival) = and_parts (list_any (gives s) steps) _ known in
       let (k, stands, comes) = source_holds s has in
       let r = rival_at s w rival in
@@ -439,15 +441,15 @@ module _ (criterion : Criterion) (states : List State) (ts : List Txn) (start : 
       let s : Source = record { reader = b; register = r; value = v; writer = None } in
       let (asked, all) = and_parts (is_asked criterion ts steps s) _ is in
       let found = actual s asked in
-      is_source s found (writer_passes (λ w. is_no_source states ts steps (from_else s w)) found.writer found.within all)
-  none_contradicts (Unlike a r held read) is =
-      let (has, rest) = and_parts (has_place criterion ts steps a) _ is in
-      let (differ, unlike) = and_parts (not (held == read)) _ rest in
+      let none = writer_passes (λ w. not (may_come_from states ts s w)) found.writer found.within all in
+      let e = sym (not-true _ none) ∙ found.may in absurd (cc)
+  none_contradicts (Unlike a r expected read) is =
+      let (has, unlike) = and_parts (has_place criterion ts steps a) _ is in
       let (i, at) = has_stands criterion refl a has in
       let same = txn_at-get ts a at.placed.txn at.is in
-      let alike = reads_alike (state_at start order i) r.number held read None (operations at.placed.txn.text)
-      (length-state_at start order i ∙ c.long) tt (reads_at start order i at.placed c.serial.legal at.there) (rw same at unlike) in
-      let e = sym (not-true (held == read) differ) ∙ eq-eqb held read alike in absurd (cc)
+      let alike = reads_alike (state_at start order i) r.number None (operations at.placed.txn.text)
+      (length-state_at start order i ∙ c.long) tt (reads_at start order i at.placed c.serial.legal at.there) in
+      let none : IsTrue (is_pair expected read None) = rw (same, alike) at unlike in absurd (cc)
 
 pub none_all : {A : Type 0} (P : A → Type 0) (xs : List A) → AllByRecursion P (take 0 xs)
 none_all P [] = tt

@@ -10,7 +10,7 @@ use Rattle.tmw_defs.specs.declared.status.Status.TheVariants.{Live, Pending, Com
 use Rattle.tmw_defs.specs.History.{Txn, status_of, operations}
 use Rattle.tmw_defs.specs.Opaque.{precedes}
 use Rattle.tmw_defs.specs.Part.{is_unread, may_go, may_go_whole, AreOpsLeft, IsLeftOf, AreStaying, Each, IsPart}
-use Rattle.tmw_part.specs.Test.{is_same_op, are_ops_left, is_same_status, is_left_of, are_left_of, is_same, is_same_row, are_same_rows, is_among, without, are_placed, nothing, staying_of, is_part_at}
+use Rattle.tmw_part.specs.Test.{is_same_op, are_ops_left, is_same_status, is_left_of, are_left_of, is_same, is_same_row, are_same_rows, is_among, without_number, are_placed, nothing, staying_of, is_part_at}
 
 same_op : (x y : Op) → is_same_op x y ≡ true → x ≡ y
 same_op (Read q w) (Read r v) same =
@@ -104,7 +104,7 @@ rows-test ts us (a ∷ as') (b ∷ bs) all =
 
 -- where the number is among the places, the transaction of that number is among those that stay
 found : (f : ℕ → Txn) (n : ℕ) (places : List ℕ) → IsTrue (is_among n places)
-    → (i : ℕ) × (slice_get (map f places) i ≡ Some (f n)) × (remove (map f places) i ≡ map f (without n places))
+    → (i : ℕ) × (slice_get (map f places) i ≡ Some (f n)) × (remove (map f places) i ≡ map f (without_number n places))
 found f n [] among = absurd (cc)
 found f n (p ∷ places) among =
     elim (cases_Bool (p == n)) [
@@ -127,7 +127,7 @@ placed-test unread f n places (t ∷ ts) goes all =
     elim (cases_Bool (is_among n places)) [
       | inl is ↦
           let (i, at, rest) = found f n places is in
-          let more = placed-test unread f (n + 1) (without n places) ts goes.1 (rw is at all) in
+          let more = placed-test unread f (n + 1) (without_number n places) ts goes.1 (rw is at all) in
           inr (i, at ∙ ap (λ (x : Txn). Some x) goes.0, rw rest more)
       | inr none ↦
           let (idle, more) = and_parts (may_go_whole unread t) _ (rw none at all) in
@@ -169,13 +169,13 @@ part-test places part whole all =
 abbrev AreBelow : ℕ → List ℕ → Type 0
 AreBelow bound places = (k d : ℕ) → k < length places → slice_index_or places k d < bound
 
-below-with : (bound n : ℕ) (places : List ℕ) → n < bound → AreBelow bound (without n places) → AreBelow bound places
+below-with : (bound n : ℕ) (places : List ℕ) → n < bound → AreBelow bound (without_number n places) → AreBelow bound places
 below-with bound n [] here below k d within = absurd (omega (arith, within))
 below-with bound n (p ∷ places) here below k d within =
     elim (cases_Bool (p == n)) [
       | inl is ↦ first k within (eqb-true p n is) (rw is at below)
       | inr other ↦
-          let left : AreBelow bound (p ∷ without n places) = rw other at below in
+          let left : AreBelow bound (p ∷ without_number n places) = rw other at below in
           later k within left (below-with bound n places here (λ j e in_rest. left (suc j) e (omega (arith, in_rest))))
     ]
   where
@@ -183,7 +183,7 @@ below-with bound n (p ∷ places) here below k d within =
     first zero within is rest = rw is here
     first (suc k) within is rest = rest k d (omega (arith, within))
 
-    later : (k : ℕ) → k < length (p ∷ places) → AreBelow bound (p ∷ without n places) → AreBelow bound places
+    later : (k : ℕ) → k < length (p ∷ places) → AreBelow bound (p ∷ without_number n places) → AreBelow bound places
         → slice_index_or (p ∷ places) k d < bound
     later zero within left rest = left zero d (omega arith)
     later (suc k) within left rest = rest k d (omega (arith, within))
@@ -197,7 +197,7 @@ placed-below unread n places (t ∷ ts) all k d within =
     let same : n + 1 + length ts ≡ n + length (t ∷ ts) = omega arith in
     rw (sym same) (elim (cases_Bool (is_among n places)) [
       | inl is ↦
-          below-with (n + 1 + length ts) n places (omega arith) (placed-below unread (n + 1) (without n places) ts (rw is at all)) k d within
+          below-with (n + 1 + length ts) n places (omega arith) (placed-below unread (n + 1) (without_number n places) ts (rw is at all)) k d within
       | inr none ↦
           let (may, more) = and_parts (may_go_whole unread t) _ (rw none at all) in
           placed-below unread (n + 1) places ts more k d within

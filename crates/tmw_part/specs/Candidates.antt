@@ -1,10 +1,8 @@
 -- The steps and contradictions that are tried: each that may follow from some.
-use Rattle.std.specs.Prelude.{◌≡◌, ◌==◌, ◌&&◌, ◌<◌, ℕ, Bool, true, not, List, [], ◌∷◌, ◌++◌, length, map, Option, Some, None, if◌then◌else◌}
+use Rattle.std.specs.Prelude.{◌≡◌, ◌&&◌, ◌<◌, ℕ, Bool, not, List, [], ◌∷◌, ◌++◌, length, map, Option, Some, None}
 use Rattle.std.specs.List.{flat_map, list_any}
 use Rattle.tmw_events.specs.declared.ix.Ix.{Ix}
 use Rattle.tmw_defs.specs.declared.criterion.Criterion.{Criterion}
-use Rattle.tmw_defs.specs.declared.op.Op.{Op}
-use Rattle.tmw_defs.specs.declared.op.Op.TheVariants.{Read, Write, Add}
 use Rattle.tmw_defs.specs.History.{Txn}
 use Rattle.tmw_defs.specs.Opaque.{State}
 use Rattle.tmw_part.specs.declared.step.Contradiction.{Contradiction}
@@ -12,9 +10,9 @@ use Rattle.tmw_part.specs.declared.step.Contradiction.TheVariants.{Cycle, NoSour
 use Rattle.tmw_part.specs.declared.step.Source.{Source}
 use Rattle.tmw_part.specs.declared.step.Step.{Step}
 use Rattle.tmw_part.specs.declared.step.Step.TheVariants.{RealTime, From, ReadFirst, ChangedFirst, Through}
-use Rattle.tmw_part.specs.Steps.{ops_at, needed_of, known_after, from_else, gives, is_before, follows}
+use Rattle.tmw_part.specs.Steps.{ops_at, needed_of, first_unlike, from_else, gives, is_before, ends_before, follows}
 
--- Of transactions with these places, those that real time may order behind the one.
+-- Of transactions with these places, those that real time may order after the one.
 abbrev pub real_times : List ℕ → ℕ → List Step
 real_times places one = map (RealTime one) places
 
@@ -64,37 +62,17 @@ sources_at ts registers places reader =
 abbrev pub sources : List Txn → List Ix → List ℕ → List Source
 sources ts registers places = flat_map (sources_at ts registers places) places
 
--- The one stands before the writer, if there is one.
-abbrev pub is_before_writer : List Step → ℕ → Option ℕ → Bool
-is_before_writer steps a None = true
-is_before_writer steps a (Some b) = is_before steps a b
-
 -- By these steps it is known what the step says.
 abbrev pub tells : List Step → Step → Bool
 tells steps (RealTime one other) = is_before steps one other
 tells steps (From s) = list_any (gives s) steps
-tells steps (ReadFirst s w) = is_before steps s.reader w
-tells steps (ChangedFirst w s) = is_before_writer steps w s.writer
+tells steps (ReadFirst s rival) = is_before steps s.reader rival
+tells steps (ChangedFirst rival s) = ends_before steps rival s.writer
 tells steps (Through one between other) = is_before steps one other
 
 -- The step follows from these, which don't tell it yet.
 abbrev pub is_new : Criterion → List State → List Txn → List Step → Step → Bool
 is_new criterion states ts steps step = not (tells steps step) && follows criterion states ts steps step
-
--- The value that the operation was answered of the register.
-abbrev pub answer_of : ℕ → Op → Option ℕ
-answer_of r (Read q v) = if q.number == r then Some v else None
-answer_of r (Write q v) = None
-answer_of r (Add q d v) = if q.number == r then Some v else None
-
-abbrev pub unlike_or : Option ℕ → Option ℕ → Option (ℕ × ℕ) → Option (ℕ × ℕ)
-unlike_or (Some held) (Some read) rest = if held == read then rest else Some (held, read)
-unlike_or _ _ rest = rest
-
--- The first answer that is unlike what the register held, and that before it.
-abbrev pub first_unlike : ℕ → Option ℕ → List Op → Option (ℕ × ℕ)
-first_unlike r known [] = None
-first_unlike r known (op ∷ ops) = unlike_or known (answer_of r op) (first_unlike r (known_after r known op) ops)
 
 abbrev pub unlike_of : ℕ → Ix → Option (ℕ × ℕ) → List Contradiction
 unlike_of reader register None = []

@@ -40,7 +40,7 @@ abbrev pub ComesFrom : List Txn → List Placed → ℕ → ℕ → Option ℕ �
 ComesFrom ts order r j None = IsUnchanged order r 0 j
 ComesFrom ts order r j (Some a) = (i : ℕ) × StandsAt ts order a i × (i < j) × Changes order r i × IsUnchanged order r (suc i) j
 
--- The one stands before the writer, if there is one.
+-- The one stands before the writer. None stands before the start.
 abbrev pub StandsBeforeWriter : List Txn → List Placed → ℕ → Option ℕ → Type 0
 StandsBeforeWriter ts order a None = ⊥
 StandsBeforeWriter ts order a (Some b) = StandsBefore ts order a b
@@ -49,8 +49,8 @@ StandsBeforeWriter ts order a (Some b) = StandsBefore ts order a b
 abbrev pub HoldsIn : List Txn → List Placed → Step → Type 0
 HoldsIn ts order (RealTime one other) = StandsBefore ts order one other
 HoldsIn ts order (From s) = (j : ℕ) × StandsAt ts order s.reader j × ComesFrom ts order s.register.number j s.writer
-HoldsIn ts order (ReadFirst s w) = StandsBefore ts order s.reader w
-HoldsIn ts order (ChangedFirst w s) = StandsBeforeWriter ts order w s.writer
+HoldsIn ts order (ReadFirst s rival) = StandsBefore ts order s.reader rival
+HoldsIn ts order (ChangedFirst rival s) = StandsBeforeWriter ts order rival s.writer
 HoldsIn ts order (Through one between other) = StandsBefore ts order one other
 
 -- The steps are a reason: each follows from those before it, and together they contradict each other so.

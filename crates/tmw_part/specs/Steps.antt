@@ -10,7 +10,6 @@ use Rattle.tmw_defs.specs.declared.status.Status.{Status}
 use Rattle.tmw_defs.specs.declared.status.Status.TheVariants.{Committed}
 use Rattle.tmw_defs.specs.History.{Txn, status_of, operations}
 use Rattle.tmw_defs.specs.Opaque.{State, precedes, may_hold}
-use Rattle.tmw_defs.specs.Part.{is_answered}
 use Rattle.tmw_cuts.specs.Written.{writes, left_by}
 use Rattle.tmw_part.specs.declared.step.Source.{Source}
 use Rattle.tmw_part.specs.declared.step.Step.{Step}
@@ -39,15 +38,28 @@ known_after r known (Read q v) = if q.number == r then Some v else known
 known_after r known (Write q v) = if q.number == r then Some v else known
 known_after r known (Add q d v) = if q.number == r then Some ((v + d) % 2 ^ 64) else known
 
+-- The value that the operation was answered of the register.
+abbrev pub answer_of : ℕ → Op → Option ℕ
+answer_of r (Read q v) = if q.number == r then Some v else None
+answer_of r (Write q v) = None
+answer_of r (Add q d v) = if q.number == r then Some v else None
+
+abbrev pub unlike_or : Option ℕ → Option ℕ → Option (ℕ × ℕ) → Option (ℕ × ℕ)
+unlike_or (Some expected) (Some read) rest = if expected == read then rest else Some (expected, read)
+unlike_or _ _ rest = rest
+
+-- The first answer that is unlike what is known of the register by the operations before it: what was to be expected, and what was read.
+abbrev pub first_unlike : ℕ → Option ℕ → List Op → Option (ℕ × ℕ)
+first_unlike r known [] = None
+first_unlike r known (op ∷ ops) = unlike_or known (answer_of r op) (first_unlike r (known_after r known op) ops)
+
+abbrev pub is_pair : ℕ → ℕ → Option (ℕ × ℕ) → Bool
+is_pair a b None = false
+is_pair a b (Some pair) = (pair.0 == a) && (pair.1 == b)
+
 abbrev pub is_some_of : ℕ → Option ℕ → Bool
 is_some_of v None = false
 is_some_of v (Some w) = w == v
-
--- One of the operations was answered `read` of the register, which held `held` by those before it.
-abbrev pub reads_unlike : ℕ → ℕ → ℕ → Option ℕ → List Op → Bool
-reads_unlike r held read known [] = false
-reads_unlike r held read known (op ∷ ops) =
-    (is_some_of held known && is_answered r read op) || reads_unlike r held read (known_after r known op) ops
 
 abbrev pub is_same_writer : Option ℕ → Option ℕ → Bool
 is_same_writer None None = true
@@ -64,8 +76,8 @@ is_same_source s t =
 abbrev pub orders : ℕ → ℕ → Step → Bool
 orders a b (RealTime one other) = (one == a) && (other == b)
 orders a b (From s) = is_some_of a s.writer && (s.reader == b)
-orders a b (ReadFirst s w) = (s.reader == a) && (w == b)
-orders a b (ChangedFirst w s) = (w == a) && is_some_of b s.writer
+orders a b (ReadFirst s rival) = (s.reader == a) && (rival == b)
+orders a b (ChangedFirst rival s) = (rival == a) && is_some_of b s.writer
 orders a b (Through one between other) = (one == a) && (other == b)
 
 -- The step says that this is the source.
@@ -112,9 +124,6 @@ may_come_from states ts s (Some a) =
     not (a == s.reader)
     && (may_hold (status_of (txn_at ts a).text) true && is_some_of s.value (left_by s.register.number None (ops_at ts a)))
 
-abbrev pub may_be_source : List State → List Txn → Source → Bool
-may_be_source states ts s = may_come_from states ts s s.writer
-
 -- The transaction is held, changes the source's register and is neither the reader nor the writer.
 abbrev pub is_rival : List Txn → List Step → Source → ℕ → Bool
 is_rival ts steps s a =
@@ -134,24 +143,21 @@ is_excluded ts steps s =
 abbrev pub from_else : Source → Option ℕ → Source
 from_else s w = record s { writer = w }
 
--- The value can't come from there.
-abbrev pub is_no_source : List State → List Txn → List Step → Source → Bool
-is_no_source states ts steps s = not (may_be_source states ts s) || is_excluded ts steps s
-
 -- The value can't come from this writer, unless it is the source's own.
 abbrev pub comes_not_else : List State → List Txn → List Step → Source → Option ℕ → Bool
-comes_not_else states ts steps s w = is_same_writer w s.writer || is_no_source states ts steps (from_else s w)
+comes_not_else states ts steps s w =
+    is_same_writer w s.writer || (not (may_come_from states ts s w) || is_excluded ts steps (from_else s w))
 
--- It comes from no other than the source's own writer; and from none at all.
+-- It comes from no other than the source's own writer.
 abbrev pub is_only : List State → List Txn → List Step → Source → Bool
 is_only states ts steps s =
     comes_not_else states ts steps s None
     && list_all (λ a. comes_not_else states ts steps s (Some a)) (range_with_len 0 (length ts))
 
-abbrev pub comes_from_none : List State → List Txn → List Step → Source → Bool
-comes_from_none states ts steps s =
-    is_no_source states ts steps (from_else s None)
-    && list_all (λ a. is_no_source states ts steps (from_else s (Some a))) (range_with_len 0 (length ts))
+-- Neither the start nor any transaction can have left the value.
+abbrev pub is_left_by_none : List State → List Txn → Source → Bool
+is_left_by_none states ts s =
+    not (may_come_from states ts s None) && list_all (λ a. not (may_come_from states ts s (Some a))) (range_with_len 0 (length ts))
 
 -- The reader stands in each order, and needs the register to hold the value.
 abbrev pub is_asked : Criterion → List Txn → List Step → Source → Bool
@@ -162,25 +168,31 @@ is_asked criterion ts steps s =
 abbrev pub is_known_rival : List Txn → List Step → Source → ℕ → Bool
 is_known_rival ts steps s a = list_any (gives s) steps && is_rival ts steps s a
 
--- Whether a step follows from these: by real time; because the value can come from nowhere else; because the reader or the writer would
+-- The value comes from a transaction, not from the start.
+abbrev pub has_writer : Source → Bool
+has_writer s = not (is_same_writer s.writer None)
+
+-- Whether a step follows from these: by real time; because the value can come from nowhere else; because the reader and the writer would
 -- else have a rival between them; or by a third transaction.
 abbrev pub follows : Criterion → List State → List Txn → List Step → Step → Bool
 follows criterion states ts steps (RealTime one other) = not (one == other) && precedes (txn_at ts one) (txn_at ts other)
 follows criterion states ts steps (From s) =
-    is_asked criterion ts steps s && (may_be_source states ts s && is_only states ts steps s)
-follows criterion states ts steps (ReadFirst s w) = is_known_rival ts steps s w && begins_before steps s.writer w
-follows criterion states ts steps (ChangedFirst w s) = is_known_rival ts steps s w && is_before steps w s.reader
+    is_asked criterion ts steps s && (may_come_from states ts s s.writer && is_only states ts steps s)
+follows criterion states ts steps (ReadFirst s rival) = is_known_rival ts steps s rival && begins_before steps s.writer rival
+follows criterion states ts steps (ChangedFirst rival s) =
+    is_known_rival ts steps s rival && (has_writer s && is_before steps rival s.reader)
 follows criterion states ts steps (Through one between other) =
     has_place criterion ts steps between && (is_before steps one between && is_before steps between other)
 
--- Whether no order can be as these steps say: one stands before itself; a value can come from nowhere; or a transaction contradicts itself.
+-- Whether no order can be as these steps say: a transaction stands before itself; nobody can have left a value that is read; or a
+-- transaction read a register unlike its own earlier operations.
 abbrev pub contradicts : Criterion → List State → List Txn → List Step → Contradiction → Bool
 contradicts criterion states ts steps (Cycle a) = has_place criterion ts steps a && is_before steps a a
 contradicts criterion states ts steps (NoSource b r v) =
     let s : Source = record { reader = b; register = r; value = v; writer = None } in
-    is_asked criterion ts steps s && comes_from_none states ts steps s
-contradicts criterion states ts steps (Unlike a r held read) =
-    has_place criterion ts steps a && (not (held == read) && reads_unlike r.number held read None (ops_at ts a))
+    is_asked criterion ts steps s && is_left_by_none states ts s
+contradicts criterion states ts steps (Unlike a r expected read) =
+    has_place criterion ts steps a && is_pair expected read (first_unlike r.number None (ops_at ts a))
 
 -- Each of the steps follows from those before it.
 abbrev pub Derives : Criterion → List State → List Txn → List Step → Type 0

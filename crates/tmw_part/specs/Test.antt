@@ -1,4 +1,4 @@
--- The test of what is left of a transaction, by cases.
+-- The test of a part: each of its transactions is left of one of the whole, the others may go, and the precedence is the same.
 use Rattle.std.specs.Prelude.{◌==◌, ◌&&◌, ◌||◌, ◌+◌, ℕ, Bool, true, false, not, List, [], ◌∷◌, map, slice_index_or, if◌then◌else◌}
 use Rattle.tmw_defs.specs.declared.op.Op.{Op}
 use Rattle.tmw_defs.specs.declared.op.Op.TheVariants.{Read, Write, Add}
@@ -44,7 +44,7 @@ abbrev pub is_same : Bool → Bool → Bool
 is_same true b = b
 is_same false b = not b
 
--- Of these, the same precede the one as of those the other.
+-- One by one, a transaction of the second list precedes b just where that of the first precedes a.
 abbrev pub is_same_row : Txn → Txn → List Txn → List Txn → Bool
 is_same_row a b [] [] = true
 is_same_row a b [] (u ∷ us) = false
@@ -57,21 +57,21 @@ are_same_rows ts us [] (b ∷ bs) = false
 are_same_rows ts us (a ∷ as') [] = false
 are_same_rows ts us (a ∷ as') (b ∷ bs) = is_same_row a b ts us && are_same_rows ts us as' bs
 
--- The number is one of these; and they without it.
+-- The number is one of these; and they without the first that is this one.
 abbrev pub is_among : ℕ → List ℕ → Bool
 is_among n [] = false
 is_among n (p ∷ places) = (p == n) || is_among n places
 
-abbrev pub without : ℕ → List ℕ → List ℕ
-without n [] = []
-without n (p ∷ places) = if p == n then places else p ∷ without n places
+abbrev pub without_number : ℕ → List ℕ → List ℕ
+without_number n [] = []
+without_number n (p ∷ places) = if p == n then places else p ∷ without_number n places
 
 -- Each of these, of which the first has this number, has one of the places, or may go; and each place is one of theirs.
 abbrev pub are_placed : (ℕ → ℕ → Bool) → ℕ → List ℕ → List Txn → Bool
 are_placed unread n [] [] = true
 are_placed unread n (p ∷ places) [] = false
 are_placed unread n places (t ∷ ts) =
-    if is_among n places then are_placed unread (n + 1) (without n places) ts
+    if is_among n places then are_placed unread (n + 1) (without_number n places) ts
     else may_go_whole unread t && are_placed unread (n + 1) places ts
 
 abbrev pub nothing : Txn

@@ -41,13 +41,13 @@ fn push_sources(steps: &mut Vec<Step>, sources: &[Source]) -> Result<(), AllocEr
 fn push_firsts(steps: &mut Vec<Step>, source: &Source, places: &[usize]) -> Result<(), AllocError>
     ensures { OnOk result (steps.new.items ≡ steps.old.items ++ firsts places.now source.now) }
 {
-    for writer in places {
+    for rival in places {
         steps.push(Step::ReadFirst {
             source: *source,
-            writer: *writer,
+            rival: *rival,
         })?;
         steps.push(Step::ChangedFirst {
-            writer: *writer,
+            rival: *rival,
             source: *source,
         })?;
     }

@@ -1,25 +1,15 @@
 ghost use Rattle.std.specs.Prelude.{◌≡◌, IfOk, None, find};
-ghost use Rattle.tmw_part.specs.Candidates.{is_new, is_before_writer, tells};
+ghost use Rattle.tmw_part.specs.Candidates.{is_new, tells};
 ghost use Rattle.tmw_part.specs.Shown.{txns_of};
 ghost use Rattle.tmw_part.specs.Steps.{Derives};
 
 use crate::follows::follows;
-use crate::known::{is_before, is_given};
+use crate::known::{ends_before, is_before, is_given};
 use crate::step::Step;
 use crate::transaction::Transaction;
 use std::alloc::{AllocError, Global};
 use tmw_cuts::State;
 use tmw_defs::Criterion;
-
-/// Whether by these steps the one transaction stands before the writer, if there is one.
-fn is_before_writer(steps: &[Step], one: usize, writer: Option<usize>) -> bool
-    ensures { result ≡ is_before_writer steps.now one writer }
-{
-    match writer {
-        None => true,
-        Some(other) => is_before(steps, one, other),
-    }
-}
 
 /// Whether by these steps it is known what the step says.
 fn tells(steps: &[Step], step: &Step) -> bool
@@ -28,8 +18,8 @@ fn tells(steps: &[Step], step: &Step) -> bool
     match *step {
         Step::RealTime { one, other } => is_before(steps, one, other),
         Step::From(source) => is_given(steps, &source),
-        Step::ReadFirst { source, writer } => is_before(steps, source.reader, writer),
-        Step::ChangedFirst { writer, source } => is_before_writer(steps, writer, source.writer),
+        Step::ReadFirst { source, rival } => is_before(steps, source.reader, rival),
+        Step::ChangedFirst { rival, source } => ends_before(steps, rival, source.writer),
         Step::Through {
             one,
             between: _between,

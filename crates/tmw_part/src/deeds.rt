@@ -1,9 +1,7 @@
 ghost use Rattle.std.specs.Prelude.{◌≡◌, ◌≢◌, ℕ, None, Some, IfSome, IfNone, IsTrue};
 ghost use Rattle.tmw_defs.specs.History.{operations};
-ghost use Rattle.tmw_defs.specs.Part.{is_answered};
 ghost use Rattle.tmw_cuts.specs.Written.{writes, left_by};
-ghost use Rattle.tmw_part.specs.Candidates.{answer_of, first_unlike};
-ghost use Rattle.tmw_part.specs.Steps.{is_some_of, known_after, needed_of, reads_unlike};
+ghost use Rattle.tmw_part.specs.Steps.{answer_of, first_unlike, is_pair, is_some_of, known_after, needed_of};
 
 use tmw_cuts::operation;
 use tmw_defs::Op;
@@ -15,6 +13,16 @@ pub(crate) fn is_some_of(value: u64, option: Option<u64>) -> bool
 {
     match option {
         Some(other) => other == value,
+        None => false,
+    }
+}
+
+/// Whether the pair is there and is of these.
+pub(crate) fn is_pair(one: u64, other: u64, option: Option<(u64, u64)>) -> bool
+    ensures { result ≡ is_pair one other option }
+{
+    match option {
+        Some((first, second)) => first == one && second == other,
         None => false,
     }
 }
@@ -73,8 +81,7 @@ pub(crate) fn writes(register: Ix, text: &[Kind]) -> bool
 
 /// The value that the operation was answered of the register.
 fn answer_of(register: Ix, op: Op) -> Option<u64>
-    ensures value { result ≡ answer_of register.number op }
-    ensures test { (value : ℕ) → is_answered register.number value op ≡ is_some_of value result }
+    ensures { result ≡ answer_of register.number op }
 {
     let (other, value) = match op {
         Op::Read(other, value) => (other, value),
@@ -100,26 +107,8 @@ fn known_after(register: Ix, known: Option<u64>, op: Op) -> Option<u64>
     }
 }
 
-/// Whether an operation of a transaction was answered `read` of the register, which by those before it held `held`.
-pub(crate) fn reads_unlike(register: Ix, held: u64, read: u64, text: &[Kind]) -> bool
-    ensures { result ≡ reads_unlike register.number held read None (operations text.now) }
-{
-    let mut known = None;
-    let mut rest = text;
-    while let [call, answer, more @ ..] = rest {
-        if let Some(op) = operation(*call, *answer) {
-            if is_some_of(held, known) && is_some_of(read, answer_of(register, op)) {
-                return true;
-            }
-            known = known_after(register, known, op);
-        }
-        rest = more;
-    }
-    false
-}
-
-/// Finds an operation of a transaction that was answered another value of the register than it held by those before
-/// it. Returns what it held and what was answered.
+/// Finds the first operation of a transaction that was answered another value of the register than those before it
+/// make it expect. Returns what was to be expected, and what was answered.
 pub(crate) fn find_unlike(register: Ix, text: &[Kind]) -> Option<(u64, u64)>
     ensures { result ≡ first_unlike register.number None (operations text.now) }
 {
@@ -127,9 +116,9 @@ pub(crate) fn find_unlike(register: Ix, text: &[Kind]) -> Option<(u64, u64)>
     let mut rest = text;
     while let [call, answer, more @ ..] = rest {
         if let Some(op) = operation(*call, *answer) {
-            if let (Some(held), Some(read)) = (known, answer_of(register, op)) {
-                if held != read {
-                    return Some((held, read));
+            if let (Some(expected), Some(read)) = (known, answer_of(register, op)) {
+                if expected != read {
+                    return Some((expected, read));
                 }
             }
             known = known_after(register, known, op);

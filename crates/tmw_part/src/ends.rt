@@ -24,7 +24,7 @@ fn push_cycles(list: &mut Vec<Contradiction>, places: &[usize]) -> Result<(), Al
     Ok(())
 }
 
-/// Adds that a transaction read `read` of the register where it held `held`, if that is given.
+/// Adds that a transaction read a register unlike its own operations, if it is given what was expected and read.
 fn push_unlike(
     list: &mut Vec<Contradiction>,
     reader: usize,
@@ -33,18 +33,18 @@ fn push_unlike(
 ) -> Result<(), AllocError>
     ensures { OnOk result (list.new.items ≡ list.old.items ++ unlike_of reader register unlike) }
 {
-    if let Some((held, read)) = unlike {
+    if let Some((expected, read)) = unlike {
         list.push(Contradiction::Unlike {
             reader,
             register,
-            held,
+            expected,
             read,
         })?;
     }
     Ok(())
 }
 
-/// Adds what a transaction read of a register unlike what it held by its own operations, for each register.
+/// Adds what a transaction read of a register unlike its own operations, for each register.
 fn push_unlikes_at(
     list: &mut Vec<Contradiction>,
     transactions: &[Transaction],
@@ -61,7 +61,7 @@ fn push_unlikes_at(
     Ok(())
 }
 
-/// Adds what the transactions read unlike what the registers held.
+/// Adds what the transactions read unlike their own operations.
 fn push_unlikes(
     list: &mut Vec<Contradiction>,
     transactions: &[Transaction],

@@ -1,10 +1,10 @@
-ghost use Rattle.std.specs.Prelude.{◌≡◌, ◌==◌, ◌&&◌, Some, length, slice_index};
+ghost use Rattle.std.specs.Prelude.{◌≡◌, ◌==◌, ◌&&◌, Some, length, not, slice_index};
 ghost use Rattle.std.specs.List.{list_all, list_any, range_with_len};
 ghost use Rattle.tmw_defs.specs.Opaque.{precedes};
 ghost use Rattle.tmw_part.specs.Shown.{txns_of};
-ghost use Rattle.tmw_part.specs.Steps.{comes_from_none, comes_not_else, contradicts, follows, from_else, has_place, is_asked, is_excluded, is_held, is_known_rival, is_no_source, is_only, is_rival, is_same_writer, may_come_from, stands_between, txn_at};
+ghost use Rattle.tmw_part.specs.Steps.{comes_not_else, contradicts, follows, has_place, has_writer, is_asked, is_excluded, is_held, is_known_rival, is_left_by_none, is_only, is_rival, may_come_from, stands_between, txn_at};
 
-use crate::deeds::{is_some_of, left_by, needed_of, reads_unlike, writes};
+use crate::deeds::{find_unlike, is_pair, is_some_of, left_by, needed_of, writes};
 use crate::known::{begins_before, ends_before, is_before, is_given, is_same_writer, is_supplied};
 use crate::step::{Contradiction, Source, Step};
 use crate::transaction::{Transaction, precedes, status_of};
@@ -113,19 +113,6 @@ fn is_excluded(transactions: &[Transaction], steps: &[Step], source: &Source) ->
     ends_before(steps, source.reader, source.writer) || is_overwritten(transactions, steps, source)
 }
 
-/// Whether the value can't come from there.
-fn is_no_source(
-    states: &[State],
-    transactions: &[Transaction],
-    steps: &[Step],
-    source: &Source,
-) -> bool
-    ensures { result ≡ is_no_source states.now (txns_of transactions.now) steps.now source.now }
-{
-    !may_come_from(states, transactions, source, source.writer)
-        || is_excluded(transactions, steps, source)
-}
-
 /// Whether each order has the reader, which needs the register to hold the value.
 fn is_asked(
     criterion: Criterion,
@@ -151,7 +138,9 @@ fn comes_not_else(
         ≡ comes_not_else states.now (txns_of transactions.now) steps.now source.now writer }
 {
     let other = Source { writer, ..*source };
-    is_same_writer(writer, source.writer) || is_no_source(states, transactions, steps, &other)
+    is_same_writer(writer, source.writer)
+        || !may_come_from(states, transactions, source, writer)
+        || is_excluded(transactions, steps, &other)
 }
 
 /// Whether the value comes from no other transaction than the source's own writer.
@@ -182,55 +171,24 @@ fn is_only(states: &[State], transactions: &[Transaction], steps: &[Step], sourc
         && from_no_other(states, transactions, steps, source)
 }
 
-/// Whether the value can't come from this writer.
-fn comes_not_from(
-    states: &[State],
-    transactions: &[Transaction],
-    steps: &[Step],
-    source: &Source,
-    writer: Option<usize>,
-) -> bool
-    ensures { let other = from_else source.now writer in
-        result ≡ is_no_source states.now (txns_of transactions.now) steps.now other }
-{
-    let other = Source { writer, ..*source };
-    is_no_source(states, transactions, steps, &other)
-}
-
-/// Whether the value can't come from any transaction.
-fn from_no_transaction(
-    states: &[State],
-    transactions: &[Transaction],
-    steps: &[Step],
-    source: &Source,
-) -> bool
+/// Whether no transaction can have left the value.
+fn is_from_no_transaction(states: &[State], transactions: &[Transaction], source: &Source) -> bool
     ensures { result
-        ≡ list_all (λ a. is_no_source states.now (txns_of transactions.now) steps.now (from_else source.now (Some a)))
+        ≡ list_all (λ a. not (may_come_from states.now (txns_of transactions.now) source.now (Some a)))
         (range_with_len 0 (length transactions.now)) }
 {
-    (0..transactions.len()).all(|place| comes_not_from(
-        states,
-        transactions,
-        steps,
-        source,
-        Some(place),
-    ))
+    (0..transactions.len()).all(|place| !may_come_from(states, transactions, source, Some(place)))
 }
 
-/// Whether the value can come neither from the start nor from any transaction.
-fn comes_from_none(
-    states: &[State],
-    transactions: &[Transaction],
-    steps: &[Step],
-    source: &Source,
-) -> bool
-    ensures { result ≡ comes_from_none states.now (txns_of transactions.now) steps.now source.now }
+/// Whether neither the start nor any transaction can have left the value.
+fn is_left_by_none(states: &[State], transactions: &[Transaction], source: &Source) -> bool
+    ensures { result ≡ is_left_by_none states.now (txns_of transactions.now) source.now }
 {
-    comes_not_from(states, transactions, steps, source, None)
-        && from_no_transaction(states, transactions, steps, source)
+    !may_come_from(states, transactions, source, None)
+        && is_from_no_transaction(states, transactions, source)
 }
 
-/// Whether each order has the reader, which needs the value, and the value can come from nowhere.
+/// Whether each order has the reader, which needs the value, and nobody can have left it.
 fn is_without_source(
     criterion: Criterion,
     states: &[State],
@@ -240,10 +198,10 @@ fn is_without_source(
 ) -> bool
     ensures { let ts = txns_of transactions.now in
         result ≡ (is_asked criterion ts steps.now source.now
-        && comes_from_none states.now ts steps.now source.now) }
+        && is_left_by_none states.now ts source.now) }
 {
     is_asked(criterion, transactions, steps, source)
-        && comes_from_none(states, transactions, steps, source)
+        && is_left_by_none(states, transactions, source)
 }
 
 /// Whether the one transaction precedes the other in real time, by their places.
@@ -269,6 +227,13 @@ fn is_known_rival(
     is_given(steps, source) && is_rival(transactions, steps, source, place)
 }
 
+/// Whether the value comes from a transaction, not from the start.
+fn has_writer(source: &Source) -> bool
+    ensures { result ≡ has_writer source.now }
+{
+    !is_same_writer(source.writer, None)
+}
+
 /// Tells whether the step follows from these.
 pub(crate) fn follows(
     criterion: Criterion,
@@ -286,13 +251,14 @@ pub(crate) fn follows(
                 && may_come_from(states, transactions, &source, source.writer)
                 && is_only(states, transactions, steps, &source)
         }
-        Step::ReadFirst { source, writer } => {
-            is_known_rival(transactions, steps, &source, writer)
-                && begins_before(steps, source.writer, writer)
+        Step::ReadFirst { source, rival } => {
+            is_known_rival(transactions, steps, &source, rival)
+                && begins_before(steps, source.writer, rival)
         }
-        Step::ChangedFirst { writer, source } => {
-            is_known_rival(transactions, steps, &source, writer)
-                && is_before(steps, writer, source.reader)
+        Step::ChangedFirst { rival, source } => {
+            is_known_rival(transactions, steps, &source, rival)
+                && has_writer(&source)
+                && is_before(steps, rival, source.reader)
         }
         Step::Through {
             one,
@@ -337,12 +303,11 @@ pub(crate) fn contradicts(
         Contradiction::Unlike {
             reader,
             register,
-            held,
+            expected,
             read,
         } => {
-            has_place(criterion, transactions, steps, reader)
-                && held != read
-                && reads_unlike(register, held, read, text_at(transactions, reader))
+            let unlike = find_unlike(register, text_at(transactions, reader));
+            has_place(criterion, transactions, steps, reader) && is_pair(expected, read, unlike)
         }
     }
 }

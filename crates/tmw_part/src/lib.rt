@@ -26,3 +26,4 @@ pub use part::law_test;
 pub use piece::Piece;
 pub use reason::{Reason, find_reason, law_reason};
 pub use step::{Contradiction, Source, Step};
+pub use transaction::{Transaction, precedes, status_of, transactions};

@@ -1,7 +1,7 @@
 ghost use Rattle.std.specs.Prelude.{◌≡◌, ◌<◌, All, IfOk, IsTrue, List, ℕ, length};
 ghost use Rattle.tmw_defs.specs.History.{Txn};
 ghost use Rattle.tmw_defs.specs.Part.{IsPart};
-ghost use Rattle.tmw_part.specs.Test.{are_placed, is_among, is_part_at, staying_of, without};
+ghost use Rattle.tmw_part.specs.Test.{are_placed, is_among, is_part_at, staying_of, without_number};
 ghost use Rattle.tmw_part.specs.Shown.{shown, txns_of, unread_in};
 
 use crate::left::{are_left_of, are_same_rows, may_go_whole};
@@ -21,8 +21,8 @@ fn is_among(number: usize, places: &[usize]) -> bool
 }
 
 /// Returns these numbers without the first that is this one.
-fn without(alloc: Global, number: usize, places: &[usize]) -> Result<Vec<usize>, AllocError>
-    ensures { IfOk result (λ kept. kept.items ≡ without number places.now) }
+fn without_number(alloc: Global, number: usize, places: &[usize]) -> Result<Vec<usize>, AllocError>
+    ensures { IfOk result (λ kept. kept.items ≡ without_number number places.now) }
 {
     let mut kept = Vec::new(alloc);
     let mut rest = places;
@@ -53,7 +53,7 @@ fn are_placed(
     let mut number = 0;
     while let [transaction, more @ ..] = rest {
         if is_among(number, &open) {
-            open = without(alloc, number, &open)?;
+            open = without_number(alloc, number, &open)?;
         } else if !may_go_whole(alloc, part, transaction)? {
             return Ok(false);
         }

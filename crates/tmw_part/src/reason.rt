@@ -10,7 +10,7 @@ use crate::ends::{ends, find_end};
 use crate::prune::prune;
 use crate::sources::{places, registers, sources};
 use crate::step::{Contradiction, Step};
-use crate::transaction::{Transaction, transactions};
+use crate::transaction::{MOST_TRANSACTIONS, Transaction, transactions};
 use std::alloc::{AllocError, Global};
 use tmw_cuts::State;
 use tmw_defs::Criterion;
@@ -26,9 +26,6 @@ pub struct Reason {
     /// What the steps come to.
     pub end: Contradiction,
 }
-
-/// The most transactions of which a reason is searched.
-const MOST_TRANSACTIONS: usize = 8;
 
 /// The threads of the transactions.
 fn threads_of(alloc: Global, transactions: &[Transaction]) -> Result<Vec<Ix>, AllocError>

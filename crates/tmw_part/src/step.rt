@@ -20,14 +20,14 @@ pub enum Step {
     },
     /// The value comes from there: nobody else can have left it.
     From(Source),
-    /// The reader stands before `writer`, which changes the register too and stands behind the source.
+    /// The reader stands before `rival`, which changes the register too and stands after the source.
     ReadFirst {
         source: Source,
-        writer: usize,
+        rival: usize,
     },
-    /// `writer` stands before the source: it changes the register too and stands before the reader.
+    /// `rival` stands before the source's writer: it changes the register too and stands before the reader.
     ChangedFirst {
-        writer: usize,
+        rival: usize,
         source: Source,
     },
     /// `one` stands before `other`: it stands before `between`, and `between` before `other`.
@@ -49,11 +49,12 @@ pub enum Contradiction {
         register: Ix,
         value: u64,
     },
-    /// The transaction read `read` of the register, where by its own earlier operations it held `held`.
+    /// The transaction read `read` of the register, where by its own operations before that it had to find `expected`.
+    /// This is the first such answer.
     Unlike {
         reader: usize,
         register: Ix,
-        held: u64,
+        expected: u64,
         read: u64,
     },
 }

@@ -8,6 +8,9 @@ use tmw_cuts::{operation, status_after};
 use tmw_defs::{Op, Status};
 use tmw_events::{Event, Ix, Kind};
 
+/// How many transactions a window has at most.
+pub(crate) const MOST_TRANSACTIONS: usize = 8;
+
 /// A transaction of a history: its thread, the places of its first and its last event, and its text.
 #[derive(Debug, Drop)]
 pub struct Transaction {

@@ -5,15 +5,13 @@ ghost use Rattle.tmw_cuts.specs.Members.{members};
 ghost use Rattle.tmw_part.specs.Finding.{TellsViolated};
 ghost use Rattle.tmw_part.specs.Taking.{AreTaken, AreUnfit};
 
+use crate::transaction::MOST_TRANSACTIONS;
 use std::alloc::{AllocError, Global};
 use tmw_cuts::{States, Window};
 use tmw_defs::Criterion;
 use tmw_events::{Event, Registers};
 use tmw_search::possible;
 use tmw_wellformed::Tracker;
-
-/// How many transactions a window has at most.
-const MOST_TRANSACTIONS: u8 = 8;
 
 /// Takes the next event, if the history stays well-formed with it and the window has room for its transaction.
 fn take_event(tracker: &mut Tracker, window: &mut Window, event: Event) -> bool
@@ -27,7 +25,7 @@ fn take_event(tracker: &mut Tracker, window: &mut Window, event: Event) -> bool
     let Ok(note) = tracker.step(event) else {
         return false;
     };
-    if note.begins && window.count() >= MOST_TRANSACTIONS {
+    if note.begins && window.count() as usize >= MOST_TRANSACTIONS {
         return false;
     }
     window.push(event, note);

@@ -1,4 +1,3 @@
-mod Adding
 mod CompletionProof
 mod OrderSteps
 mod StrictOrders

@@ -79,16 +79,16 @@ abbrev pub source_words : Source → List Word
 source_words s = left_words s s.writer
 
 abbrev pub read_first_words : Source → ℕ → List Word
-read_first_words s writer = of_source s ++ (Saying SoBefore ∷ Transaction writer ∷ Saying WhichChangedIt ∷ [])
+read_first_words s rival = of_source s ++ (Saying SoBefore ∷ Transaction rival ∷ Saying WhichChangedIt ∷ [])
 
--- before whom it stands: the source's writer, if there is one
+-- before whom it stands: the source's writer (a reason has this step only where there is one)
 abbrev pub later_words : Option ℕ → List Word
 later_words None = []
 later_words (Some writer) = Saying SoBefore ∷ Transaction writer ∷ []
 
 abbrev pub changed_first_words : ℕ → Source → List Word
-changed_first_words writer s =
-    Transaction writer ∷ Saying Changed ∷ Number s.register.number
+changed_first_words rival s =
+    Transaction rival ∷ Saying Changed ∷ Number s.register.number
     ∷ (later_words s.writer ++ (Saying Whose ∷ Transaction s.reader ∷ Saying ReadThere ∷ []))
 
 -- The sentence of a step. What follows through a third transaction is in the sentences of the others, and that a value stood there from the
@@ -96,8 +96,8 @@ changed_first_words writer s =
 abbrev pub step_words : Step → List Word
 step_words (RealTime one other) = real_time_words one other
 step_words (From s) = source_words s
-step_words (ReadFirst s writer) = read_first_words s writer
-step_words (ChangedFirst writer s) = changed_first_words writer s
+step_words (ReadFirst s rival) = read_first_words s rival
+step_words (ChangedFirst rival s) = changed_first_words rival s
 step_words (Through one between other) = []
 
 abbrev pub cycle_words : ℕ → List Word
@@ -107,13 +107,13 @@ abbrev pub no_source_words : ℕ → ℕ → ℕ → List Word
 no_source_words reader value register = read_words reader value register ++ (Saying NobodyLeft ∷ [])
 
 abbrev pub unlike_words : ℕ → ℕ → ℕ → ℕ → List Word
-unlike_words reader read register held = read_words reader read register ++ (Saying HadToFind ∷ Number held ∷ [])
+unlike_words reader read register expected = read_words reader read register ++ (Saying HadToFind ∷ Number expected ∷ [])
 
 -- The sentence of what the steps come to.
 abbrev pub end_words : Contradiction → List Word
 end_words (Cycle place) = cycle_words place
 end_words (NoSource reader register value) = no_source_words reader value register.number
-end_words (Unlike reader register held read) = unlike_words reader read register.number held
+end_words (Unlike reader register expected read) = unlike_words reader read register.number expected
 
 -- a sentence as a line, unless it has no word
 abbrev pub sentence_line : List ℕ → List Word → List ℕ

@@ -237,8 +237,8 @@ fn step_words(alloc: Global, step: &Step) -> Result<Vec<Word>, AllocError>
     match *step {
         Step::RealTime { one, other } => real_time_words(alloc, one, other),
         Step::From(source) => source_words(alloc, &source),
-        Step::ReadFirst { source, writer } => read_first_words(alloc, &source, writer),
-        Step::ChangedFirst { writer, source } => changed_first_words(alloc, writer, &source),
+        Step::ReadFirst { source, rival } => read_first_words(alloc, &source, rival),
+        Step::ChangedFirst { rival, source } => changed_first_words(alloc, rival, &source),
         Step::Through { .. } => Ok(Vec::new(alloc)),
     }
 }
@@ -269,32 +269,32 @@ fn source_words(alloc: Global, source: &Source) -> Result<Vec<Word>, AllocError>
     Ok(words)
 }
 
-/// That a value was read before the writer changed it.
-fn read_first_words(alloc: Global, source: &Source, writer: usize) -> Result<Vec<Word>, AllocError>
-    ensures { IfOk result (λ words. words.items ≡ read_first_words source.now writer) }
+/// That a value was read before the rival changed it.
+fn read_first_words(alloc: Global, source: &Source, rival: usize) -> Result<Vec<Word>, AllocError>
+    ensures { IfOk result (λ words. words.items ≡ read_first_words source.now rival) }
 {
     let mut words = read_words(alloc, source.reader, source.value, source.register)?;
     words.push(Word::Saying(Phrase::SoBefore))?;
-    words.push(Word::Transaction(writer))?;
+    words.push(Word::Transaction(rival))?;
     words.push(Word::Saying(Phrase::WhichChangedIt))?;
     Ok(words)
 }
 
-/// That the writer changed the register before that one did of which the value comes.
+/// That the rival changed the register before the writer of the value.
 fn changed_first_words(
     alloc: Global,
-    writer: usize,
+    rival: usize,
     source: &Source,
 ) -> Result<Vec<Word>, AllocError>
-    ensures { IfOk result (λ words. words.items ≡ changed_first_words writer source.now) }
+    ensures { IfOk result (λ words. words.items ≡ changed_first_words rival source.now) }
 {
     let mut words = Vec::new(alloc);
-    words.push(Word::Transaction(writer))?;
+    words.push(Word::Transaction(rival))?;
     words.push(Word::Saying(Phrase::Changed))?;
     words.push(Word::Number(source.register.get() as u64))?;
-    if let Some(later) = source.writer {
+    if let Some(writer) = source.writer {
         words.push(Word::Saying(Phrase::SoBefore))?;
-        words.push(Word::Transaction(later))?;
+        words.push(Word::Transaction(writer))?;
     }
     words.push(Word::Saying(Phrase::Whose))?;
     words.push(Word::Transaction(source.reader))?;
@@ -316,9 +316,9 @@ fn end_words(alloc: Global, end: &Contradiction) -> Result<Vec<Word>, AllocError
         Contradiction::Unlike {
             reader,
             register,
-            held,
+            expected,
             read,
-        } => unlike_words(alloc, reader, register, held, read),
+        } => unlike_words(alloc, reader, register, expected, read),
     }
 }
 
@@ -351,13 +351,13 @@ fn unlike_words(
     alloc: Global,
     reader: usize,
     register: Ix,
-    held: u64,
+    expected: u64,
     read: u64,
 ) -> Result<Vec<Word>, AllocError>
-    ensures { IfOk result (λ words. words.items ≡ unlike_words reader read register.number held) }
+    ensures { IfOk result (λ words. words.items ≡ unlike_words reader read register.number expected) }
 {
     let mut words = read_words(alloc, reader, read, register)?;
     words.push(Word::Saying(Phrase::HadToFind))?;
-    words.push(Word::Number(held))?;
+    words.push(Word::Number(expected))?;
     Ok(words)
 }

@@ -3,6 +3,6 @@ use Rattle.std.specs.List.{flat_map}
 use Rattle.tmw_part.specs.Candidates.{firsts_with}
 use Rattle.tmw_part.proofs.candidates.push_firsts.Given as goal
 
-abbrev pub invariant-loop-writer : goal.invariant-loop-writer
-invariant-loop-writer l =
-    l.steps.items ++ flat_map (firsts_with l.source) (drop l.writer-index l.places) ≡ l.fn.steps.items ++ flat_map (firsts_with l.source) l.places
+abbrev pub invariant-loop-rival : goal.invariant-loop-rival
+invariant-loop-rival l =
+    l.steps.items ++ flat_map (firsts_with l.source) (drop l.rival-index l.places) ≡ l.fn.steps.items ++ flat_map (firsts_with l.source) l.places

@@ -1,27 +1,15 @@
 use Rattle.std.proofs.Common.{◌&&◌, ap, ◌∙◌}
-use Rattle.tmw_part.specs.Steps.{is_before, begins_before}
+use Rattle.tmw_part.specs.Steps.{begins_before}
 use Rattle.tmw_part.proofs.follows.follows.Goals as goal
 
 pub returns-then-is_known_rival : goal.returns-then-is_known_rival
 returns-then-is_known_rival c =
     let source = c.in-ReadFirst.source in
-    let writer = c.in-ReadFirst.writer in
-    rw c.in-ReadFirst.is (c.begins_before.ensures ∙ ap (λ x. x && begins_before c.args.steps.now source.writer writer) c.if-is_known_rival.ensures)
+    let rival = c.in-ReadFirst.rival in
+    rw c.in-ReadFirst.is (c.begins_before.ensures ∙ ap (λ x. x && begins_before c.args.steps.now source.writer rival) c.if-is_known_rival.ensures)
 
 pub returns-else-is_known_rival : goal.returns-else-is_known_rival
 returns-else-is_known_rival c =
     let source = c.in-ReadFirst.source in
-    let writer = c.in-ReadFirst.writer in
-    rw c.in-ReadFirst.is (c.if-is_known_rival.false ∙ ap (λ x. x && begins_before c.args.steps.now source.writer writer) c.if-is_known_rival.ensures)
-
-pub returns-then-is_known_rival-2 : goal.returns-then-is_known_rival-2
-returns-then-is_known_rival-2 c =
-    let source = c.in-ChangedFirst.source in
-    let writer = c.in-ChangedFirst.writer in
-    rw c.in-ChangedFirst.is (c.is_before.ensures ∙ ap (λ x. x && is_before c.args.steps.now writer source.reader) c.if-is_known_rival-2.ensures)
-
-pub returns-else-is_known_rival-2 : goal.returns-else-is_known_rival-2
-returns-else-is_known_rival-2 c =
-    let source = c.in-ChangedFirst.source in
-    let writer = c.in-ChangedFirst.writer in
-    rw c.in-ChangedFirst.is (c.if-is_known_rival-2.false ∙ ap (λ x. x && is_before c.args.steps.now writer source.reader) c.if-is_known_rival-2.ensures)
+    let rival = c.in-ReadFirst.rival in
+    rw c.in-ReadFirst.is (c.if-is_known_rival.false ∙ ap (λ x. x && begins_before c.args.steps.now source.writer rival) c.if-is_known_rival.ensures)
