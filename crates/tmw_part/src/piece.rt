@@ -8,7 +8,7 @@ use std::alloc::{AllocError, Global};
 use tmw_events::{Event, Ix, Kind};
 
 /// What is taken out of a window at once: the events of a thread from one place up to another. Places count from 0.
-#[derive(Clone, Copy, PartialEq, Eq, Debug)]
+#[derive(Clone, Copy)]
 pub struct Piece {
     pub thread: u8,
     pub from: usize,

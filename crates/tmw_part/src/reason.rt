@@ -17,7 +17,7 @@ use tmw_defs::Criterion;
 use tmw_events::{Event, Ix};
 
 /// Why no serial order explains some transactions.
-#[derive(Debug, Drop)]
+#[derive(Drop)]
 pub struct Reason {
     /// The thread of each transaction.
     pub threads: Vec<Ix>,

@@ -1,7 +1,7 @@
 use tmw_events::Ix;
 
 /// Where a value comes from that a transaction read of a register. Transactions are told by their places among all, which count from 0.
-#[derive(Clone, Copy, PartialEq, Eq, Debug)]
+#[derive(Clone, Copy)]
 pub struct Source {
     pub reader: usize,
     pub register: Ix,
@@ -11,7 +11,7 @@ pub struct Source {
 }
 
 /// What holds in each serial order of some transactions, and why.
-#[derive(Clone, Copy, PartialEq, Eq, Debug)]
+#[derive(Clone, Copy)]
 pub enum Step {
     /// `one` stands before `other`: it was completed before `other` began.
     RealTime {
@@ -39,7 +39,7 @@ pub enum Step {
 }
 
 /// What can be so in no serial order.
-#[derive(Clone, Copy, PartialEq, Eq, Debug)]
+#[derive(Clone, Copy)]
 pub enum Contradiction {
     /// The transaction at this place stands before itself.
     Cycle(usize),

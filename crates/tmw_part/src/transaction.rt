@@ -12,7 +12,7 @@ use tmw_events::{Event, Ix, Kind};
 pub(crate) const MOST_TRANSACTIONS: usize = 8;
 
 /// A transaction of a history: its thread, the places of its first and its last event, and its text.
-#[derive(Debug, Drop)]
+#[derive(Drop)]
 pub struct Transaction {
     pub thread: Ix,
     pub first: usize,

@@ -4,3 +4,4 @@ mod GivenFaults
 pub mod Shows
 mod StateHeaders
 mod TracesProof
+mod WhyProof

@@ -56,7 +56,7 @@ each-member P xs each = recursion_from_All P xs (λ k d within. each (get_or xs 
 each_member : {A : Type 0} (P : A → Type 0) (xs : List A) → AllByRecursion P xs → (x : A) → Contains xs x → P x
 each_member P xs all x is = All-contains P xs x (All-from_recursion P xs all) is
 
-no-item : {A : Type 0} (x : A) → Contains {X = A} [] x → ⊥
+pub no-item : {A : Type 0} (x : A) → Contains {X = A} [] x → ⊥
 no-item x (k, within, is) = absurd (omega (arith, within))
 
 -- the headers of the states are judged like the run

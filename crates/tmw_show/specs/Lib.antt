@@ -5,3 +5,4 @@ pub mod Running
 pub mod Sentences
 pub mod TracesLaw
 pub mod TracesText
+pub mod WhyLaw

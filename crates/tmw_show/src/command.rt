@@ -22,7 +22,7 @@ mod window;
 mod word;
 
 pub use form::Form;
-pub use law::law_traces;
+pub use law::{law_traces, law_why};
 pub use needed::Needed;
 pub use options::ShowOptions;
 pub use run::run_show;

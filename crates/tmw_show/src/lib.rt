@@ -3,4 +3,4 @@
 
 mod command;
 
-pub use command::{Form, Needed, ShowOptions, Shown, law_traces, run_show, shown_text};
+pub use command::{Form, Needed, ShowOptions, Shown, law_traces, law_why, run_show, shown_text};

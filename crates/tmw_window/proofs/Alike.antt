@@ -9,7 +9,7 @@ use Rattle.tmw_defs.specs.declared.verdict.Verdict.{Verdict}
 use Rattle.tmw_defs.specs.declared.verdict.Verdict.TheVariants.{OpaqueSoFar, StrictSoFar, Violated, Undecided, Malformed}
 use Rattle.tmw_defs.specs.declared.verdict.Why.TheVariants.{Transactions, States}
 use Rattle.tmw_defs.specs.Criteria.{IsFinalBy}
-use Rattle.tmw_defs.specs.History.{is_well_formed}
+use Rattle.tmw_defs.specs.History.{is_well_formed, transactions}
 use Rattle.tmw_defs.specs.Opaque.{State}
 use Rattle.tmw_defs.specs.Verdict.{Rules, HasMany, IsFine, IsFirst, IsViolated, IsVerdict}
 use Rattle.tmw_defs.specs.Windows.{HasWide}
@@ -17,7 +17,7 @@ use Rattle.tmw_defs.proofs.Criteria.{formed-final, outcome-final}
 use Rattle.tmw_window.specs.Shown.{shown_length}
 use Rattle.tmw_window.specs.WindowLaw.{from_state, WindowLaw}
 use Rattle.tmw_window.proofs.Single.{single}
-use Rattle.tmw_window.proofs.Part.{IsPart, shown-part, shown-within, long, formed-part, narrow-part, uncut-part, none-fine, violated-each, all-violated, some-state, all-formed, wide-end}
+use Rattle.tmw_window.proofs.Part.{IsPart, shown-part, shown-within, long, formed-part, narrow-part, uncut-part, none-fine, violated-each, all-violated, some-state, all-formed, wide-events, wide-end}
 
 -- a history of which the part is violated from each state is violated
 each-violated : (rules : Rules) (h : List Event) (v : Verdict) (from : ℕ) (states : List State) (events : List Event) → 0 < rules.states
@@ -153,12 +153,20 @@ window_law rules h v from states events some judged shown =
     let part = shown-part rules h v from states events (shown-within rules h v judged) shown in
     let part_at : (at : ℕ) → v ≡ Violated at → IsPart rules h at from states events =
     λ at is. subst (λ n. IsPart rules h n from states events) (ap (shown_length (length h)) is) part in
+    let among = some-state rules h (shown_length (length h) v) from states events part (fine-cut rules h v from states events some judged part) in
     record {
-      some = some-state rules h (shown_length (length h) v) from states events part (fine-cut rules h v from states events some judged part);
+      some = among;
       violated = (
         λ (at, is). violated-each rules h at from states events (part_at at is) (first-violated rules h v at is judged).here,
         each-violated rules h v from states events some judged part,
       );
+      narrow = λ at is. elim (cases_lt rules.window (length (transactions events))) [
+        | inl wide ↦
+            let (s, is_one) = among in
+            let here = violated-each rules h at from states events (part_at at is) (first-violated rules h v at is judged).here s is_one in
+            absurd (here.narrow (wide-events rules h at from states events (part_at at is) wide))
+        | inr narrow ↦ narrow
+      ];
       answered = λ at is. answered rules h at from states events (part_at at is) some (first-violated rules h v at is judged);
       single = single rules h v from states events some judged part;
     }

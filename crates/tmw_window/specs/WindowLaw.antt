@@ -4,6 +4,7 @@ use Rattle.std.specs.List.{Contains}
 use Rattle.tmw_events.specs.declared.event.Event.{Event}
 use Rattle.tmw_defs.specs.declared.verdict.Verdict.{Verdict}
 use Rattle.tmw_defs.specs.declared.verdict.Verdict.TheVariants.{OpaqueSoFar, StrictSoFar, Violated, Undecided, Malformed}
+use Rattle.tmw_defs.specs.History.{transactions}
 use Rattle.tmw_defs.specs.Opaque.{State}
 use Rattle.tmw_defs.specs.Verdict.{Rules, IsViolated, IsVerdict}
 use Rattle.tmw_window.specs.Shown.{IsShown}
@@ -21,11 +22,12 @@ at_end events (Undecided at why) = Undecided events why
 at_end events (Malformed at) = Malformed events
 
 -- There is such a state, and a history is violated at its event exactly when these events, up to it, are violated at their end from each.
--- Then each verdict on them is that they are violated, at their end or before. From a single state they have the history's own verdict,
--- whichever it is, at their end.
+-- Then they have no more transactions than the bound, and each verdict on them is that they are violated, at their end or before. From a
+-- single state they have the history's own verdict, whichever it is, at their end.
 pub record IsJudgedAlike (rules : Rules) (verdict : Verdict) (states : List State) (events : List Event) : Type 0 where
   pub some : (s : State) × Contains states s
   pub violated : ((at : ℕ) × (verdict ≡ Violated at)) ↔ ((s : State) → Contains states s → IsViolated (from_state rules s) events)
+  pub narrow : (at : ℕ) → verdict ≡ Violated at → length (transactions events) ≤ rules.window
   pub answered : (at : ℕ) → verdict ≡ Violated at → (s : State) → Contains states s → (answer : Verdict)
       → IsVerdict (from_state rules s) events answer → (k : ℕ) × (answer ≡ Violated k) × (k ≤ length events)
   pub single : (s : State) → states ≡ s ∷ [] → IsVerdict (from_state rules s) events (at_end (length events) verdict)

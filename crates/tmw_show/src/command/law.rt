@@ -1,4 +1,5 @@
 ghost use Rattle.tmw_show.specs.TracesLaw.{TracesLaw};
+ghost use Rattle.tmw_show.specs.WhyLaw.{WhyLaw};
 
 use tmw_window::{law_states, law_window};
 
@@ -11,4 +12,12 @@ pub fn law_traces()
 {
     law_window();
     law_states();
+}
+
+/// Proves that `show --why` shows of a violated run, whose last window has at most 1,000 events, a part that is violated
+/// by itself, from which no transaction and no call with its answer can be taken out on its own.
+pub fn law_why()
+    ensures { WhyLaw }
+{
+    law_window();
 }

@@ -7,7 +7,7 @@ use tmw_events::Event;
 use tmw_part::{MOST_EVENTS, Reason, kept_of};
 
 /// Which events of a window are shown.
-#[derive(Debug, Drop)]
+#[derive(Drop)]
 pub enum Needed {
     /// All: it isn't asked why the window is violated.
     Unasked,

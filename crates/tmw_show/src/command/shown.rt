@@ -9,7 +9,7 @@ use tmw_part::{find_part, find_reason, kept_of};
 use tmw_window::Showing;
 
 /// What is shown of a trace whose run has so many registers.
-#[derive(Debug, Drop)]
+#[derive(Drop)]
 pub struct Shown {
     pub registers: Registers,
     pub showing: Showing,
