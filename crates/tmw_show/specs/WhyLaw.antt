@@ -1,7 +1,6 @@
 -- The law of `show --why`: of each violated run whose last window is not too long a part is shown of which nothing more can be taken out.
-use Rattle.std.specs.Prelude.{◌≡◌, ◌≤◌, ℕ, Bool, List, length}
+use Rattle.std.specs.Prelude.{◌≡◌, ◌≤◌, ℕ, List, true, length}
 use Rattle.tmw_cuts.specs.Members.{members}
-use Rattle.tmw_defs.specs.declared.verdict.Verdict.TheVariants.{Violated}
 use Rattle.tmw_part.specs.Finding.{IsMinimalPart}
 use Rattle.tmw_show.specs.Explaining.{IsViolation, marks_of}
 use Rattle.tmw_show.specs.Running.{IsShownOf}
