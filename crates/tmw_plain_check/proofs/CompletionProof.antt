@@ -1,5 +1,5 @@
 -- The search through completions is sound and complete: it answers true exactly where the transactions have a strict order.
-use Rattle.std.proofs.Common.{◌≡◌, ◌&&◌, Bool, true, false, List, [], ◌∷◌, ◌++◌, IsTrue, refl, sym, ap, ◌∙◌, inl, inr, append_assoc, append-nil}
+use Rattle.std.proofs.Common.{◌≡◌, ◌&&◌, true, false, List, [], ◌∷◌, ◌++◌, IsTrue, refl, sym, ap, ◌∙◌, inl, inr, append_assoc, append-nil}
 use Rattle.std.proofs.lemmas.Bool.{and_parts, and_from, or_cases, or_left, or_right}
 use Rattle.tmw_defs.specs.History.{Txn, status_of}
 use Rattle.tmw_defs.specs.Opaque.{State, may_hold, HasOrder}

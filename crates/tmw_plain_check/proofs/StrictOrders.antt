@@ -5,7 +5,7 @@ use Rattle.std.specs.List.{list_all}
 use Rattle.std.proofs.lemmas.Bool.{and_parts, and_from, cases_Bool}
 use Rattle.tmw_defs.specs.History.{Txn, status_of}
 use Rattle.tmw_defs.specs.Opaque.{State, Placed, precedes, may_hold, after, Explains, HasOrder}
-use Rattle.tmw_defs.specs.Strict.{AreHeld, ExplainsStrictly, HasStrictOrder}
+use Rattle.tmw_defs.specs.Strict.{AreHeld, HasStrictOrder}
 use Rattle.tmw_defs.proofs.Held.{list_all-held}
 use Rattle.tmw_defs.proofs.Removals.{list_all-places}
 
