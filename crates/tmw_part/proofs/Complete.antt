@@ -1,5 +1,5 @@
 -- Where no candidate is new and no contradiction that is tried is met, there is no reason: each step that follows is a candidate.
-use Rattle.std.proofs.Common.{◌≡◌, ◌==◌, ◌&&◌, ◌+◌, ◌<◌, ◌≤◌, ◌⊎◌, ℕ, zero, suc, Bool, true, false, not, List, [], ◌∷◌, ◌++◌, length, map, Option, Some, None, IsTrue, refl, sym, ap, ◌∙◌, inl, inr, subst, arith}
+use Rattle.std.proofs.Common.{◌≡◌, ◌==◌, ◌&&◌, ◌+◌, ◌<◌, ◌≤◌, ℕ, zero, suc, Bool, true, false, not, List, [], ◌∷◌, ◌++◌, length, map, Option, Some, None, IsTrue, refl, sym, ap, ◌∙◌, inl, inr, subst, arith}
 use Rattle.std.specs.Prelude.{slice_get, take, find}
 use Rattle.std.specs.List.{Contains, flat_map, list_any, range_with_len, AllByRecursion}
 use Rattle.std.proofs.lemmas.Bool.{and_parts, and_from, or_cases, cases_Bool, cases_lt, eqb-true, not_from_false, ltb-true}
@@ -21,67 +21,11 @@ use Rattle.tmw_part.specs.Steps.{txn_at, ops_at, needed_of, first_unlike, is_pai
 use Rattle.tmw_part.specs.Candidates.{real_times, firsts_with, firsts, throughs_between, throughs, candidates, IsWithin, MayBe, sources_like, sources_of, sources_at, sources, is_new, unlike_of, unlikes_at, without_source, ends, tells}
 use Rattle.tmw_part.specs.Found.{HasNoReason}
 use Rattle.tmw_part.proofs.Covering.{Covers, any-mono, follows-mono, contradicts-mono}
-use Rattle.tmw_part.proofs.StepsProof.{find_any, some_of, same_writer, none_all, all-more, get_some}
-
--- x is a member
-abbrev In : {A : Type 0} → A → List A → Type 0
-In x [] = ⊥
-In x (y ∷ ys) = (y ≡ x) ⊎ In x ys
-
-in-left : {A : Type 0} (x : A) (xs ys : List A) → In x xs → In x (xs ++ ys)
-in-left x [] ys is = absurd is
-in-left x (y ∷ xs) ys is =
-    elim is [
-      | inl here ↦ inl here
-      | inr there ↦ inr (in-left x xs ys there)
-    ]
-
-in-right : {A : Type 0} (x : A) (xs ys : List A) → In x ys → In x (xs ++ ys)
-in-right x [] ys is = is
-in-right x (y ∷ xs) ys is = inr (in-right x xs ys is)
-
-in-map : {A B : Type 0} (f : A → B) (x : A) (xs : List A) → In x xs → In (f x) (map f xs)
-in-map f x [] is = absurd is
-in-map f x (y ∷ xs) is =
-    elim is [
-      | inl here ↦ inl (ap f here)
-      | inr there ↦ inr (in-map f x xs there)
-    ]
-
-in-flat_map : {A B : Type 0} (f : A → List B) (x : A) (y : B) (xs : List A) → In x xs → In y (f x) → In y (flat_map f xs)
-in-flat_map f x y [] is there = absurd is
-in-flat_map f x y (z ∷ xs) is there =
-    elim is [
-      | inl here ↦ in-left y (f z) (flat_map f xs) (rw here there)
-      | inr later ↦ in-right y (f z) (flat_map f xs) (in-flat_map f x y xs later there)
-    ]
-
-in-range : (from n a : ℕ) → a < n → In (from + a) (range_with_len from n)
-in-range from zero a low = absurd (omega (arith, low))
-in-range from (suc n) zero low = inl (omega arith)
-in-range from (suc n) (suc a) low =
-    let same : from + 1 + a ≡ from + suc a = omega arith in
-    inr (subst (λ (b : ℕ). In b (range_with_len (from + 1) n)) same (in-range (from + 1) n a (omega (arith, low))))
+use Rattle.tmw_part.proofs.ListFacts.{In, in-left, in-right, in-map, in-flat_map, in-range, in_from_contains, none_passes, find_any, none_all, all-more, get_some}
+use Rattle.tmw_part.proofs.StepsProof.{some_of, same_writer}
 
 in-places : (ts : List Txn) (a : ℕ) → a < length ts → In a (range_with_len 0 (length ts))
 in-places ts a low = let same : 0 + a ≡ a = omega arith in rw same at (in-range 0 (length ts) a low)
-
-in_from_contains : {A : Type 0} (xs : List A) (x : A) → Contains xs x → In x xs
-in_from_contains [] x (k, low, is) = absurd (omega (arith, low))
-in_from_contains (y ∷ ys) x (zero, low, is) = inl is
-in_from_contains (y ∷ ys) x (suc k, low, is) = inr (in_from_contains ys x (k, omega (arith, low), is))
-
--- where nothing is found, no member passes
-none_passes : {A : Type 0} (p : A → Bool) (xs : List A) (x : A) → find p xs ≡ None → In x xs → p x ≡ false
-none_passes p [] x none is = absurd is
-none_passes p (y ∷ ys) x none is =
-    elim (cases_Bool (p y)) [
-      | inl passes ↦ absurd (let e = rw passes at none in cc)
-      | inr fails ↦ elim is [
-        | inl here ↦ rw (← here) fails
-        | inr there ↦ none_passes p ys x (rw fails at none) there
-      ]
-    ]
 
 -- what does something has a place
 txn_at-past : (ts : List Txn) (a : ℕ) → length ts ≤ a → txn_at ts a ≡ nothing

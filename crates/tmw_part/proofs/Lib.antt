@@ -5,6 +5,7 @@ mod Covering
 mod EventsProof
 mod Fewer
 mod Growing
+mod ListFacts
 mod Marking
 mod OrderFacts
 mod OrderValues
