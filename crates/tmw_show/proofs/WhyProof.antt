@@ -1,5 +1,5 @@
 -- The last window of a violated run is searched, if it is short: it is well-formed, of at most eight transactions, and has no order.
-use Rattle.std.proofs.Common.{◌≡◌, ◌≤◌, ℕ, Bool, true, List, [], length, IsTrue, refl, sym, ap, subst, ◌∙◌, inl, inr, arith}
+use Rattle.std.proofs.Common.{◌≡◌, ◌≤◌, ℕ, Bool, true, List, length, IsTrue, sym, subst, ◌∙◌, inl, inr, arith}
 use Rattle.std.specs.List.{Contains}
 use Rattle.tmw_events.specs.declared.event.Event.{Event}
 use Rattle.tmw_events.specs.declared.registers.Registers.{Registers}
