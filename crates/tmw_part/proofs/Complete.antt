@@ -1,6 +1,6 @@
--- Where no candidate is new and no contradiction that is tried is met, there is no reason: each step that follows is a candidate.
+-- Where no candidate is new and no contradiction that is tried is met, no reason tells only the candidates.
 use Rattle.std.proofs.Common.{◌≡◌, ◌==◌, ◌&&◌, ◌+◌, ◌<◌, ◌≤◌, ℕ, zero, suc, Bool, true, false, not, List, [], ◌∷◌, ◌++◌, length, map, Option, Some, None, IsTrue, refl, sym, ap, ◌∙◌, inl, inr, subst, arith}
-use Rattle.std.specs.Prelude.{slice_get, take, find}
+use Rattle.std.specs.Prelude.{slice_get, take, find, remove}
 use Rattle.std.specs.List.{Contains, flat_map, list_any, range_with_len, AllByRecursion}
 use Rattle.std.proofs.lemmas.Bool.{and_parts, and_from, or_cases, cases_Bool, cases_lt, eqb-true, not_from_false, ltb-true}
 use Rattle.std.proofs.lemmas.List.{take_all}
@@ -17,11 +17,12 @@ use Rattle.tmw_part.specs.declared.step.Step.TheVariants.{RealTime, From, ReadFi
 use Rattle.tmw_part.specs.declared.step.Contradiction.{Contradiction}
 use Rattle.tmw_part.specs.declared.step.Contradiction.TheVariants.{Cycle, NoSource, Unlike}
 use Rattle.tmw_part.specs.Test.{nothing}
-use Rattle.tmw_part.specs.Steps.{txn_at, ops_at, needed_of, first_unlike, is_pair, is_some_of, is_same_source, orders, gives, supplies, is_before, has_place, may_come_from, is_held, is_asked, is_known_rival, follows, contradicts, Derives}
-use Rattle.tmw_part.specs.Candidates.{real_times, firsts_with, firsts, throughs_between, throughs, candidates, IsWithin, MayBe, sources_like, sources_of, sources_at, sources, is_new, unlike_of, unlikes_at, without_source, ends, tells}
-use Rattle.tmw_part.specs.Found.{HasNoReason}
+use Rattle.tmw_part.specs.Steps.{txn_at, ops_at, needed_of, first_unlike, is_pair, is_some_of, is_same_source, orders, gives, supplies, is_before, has_place, may_come_from, is_held, is_asked, is_rival, is_known_rival, follows, contradicts, Derives}
+use Rattle.tmw_part.specs.Candidates.{real_times, firsts_with, firsts, throughs_between, throughs, told_candidates, all_throughs, IsWithin, MayBe, sources_like, sources_of, sources_at, sources, is_new, unlike_of, unlikes_at, without_source, ends, tells}
+use Rattle.tmw_part.specs.Found.{TellAmong, TellNoReason, is_told}
+use Rattle.tmw_part.specs.Reasons.{IsReason, TriesEnds}
 use Rattle.tmw_part.proofs.Covering.{Covers, any-mono, follows-mono, contradicts-mono}
-use Rattle.tmw_part.proofs.ListFacts.{In, in-left, in-right, in-map, in-flat_map, in-range, in_from_contains, none_passes, find_any, none_all, all-more, get_some}
+use Rattle.tmw_part.proofs.ListFacts.{In, in-left, in-right, in-map, in-flat_map, in-range, in_from_contains, contains_from_in, contains-get, get-contained, in-else, all-in, all-map, all-flat_map, none_passes, find_any, none_all, all-more, get_some}
 use Rattle.tmw_part.proofs.StepsProof.{some_of, same_writer}
 
 in-places : (ts : List Txn) (a : ℕ) → a < length ts → In a (range_with_len 0 (length ts))
@@ -136,7 +137,8 @@ module _ (criterion : Criterion) (states : List State) (ts : List Txn) where
   known_within : (steps : List Step) → AllByRecursion (InRange ts) steps → (s : Source) (w : ℕ) → IsTrue (is_known_rival ts steps s w)
       → MayBe ts s × (w < length ts)
   known_within steps all s w is =
-      let (given, rival) = and_parts (list_any (gives s) steps) _ is in
+      let (given, leaving) = and_parts (list_any (gives s) steps) _ is in
+      let rival = (and_parts (is_rival ts steps s w) _ leaving).0 in
       let rest = (and_parts (not (w == s.reader)) _ rival).1 in
       let both = (and_parts (not (is_some_of w s.writer)) _ rest).1 in
       (given_within steps all s given, writes_within ts s.register.number w (and_parts (is_held ts steps w) _ both).1)
@@ -187,33 +189,46 @@ module _ (ts : List Txn) (registers : List Ix) (each : (register : Ix) → Conta
       (in-flat_map (λ register. sources_of places s.reader register (needed_of register.number (ops_at ts s.reader))) s.register s registers
       (in_from_contains registers s.register (each s.register)) (rw may.needed (in-like s s.writer refl may.within)))
 
-  in-candidates : (step : Step) → InRange ts step
-      → In step (candidates (sources ts registers (range_with_len 0 (length ts))) (range_with_len 0 (length ts)))
-  in-candidates (RealTime one other) (a, b) =
+  in-told : (step : Step) → InRange ts step → IsTrue (is_told step)
+      → In step (told_candidates (sources ts registers (range_with_len 0 (length ts))) (range_with_len 0 (length ts)))
+  in-told (RealTime one other) (a, b) told =
       let places = range_with_len 0 (length ts) in
-      in-left _ _ _ (in-left _ _ _ (in-left _ _ _ (in-flat_map (real_times places) one (RealTime one other) places (in-places ts one a)
-      (in-map (RealTime one) other places (in-places ts other b)))))
-  in-candidates (From s) may =
+      in-left _ _ _ (in-left _ _ _ (in-flat_map (real_times places) one (RealTime one other) places (in-places ts one a)
+      (in-map (RealTime one) other places (in-places ts other b))))
+  in-told (From s) may told =
       let places = range_with_len 0 (length ts) in
-      in-left _ _ _ (in-left _ _ _ (in-right (From s) (flat_map (real_times places) places) (map From (sources ts registers places))
-      (in-map From s (sources ts registers places) (in-sources s may))))
-  in-candidates (ReadFirst s w) (may, low) =
+      in-left _ _ _ (in-right (From s) (flat_map (real_times places) places) (map From (sources ts registers places))
+      (in-map From s (sources ts registers places) (in-sources s may)))
+  in-told (ReadFirst s w) (may, low) told =
       let places = range_with_len 0 (length ts) in
-      in-left _ _ _ (in-right (ReadFirst s w) (flat_map (real_times places) places ++ map From (sources ts registers places)) _
+      in-right (ReadFirst s w) (flat_map (real_times places) places ++ map From (sources ts registers places)) _
       (in-flat_map (firsts places) s (ReadFirst s w) (sources ts registers places) (in-sources s may)
-      (in-flat_map (firsts_with s) w (ReadFirst s w) places (in-places ts w low) (inl refl))))
-  in-candidates (ChangedFirst w s) (may, low) =
+      (in-flat_map (firsts_with s) w (ReadFirst s w) places (in-places ts w low) (inl refl)))
+  in-told (ChangedFirst w s) (may, low) told =
       let places = range_with_len 0 (length ts) in
-      in-left _ _ _ (in-right (ChangedFirst w s) (flat_map (real_times places) places ++ map From (sources ts registers places)) _
+      in-right (ChangedFirst w s) (flat_map (real_times places) places ++ map From (sources ts registers places)) _
       (in-flat_map (firsts places) s (ChangedFirst w s) (sources ts registers places) (in-sources s may)
-      (in-flat_map (firsts_with s) w (ChangedFirst w s) places (in-places ts w low) (inr (inl refl)))))
-  in-candidates (Through one between other) (a, c, b) =
-      let places = range_with_len 0 (length ts) in
-      in-right (Through one between other)
-      ((flat_map (real_times places) places ++ map From (sources ts registers places)) ++ flat_map (firsts places) (sources ts registers places)) _
-      (in-flat_map (throughs places) one (Through one between other) places (in-places ts one a)
-      (in-flat_map (throughs_between places one) between (Through one between other) places (in-places ts between c)
-      (in-map (Through one between) other places (in-places ts other b))))
+      (in-flat_map (firsts_with s) w (ChangedFirst w s) places (in-places ts w low) (inr (inl refl))))
+  in-told (Through one between other) range told = absurd (cc)
+
+  -- so a reason tells some of these
+  pub tells_some : (criterion : Criterion) (states : List State) (steps : List Step) → Derives criterion states ts steps
+      → TellAmong steps (told_candidates (sources ts registers (range_with_len 0 (length ts))) (range_with_len 0 (length ts)))
+  tells_some criterion states steps derives x is told =
+      let range = all-in (InRange ts) steps x (all_within criterion states ts steps derives) (in_from_contains steps x is) in
+      contains_from_in _ x (in-told x range told)
+
+in-throughs : (ts : List Txn) (a c b : ℕ) → a < length ts → c < length ts → b < length ts
+    → In (Through a c b) (all_throughs (range_with_len 0 (length ts)))
+in-throughs ts a c b one between other =
+    let places = range_with_len 0 (length ts) in
+    in-flat_map (throughs places) a (Through a c b) places (in-places ts a one)
+    (in-flat_map (throughs_between places a) c (Through a c b) places (in-places ts c between)
+    (in-map (Through a c) b places (in-places ts b other)))
+
+-- steps by a third transaction are not told
+pub throughs_untold : (places : List ℕ) → AllByRecursion (λ step. is_told step ≡ false) (all_throughs places)
+throughs_untold places = all-flat_map _ (throughs places) places (λ a. all-flat_map _ (throughs_between places a) places (λ c. all-map _ (Through a c) places (λ b. refl)))
 
 -- what a step says that is told is known
 given_orders : (steps : List Step) (s : Source) (a b : ℕ) → IsTrue (list_any (gives s) steps) → IsTrue (orders a b (From s)) → IsTrue (is_before steps a b)
@@ -296,59 +311,85 @@ pair_of a b (Some (x, y)) is =
     let (one, two) = and_parts (x == a) _ is in
     rw (eqb-true x a one, eqb-true y b two) refl
 
-pub no_reason : (criterion : Criterion) (states : List State) (ts : List Txn) (registers : List Ix) (steps : List Step)
-    → ((register : Ix) → Contains registers register) → Derives criterion states ts steps
-    → find (is_new criterion states ts steps) (candidates (sources ts registers (range_with_len 0 (length ts))) (range_with_len 0 (length ts))) ≡ None
-    → find (contradicts criterion states ts steps)
-    (ends ts registers (range_with_len 0 (length ts)) (sources ts registers (range_with_len 0 (length ts)))) ≡ None
-    → HasNoReason criterion states ts
-no_reason criterion states ts registers steps all derives closed none = λ others end reason.
-    let covers = subst (Covers steps) (take_all (length others) others (omega arith)) (upto others reason.derives (length others) (omega arith)) in
-    met end (contradicts-mono criterion states ts steps others covers end reason.ends)
+-- each contradiction to which steps come is tried
+pub tries_ends : (criterion : Criterion) (states : List State) (ts : List Txn) (registers : List Ix) → ((register : Ix) → Contains registers register)
+    → TriesEnds criterion states ts (ends ts registers (range_with_len 0 (length ts)) (sources ts registers (range_with_len 0 (length ts))))
+tries_ends criterion states ts registers all steps end reason = contains_from_in _ end (tried end reason.ends)
   where
-    tried : (end : Contradiction) → In end (ends ts registers (range_with_len 0 (length ts)) (sources ts registers (range_with_len 0 (length ts))))
-        → IsTrue (contradicts criterion states ts steps end) → ⊥
-    tried end member is = let e = sym (none_passes (contradicts criterion states ts steps) _ end none member) ∙ is in cc
-
-    met : (end : Contradiction) → IsTrue (contradicts criterion states ts steps end) → ⊥
-    met (Cycle a) is =
+    tried : (end : Contradiction) → IsTrue (contradicts criterion states ts steps end)
+        → In end (ends ts registers (range_with_len 0 (length ts)) (sources ts registers (range_with_len 0 (length ts))))
+    tried (Cycle a) is =
         let places = range_with_len 0 (length ts) in
         let before = (and_parts (has_place criterion ts steps a) _ is).1 in
-        let low = (before_within criterion states ts steps (all_within criterion states ts steps derives) a a before).0 in
-        tried (Cycle a) (in-left _ _ _ (in-left _ _ _ (in-map Cycle a places (in-places ts a low)))) is
-    met (NoSource b r v) is =
+        let low = (before_within criterion states ts steps (all_within criterion states ts steps reason.derives) a a before).0 in
+        in-left _ _ _ (in-left _ _ _ (in-map Cycle a places (in-places ts a low)))
+    tried (NoSource b r v) is =
         let places = range_with_len 0 (length ts) in
         let s : Source = record { reader = b; register = r; value = v; writer = None } in
         let needs = (and_parts (has_place criterion ts steps b) _ (and_parts (is_asked criterion ts steps s) _ is).0).1 in
         let may : MayBe ts s = record { needed = some_of v _ needs; within = tt } in
-        tried (NoSource b r v)
-        (in-right (NoSource b r v) (map Cycle places ++ flat_map (unlikes_at ts registers) places) _
-        (in-map without_source s (sources ts registers places) (in-sources ts registers all s may))) is
-    met (Unlike a r expected read) is =
+        in-right (NoSource b r v) (map Cycle places ++ flat_map (unlikes_at ts registers) places) _
+        (in-map without_source s (sources ts registers places) (in-sources ts registers all s may))
+    tried (Unlike a r expected read) is =
         let places = range_with_len 0 (length ts) in
         let first = pair_of expected read _ (and_parts (has_place criterion ts steps a) _ is).1 in
         let low = unlike_within ts r.number a (expected, read) first in
-        let end : Contradiction = Unlike a r expected read in
-        tried end
-        (in-left _ _ _ (in-right end (map Cycle places) _ (in-flat_map (unlikes_at ts registers) a end places (in-places ts a low)
-        (in-flat_map (λ register. unlike_of a register (first_unlike register.number None (ops_at ts a))) r end registers
-        (in_from_contains registers r (all r)) (rw first (inl refl)))))) is
+        let unlike : Contradiction = Unlike a r expected read in
+        in-left _ _ _ (in-right unlike (map Cycle places) _ (in-flat_map (unlikes_at ts registers) a unlike places (in-places ts a low)
+        (in-flat_map (λ register. unlike_of a register (first_unlike register.number None (ops_at ts a))) r unlike registers
+        (in_from_contains registers r (all r)) (rw first (inl refl)))))
 
-    told : (step : Step) → IsTrue (follows criterion states ts steps step) → IsTrue (tells steps step)
-    told step new =
+-- Where no step is new that is one of these or by a third transaction, and none of the contradictions is met, no reason tells only these.
+pub tells_none : (criterion : Criterion) (states : List State) (ts : List Txn) (told : List Step) (tried : List Contradiction) (steps : List Step)
+    → TriesEnds criterion states ts tried → Derives criterion states ts steps
+    → find (is_new criterion states ts steps) (told ++ all_throughs (range_with_len 0 (length ts))) ≡ None
+    → find (contradicts criterion states ts steps) tried ≡ None → TellNoReason criterion states ts told
+tells_none criterion states ts told tried steps tries derives closed none = record {
+  none = λ others end reason among.
+      let covers = subst (Covers steps) (take_all (length others) others (omega arith)) (upto others reason.derives among (length others) (omega arith)) in
+      met end (contradicts-mono criterion states ts steps others covers end reason.ends);
+}
+  where
+    met : (end : Contradiction) → IsTrue (contradicts criterion states ts steps end) → ⊥
+    met end is =
+        let member = in_from_contains tried end (tries steps end (record { derives = derives; ends = is })) in
+        let e = sym (none_passes (contradicts criterion states ts steps) tried end none member) ∙ is in cc
+
+    candidate : (step : Step) → InRange ts step → (IsTrue (is_told step) → In step told)
+        → In step (told ++ all_throughs (range_with_len 0 (length ts)))
+    candidate (RealTime one other) range is = in-left _ told _ (is refl)
+    candidate (From s) range is = in-left _ told _ (is refl)
+    candidate (ReadFirst s w) range is = in-left _ told _ (is refl)
+    candidate (ChangedFirst w s) range is = in-left _ told _ (is refl)
+    candidate (Through one between other) (a, c, b) is = in-right _ told _ (in-throughs ts one between other a c b)
+
+    known : (step : Step) → (IsTrue (is_told step) → In step told) → IsTrue (follows criterion states ts steps step) → IsTrue (tells steps step)
+    known step allowed new =
         elim (cases_Bool (tells steps step)) [
           | inl is ↦ is
           | inr untold ↦
               let range = follows_within criterion states ts steps (all_within criterion states ts steps derives) step new in
-              let old = none_passes (is_new criterion states ts steps) _ step closed (in-candidates ts registers all step range) in
+              let old = none_passes (is_new criterion states ts steps) _ step closed (candidate step range allowed) in
               let is = and_from (not (tells steps step)) _ (not_from_false _ untold) new in
               let e = sym old ∙ is in absurd (cc)
         ]
 
-    upto : (others : List Step) → Derives criterion states ts others → (n : ℕ) → n ≤ length others → Covers steps (take n others)
-    upto others derived zero low = covers-none steps others
-    upto others derived (suc n) low =
-        let before = upto others derived n (omega (arith, low)) in
+    upto : (others : List Step) → Derives criterion states ts others → TellAmong others told → (n : ℕ) → n ≤ length others
+        → Covers steps (take n others)
+    upto others derived among zero low = covers-none steps others
+    upto others derived among (suc n) low =
+        let before = upto others derived among n (omega (arith, low)) in
         let (step, at) = get_some others n (omega (arith, low)) in
         rw (take-push others n step at) (covers-push steps (take n others) step before
-        (told step (follows-mono criterion states ts steps (take n others) before step (derived n step at))))
+        (known step (λ is. in_from_contains told step (among step (contains-get others n step at) is))
+        (follows-mono criterion states ts steps (take n others) before step (derived n step at))))
+
+-- Where no reason tells these without one, each that tells only these tells it.
+pub tells_each : (criterion : Criterion) (states : List State) (ts : List Txn) (told : List Step)
+    → ((i : ℕ) → i < length told → TellNoReason criterion states ts (remove told i)) → (x : Step) → Contains told x → (others : List Step)
+    → (end : Contradiction) → IsReason criterion states ts others end → TellAmong others told → (Contains others x → ⊥) → ⊥
+tells_each criterion states ts told needed x is others end reason among lacks =
+    let (i, low, at) = get-contained told x is in
+    (needed i low).none others end reason (λ y has told_it.
+    let member = in_from_contains told y (among y has told_it) in
+    contains_from_in _ y (in-else told i y x member at (λ same. lacks (subst (Contains others) same has))))

@@ -101,7 +101,8 @@ module _ (criterion : Criterion) (states : List State) (ts : List Txn) (steps ot
   asked-mono s = and-mono (has_place criterion ts others s.reader) _ (has_place criterion ts steps s.reader) _ (place-mono criterion s.reader) (same _)
 
   known-mono : (s : Source) (a : ℕ) → IsTrue (is_known_rival ts others s a) → IsTrue (is_known_rival ts steps s a)
-  known-mono s a = and-mono (list_any (gives s) others) _ (list_any (gives s) steps) _ (c.given s) (rival-mono s a)
+  known-mono s a = and-mono (list_any (gives s) others) _ (list_any (gives s) steps) _ (c.given s)
+      (and-mono (is_rival ts others s a) _ (is_rival ts steps s a) _ (rival-mono s a) (same _))
 
   pub follows-mono : (step : Step) → IsTrue (follows criterion states ts others step) → IsTrue (follows criterion states ts steps step)
   follows-mono (RealTime one other) is = is

@@ -1,7 +1,7 @@
 -- Members and places of lists.
-use Rattle.std.proofs.Common.{◌≡◌, ◌+◌, ◌<◌, ◌⊎◌, ℕ, zero, suc, Bool, false, List, [], ◌∷◌, ◌++◌, length, map, Some, None, IsTrue, refl, ap, inl, inr, subst, arith}
-use Rattle.std.specs.Prelude.{slice_get, take, find}
-use Rattle.std.specs.List.{Contains, flat_map, list_all, list_any, range_with_len, AllByRecursion}
+use Rattle.std.proofs.Common.{◌≡◌, ◌+◌, ◌<◌, ◌⊎◌, ℕ, zero, suc, Bool, true, false, List, [], ◌∷◌, ◌++◌, length, map, Some, None, IsTrue, refl, sym, ap, ◌∙◌, inl, inr, subst, arith}
+use Rattle.std.specs.Prelude.{slice_get, take, find, remove}
+use Rattle.std.specs.List.{Contains, filter, flat_map, list_all, list_any, range_with_len, AllByRecursion}
 use Rattle.std.proofs.lemmas.Bool.{and_parts, or_cases, cases_Bool}
 
 -- one that passes the test, of those of which each has P
@@ -108,3 +108,98 @@ none_passes p (y ∷ ys) x none is =
         | inr there ↦ none_passes p ys x (rw fails at none) there
       ]
     ]
+
+pub contains_from_in : {A : Type 0} (xs : List A) (x : A) → In x xs → Contains xs x
+contains_from_in [] x is = absurd is
+contains_from_in (y ∷ ys) x is =
+    elim is [
+      | inl here ↦ (zero, omega arith, here)
+      | inr there ↦ let (k, low, at) = contains_from_in ys x there in (suc k, omega (arith, low), at)
+    ]
+
+pub contains-get : {A : Type 0} (xs : List A) (k : ℕ) (x : A) → slice_get xs k ≡ Some x → Contains xs x
+contains-get [] k x at = absurd (cc)
+contains-get (y ∷ ys) zero x at = (zero, omega arith, cc)
+contains-get (y ∷ ys) (suc k) x at = let (n, low, is) = contains-get ys k x at in (suc n, omega (arith, low), is)
+
+pub get-contained : {A : Type 0} (xs : List A) (x : A) → Contains xs x → (k : ℕ) × (k < length xs) × (slice_get xs k ≡ Some x)
+get-contained [] x (k, low, is) = absurd (omega (arith, low))
+get-contained (y ∷ ys) x (zero, low, is) = (zero, low, ap (λ z. Some z) is)
+get-contained (y ∷ ys) x (suc k, low, is) =
+    let (n, under, at) = get-contained ys x (k, omega (arith, low), is) in (suc n, omega (arith, under), at)
+
+-- a member other than the one that is removed stays, and what stays was a member
+pub in-else : {A : Type 0} (xs : List A) (j : ℕ) (y x : A) → In y xs → slice_get xs j ≡ Some x → (y ≡ x → ⊥) → In y (remove xs j)
+in-else [] j y x is at differ = absurd is
+in-else (z ∷ zs) zero y x is at differ =
+    elim is [
+      | inl here ↦ let same : z ≡ x = cc in absurd (differ (sym here ∙ same))
+      | inr there ↦ there
+    ]
+in-else (z ∷ zs) (suc j) y x is at differ =
+    elim is [
+      | inl here ↦ inl here
+      | inr there ↦ inr (in-else zs j y x there at differ)
+    ]
+
+in-removed : {A : Type 0} (xs : List A) (j : ℕ) (x : A) → In x (remove xs j) → In x xs
+in-removed [] zero x is = is
+in-removed [] (suc j) x is = is
+in-removed (z ∷ zs) zero x is = inr is
+in-removed (z ∷ zs) (suc j) x is =
+    elim is [
+      | inl here ↦ inl here
+      | inr there ↦ inr (in-removed zs j x there)
+    ]
+
+pub contains-removed : {A : Type 0} (xs : List A) (j : ℕ) (x : A) → Contains (remove xs j) x → Contains xs x
+contains-removed xs j x is = contains_from_in xs x (in-removed xs j x (in_from_contains (remove xs j) x is))
+
+in-found : {A : Type 0} (p : A → Bool) (xs : List A) (x : A) → find p xs ≡ Some x → In x xs
+in-found p [] x found = absurd (cc)
+in-found p (y ∷ ys) x found =
+    elim (cases_Bool (p y)) [
+      | inl passes ↦ inl (let same : Some y ≡ Some x = rw passes at found in cc)
+      | inr fails ↦ inr (in-found p ys x (rw fails at found))
+    ]
+
+pub contains-found : {A : Type 0} (p : A → Bool) (xs : List A) (x : A) → find p xs ≡ Some x → Contains xs x
+contains-found p xs x is = contains_from_in xs x (in-found p xs x is)
+
+in-filter : {A : Type 0} (p : A → Bool) (xs : List A) (x : A) → In x xs → IsTrue (p x) → In x (filter p xs)
+in-filter p [] x is passes = is
+in-filter p (y ∷ ys) x is passes =
+    elim (cases_Bool (p y)) [
+      | inl kept ↦ rw kept (elim is [
+        | inl here ↦ inl here
+        | inr there ↦ inr (in-filter p ys x there passes)
+      ])
+      | inr out ↦ rw out (elim is [
+        | inl here ↦ absurd (let e : p y ≡ true = rw here passes in let f = sym e ∙ out in cc)
+        | inr there ↦ in-filter p ys x there passes
+      ])
+    ]
+
+pub contains-filter : {A : Type 0} (p : A → Bool) (xs : List A) (x : A) → Contains xs x → IsTrue (p x) → Contains (filter p xs) x
+contains-filter p xs x is passes = contains_from_in (filter p xs) x (in-filter p xs x (in_from_contains xs x is) passes)
+
+-- what each member has
+pub all-in : {A : Type 0} (P : A → Type 0) (xs : List A) (x : A) → AllByRecursion P xs → In x xs → P x
+all-in P [] x all is = absurd is
+all-in P (y ∷ ys) x all is =
+    elim is [
+      | inl here ↦ subst P here all.0
+      | inr there ↦ all-in P ys x all.1 there
+    ]
+
+pub all-map : {A B : Type 0} (P : B → Type 0) (f : A → B) (xs : List A) → ((x : A) → P (f x)) → AllByRecursion P (map f xs)
+all-map P f [] each = tt
+all-map P f (x ∷ xs) each = (each x, all-map P f xs each)
+
+all-append : {A : Type 0} (P : A → Type 0) (xs ys : List A) → AllByRecursion P xs → AllByRecursion P ys → AllByRecursion P (xs ++ ys)
+all-append P [] ys front back = back
+all-append P (x ∷ xs) ys front back = (front.0, all-append P xs ys front.1 back)
+
+pub all-flat_map : {A B : Type 0} (P : B → Type 0) (f : A → List B) (xs : List A) → ((x : A) → AllByRecursion P (f x)) → AllByRecursion P (flat_map f xs)
+all-flat_map P f [] each = tt
+all-flat_map P f (x ∷ xs) each = all-append P (f x) (flat_map f xs) (each x) (all-flat_map P f xs each)

@@ -378,7 +378,8 @@ module _ (criterion : Criterion) (states : List State) (ts : List Txn) (start : 
       ]
   step_holds (ReadFirst s w) is = λ i j at there.
       let (known, begins) = and_parts (is_known_rival ts steps s w) _ is in
-      let (has, rival) = and_parts (list_any (gives s) steps) _ known in
+      let (has, both) = and_parts (list_any (gives s) steps) _ known in
+      let rival = (and_parts (is_rival ts steps s w) _ both).0 in
       let (k, stands, comes) = source_holds s has in
       let r = rival_at s w rival in
       let low = behind_reader s s.writer refl k stands comes w r begins in
@@ -388,7 +389,8 @@ module _ (criterion : Criterion) (states : List State) (ts : List Txn) (start : 
   step_holds (ChangedFirst w s) is =
       let (known, more) = and_parts (is_known_rival ts steps s w) _ is in
       let before = (and_parts (has_writer s) _ more).1 in
-      let (has, rival) = and_parts (list_any (gives s) steps) _ known in
+      let (has, both) = and_parts (list_any (gives s) steps) _ known in
+      let rival = (and_parts (is_rival ts steps s w) _ both).0 in
       let (k, stands, comes) = source_holds s has in
       let r = rival_at s w rival in
       before_writer s s.writer refl k comes w r (before_holds w s.reader before r.place k r.stands stands)

@@ -29,10 +29,12 @@ throughs_between places one between = map (Through one between) places
 abbrev pub throughs : List ℕ → ℕ → List Step
 throughs places one = flat_map (throughs_between places one) places
 
--- Each step of transactions with these places, where these are the sources.
-abbrev pub candidates : List Source → List ℕ → List Step
-candidates sources places =
-    ((flat_map (real_times places) places ++ map From sources) ++ flat_map (firsts places) sources) ++ flat_map (throughs places) places
+-- Each step that is told of transactions with these places, where these are the sources; and each by a third transaction.
+abbrev pub told_candidates : List Source → List ℕ → List Step
+told_candidates sources places = (flat_map (real_times places) places ++ map From sources) ++ flat_map (firsts places) sources
+
+abbrev pub all_throughs : List ℕ → List Step
+all_throughs places = flat_map (throughs places) places
 
 -- The writer is the start or one of so many transactions.
 abbrev pub IsWithin : ℕ → Option ℕ → Type 0

@@ -1,10 +1,12 @@
 -- What is found of a reason why transactions have no serial order.
-use Rattle.std.specs.Prelude.{◌≡◌, ◌⊎◌, ◌<◌, ◌≤◌, ℕ, List, length, map, Option, Some, None}
+use Rattle.std.specs.Prelude.{◌≡◌, ◌⊎◌, ◌<◌, ◌≤◌, ℕ, Bool, true, false, List, length, map, Option, Some, None, IsTrue}
+use Rattle.std.specs.List.{Contains}
 use Rattle.tmw_defs.specs.declared.criterion.Criterion.{Criterion}
 use Rattle.tmw_defs.specs.History.{Txn}
 use Rattle.tmw_defs.specs.Opaque.{State}
 use Rattle.tmw_part.specs.declared.reason.Reason.{Reason}
 use Rattle.tmw_part.specs.declared.step.Step.{Step}
+use Rattle.tmw_part.specs.declared.step.Step.TheVariants.{Through}
 use Rattle.tmw_part.specs.declared.step.Contradiction.{Contradiction}
 use Rattle.tmw_part.specs.Reasons.{IsNeededEach, IsReason}
 
@@ -16,10 +18,30 @@ threads_of ts = map (λ t. t.thread) ts
 abbrev pub HasNoReason : Criterion → List State → List Txn → Type 0
 HasNoReason criterion states ts = (steps : List Step) (end : Contradiction) → IsReason criterion states ts steps end → ⊥
 
--- The steps are a reason, none of which can be left out.
+-- The step says more than that two others follow each other.
+abbrev pub is_told : Step → Bool
+is_told (Through one between other) = false
+is_told _ = true
+
+-- What the steps tell is among these.
+abbrev pub TellAmong : List Step → List Step → Type 0
+TellAmong steps told = (x : Step) → Contains steps x → IsTrue (is_told x) → Contains told x
+
+-- No reason tells only these.
+pub record TellNoReason (criterion : Criterion) (states : List State) (ts : List Txn) (told : List Step) : Type 0 where
+  pub none : (steps : List Step) (end : Contradiction) → IsReason criterion states ts steps end → TellAmong steps told → ⊥
+
+-- Some reason tells only these.
+pub record TellReason (criterion : Criterion) (states : List State) (ts : List Txn) (told : List Step) : Type 0 where
+  pub some : TellNoReason criterion states ts told → ⊥
+
+-- The steps are a reason, none of which can be left out. And no reason tells less: whatever it comes to and by whichever third
+-- transactions, if it tells nothing else than this one it tells all.
 pub record IsLeastReason (criterion : Criterion) (states : List State) (ts : List Txn) (steps : List Step) (end : Contradiction) : Type 0 where
   pub is : IsReason criterion states ts steps end
   pub needed : IsNeededEach criterion states ts steps end
+  pub least : (x : Step) → Contains steps x → IsTrue (is_told x) → (others : List Step) (other : Contradiction)
+      → IsReason criterion states ts others other → TellAmong others steps → (Contains others x → ⊥) → ⊥
 
 -- Such a reason, with the threads of the transactions, which are at most eight. If none is found, they are more, or have none.
 pub record IsFound (criterion : Criterion) (states : List State) (ts : List Txn) (reason : Reason) : Type 0 where

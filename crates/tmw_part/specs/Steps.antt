@@ -116,13 +116,17 @@ abbrev pub has_place : Criterion → List Txn → List Step → ℕ → Bool
 has_place Opacity ts steps a = nat_lt a (length ts)
 has_place Strict ts steps a = is_held ts steps a
 
+-- The transaction leaves the source's value in its register.
+abbrev pub leaves : List Txn → Source → ℕ → Bool
+leaves ts s a = is_some_of s.value (left_by s.register.number None (ops_at ts a))
+
 -- The reader's value may come from there, as far as one can tell without an order: one of the states has it in the register, or a
 -- completion may hold the writer, which leaves it there.
 abbrev pub may_come_from : List State → List Txn → Source → Option ℕ → Bool
 may_come_from states ts s None = list_any (λ state. slice_index state s.register.number == s.value) states
 may_come_from states ts s (Some a) =
     not (a == s.reader)
-    && (may_hold (status_of (txn_at ts a).text) true && is_some_of s.value (left_by s.register.number None (ops_at ts a)))
+    && (may_hold (status_of (txn_at ts a).text) true && leaves ts s a)
 
 -- The transaction is held, changes the source's register and is neither the reader nor the writer.
 abbrev pub is_rival : List Txn → List Step → Source → ℕ → Bool
@@ -164,9 +168,9 @@ abbrev pub is_asked : Criterion → List Txn → List Step → Source → Bool
 is_asked criterion ts steps s =
     has_place criterion ts steps s.reader && is_some_of s.value (needed_of s.register.number (ops_at ts s.reader))
 
--- The source is known, and the transaction is a rival.
+-- The source is known, and the transaction is a rival that leaves another value.
 abbrev pub is_known_rival : List Txn → List Step → Source → ℕ → Bool
-is_known_rival ts steps s a = list_any (gives s) steps && is_rival ts steps s a
+is_known_rival ts steps s a = list_any (gives s) steps && (is_rival ts steps s a && not (leaves ts s a))
 
 -- The value comes from a transaction, not from the start.
 abbrev pub has_writer : Source → Bool

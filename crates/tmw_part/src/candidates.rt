@@ -1,7 +1,7 @@
 ghost use Rattle.std.specs.Prelude.{◌≡◌, ◌++◌, IfOk, OnOk, map};
 ghost use Rattle.std.specs.List.{flat_map};
 ghost use Rattle.tmw_part.specs.declared.step.Step.TheVariants.{From};
-ghost use Rattle.tmw_part.specs.Candidates.{candidates, firsts, real_times, throughs, throughs_between};
+ghost use Rattle.tmw_part.specs.Candidates.{all_throughs, firsts, real_times, throughs, throughs_between, told_candidates};
 
 use crate::step::{Source, Step};
 use std::alloc::{AllocError, Global};
@@ -99,29 +99,29 @@ fn push_throughs(steps: &mut Vec<Step>, one: usize, places: &[usize]) -> Result<
     Ok(())
 }
 
-/// Adds the steps that lead from a transaction to another by a third.
-fn push_all_throughs(steps: &mut Vec<Step>, places: &[usize]) -> Result<(), AllocError>
-    ensures { OnOk result (steps.new.items
-        ≡ steps.old.items ++ flat_map (throughs places.now) places.now) }
+/// Returns the steps by a third transaction to try, of transactions with these places.
+pub(crate) fn all_throughs(alloc: Global, places: &[usize]) -> Result<Vec<Step>, AllocError>
+    ensures { IfOk result (λ steps. steps.items ≡ all_throughs places.now) }
 {
+    let mut steps = Vec::new(alloc);
     for one in places {
-        push_throughs(steps, *one, places)?;
+        push_throughs(&mut steps, *one, places)?;
     }
-    Ok(())
+    Ok(steps)
 }
 
-/// Returns the steps to try, of transactions with these places and these sources. Those that tell more are tried first.
-pub(crate) fn candidates(
+/// Returns the other steps to try, of transactions with these places and these sources. Those that tell more are tried
+/// first.
+pub(crate) fn told_candidates(
     alloc: Global,
     sources: &[Source],
     places: &[usize],
 ) -> Result<Vec<Step>, AllocError>
-    ensures { IfOk result (λ steps. steps.items ≡ candidates sources.now places.now) }
+    ensures { IfOk result (λ steps. steps.items ≡ told_candidates sources.now places.now) }
 {
     let mut steps = Vec::new(alloc);
     push_all_real_times(&mut steps, places)?;
     push_sources(&mut steps, sources)?;
     push_all_firsts(&mut steps, sources, places)?;
-    push_all_throughs(&mut steps, places)?;
     Ok(steps)
 }

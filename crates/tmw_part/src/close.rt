@@ -1,4 +1,6 @@
+ghost use Rattle.std.specs.List.{Contains};
 ghost use Rattle.std.specs.Prelude.{◌≡◌, IfOk, None, find};
+ghost use Rattle.tmw_part.specs.declared.step.Step.{Step};
 ghost use Rattle.tmw_part.specs.Candidates.{is_new, tells};
 ghost use Rattle.tmw_part.specs.Shown.{txns_of};
 ghost use Rattle.tmw_part.specs.Steps.{Derives};
@@ -60,7 +62,8 @@ fn find_step(
     None
 }
 
-/// Returns steps, each of which follows from those before it, so that no candidate follows that they don't tell.
+/// Returns some of the candidates, each of which follows from those before it, so that none follows that they don't
+/// tell.
 pub(crate) fn close(
     criterion: Criterion,
     alloc: Global,
@@ -70,6 +73,8 @@ pub(crate) fn close(
 ) -> Result<Vec<Step>, AllocError>
     ensures derives { IfOk result (λ steps.
         Derives criterion states.now (txns_of transactions.now) steps.items) }
+    ensures among { IfOk result (λ steps. (step : Step) → Contains steps.items step
+        → Contains candidates.now step) }
     ensures closed { IfOk result (λ steps.
         find (is_new criterion states.now (txns_of transactions.now) steps.items) candidates.now
         ≡ None) }

@@ -2,7 +2,7 @@ ghost use Rattle.std.specs.Prelude.{◌≡◌, ◌==◌, ◌&&◌, Some, length,
 ghost use Rattle.std.specs.List.{list_all, list_any, range_with_len};
 ghost use Rattle.tmw_defs.specs.Opaque.{precedes};
 ghost use Rattle.tmw_part.specs.Shown.{txns_of};
-ghost use Rattle.tmw_part.specs.Steps.{comes_not_else, contradicts, follows, has_place, has_writer, is_asked, is_excluded, is_held, is_known_rival, is_left_by_none, is_only, is_rival, may_come_from, stands_between, txn_at};
+ghost use Rattle.tmw_part.specs.Steps.{comes_not_else, contradicts, follows, has_place, has_writer, is_asked, is_before, is_excluded, is_held, is_known_rival, is_left_by_none, is_only, leaves, is_rival, may_come_from, stands_between, txn_at};
 
 use crate::deeds::{find_unlike, is_pair, is_some_of, left_by, needed_of, writes};
 use crate::known::{begins_before, ends_before, is_before, is_given, is_same_writer, is_supplied};
@@ -53,6 +53,14 @@ fn has_value(states: &[State], register: Ix, value: u64) -> bool
         .any(|state| state[register.get() as usize] == value)
 }
 
+/// Whether the transaction at this place leaves the source's value in its register.
+fn leaves(transactions: &[Transaction], source: &Source, place: usize) -> bool
+    ensures { result ≡ leaves (txns_of transactions.now) source.now place }
+{
+    let left = left_by(source.register, text_at(transactions, place));
+    is_some_of(source.value, left)
+}
+
 /// Whether a reader's value may come from this writer, or from the start, as far as one can tell without an order.
 fn may_come_from(
     states: &[State],
@@ -68,7 +76,7 @@ fn may_come_from(
             let text = text_at(transactions, place);
             place != source.reader
                 && matches!(status_of(text), Status::Committed | Status::Pending)
-                && is_some_of(source.value, left_by(source.register, text))
+                && leaves(transactions, source, place)
         }
     }
 }
@@ -215,7 +223,7 @@ fn precedes_at(transactions: &[Transaction], one: usize, other: usize) -> bool
     }
 }
 
-/// Whether the transaction is a rival of a source that is known.
+/// Whether the transaction is a rival of a source that is known, and leaves another value.
 fn is_known_rival(
     transactions: &[Transaction],
     steps: &[Step],
@@ -224,7 +232,9 @@ fn is_known_rival(
 ) -> bool
     ensures { result ≡ is_known_rival (txns_of transactions.now) steps.now source.now place }
 {
-    is_given(steps, source) && is_rival(transactions, steps, source, place)
+    is_given(steps, source)
+        && is_rival(transactions, steps, source, place)
+        && !leaves(transactions, source, place)
 }
 
 /// Whether the value comes from a transaction, not from the start.
@@ -232,6 +242,14 @@ fn has_writer(source: &Source) -> bool
     ensures { result ≡ has_writer source.now }
 {
     !is_same_writer(source.writer, None)
+}
+
+/// Whether by these steps the rival stands before the reader, where the value comes from a transaction.
+fn is_late(steps: &[Step], source: &Source, rival: usize) -> bool
+    ensures { result
+        ≡ (has_writer source.now && is_before steps.now rival source.now.reader) }
+{
+    has_writer(source) && is_before(steps, rival, source.reader)
 }
 
 /// Tells whether the step follows from these.
@@ -256,9 +274,7 @@ pub(crate) fn follows(
                 && begins_before(steps, source.writer, rival)
         }
         Step::ChangedFirst { rival, source } => {
-            is_known_rival(transactions, steps, &source, rival)
-                && has_writer(&source)
-                && is_before(steps, rival, source.reader)
+            is_known_rival(transactions, steps, &source, rival) && is_late(steps, &source, rival)
         }
         Step::Through {
             one,

@@ -9,6 +9,7 @@ mod find;
 mod follows;
 mod kept_part;
 mod known;
+mod least;
 mod left;
 mod marks;
 mod part;
@@ -18,6 +19,7 @@ mod reason;
 mod sources;
 mod step;
 mod transaction;
+mod tried;
 mod violated;
 
 pub use find::{MOST_EVENTS, find_part};

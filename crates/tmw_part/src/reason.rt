@@ -1,16 +1,17 @@
-ghost use Rattle.std.specs.Prelude.{◌≡◌, IfOk, MatchOption, map};
+ghost use Rattle.std.specs.List.{filter, range_with_len};
+ghost use Rattle.std.specs.Prelude.{◌≡◌, IfOk, MatchOption, length, map};
 ghost use Rattle.tmw_defs.specs.History.{transactions};
-ghost use Rattle.tmw_part.specs.Found.{FindsReason, HasNoReason, IsLeastReason, threads_of};
-ghost use Rattle.tmw_part.specs.Reasons.{ReasonLaw, ReasonTells};
+ghost use Rattle.tmw_part.specs.Found.{FindsReason, HasNoReason, IsLeastReason, TellReason, is_told, threads_of};
+ghost use Rattle.tmw_part.specs.Candidates.{all_throughs};
+ghost use Rattle.tmw_part.specs.Reasons.{ReasonLaw, ReasonTells, TriesEnds};
 ghost use Rattle.tmw_part.specs.Shown.{txns_of};
 
-use crate::candidates::candidates;
-use crate::close::close;
-use crate::ends::{ends, find_end};
+use crate::ends::find_end;
+use crate::least::{find_among, narrow};
 use crate::prune::prune;
-use crate::sources::{places, registers, sources};
 use crate::step::{Contradiction, Step};
 use crate::transaction::{MOST_TRANSACTIONS, Transaction, transactions};
+use crate::tried::Tried;
 use std::alloc::{AllocError, Global};
 use tmw_cuts::State;
 use tmw_defs::Criterion;
@@ -21,7 +22,8 @@ use tmw_events::{Event, Ix};
 pub struct Reason {
     /// The thread of each transaction.
     pub threads: Vec<Ix>,
-    /// What holds in each order. Each follows from those before it, and none of them can be left out.
+    /// What holds in each order. Each follows from those before it, and none of them can be left out. No reason tells
+    /// less.
     pub steps: Vec<Step>,
     /// What the steps come to.
     pub end: Contradiction,
@@ -39,7 +41,52 @@ fn threads_of(alloc: Global, transactions: &[Transaction]) -> Result<Vec<Ix>, Al
     Ok(threads)
 }
 
-/// Finds the steps of a reason, none of which can be left out, and what they come to.
+/// Whether the step says more than that two others follow each other.
+fn is_told(step: &Step) -> bool
+    ensures { result ≡ is_told step.now }
+{
+    !matches!(*step, Step::Through { .. })
+}
+
+/// Those of the steps that say more than that two others follow each other.
+fn told_of(alloc: Global, steps: &[Step]) -> Result<Vec<Step>, AllocError>
+    ensures { IfOk result (λ told. told.items ≡ filter is_told steps.now) }
+{
+    let mut told = Vec::new(alloc);
+    for step in steps {
+        if is_told(step) {
+            told.push(*step)?;
+        }
+    }
+    Ok(told)
+}
+
+/// Finds a reason that tells only these steps and as few of them as can be. There is one.
+fn find_least(
+    criterion: Criterion,
+    alloc: Global,
+    states: &[State],
+    transactions: &[Transaction],
+    told: Vec<Step>,
+    throughs: &[Step],
+    ends: &[Contradiction],
+) -> Result<Option<(Vec<Step>, Contradiction)>, AllocError>
+    requires reason { TellReason criterion states.now (txns_of transactions.now) told.items }
+    requires throughs { throughs.now ≡ all_throughs (range_with_len 0 (length transactions.now)) }
+    requires ends { TriesEnds criterion states.now (txns_of transactions.now) ends.now }
+    ensures { let ts = txns_of transactions.now in IfOk result (λ found. MatchOption found ⊥
+        (λ pair. IsLeastReason criterion states.now ts pair.0.items pair.1)) }
+{
+    let few = narrow(criterion, states, transactions, told, throughs, ends)?;
+    let found = find_among(criterion, alloc, states, transactions, &few, throughs, ends)?;
+    let Some((steps, end)) = found else {
+        return Ok(None);
+    };
+    let kept = prune(criterion, alloc, states, transactions, steps, &end)?;
+    Ok(Some((kept, end)))
+}
+
+/// Finds the steps of a reason that tells as little as can be, and what they come to.
 fn find_steps(
     criterion: Criterion,
     alloc: Global,
@@ -50,21 +97,34 @@ fn find_steps(
         (HasNoReason criterion states.now ts)
         (λ pair. IsLeastReason criterion states.now ts pair.0.items pair.1)) }
 {
-    let places = places(alloc, transactions.len())?;
-    let registers = registers(alloc)?;
-    let sources = sources(alloc, transactions, &registers, &places)?;
-    let ends = ends(alloc, transactions, &registers, &places, &sources)?;
+    let tried = Tried::new(alloc, transactions)?;
     // What contradicts itself without a step is told so.
-    if let Some(end) = find_end(criterion, states, transactions, &[], &ends) {
+    if let Some(end) = find_end(criterion, states, transactions, &[], &tried.ends) {
         return Ok(Some((Vec::new(alloc), end)));
     }
-    let candidates = candidates(alloc, &sources, &places)?;
-    let steps = close(criterion, alloc, states, transactions, &candidates)?;
-    let Some(end) = find_end(criterion, states, transactions, &steps, &ends) else {
+    let found = find_among(
+        criterion,
+        alloc,
+        states,
+        transactions,
+        &tried.told,
+        &tried.throughs,
+        &tried.ends,
+    )?;
+    let Some((steps, end)) = found else {
         return Ok(None);
     };
-    let kept = prune(criterion, alloc, states, transactions, steps, &end)?;
-    Ok(Some((kept, end)))
+    let few = prune(criterion, alloc, states, transactions, steps, &end)?;
+    let told = told_of(alloc, &few)?;
+    find_least(
+        criterion,
+        alloc,
+        states,
+        transactions,
+        told,
+        &tried.throughs,
+        &tried.ends,
+    )
 }
 
 /// Finds out why no serial order of the events' transactions, by this criterion and from any of the states, explains

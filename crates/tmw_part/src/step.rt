@@ -20,12 +20,12 @@ pub enum Step {
     },
     /// The value comes from there: nobody else can have left it.
     From(Source),
-    /// The reader stands before `rival`, which changes the register too and stands after the source.
+    /// The reader stands before `rival`, which leaves another value in the register and stands after the source.
     ReadFirst {
         source: Source,
         rival: usize,
     },
-    /// `rival` stands before the source's writer: it changes the register too and stands before the reader.
+    /// `rival` stands before the source's writer: it leaves another value in the register and stands before the reader.
     ChangedFirst {
         rival: usize,
         source: Source,
@@ -50,7 +50,7 @@ pub enum Contradiction {
         value: u64,
     },
     /// The transaction read `read` of the register, where by its own operations before that it had to find `expected`.
-    /// This is the first such answer.
+    /// This is its first such answer of that register.
     Unlike {
         reader: usize,
         register: Ix,

@@ -48,7 +48,7 @@ phrase_text WhichChangedIt = codes ", which changed it"
 phrase_text Changed = codes " changed register "
 phrase_text Whose = codes ", whose value "
 phrase_text ReadThere = codes " read there"
-phrase_text NobodyLeft = codes ", which neither the start nor a commit can have left there"
+phrase_text NobodyLeft = codes ", which no state before these events has there and no other commit can have left"
 phrase_text HadToFind = codes ", where it had to find "
 phrase_text IsCycle = codes " would stand before itself: a cycle"
 

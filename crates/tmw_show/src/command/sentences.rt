@@ -139,7 +139,7 @@ fn phrase_text(phrase: Phrase) -> &'static str
         Phrase::Changed => " changed register ",
         Phrase::Whose => ", whose value ",
         Phrase::ReadThere => " read there",
-        Phrase::NobodyLeft => ", which neither the start nor a commit can have left there",
+        Phrase::NobodyLeft => ", which no state before these events has there and no other commit can have left",
         Phrase::HadToFind => ", where it had to find ",
         Phrase::Cycle => " would stand before itself: a cycle",
     }

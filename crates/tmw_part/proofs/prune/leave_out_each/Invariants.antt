@@ -1,5 +1,7 @@
 use Rattle.std.proofs.Common.{◌≡◌, ◌<◌, ◌≤◌, ℕ, IsTrue, length}
+use Rattle.std.specs.List.{Contains}
 use Rattle.std.specs.Prelude.{IsFalse, remove}
+use Rattle.tmw_part.specs.declared.step.Step.{Step}
 use Rattle.tmw_part.specs.Reasons.{IsReason}
 use Rattle.tmw_part.specs.Shown.{txns_of}
 use Rattle.tmw_part.proofs.prune.leave_out_each.Given as goal
@@ -10,6 +12,7 @@ invariant-loop-place l =
       within : l.place ≤ length l.steps.items;
       reason : IsReason l.criterion l.states (txns_of l.transactions) l.fn.steps.items l.end
           → IsReason l.criterion l.states (txns_of l.transactions) l.steps.items l.end;
+      among : (step : Step) → Contains l.steps.items step → Contains l.fn.steps.items step;
       fewer : IsTrue l.out → length l.steps.items < length l.fn.steps.items;
       all : IsFalse l.out → length l.steps.items ≡ length l.fn.steps.items;
       needed : IsFalse l.out → (i : ℕ) → l.place ≤ i → i < length l.steps.items

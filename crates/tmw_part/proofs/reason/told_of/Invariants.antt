@@ -1,0 +1,7 @@
+use Rattle.std.proofs.Common.{◌≡◌, ◌++◌, drop}
+use Rattle.std.specs.List.{filter}
+use Rattle.tmw_part.specs.Found.{is_told}
+use Rattle.tmw_part.proofs.reason.told_of.Given as goal
+
+abbrev pub invariant-loop-step : goal.invariant-loop-step
+invariant-loop-step l = l.told.items ++ filter is_told (drop l.step-index l.steps) ≡ filter is_told l.steps
