@@ -1,0 +1,170 @@
+"""Random histories, and the plain definitions of a serial order: each permutation with each completion is tried.
+
+For parts.py and verdicts.py.
+"""
+from collections import namedtuple
+from functools import lru_cache
+from itertools import combinations, permutations, product
+from types import SimpleNamespace
+
+TOP = 2**64
+MOST = 5  # transactions of a history
+
+# An event: its number in the history, its thread, and the letter and the numbers of its kind.
+Event = namedtuple("Event", "number thread kind")
+
+
+class Transaction:
+    """A transaction of some events."""
+
+    def __init__(self, events):
+        self.events, self.first, self.last = events, events[0].number, events[-1].number
+        self.status = {"C": "committed", "A": "aborted", "T": "pending"}.get(events[-1].kind[0], "live")
+        self.is_over = self.status in ("committed", "aborted")
+        self.operations = [done for done in map(operation, calls(events)) if done]
+
+    def precedes(self, other):
+        return self.is_over and self.last < other.first
+
+
+def operation(call):
+    """The register of an answered operation, the value that it was answered, and the value that it leaves."""
+    match [word for event in call for word in event.kind]:
+        case ["R", register, "V", value]:
+            return register, value, None
+        case ["W", register, value, "K"]:
+            return register, None, value
+        case ["N", register, added, "V", value]:
+            return register, value, (value + added) % TOP
+    return None
+
+
+def calls(events):
+    """Each call, with its answer if it has one."""
+    return [
+        [call, *[other for other in events[place + 1 :] if other.thread == call.thread][:1]]
+        for place, call in enumerate(events)
+        if call.kind[0] in "RWNTX"
+    ]
+
+
+@lru_cache(maxsize=64)
+def transactions(events):
+    """The transactions, each up to its commit or abort event."""
+    found, running = [], {}
+    for event in events:
+        if event.thread not in running:
+            running[event.thread] = []
+            found.append(running[event.thread])
+        running[event.thread].append(event)
+        if event.kind[0] in "CA":
+            del running[event.thread]
+    return [Transaction(own) for own in found]
+
+
+def end_of(state, order, held):
+    """The state after an order, of whose transactions these are held, or None if it is not legal."""
+    for t in order:
+        own = list(state)
+        for register, found, left in t.operations:
+            if found not in (None, own[register]):
+                return None
+            own[register] = own[register] if left is None else left
+        state = own if t in held else state
+    return tuple(state)
+
+
+def ends(criterion, state, events):
+    """The end state of each serial order that explains the events' transactions from the state."""
+    ts = transactions(events)
+    may_hold = {"committed": [True], "pending": [False, True], "aborted": [False], "live": [False]}
+    for choice in product(*[may_hold[t.status] for t in ts]):
+        held = [t for t, is_held in zip(ts, choice) if is_held]
+        for order in permutations(ts if criterion == "opacity" else held):
+            if not any(later.precedes(earlier) for earlier, later in combinations(order, 2)):
+                end = end_of(state, order, held)
+                if end is not None:
+                    yield end
+
+
+def has_order(criterion, states, events):
+    return any(True for state in states for _ in ends(criterion, state, events))
+
+
+class Memory:
+    """A memory of snapshots that makes mistakes, at rates of its own: in reads, and in what a commit checks."""
+
+    def __init__(self, rng, state):
+        self.rng, self.state, self.running, self.values = rng, list(state), {}, range(rng.choice([3, 9, 9]))
+        self.wrong, self.unchecked, self.refused = rng.choice([0, 0.5, 1, 1]), rng.choice([0, 1, 1]), rng.choice([0, 0, 0.1])
+
+    def commit(self, own):
+        """The answer to a commit. One that has written is refused if what it read is no longer there."""
+        changed = any(self.state[register] != found for register, found in own.reads.items())
+        if own.writes and changed and self.rng.random() >= self.unchecked:
+            return "A"
+        self.state = [own.writes.get(register, value) for register, value in enumerate(self.state)]
+        return "C"
+
+    def find(self, own, register):
+        """What it reads there. A mistake is what is there now, what another one has not committed, or seldom any value."""
+        known = own.writes.get(register, own.reads.get(register))
+        if self.rng.random() < (self.wrong if known is None else self.wrong / 10):
+            dirty = [other.writes[register] for other in self.running.values() if register in other.writes]
+            known = self.rng.choice([self.state[register], *dirty] * 9 + [self.rng.choice(self.values)])
+        found = own.view[register] if known is None else known
+        if register not in own.writes:
+            own.reads[register] = found
+        return found
+
+    def call(self, own):
+        """Its next call. A commit may take effect before it is answered."""
+        letter = self.rng.choices("RWNTX", weights=[6, 6, 1, 5 if own.reads or own.writes else 0.3, 0.2])[0]
+        more = {"R": (), "W": (self.rng.choice(self.values),), "N": (self.rng.choice([0, 1, TOP - 1]),)}
+        own.call = (letter, self.rng.randrange(len(self.state)), *more[letter]) if letter in more else (letter,)
+        own.answer = self.commit(own) if letter == "T" and self.rng.random() < 0.6 else None
+        return own.call
+
+    def answer(self, own):
+        (letter, *numbers), own.call = own.call, None
+        if letter == "X" or own.answer is None and self.rng.random() < self.refused:
+            return ("A",)
+        if letter == "T":
+            return (own.answer or self.commit(own),)
+        found = None if letter == "W" else self.find(own, numbers[0])
+        if letter in "WN":
+            own.writes[numbers[0]] = ((found or 0) + numbers[1]) % TOP
+        return ("K",) if letter == "W" else ("V", found)
+
+
+def random_history(rng, most=MOST, steps=60):
+    """A start state and events, of at most so many transactions. They begin in bursts, in slow and fast threads. Some stay commit-pending."""
+    start = [rng.randrange(3) for _ in range(rng.choice([1, 2, 2, 3]))]
+    pace = [rng.choice([1, 6]) for _ in range(rng.choice([2, 3, 3, 4]))]
+    memory, events, begun, burst = Memory(rng, start), [], 0, 0
+    for _ in range(rng.randint(20, steps)):
+        running = memory.running
+        burst = burst if running else min(rng.randint(1, 4), most - begun)
+        idle = [thread for thread in range(len(pace)) if thread not in running]
+        if burst > 0 and idle and (not running or rng.random() < 0.6):
+            own = {"view": list(memory.state), "reads": {}, "writes": {}, "call": None, "answer": None}
+            running[rng.choice(idle)] = SimpleNamespace(**own, stays=rng.random() < 0.12)
+            begun, burst = begun + 1, burst - 1
+        if not running:
+            break
+        thread = rng.choices(list(running), [pace[thread] for thread in running])[0]
+        own = running[thread]
+        if own.call != ("T",) or not own.stays:
+            events.append(Event(len(events) + 1, thread, memory.call(own) if own.call is None else memory.answer(own)))
+            if events[-1].kind[0] in "CA":
+                del running[thread]
+    return start, tuple(events)
+
+
+def words(numbers):
+    return " ".join(map(str, numbers))
+
+
+def trace_of(start, events):
+    lines = [f"opacity-trace 2 {len(start)} {words(start)}", *[f"{event.thread} {words(event.kind)}" for event in events]]
+    return "".join(f"{line}\n" for line in lines)
