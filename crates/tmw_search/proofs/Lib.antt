@@ -2,6 +2,7 @@ mod BlindEnds
 mod BlindProof
 mod Choosing
 mod Completions
+mod DepthFirst
 pub mod ForcedEnds
 mod ForcedProof
 mod Forcing
@@ -15,13 +16,11 @@ mod LayersBy
 pub mod LayersProof
 pub mod Masks
 mod OrderRanks
-mod Pruning
 mod RankedOrders
 mod SameEnds
 mod Setting
 mod Sorting
 mod StrictSteps
-mod Walking
 mod WritersFound
 mod WindowLayers
 pub mod WindowViews

@@ -1,17 +1,10 @@
--- What the search sees of a forced end state, and the end states that it finds where the end state is forced.
+-- What the search sees of a forced end state.
 use Rattle.std.specs.Prelude.{◌≡◌, ◌==◌, ◌&&◌, ◌||◌, ◌≤◌, ◌⊎◌, ℕ, Bool, not, nat_le, List, Some, IsTrue, slice_get}
 use Rattle.std.specs.Int.{bit_at}
-use Rattle.std.specs.List.{Contains, list_all, count_by}
-use Rattle.tmw_defs.specs.declared.criterion.Criterion.{Criterion}
-use Rattle.tmw_search.specs.ForcedTransactions.{is_committed, left_in, IsForced}
-use Rattle.tmw_defs.specs.Criteria.{EndsBy}
-use Rattle.tmw_defs.specs.History.{Txn, is_ended}
-use Rattle.tmw_defs.specs.Opaque.{State}
+use Rattle.std.specs.List.{list_all, count_by}
+use Rattle.tmw_search.specs.ForcedTransactions.{is_committed, left_in}
 use Rattle.tmw_cuts.specs.Views.{View}
 use Rattle.tmw_cuts.specs.Written.{writes, writes_blindly}
-use Rattle.tmw_search.specs.declared.end_states.EndStates.{EndStates}
-use Rattle.tmw_search.specs.Ended.{AreMembers}
-use Rattle.tmw_search.specs.ShownTransactions.{ShowsTransactions}
 
 -- it has not committed, or does not write the register blindly
 abbrev pub is_without_blind : ℕ → View → Bool
@@ -54,8 +47,3 @@ AreDecided registers xs = (r : ℕ) → bit_at registers r ≡ 1 → IsNotBlind 
 abbrev pub AreForced : List View → Type 0
 AreForced xs = (r : ℕ) → (count_by (shows_writer r) xs ≤ 1)
     ⊎ (IsNotBlind r xs ⊎ AreSettled r xs)
-
--- Whatever transactions the list shows, where they have ended and the end state is forced, these are their end states.
-abbrev pub AreForcedEnds : Criterion → List View → List State → ℕ → EndStates → Type 0
-AreForcedEnds criterion xs states cap ends = (ts : List Txn) → ShowsTransactions xs ts → IsForced ts → IsTrue (list_all (λ t. is_ended t.text) ts)
-    → AreMembers cap (EndsBy criterion (Contains states) ts) ends

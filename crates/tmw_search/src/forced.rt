@@ -1,15 +1,12 @@
-ghost use Rattle.std.specs.Prelude.{◌≡◌, ◌<◌, ◌≤◌, IfOk, IfSome, IsTrue, length, map};
+ghost use Rattle.std.specs.Prelude.{◌≡◌, ◌<◌, ◌≤◌, IfSome, IsTrue, length, map};
 ghost use Rattle.std.specs.List.{list_all};
 ghost use Rattle.tmw_cuts.specs.Registers.{IsMaskOf};
 ghost use Rattle.tmw_cuts.specs.Views.{view};
-ghost use Rattle.tmw_search.specs.ForcedEnds.{is_shared, is_without_blind, shows_writer, shows_way, IsWriterAt, AreSettled, AreDecided, AreForced, AreForcedEnds};
+ghost use Rattle.tmw_search.specs.ForcedEnds.{is_shared, is_without_blind, shows_writer, shows_way, IsWriterAt, AreSettled, AreDecided, AreForced};
 ghost use Rattle.tmw_search.specs.ForcedTransactions.{left_in};
 
-use crate::end_states::EndStates;
-use crate::walk::{Trail, find_end};
-use std::alloc::{AllocError, Global};
-use tmw_cuts::{State, States, Txn};
-use tmw_defs::{Criterion, Status};
+use tmw_cuts::Txn;
+use tmw_defs::Status;
 
 /// The registers that more than one committed transaction writes, as a mask.
 fn shared_registers(items: &[Txn]) -> u8
@@ -127,31 +124,4 @@ pub fn is_forced(items: &[Txn]) -> bool
     }
     let shared = shared_registers(items);
     shared == 0 || are_settled(items, shared)
-}
-
-/// Finds the states in which the transactions can end from one of these, where all orders from one state end in one.
-/// `None` if the search finds no order from one of them.
-pub fn find_ends(
-    criterion: Criterion,
-    alloc: Global,
-    items: &[Txn],
-    states: &[State],
-    cap: u8,
-) -> Result<Option<EndStates>, AllocError>
-    requires { length items.now ≤ 8 }
-    ensures { IfOk result (λ found. IfSome found (λ ends. AreForcedEnds criterion
-        (map view items.now) states.now cap ends)) }
-{
-    let mut ends = States::empty(alloc);
-    for state in states {
-        let mut trail = Trail::new(64);
-        let Some(end) = find_end(criterion, items, state, &mut trail) else {
-            return Ok(None);
-        };
-        ends.insert(end)?;
-        if ends.len() > cap as usize {
-            return Ok(Some(EndStates::Many));
-        }
-    }
-    Ok(Some(EndStates::Few(ends)))
 }
