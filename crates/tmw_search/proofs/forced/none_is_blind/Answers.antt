@@ -6,19 +6,17 @@ use Rattle.std.proofs.lemmas.Nat.Bits.{shr_and_one, bit_at_above}
 use Rattle.tmw_cuts.specs.Views.{view}
 use Rattle.tmw_search.specs.ForcedEnds.{is_without_blind}
 use Rattle.tmw_search.proofs.LayersProof.{same_place}
-use Rattle.tmw_search.proofs.forced.are_settled.Goals.{else-registers-register-eq1-via-then-registers-register-eq1+then-not-are_without_blind+else-not-is_settled, else-registers-register-eq1-via-then-registers-register-eq1+else-not-are_without_blind, else-registers-register-eq1-via-else-registers-register-eq1}
-use Rattle.tmw_search.proofs.forced.are_settled.Goals as goal
+use Rattle.tmw_search.proofs.forced.none_is_blind.Goals.{else-registers-register-eq1-via-then-registers-register-eq1+else-not-are_without_blind, else-registers-register-eq1-via-else-registers-register-eq1}
+use Rattle.tmw_search.proofs.forced.none_is_blind.Goals as goal
 
 pub loop-register-preserved : goal.loop-register-preserved
 loop-register-preserved c = λ r below has.
     elim (same_place r c.loop-register.register) [
       | inr apart ↦ c.loop-register.invariant r (omega (arith, below, apart)) has
       | inl same ↦ elim c.else-registers-register-eq1.branch [
-        | else-registers-register-eq1-via-then-registers-register-eq1+then-not-are_without_blind+else-not-is_settled w ↦
-            rw same (inr (w.is_settled.ensures (search (w.if-not-is_settled.false, rules))))
         | else-registers-register-eq1-via-then-registers-register-eq1+else-not-are_without_blind w ↦
-            rw same (inl (list_all-map (is_without_blind c.loop-register.register) view c.args.items.now
-            ∙ sym w.are_without_blind.ensures ∙ search (w.if-not-are_without_blind.false, rules)))
+            rw same (list_all-map (is_without_blind c.loop-register.register) view c.args.items.now
+            ∙ sym w.are_without_blind.ensures ∙ search (w.if-not-are_without_blind.false, rules))
         | else-registers-register-eq1-via-else-registers-register-eq1 w ↦
             absurd (w.if-registers-register-eq1.false (shr_and_one c.args.registers c.loop-register.register ∙ rw same at has))
       ]
