@@ -413,7 +413,7 @@ below-all criterion xs mask left upto s old new few some all below = λ ts b.
     )) (below ts b)
 
 -- what the rest leads to is an end
-goes-leads : (criterion : Criterion) (start : State) (ts : List Txn) (k n mask : ℕ) (s end : State) → k + n ≡ length ts
+pub goes-leads : (criterion : Criterion) (start : State) (ts : List Txn) (k n mask : ℕ) (s end : State) → k + n ≡ length ts
     → InLayerBy criterion (Only start) ts k mask s → GoesTo criterion ts n mask s end → LeadsBy criterion start ts end
 goes-leads criterion start ts k zero mask s end sum l goes =
     let all : k ≡ length ts = omega (arith, sum) in

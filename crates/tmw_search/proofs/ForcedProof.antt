@@ -1,19 +1,19 @@
 -- Where the end state is forced, all legal serial orders lead to it: what each writer of a register reads and leaves there
 -- sums up to the same over each order.
-use Rattle.std.proofs.Common.{◌≡◌, ◌==◌, ◌+◌, ◌%◌, ◌^◌, ◌<◌, ◌≤◌, ◌||◌, ℕ, zero, suc, true, false, not, Bool, List, [], ◌∷◌, length, Some, None, IsTrue, cond, refl, sym, ap, ◌∙◌, inl, inr, arith}
-use Rattle.std.specs.List.{list_all, list_any, sum_by, count_by}
+use Rattle.std.proofs.Common.{◌≡◌, ◌==◌, ◌+◌, ◌%◌, ◌^◌, ◌<◌, ◌≤◌, ℕ, zero, suc, true, false, not, List, [], ◌∷◌, length, Some, IsTrue, cond, refl, sym, ap, ◌∙◌, inl, inr, arith}
+use Rattle.std.specs.List.{list_all, sum_by, count_by}
 use Rattle.std.specs.Prelude.{remove, slice_get, slice_index, slice_set, if◌then◌else◌}
-use Rattle.std.proofs.lemmas.Bool.{and_parts, and_from, cases_Bool, eqb-true, eqb-false, not-true}
+use Rattle.std.proofs.lemmas.Bool.{and_parts, cases_Bool, eqb-true, eqb-false, not-true}
 use Rattle.std.proofs.lemmas.List.{get_or-set_same, get_or-set_other, length-set, ext_get_or}
 use Rattle.std.proofs.lemmas.List.Sums.{sum_by-cons}
 use Rattle.tmw_defs.specs.declared.op.Op.{Op}
 use Rattle.tmw_defs.specs.declared.op.Op.TheVariants.{Read, Write, Add}
 use Rattle.tmw_search.specs.ForcedTransactions.{is_committed, is_writer, is_blind_writer, IsForced}
 use Rattle.tmw_defs.specs.History.{Txn, is_ended, status_of, operations}
-use Rattle.tmw_defs.specs.Opaque.{State, Placed, PlacesEach, precedes, may_be, keeps_order, reads_hold, after, after_writes, is_legal}
+use Rattle.tmw_defs.specs.Opaque.{State, Placed, PlacesEach, may_be, reads_hold, after, after_writes, is_legal}
 use Rattle.tmw_defs.specs.Outcomes.{end_state, Leads}
 use Rattle.tmw_defs.proofs.Removals.{list_all-places}
-use Rattle.tmw_cuts.specs.Written.{writes, writes_blindly, left_by}
+use Rattle.tmw_cuts.specs.Written.{writes, writes_blindly}
 use Rattle.tmw_search.proofs.Completions.{held_is}
 
 -- a sum over an order is the sum over the transactions that it places

@@ -1,10 +1,10 @@
 -- The masks of a window's writers: a register that two of them write, or that one writes blindly, has its bit.
-use Rattle.std.proofs.Common.{◌≡◌, ◌==◌, ◌||◌, ◌+◌, ◌-◌, ◌≤◌, min, ℕ, zero, suc, Bool, true, false, not, List, [], ◌∷◌, length, map, take, Option, Some, None, IsTrue, bit_and, bit_or, cond, refl, sym, ap, ◌∙◌, inl, inr, arith}
+use Rattle.std.proofs.Common.{◌≡◌, ◌==◌, ◌||◌, ◌+◌, ◌-◌, ◌≤◌, min, ℕ, Bool, true, false, not, List, [], ◌∷◌, length, map, take, Some, bit_and, bit_or, cond, refl, sym, ap, ◌∙◌, inl, inr, arith}
 use Rattle.std.specs.Int.{bit_at}
-use Rattle.std.specs.List.{list_all, list_any, count_by}
-use Rattle.std.specs.Prelude.{nat_le, slice_get, option_map}
-use Rattle.std.proofs.lemmas.Option.{slice_get-map, slice_get_within, get_or_from_slice_get}
-use Rattle.std.proofs.lemmas.Bool.{and_from, or_right, cases_Bool, cases_lt, eqb-true, eq-eqb, le-leb, lt-leb}
+use Rattle.std.specs.List.{list_all, count_by}
+use Rattle.std.specs.Prelude.{nat_le, slice_get}
+use Rattle.std.proofs.lemmas.Option.{slice_get_within, get_or_from_slice_get}
+use Rattle.std.proofs.lemmas.Bool.{cases_Bool, cases_lt, eqb-true, eq-eqb, le-leb, lt-leb}
 use Rattle.std.proofs.lemmas.List.Folds.{list_all-map}
 use Rattle.std.proofs.lemmas.List.{take_all}
 use Rattle.std.proofs.lemmas.List.Sums.{sum_by-cons, sum_by_more}
@@ -12,11 +12,9 @@ use Rattle.std.proofs.lemmas.Nat.Bits.{bit_at-zero, bit_at-lt, bit_at_and, bit_a
 use Rattle.tmw_defs.specs.declared.op.Op.{Op}
 use Rattle.tmw_defs.specs.declared.op.Op.TheVariants.{Read, Write, Add}
 use Rattle.tmw_search.specs.ForcedTransactions.{is_committed, is_writer, IsForced}
-use Rattle.tmw_defs.specs.History.{Txn, operations}
-use Rattle.tmw_defs.specs.Opaque.{precedes}
+use Rattle.tmw_defs.specs.History.{Txn}
 use Rattle.tmw_search.proofs.LayersProof.{bit_cases}
-use Rattle.tmw_cuts.specs.Standing.{before_of, view_of}
-use Rattle.tmw_cuts.proofs.Bits.{bit_at-before_of}
+use Rattle.tmw_cuts.specs.Standing.{view_of}
 use Rattle.tmw_cuts.specs.Views.{View, bit}
 use Rattle.tmw_cuts.specs.Registers.{IsMaskOf}
 use Rattle.tmw_cuts.specs.Written.{is_read, writes}

@@ -1,14 +1,14 @@
 -- Where all transactions have ended, their ends by strict serializability are those of the committed ones by opacity.
-use Rattle.std.proofs.Common.{◌≡◌, ◌==◌, ◌||◌, ◌+◌, ◌≤◌, ℕ, Bool, true, false, not, List, [], ◌∷◌, IsTrue, cond, refl, sym, subst, ◌∙◌, inl, inr, arith}
-use Rattle.std.specs.List.{list_all, list_any, count_by}
-use Rattle.std.proofs.lemmas.Bool.{and_parts, and_from, or_right, cases_Bool}
+use Rattle.std.proofs.Common.{◌≡◌, ◌+◌, ◌≤◌, ℕ, Bool, not, List, [], ◌∷◌, IsTrue, cond, refl, sym, subst, ◌∙◌, inl, inr, arith}
+use Rattle.std.specs.List.{list_all, count_by}
+use Rattle.std.proofs.lemmas.Bool.{and_parts, and_from}
 use Rattle.std.proofs.lemmas.List.Sums.{sum_by-cons}
 use Rattle.tmw_defs.specs.declared.criterion.Criterion.{Criterion}
 use Rattle.tmw_defs.specs.declared.criterion.Criterion.TheVariants.{Opacity, Strict}
 use Rattle.tmw_defs.specs.declared.status.Status.{Status}
 use Rattle.tmw_defs.specs.declared.status.Status.TheVariants.{Live, Pending, Committed, Aborted}
 use Rattle.tmw_defs.specs.Criteria.{LeadsBy, EndsBy}
-use Rattle.tmw_defs.specs.History.{Txn, is_ended, status_of, operations}
+use Rattle.tmw_defs.specs.History.{Txn, is_ended, status_of}
 use Rattle.tmw_defs.specs.Opaque.{State, Placed, may_be, may_hold, Explains}
 use Rattle.tmw_defs.specs.Outcomes.{Leads, Ends}
 use Rattle.tmw_defs.specs.Strict.{AreHeld}
