@@ -48,7 +48,7 @@ way_is criterion x above s by p has =
       | inr other ↦ absurd (contains_none p (rw other at has))
     ]
 
-way_of : (criterion : Criterion) (x : View) (above : ℕ) (s : State) (p : ℕ × State) → Contains (ways criterion x above s) p
+pub way_of : (criterion : Criterion) (x : View) (above : ℕ) (s : State) (p : ℕ × State) → Contains (ways criterion x above s) p
     → IsWay criterion x above s p
 way_of criterion x above s p has =
     elim (Contains-append_cases (way criterion x above s true) (way criterion x above s false) p has) [
