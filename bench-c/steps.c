@@ -94,7 +94,6 @@ static void step(tmwatch_attempt *a, unsigned pauses)
         return;
     if (s->runner != (int)a->thread)
         come_back(a);
-    s->steps++;
     s->step++;
     s->spin = pauses > 0 ? s->spin + pauses : 0;
     bool hands_over = s->spin > MOST_SPIN || (s->odds > 0 && draw(&s->draws, s->odds) == 0);
@@ -105,8 +104,11 @@ static void step(tmwatch_attempt *a, unsigned pauses)
     if (hands_over) {
         s->priority[a->thread] = --s->lowest;
         s->spin = 0;
-        hand_over(a);
     }
+    /* Whoever reads this, as the watchdog, may read what this thread has set before. */
+    s->steps++;
+    if (hands_over)
+        hand_over(a);
 }
 
 /* Draws at which steps of the round the runner gets the lowest priority. */

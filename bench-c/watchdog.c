@@ -31,11 +31,14 @@ static bool is_blocked(struct bench *b, int runner, uint64_t steps)
 {
     struct steps *s = &b->steps;
     struct watchdog *w = &b->watchdog;
-    if (runner == NOBODY || s->awake != runner || runner != w->runner || steps != w->steps) {
-        w->runner = runner;
-        w->steps = steps;
+    bool is_new = runner != w->runner || steps != w->steps;
+    w->runner = runner != NOBODY && s->awake == runner ? runner : NOBODY;
+    w->steps = steps;
+    if (w->runner == NOBODY)
+        return false;
+    if (is_new) {
         w->sleeps = 0;
-        w->used = runner == NOBODY ? 0 : microseconds_of(s->clock[runner]);
+        w->used = microseconds_of(s->clock[runner]);
         return false;
     }
     w->sleeps = is_asleep(s->tid[runner]) ? w->sleeps + 1 : 0;

@@ -78,7 +78,8 @@ def link_shared(room, call):
 
 def build_bench(room, call):
     """Compiles the bench for memories in C into archives of its own, so that the library's has nothing but what is proved."""
-    cc = [os.environ.get("CC", "cc"), "-std=c11", "-O2", "-fPIC", "-pthread", f"-I{TOP}/include", f'-DTMWATCH_VERSION="{read_version()}"', "-c"]
+    version = f'-DTMWATCH_VERSION="{read_version()}"'
+    cc = [os.environ.get("CC", "cc"), "-std=c11", "-O2", "-fPIC", "-pthread", f"-I{TOP}/include", version, "-c"]
     for archive, files in ARCHIVES.items():
         for name in files:
             call([*cc, "-o", f"{name}.o", f"{TOP}/bench-c/{name}.c"], cwd=room)

@@ -1,13 +1,13 @@
 #!/usr/bin/env bash
-# Runs memories on the bench for memories in C by steps, where a run is what its seed says: the same trace on one processor and on several, again
-# from the printed words, and stopped by a debugger; what is drawn, by draws.py; memories without a pause placed by hand, with delayed stores
-# too; interrupts, memories that never return, and runs that can't show much.
+# Runs memories on the bench for memories in C by steps, where a run is what its seed says: the same trace on one processor and on several,
+# again from the printed words, and stopped by a debugger; what is drawn, by draws.py; memories without a pause placed by hand, with delayed
+# stores too; interrupts, memories that never return, and runs that can't show much.
 #
 #   tests/steps.sh
 #
 # A line for each row. The last one is 'N passed, M failed', and the exit status is 1 if a row failed. Without a C compiler nothing is
 # tested: a line says so, and the status is 0. What a missing tool would show is skipped, and a line says so.
-# Environment: CC (cc), BUILT (tests/common.sh), FLAGS (further flags of the compiler).
+# Environment: CC (cc), BUILT (tests/common.sh), FLAGS (further flags of the compiler: no memory then runs without its pauses or under gdb).
 set -eu
 # shellcheck source=tests/common.sh
 . "$(dirname "${BASH_SOURCE[0]}")/common.sh"
@@ -16,6 +16,8 @@ has "$cc" tests/steps.sh || exit 0
 use_library
 read -r -a flags <<<"${FLAGS:-}"
 strict=(-std=c11 -Wall -Wextra -pedantic -Werror -g -O2 -pthread "-I$top/include" "${flags[@]}")
+# (a fence is no more than a fence to ThreadSanitizer)
+[ "${FLAGS:-}" != -fsanitize=thread ] || strict+=(-Wno-tsan)
 wrapped=(-Wl,--wrap=pthread_mutex_lock,--wrap=pthread_mutex_unlock,--wrap=sched_yield)
 bench=("$folder/libtmwatch_steps.a" "$folder/libtmwatch_bench.a" "$built/lib/libtmwatch.a")
 
@@ -43,6 +45,7 @@ again() {
     sed -n 's/^{"again":"\(.*\)","certain":true}$/\1/p' "$1"
 }
 
+ends 'a replay compiles' 0 "$cc" "${strict[@]}" -o "$folder/replay" "$top/tests/c/bench_replay.c" "${bench[@]}"
 paused norec examples/c/norec.c NONE
 paused norec_READS examples/c/norec.c READS
 paused tl2 tests/c/bench_tl2.c NONE
@@ -83,9 +86,10 @@ for name in norec_READS tl2_LOCKED versions_AGAIN; do
     ends "$name: the same trace" 0 cmp "$folder/one" "$folder/two"
     ends "$name: what stands beside its trace" 0 diff <(sed -n '/^{/p' "$folder/told") <(sed 's/"events":[0-9]*/&/' "$folder/one.run")
 done
-if has gdb 'a stop before the round'; then
+if [ ${#flags[@]} -eq 0 ] && has gdb 'a stop before the round'; then
     printf '%s\n' 'set pagination off' 'set breakpoint pending on' 'set disable-randomization off' 'break tmwatch_break' \
-        "run ${words[*]} --trace $folder/two" 'print this_thread->bench->round' 'break commit' continue 'next' 'delete' continue >"$folder/stops"
+        "run ${words[*]} --trace $folder/two" 'print this_thread->bench->round' 'break commit' continue 'next' 'delete' continue \
+        >"$folder/stops"
     ends 'a stop before the round' 0 timeout 120 gdb -q -batch -x "$folder/stops" "$folder/versions_AGAIN"
     cp "$folder/output" "$folder/stopped"
     # (a leg has 1000 rounds)
@@ -112,9 +116,39 @@ ends 'a start that is written first, compiled' 0 "$cc" "${strict[@]}" -o "$folde
 ends 'a start that is written first' 0 sh -c '"$1" >"$2"' sh "$folder/start" "$folder/one"
 ends 'a start that is written first: what is drawn' 0 "$top/tests/draws.py" "$folder/one" 20 1 1 3 100 20 0 50
 
+# A trace begins at the last look before a violation, and there are at most 64 rounds of eight attempts after it.
+ends 'a trace of few rounds' 1 "$folder/versions_AGAIN" --schedule steps --trace "$folder/one"
+has_told 'a trace of few rounds: not from the beginning' '"from":[1-9]'
+ends 'a trace of few rounds: how many' 0 sh -c 'test "$(grep -c " [CA]$" "$1")" -le 520' sh "$folder/one"
+# One of a long run begins with a look that is whole. A round of one thread here has 6 events, a look 16, and 131,072 events are kept: the
+# first that is kept falls into a look in two of these runs.
+whole_looks() {
+    local rounds
+    for rounds in $(seq 22050 22064); do
+        "$folder/norec" --schedule rounds --threads 1 --registers 7 --calls 1 --writes 100 --adds 0 --aborts 0 --mixes 0 --rounds "$rounds" \
+            --trace "$folder/one" >"$folder/printed" 2>&1
+        "$folder/replay" <"$folder/one" >"$folder/judged" 2>&1
+    done
+}
+if [ ${#flags[@]} -eq 0 ]; then
+    ends 'traces of long runs' 0 whole_looks
+fi
+
+# A time is in seconds, and alone it is all that ends the rounds.
+timed() {
+    local began=$EPOCHREALTIME
+    timeout 30 "$folder/norec" --threads 1 --calls 1 --schedule rounds --seconds 3 >"$folder/printed"
+    echo "$(since "$began") $(sed -n 's/.*"rounds":\([0-9]*\).*/\1/p' "$folder/printed")" | awk '{ exit !($1 >= 2.9 || $2 > 100000) }'
+}
+ends 'a time alone' 0 timed
+ends 'eight permits' 0 "$folder/norec" --schedule permits --threads 8 --rounds 3000
+has_told 'eight permits: eight attempts in a window' '"widest":8'
+
 # Memories without a pause: what they lack is found, and nothing else.
 unset last
-for compiler in gcc clang; do
+compilers=(gcc clang)
+[ ${#flags[@]} -eq 0 ] || compilers=()
+for compiler in "${compilers[@]}"; do
     has $compiler "memories without a pause, by $compiler" || continue
     for wide in '' '-DWIDE -mcx16'; do
         read -r -a words <<<"$wide"
@@ -134,7 +168,8 @@ for compiler in gcc clang; do
     unpaused plain_FENCE $compiler tests/c/bench_readers.c FENCE
     ends "a fence that is missing, by $compiler" 0 "$folder/plain_FENCE" --schedule steps --rounds 2000
     for seed in 1 2 3; do
-        ends "a fence that is missing, by $compiler, with buffers, seed $seed" 1 "$folder/plain_FENCE" --buffers --seed $seed --trace "$folder/one"
+        ends "a fence that is missing, by $compiler, with buffers, seed $seed" 1 "$folder/plain_FENCE" --buffers --seed $seed \
+            --trace "$folder/one"
         cp "$folder/output" "$folder/told"
         read -r -a words < <(again "$folder/told") || true
         ends "a fence that is missing, by $compiler, again" 1 "$folder/plain_FENCE" "${words[@]}" --trace "$folder/two"
@@ -157,9 +192,7 @@ interrupted() {
 for schedule in rounds permits steps all; do
     ends "an interrupt, $schedule" 0 interrupted INT $schedule
     has_told "an interrupt, $schedule: the verdict" '^{"events":[0-9]*,"verdict":"opaque so far"}$'
-    if [ -x "$program" ]; then
-        ends "an interrupt, $schedule: what judge says" 0 sh -c '"$1" judge <"$2"' sh "$program" "$folder/one"
-    fi
+    ends "an interrupt, $schedule: its trace, judged" 0 sh -c '"$1" <"$2"' sh "$folder/replay" "$folder/one"
     ends "an end, $schedule" 0 interrupted TERM $schedule
 done
 
@@ -167,7 +200,8 @@ done
 for fault in SPIN MUTEX READ; do
     paused "stuck_$fault" tests/c/bench_stuck.c $fault "${wrapped[@]}"
     for schedule in rounds permits steps; do
-        ends "a memory that never returns, $fault, $schedule" 4 "$folder/stuck_$fault" --schedule $schedule --patience 1 --trace "$folder/one"
+        ends "a memory that never returns, $fault, $schedule" 4 "$folder/stuck_$fault" --schedule $schedule --patience 1 \
+            --trace "$folder/one"
         cp "$folder/output" "$folder/told"
         ends "a memory that never returns, $fault, $schedule: the fault" 0 grep -qx '{"fault":"stuck"}' "$folder/told"
         case $fault in
@@ -176,8 +210,7 @@ for fault in SPIN MUTEX READ; do
         esac
         ends "a memory that never returns, $fault, $schedule: where" 0 grep -qx "$line" "$folder/told"
         ends "a memory that never returns, $fault, $schedule: its trace" 0 sh -c 'test "$(wc -l <"$1")" -gt 20' sh "$folder/one"
-        [ ! -x "$program" ] || ends "a memory that never returns, $fault, $schedule: what judge says" 0 sh -c '"$1" judge <"$2"' sh \
-            "$program" "$folder/one"
+        ends "a memory that never returns, $fault, $schedule: its trace, judged" 0 sh -c '"$1" <"$2"' sh "$folder/replay" "$folder/one"
     done
 done
 

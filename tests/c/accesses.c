@@ -1,6 +1,6 @@
 /*
-Each atomic access of each size, in a program that is compiled with -fsanitize=thread and linked with libtmwatch_steps.a: it has to do what it
-does without. Plain and volatile accesses, memory functions and fences, too.
+Each atomic access of each size, in a program that is compiled with -fsanitize=thread and linked with libtmwatch_steps.a: it has to do
+what it does without. Plain and volatile accesses, memory functions and fences, too.
 */
 #include "check.h"
 #include <stdbool.h>

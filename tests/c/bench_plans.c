@@ -272,6 +272,26 @@ static void never_begin(void)
     CHECK(out.counts.committed == 0 && out.counts.transactions > 3 && out.counts.unasked == out.counts.transactions);
 }
 
+/* Begins in no thread but 1. */
+static bool begin_in_one(void *memory, void *tx)
+{
+    return tmwatch_thread() == 1 && begin(memory, tx);
+}
+
+/* By permits, as many rounds are told as the thread has begun that has begun the fewest. */
+static void refuse_a_thread(void)
+{
+    tmwatch_memory it = memory;
+    tmwatch_plan plan = one_thread();
+    it.begin = begin_in_one;
+    plan.threads = 2;
+    plan.seconds = 1;
+    plan.rounds = UINT64_MAX;
+    plan.schedule = TMWATCH_PERMITS;
+    tmwatch_benched out = run(&it, plan);
+    CHECK(out.told.verdict == TMWATCH_OPAQUE_SO_FAR && out.rounds == 1 && out.counts.committed > 10);
+}
+
 /* A time ends the rounds, and a pause outside of a bench is none. */
 static void run_for_a_second(void)
 {
@@ -326,6 +346,7 @@ int main(int count, char **given)
     refuse_runs();
     run_by_permits();
     never_begin();
+    refuse_a_thread();
     run_for_a_second();
     return 0;
 }

@@ -1,7 +1,7 @@
 /*
-A memory with visible readers, after TLRW (Dice and Shavit, SPAA 2010), on the bench. A thread that reads a word raises its flag there, and
-then looks whether the word is locked. One that writes locks the word, and then looks at the flags of all others. Flags and locks are kept to the
-transaction's end. It writes in place, and aborts rather than waits.
+A memory with visible readers, after TLRW (Dice and Shavit, SPAA 2010), on the bench. A thread that reads a word raises its flag there,
+and then looks whether the word is locked. One that writes locks the word, and then looks at the flags of all others. Flags and locks are
+kept to the transaction's end. It writes in place, and aborts rather than waits.
 
 Between its flag and its look a reader has a fence. By -DFAULT=FENCE it has none: the look may be made while the flag is still in the
 processor's store buffer.

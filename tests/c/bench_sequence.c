@@ -1,6 +1,6 @@
 /*
-A memory of one sequence on the bench, odd while a commit stores. A read is good if the sequence is that of the transaction's beginning, and a
-commit that writes raises it twice.
+A memory of one sequence on the bench, odd while a commit stores. A read is good if the sequence is that of the transaction's beginning,
+and a commit that writes raises it twice.
 
 By -DFAULT=WRAP the sequence begins again after four commits, so that a transaction may take a later one for its own.
 */

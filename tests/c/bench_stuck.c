@@ -1,6 +1,6 @@
 /*
-A memory of one lock on the bench, in which thread 1 forgets to unlock: by -DFAULT=SPIN the next transaction spins at its begin; by MUTEX it waits
-for a mutex; by READ thread 1 never returns from a read of register 2. By NONE nothing is forgotten.
+A memory of one lock on the bench, in which thread 1 forgets to unlock: by -DFAULT=SPIN the next transaction spins at its begin; by MUTEX
+it waits for a mutex; by READ thread 1 never returns from a read of register 2. By NONE nothing is forgotten.
 */
 #include "tmwatch_bench.h"
 #include <pthread.h>

@@ -18,6 +18,7 @@ struct OneLock {
 struct Locked<'m> {
     words: MutexGuard<'m, [u64; 8]>,
     before: [u64; 8],
+    reads: u64,
     writes: u64,
 }
 
@@ -36,11 +37,17 @@ impl Memory for OneLock {
         }
         let words = self.words.lock().unwrap();
         LIVE.fetch_add(1, SeqCst);
-        Ok(Locked { before: *words, words, writes: 0 })
+        Ok(Locked { before: *words, words, reads: 0, writes: 0 })
     }
 
+    /// Aborts at a sixth read.
     fn read<'m>(&'m self, it: &mut Locked<'m>, register: usize) -> Result<u64, Aborted> {
         pause();
+        it.reads += 1;
+        if it.reads == 6 {
+            *it.words = it.before;
+            return Err(Aborted);
+        }
         Ok(it.words[register])
     }
 
@@ -279,4 +286,38 @@ fn a_plan_out_of_range_is_refused() {
     // One by permits is never out of range; in rounds, eight attempts are.
     assert_eq!(refused(Plan { attempts: 8, ..Plan::default() }), Status::BadBounds);
     assert!(bench(&Sequence::new(false), &Plan { rounds: 5, attempts: 8, schedule: Schedule::Permits, ..Plan::default() }).is_ok());
+}
+
+/// A transaction that is aligned to more than what the bench gives.
+#[repr(align(32))]
+struct Wide;
+
+struct Aligned;
+
+impl Memory for Aligned {
+    type Transaction<'m> = Wide;
+
+    fn begin(&self) -> Result<Wide, Aborted> {
+        Ok(Wide)
+    }
+
+    fn read(&self, _: &mut Wide, _: usize) -> Result<u64, Aborted> {
+        Ok(0)
+    }
+
+    fn write(&self, _: &mut Wide, _: usize, _: u64) -> Result<(), Aborted> {
+        Ok(())
+    }
+
+    fn commit(&self, _: Wide) -> Result<(), Aborted> {
+        Ok(())
+    }
+
+    fn abort(&self, _: Wide) {}
+}
+
+#[test]
+#[should_panic(expected = "aligns")]
+fn a_wide_transaction_is_refused() {
+    let _ = bench(&Aligned, &Plan { rounds: 1, ..Plan::default() });
 }
