@@ -1,5 +1,5 @@
-# Leaves out of a trace each aborted transaction that has called a write or an add. What is left, committed transactions and aborted readers,
-# is a run of a system that promises nothing to a writer that aborts.
+# Leaves out of a trace each aborted transaction that has called a write or an add. What is left, committed transactions and aborted
+# readers, is a run of a system that promises nothing to a writer that aborts.
 #
 #   producer | awk -f examples/field/readers.awk | ./tmwatch judge
 #

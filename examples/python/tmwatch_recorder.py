@@ -11,8 +11,8 @@
 
     main(lambda options: [Mine() for thread in range(options.threads)])
 
-`begin`, `read`, `write` and `commit` raise Refused if the store refuses the transaction. Each register holds 0 at first. All threads make one
-transaction a round, then wait for one another, so that a round's transactions are few enough to be judged.
+`begin`, `read`, `write` and `commit` raise Refused if the store refuses the transaction. Each register holds 0 at first. All threads
+make one transaction a round, then wait for one another, so that a round's transactions are few enough to be judged.
 """
 import argparse
 import os
@@ -104,7 +104,7 @@ class Worker:
 
 
 def run(stores, options, output):
-    """Makes `options.rounds` rounds of one transaction a store, and writes the trace. If a store fails, so does this, after what was recorded."""
+    """Makes `options.rounds` rounds of one transaction a store, and writes the trace. If a store fails, so does this."""
     events, failures = [], []
 
     def write_events():

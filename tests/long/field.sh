@@ -4,10 +4,13 @@
 #
 #   tests/long/field.sh [NAME..]
 #
-# NAME is a folder of examples/field, or sqlite. Without one, all are recorded. A row says how many runs were violated by opacity and by
-# strict serializability; of a hundred transactions judged, how many overlapped another thread's and how many were rolled back unasked; all
-# events; the least length at which opacity was violated; and the seconds. It fails if other runs are violated than is wanted, if one is
-# undecided or malformed, or if none of its transactions overlapped. A system is skipped if a package of Debian is missing: a line names it.
+# NAME is a folder of examples/field, or sqlite. Without one, all are recorded. A row has three registers, or one if it says (1): how many
+# runs were violated by opacity and by strict serializability; of a hundred transactions judged, how many overlapped another thread's and
+# how many were rolled back unasked; all events; the least length at which opacity was violated; the seconds; and how many runs the system ended
+# itself, by an error that a line above tells: what was written before is judged. A row fails if other runs are violated than is wanted, if
+# one is undecided or malformed, if in one no transactions overlapped, or if all ended early. A system is skipped if a package of Debian is
+# missing: a line names it.
+#
 # The last line is 'N passed, M failed'. The exit status is 1 if a row failed.
 # Environment: RUNS (10), PERCENT (100, of each row's rounds), CC (gcc); DRAWN, a folder for each row's shortest drawing by `show --why`,
 # with its trace.
@@ -33,9 +36,9 @@ end_field() {
     )
 }
 
-# The version of a package, without Debian's own part.
+# The version of a package, or of the last that fits a pattern, without Debian's own part.
 version_of() {
-    dpkg-query -W -f '${Version}' "$1" 2>/dev/null | sed 's/^[0-9]*://; s/[-+].*//'
+    dpkg-query -W -f '${Version}\n' "$1" 2>/dev/null | sed 's/^[0-9]*://; s/[-+].*//' | grep . | tail -n 1
 }
 
 # Begins the rows of a system, if it is wanted: its folder, its name and its version.
@@ -44,8 +47,8 @@ system() {
     system="$2 $3"
 }
 
-# Judges a run, and writes both verdicts, the length at which opacity is violated, or 0, and counts: all events, and of transactions those that
-# overlapped, all, and those rolled back unasked.
+# Judges a run, and writes both verdicts, the length at which opacity is violated, or 0, and counts: all events, and of transactions those
+# that overlapped, all, and those rolled back unasked.
 judge_run() {
     "$program" judge --criterion both --summary <"$folder/trace" 2>/dev/null | awk '
         function field(name,    found) {
@@ -82,31 +85,34 @@ sum_up() {
         $2 == "violated" { violated_strict++ }
         $1 !~ /^(violated|opaque)$/ || $2 !~ /^(violated|strict)$/ { other++ }
         END {
+            transactions += !transactions
             passes = NR == runs && !other && !idle && is_wanted(opacity, violated) && is_wanted(strict, violated_strict)
             printf "%5d/%d %5d/%d %4d %4d %9d %7d %s\n", violated, NR, violated_strict, NR, 100 * overlapping / transactions,
                 100 * unasked / transactions, events, least, passes ? "passed" : "FAILED"
         }' "$folder/judged"
 }
 
-# A row: the level, how many runs have to be violated by opacity and by strict serializability (all, some, none, any), the rounds of a run, and
-# the command that records one, which gets the rounds and a seed.
+# A row: the level, how many runs have to be violated by opacity and by strict serializability (all, some, none, any), the rounds of a run,
+# and the command that records one, which gets the rounds and a seed.
 row() {
-    local level=$1 wanted=$2 wanted_strict=$3 rounds=$(($4 * percent / 100)) status=0 began=$SECONDS summed
+    local level=$1 wanted=$2 wanted_strict=$3 rounds=$(($4 * percent / 100)) began=$SECONDS early=0 status summed
     shift 4
     : >"$folder/judged"
     for seed in $(seq "$runs"); do
+        status=0
         "$@" "$rounds" "$seed" >"$folder/trace" 2>"$folder/told" || status=$?
-        [ $status -eq 0 ] || break
+        if [ $status -eq 77 ]; then
+            printf '%-20s %-34s skipped: %s\n' "$system" "$level" "$(<"$folder/told")"
+            return
+        fi
+        [ $status -eq 0 ] || early=$((early + 1))
+        [ $status -eq 0 ] || grep -m 1 -E 'Error|Exception' "$folder/told" || tail -n 5 "$folder/told"
         judge_run >>"$folder/judged"
         [ -z "${DRAWN:-}" ] || keep_drawing "$level"
     done
-    if [ $status -eq 77 ]; then
-        printf '%-20s %-34s skipped: %s\n' "$system" "$level" "$(<"$folder/told")"
-        return
-    fi
     summed=$(sum_up "$wanted" "$wanted_strict")
-    counts [ "${summed##* }" = passed ] || tail -n 20 "$folder/told"
-    printf '%-20s %-34s %s in %d s\n' "$system" "$level" "$summed" $((SECONDS - began))
+    counts [ "${summed##* }" = passed -a $early -lt "$runs" ] || true
+    printf '%-20s %-34s %s in %d s, %d ended early\n' "$system" "$level" "$summed" $((SECONDS - began)) $early
 }
 
 # Records PostgreSQL without its aborted writers: what a transaction without writes says besides, the rounds and the seed.
@@ -115,57 +121,102 @@ readers() (
     READER=$1 FLAGS='-DSTEPS=2 -DABORTS=3' "$field/postgres/run" SERIALIZABLE "$2" "$3" | awk -f "$field/readers.awk"
 )
 
+# Records PostgreSQL by Debian's driver for Python, on the server that other rows have started: the level, the rounds and the seed.
+psycopg2() {
+    local python=/usr/bin/python3
+    "$python" -c 'import psycopg2' 2>/dev/null || { echo "Debian's package python3-psycopg2 is missing" >&2 && return 77; }
+    "$python" "$top/examples/python/dbapi.py" postgres "host=$FOLDER/postgres user=tmwatch dbname=postgres" --level "$1" --rounds "$2" \
+        --seed "$3"
+}
+
 # Records SQLite: options of the program, the rounds and the seed.
 sqlite() {
     python3 "$top/examples/python/sqlite.py" "${@:1:$#-2}" --rounds "${*: -2:1}" --seed "${*: -1}"
 }
 
+# Whether the filter leaves out what it says, and nothing else: an aborted writer goes; an aborted reader, a commit and a live writer stay.
+filters() {
+    awk -f "$field/readers.awk" >"$folder/filtered" <<'END'
+opacity-trace 1 1
+0 R 0
+1 W 0 1
+1 K
+0 V 0
+1 X
+1 A
+0 X
+0 A
+1 R 0
+2 W 0 2
+2 K
+1 V 0
+1 T
+1 C
+END
+    diff - "$folder/filtered" <<'END'
+opacity-trace 1 1
+0 R 0
+0 V 0
+0 X
+0 A
+1 R 0
+2 W 0 2
+2 K
+1 V 0
+1 T
+1 C
+END
+}
+
+ends readers.awk 0 filters
 printf '%-20s %-34s %8s %8s %4s %4s %9s %7s\n' system level opacity strict met back events least
 if system ghc 'GHC STM' "$(version_of ghc)"; then
     row atomically all none 3000 "$field/ghc/run"
 fi
 if system clojure Clojure "$(version_of clojure)"; then
     row deref all all 1000 "$field/clojure/run" deref
-    row 'deref, one register' none none 1000 env REGISTERS=1 "$field/clojure/run" deref
+    row 'deref (1)' none none 1000 env REGISTERS=1 "$field/clojure/run" deref
     row ensure none none 500 "$field/clojure/run" ensure
 fi
-if system postgres PostgreSQL "$(version_of "postgresql-$(ls /usr/lib/postgresql | tail -n 1)")"; then
+if system postgres PostgreSQL "$(version_of 'postgresql-[0-9]*')"; then
     row 'READ COMMITTED' all all 1000 "$field/postgres/run" 'READ COMMITTED'
+    row 'READ COMMITTED, psycopg2' all all 500 psycopg2 'read committed'
     row 'REPEATABLE READ' all all 1000 "$field/postgres/run" 'REPEATABLE READ'
-    row 'REPEATABLE READ, one register' none none 1000 env REGISTERS=1 "$field/postgres/run" 'REPEATABLE READ'
+    row 'REPEATABLE READ (1)' none none 1000 env REGISTERS=1 "$field/postgres/run" 'REPEATABLE READ'
     row SERIALIZABLE some none 3000 "$field/postgres/run" SERIALIZABLE
-    row 'readers, READ ONLY' any none 3000 readers 'READ ONLY'
-    row 'readers, READ ONLY DEFERRABLE' none none 3000 readers 'READ ONLY DEFERRABLE'
+    row 'READ ONLY readers' any none 3000 readers 'READ ONLY'
+    row 'DEFERRABLE readers' none none 3000 readers 'READ ONLY DEFERRABLE'
 fi
 if system redis Redis "$(version_of redis-server)"; then
-    row 'GET, EXEC' all all 1000 "$field/redis/run" plain
-    row 'WATCH, GET, EXEC' all none 1000 "$field/redis/run" watch
+    row 'no WATCH' all all 1000 "$field/redis/run" plain
+    row WATCH all none 1000 "$field/redis/run" watch
 fi
 if system lmdb LMDB "$(version_of liblmdb0)"; then
-    row 'one writer' none none 1000 "$field/lmdb/run"
+    row transaction none none 1000 "$field/lmdb/run"
 fi
 if system rocksdb RocksDB "$(version_of librocksdb-dev)"; then
     row 'locking, GetForUpdate' none none 500 "$field/rocksdb/run" 'locking update'
     row 'optimistic, GetForUpdate' all none 1000 "$field/rocksdb/run" 'optimistic update'
     row 'optimistic, snapshot' all all 1000 "$field/rocksdb/run" 'optimistic snapshot'
-    row 'optimistic, snapshot, one register' none none 1000 env REGISTERS=1 "$field/rocksdb/run" 'optimistic snapshot'
+    row 'optimistic, snapshot (1)' none none 1000 env REGISTERS=1 "$field/rocksdb/run" 'optimistic snapshot'
 fi
 if system bdb 'Berkeley DB' "$(version_of libdb5.3)"; then
     row serializable none none 1000 "$field/bdb/run" serializable
     row snapshot all all 1000 "$field/bdb/run" snapshot
-    row 'snapshot, one register' none none 1000 env REGISTERS=1 "$field/bdb/run" snapshot
+    row 'snapshot (1)' none none 1000 env REGISTERS=1 "$field/bdb/run" snapshot
 fi
 if system jdbc H2 "$(version_of libh2-java)"; then
     row SERIALIZABLE all all 500 "$field/jdbc/run" h2 SERIALIZABLE
     # (reads, another's commit and a roll-back: the more of each, the more stale reads)
     often=(env REGISTERS=1 'FLAGS=-Dwrites=6 -Daborts=2')
-    row 'SERIALIZABLE, one register' all all 1000 "${often[@]}" "$field/jdbc/run" h2 SERIALIZABLE
-    row 'the same, results not reused' none none 1000 "${often[@]}" 'OPTIONS=;OPTIMIZE_REUSE_RESULTS=FALSE' "$field/jdbc/run" h2 SERIALIZABLE
+    row 'SERIALIZABLE (1)' all all 1000 "${often[@]}" "$field/jdbc/run" h2 SERIALIZABLE
+    often+=('OPTIONS=;OPTIMIZE_REUSE_RESULTS=FALSE')
+    row 'SERIALIZABLE, no reuse (1)' none none 1000 "${often[@]}" "$field/jdbc/run" h2 SERIALIZABLE
 fi
 if system jdbc HSQLDB "$(version_of libhsqldb-java)"; then
     row 'locks, SERIALIZABLE' none none 500 env 'OPTIONS=;hsqldb.tx=locks' "$field/jdbc/run" hsqldb SERIALIZABLE
     row 'mvcc, SERIALIZABLE' all all 500 env 'OPTIONS=;hsqldb.tx=mvcc' "$field/jdbc/run" hsqldb SERIALIZABLE
-    row 'mvcc, SERIALIZABLE, one register' none none 500 env REGISTERS=1 'OPTIONS=;hsqldb.tx=mvcc' "$field/jdbc/run" hsqldb SERIALIZABLE
+    row 'mvcc, SERIALIZABLE (1)' none none 500 env REGISTERS=1 'OPTIONS=;hsqldb.tx=mvcc' "$field/jdbc/run" hsqldb SERIALIZABLE
 fi
 if system jdbc Derby "$(version_of libderby-java)"; then
     row 'READ COMMITTED' all all 300 "$field/jdbc/run" derby 'READ COMMITTED'
@@ -176,8 +227,8 @@ if system mariadb MariaDB "$(version_of mariadb-server)"; then
     row SERIALIZABLE none none 500 "$field/mariadb/run" serializable
 fi
 if system sqlite SQLite "$(python3 -c 'import sqlite3; print(sqlite3.sqlite_version)')"; then
-    row 'journal' none none 1000 sqlite --journal delete
-    row 'WAL' none none 1000 sqlite --journal wal
-    row 'shared cache, uncommitted reads' all all 500 sqlite --uncommitted
+    row journal none none 1000 sqlite --journal delete
+    row WAL none none 1000 sqlite --journal wal
+    row read_uncommitted all all 500 sqlite --uncommitted
 fi
 end_rows

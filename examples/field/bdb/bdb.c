@@ -82,7 +82,8 @@ static void open_database(unsigned reg)
     char name[] = "0.db";
     name[0] += (char)reg;
     is_done(db_create(&databases[reg], environment, 0), "create");
-    is_done(databases[reg]->open(databases[reg], NULL, name, NULL, DB_HASH, DB_CREATE | DB_THREAD | DB_AUTO_COMMIT | open_flags, 0600), name);
+    open_flags |= DB_CREATE | DB_THREAD | DB_AUTO_COMMIT;
+    is_done(databases[reg]->open(databases[reg], NULL, name, NULL, DB_HASH, open_flags, 0600), name);
     store_write(0, reg, 0);
 }
 

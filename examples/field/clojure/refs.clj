@@ -11,6 +11,8 @@
 (def steps 3)
 (def attempts 2)
 (def pause "Longest sleep between two calls, in microseconds." 150)
+(def pause-before "Longest sleep before an attempt." 600)
+(def aborts-one-in "One transaction in so many asks to abort." 8)
 (def room "Events of a round, at most." 1024)
 
 (def reads-by (first *command-line-args*))
@@ -70,10 +72,10 @@
 
 (defn transaction [^SplittableRandom random thread number]
   (let [plan (vec (repeatedly steps #(vector (.nextInt random registers) (.nextBoolean random))))
-        aborts (zero? (.nextInt random 8))]
+        aborts (zero? (.nextInt random aborts-one-in))]
     (loop [count 0]
       (when (< count attempts)
-        (rest-at-most random (* 4 pause))
+        (rest-at-most random pause-before)
         ;; no other attempt of the run writes this value
         (when-not (attempt random thread plan aborts (+ 1 count (* attempts (+ thread (* threads number)))))
           (recur (inc count)))))))

@@ -21,9 +21,10 @@ import java.util.concurrent.locks.LockSupport;
  * standard error.
  */
 class Rows {
-    static final int THREADS = 4, STEPS = 3, ATTEMPTS = 2, WRITES = Integer.getInteger("writes", 2), ABORTS = Integer.getInteger("aborts", 8);
-    /** Longest sleep between two calls, in microseconds. */
-    static final int PAUSE = 150;
+    static final int THREADS = 4, STEPS = 3, ATTEMPTS = 2;
+    static final int WRITES = Integer.getInteger("writes", 2), ABORTS = Integer.getInteger("aborts", 8);
+    /** Longest sleep between two calls and before an attempt, in microseconds. */
+    static final int PAUSE = 150, PAUSE_BEFORE = 600;
     /** Events of a round, at most. */
     static final int ROOM = 1024;
 
@@ -31,6 +32,9 @@ class Rows {
     static final AtomicInteger recorded = new AtomicInteger();
     static final PrintWriter output = new PrintWriter(System.out, false);
     static final CyclicBarrier barrier = new CyclicBarrier(THREADS, Rows::writeEvents);
+
+    /** Words of the command line that are no statements. */
+    static final int FIXED_WORDS = 5;
 
     static String url;
     static int level, registers;
@@ -84,10 +88,11 @@ class Rows {
         put.executeUpdate();
     }
 
-    /** Whether the database refuses the transaction: class 40; in H2 also a lock's timeout, and a row that another has changed. */
+    /** Whether the database refuses the transaction: class 40; in H2 also a lock's timeout, and a row that another has changed or undoes. */
     static boolean isRefusal(SQLException failure) {
         String state = failure.getSQLState();
-        return state != null && (state.startsWith("40") || state.equals("HYT00") || state.equals("90131"));
+        boolean isUndone = failure.getMessage().contains("has status ROLLING_BACK");
+        return isUndone || state != null && (state.startsWith("40") || state.equals("HYT00") || state.equals("90131"));
     }
 
     void makeSteps(long fresh) throws SQLException {
@@ -133,7 +138,7 @@ class Rows {
         aborts = random.nextInt(ABORTS) == 0;
         boolean isDone = false;
         for (int count = 0; count < ATTEMPTS && !isDone; count++) {
-            rest(4 * PAUSE);
+            rest(PAUSE_BEFORE);
             // no other attempt of the run writes this value
             isDone = attempt((number * THREADS + thread) * ATTEMPTS + count + 1);
         }
@@ -158,7 +163,7 @@ class Rows {
     static Connection open(String[] words) throws SQLException {
         Connection first = DriverManager.getConnection(url);
         try (Statement statement = first.createStatement()) {
-            for (int i = 5; i < words.length; i++)
+            for (int i = FIXED_WORDS; i < words.length; i++)
                 statement.execute(words[i]);
             statement.execute("CREATE TABLE registers (place INT PRIMARY KEY, amount BIGINT)");
             for (int register = 0; register < registers; register++)
