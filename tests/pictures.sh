@@ -1,11 +1,11 @@
 #!/usr/bin/env bash
-# Compares each picture of docs/pictures with the page of `show` that it shows.
+# Compares each picture of docs/pictures with what it shows.
 #
 #   tests/pictures.sh
 #   tests/pictures.sh write
 #
-# A picture keeps a checksum of its page: it has to be that of the page which the program writes. `write` makes all pictures anew, by
-# Chromium (tests/page.py).
+# A picture (.png) of the page of `show` keeps a checksum of its page: it has to be that of the page which the program writes. A drawing
+# (.svg) has to be what tests/drawings.py writes. `write` makes all anew, the pictures by Chromium (tests/page.py).
 #
 # Each row that fails is printed. The last line is 'N passed, M failed', and the exit status is 1 if a row failed.
 # Environment: PROGRAM, the program (the built one); BROWSER (chromium), for `write`.
@@ -13,6 +13,7 @@ set -eu
 # shellcheck source=tests/common.sh
 . "$(dirname "${BASH_SOURCE[0]}")/common.sh"
 pictures=$top/docs/pictures examples=$top/examples program=${PROGRAM:-$program}
+drawings=(crates verdict cut moments)
 
 # Calls these words for each picture: its file, its size, light or dark, what the page runs, and the trace with options.
 each_picture() {
@@ -30,5 +31,13 @@ compare_picture() {
     counts python3 "$top/tests/page.py" "$program" - --compare "$@" || echo "$1 is not as 'tests/pictures.sh write' makes it"
 }
 
-if [ "${1:-}" = write ]; then each_picture write_picture; else each_picture compare_picture; fi
-[ "${1:-}" = write ] || end_rows
+if [ "${1:-}" = write ]; then
+    for name in "${drawings[@]}"; do "$top/tests/drawings.py" "$name" >"$pictures/$name.svg"; done
+    each_picture write_picture
+    exit
+fi
+for name in "${drawings[@]}"; do
+    counts cmp -s <("$top/tests/drawings.py" "$name") "$pictures/$name.svg" || echo "$name.svg is not as 'tests/pictures.sh write' makes it"
+done
+each_picture compare_picture
+end_rows
