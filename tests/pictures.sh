@@ -19,6 +19,11 @@ drawings=(crates verdict cut moments)
 each_picture() {
     "$@" "$pictures/broken.png" 1000x376 light "for (const id of ['told', 'states']) document.getElementById(id).hidden = true" \
         "$examples/ghc_stm.trace --why"
+    "$@" "$pictures/light.png" 1100x470 light '' "$examples/real_time_order.trace"
+    "$@" "$pictures/dark.png" 1100x470 dark "document.querySelector('#chart .tx[data-first=\"2\"]').focus()" "$examples/real_time_order.trace"
+    "$@" "$pictures/read.png" 1100x470 light \
+        "const read = document.querySelector('#chart .op[data-first=\"1\"]'); read.focus(); read.dispatchEvent(new MouseEvent('click'))" \
+        "$examples/long_fork.trace"
 }
 
 # Makes a picture.
