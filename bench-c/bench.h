@@ -54,6 +54,7 @@ struct tmwatch_attempt {
     uint64_t uses, left;  /* in this round: how many registers a transaction uses, and how many attempts are left */
     uint64_t begun;       /* how many transactions were begun by permits */
     uint64_t written;     /* how many values were drawn to be written */
+    atomic_uint_least64_t keeps; /* how many events it has kept: whoever reads this may read them */
     uint64_t stores;      /* how many writes and adds were recorded */
     uint64_t before;      /* how many commits were asked for when the attempt began */
     uint64_t foreign;     /* the most commits of others within an attempt */

@@ -194,7 +194,9 @@ static void tell_places(struct bench *b)
     static const char *const places[] = {"none", "begin", "read", "write", "add", "commit", "abort", "run"};
     fprintf(stderr, "no event for %llu seconds\n", (unsigned long long)b->plan->patience);
     for (unsigned i = 0; i < b->plan->threads; i++) {
-        unsigned inside = atomic_load_explicit(&b->workers[i].inside, memory_order_acquire), place = inside % 256;
+        unsigned inside = b->workers[i].inside, place = inside % 256;
+        /* What the trace is written from is kept. */
+        (void)b->workers[i].keeps;
         if (place == OUTSIDE)
             fprintf(stderr, "thread %u waits for the others\n", i);
         else if (place == IN_READ || place == IN_WRITE || place == IN_ADD)

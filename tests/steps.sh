@@ -176,6 +176,17 @@ for compiler in "${compilers[@]}"; do
         ends "a fence that is missing, by $compiler: the same trace" 0 cmp "$folder/one" "$folder/two"
     done
 done
+for compiler in g++ clang++; do
+    [ ${#flags[@]} -eq 0 ] && has $compiler "a class without a pause, by $compiler" || continue
+    for fault in NONE READS; do
+        ends "a class without a pause, by $compiler, $fault, compiles" 0 $compiler -std=c++17 -O2 -fsanitize=thread "-I$top/include" \
+            "-DFAULT=$fault" -c -o "$folder/memory.o" "$top/tests/c/bench_class.cpp"
+        ends "a class without a pause, by $compiler, $fault, is linked" 0 $compiler -pthread -o "$folder/class" "$folder/memory.o" \
+            "${wrapped[@]}" "${bench[@]}"
+        ends "a class without a pause, by $compiler, $fault" $([ $fault = NONE ] && echo 0 || echo 1) "$folder/class" --schedule steps \
+            --rounds 2000 --buffers
+    done
+done
 ends 'buffers of a memory that is not compiled for them' 4 "$folder/norec" --buffers
 has_told 'buffers of a memory that is not compiled for them: why' 'libtmwatch_steps.a$'
 
