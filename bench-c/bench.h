@@ -112,9 +112,11 @@ struct session {
 enum gate { WAIT, RUN, END };
 
 struct bench {
-    struct session *session;
-    const tmwatch_memory *memory;
-    const tmwatch_plan *plan; /* of this leg */
+    struct session *session; /* of the judge alone: threads that are stuck outlive it */
+    tmwatch_memory own_memory;
+    tmwatch_plan own_plan;
+    const tmwatch_memory *memory; /* these two */
+    const tmwatch_plan *plan;
     uint64_t attempts, room;
     tmwatch watch;
     tmwatch_recorder recorders[MOST_THREADS];

@@ -242,8 +242,10 @@ static uint32_t run_leg(struct bench *b, struct session *session, const tmwatch_
 {
     memset(out, 0, sizeof *out);
     b->session = session;
-    b->memory = session->memory;
-    b->plan = plan;
+    b->own_memory = *session->memory;
+    b->own_plan = *plan;
+    b->memory = &b->own_memory;
+    b->plan = &b->own_plan;
     set_bounds(b);
     tmwatch_settings settings = TMWATCH_SETTINGS(plan->registers);
     memcpy(settings.start, plan->start, sizeof settings.start);
