@@ -105,6 +105,7 @@ struct session {
     uint64_t written[MOST_THREADS];
     uint64_t start[MOST_REGISTERS]; /* what the registers hold */
     uint64_t began;                 /* microseconds */
+    bool is_late;                   /* the time is up, or an interrupt has come */
     tmwatch_benched all;            /* of all legs before this one */
 };
 

@@ -94,10 +94,25 @@ static void show_progress(struct bench *b, struct waiting *w)
     fflush(b->plan->progress);
 }
 
+/* How long a leg may take that isn't the only one and can't be repeated: on a busy machine some hundred rounds. */
+enum { LEG_MICROSECONDS = 500000 };
+
+/* Looks whether the leg's time is up, or that of all. */
+static void look_for_end(struct bench *b, uint64_t leg_began, uint64_t now)
+{
+    struct session *session = b->session;
+    if (is_interrupted || (b->plan->seconds > 0 && (now - session->began) / SECOND >= b->plan->seconds))
+        session->is_late = true;
+    bool is_long = session->plan->schedule == TMWATCH_ALL && !by_steps(b) && now - leg_began >= LEG_MICROSECONDS;
+    if (session->is_late || is_long)
+        b->is_late = true;
+}
+
 /* Judges until all threads have ended, and then what is left; or until nothing has come for too long. */
 static void judge(struct bench *b, unsigned threads)
 {
-    struct waiting w = {microseconds_of(CLOCK_MONOTONIC), 0, 0, microseconds_of(CLOCK_MONOTONIC)};
+    uint64_t began = microseconds_of(CLOCK_MONOTONIC);
+    struct waiting w = {began, 0, 0, began};
     while (b->ended < threads && !b->is_stuck) {
         uint64_t judged = judge_some(b);
         if (judged == 0)
@@ -106,8 +121,7 @@ static void judge(struct bench *b, unsigned threads)
             watch_steps(b);
         b->is_stuck = is_idle(b, &w, judged);
         show_progress(b, &w);
-        if (is_interrupted || (b->plan->seconds > 0 && (w.looked - b->session->began) / SECOND >= b->plan->seconds))
-            b->is_late = true;
+        look_for_end(b, began, w.looked);
     }
     while (judge_some(b) > 0)
         ;
