@@ -5,7 +5,8 @@
 #   tests/long/planted.sh
 #
 # A row for each mistake says that the test fails with it which tests/c.sh, tests/steps.sh or tests/bindings.sh runs. The first rows say that
-# the tests pass without a mistake. The last line is 'N passed, M failed', and the exit status is 1 if a row failed. Without cargo the package
+# the tests pass without a mistake. No test here can notice that permits are taken without order (x86 keeps it), that room is asked for before
+# the permit (the ring has seldom so few cells), or that a spent watch is taken for a fault (2^40 events). The last line is 'N passed, M failed', and the exit status is 1 if a row failed. Without cargo the package
 # in Rust is skipped, and a line says so.
 # Environment: BUILT (tests/common.sh), CC (cc), CARGO (cargo).
 set -eu
@@ -71,6 +72,10 @@ eight() {
     timeout 60 "$folder/memory" --schedule permits --threads 8 --rounds 3000 >"$folder/printed"
     grep -q '"widest":8' "$folder/printed"
 }
+permits() {
+    compiled permits "$top/tests/c/permits.c"
+    timeout 60 "$folder/permits" || return 1
+}
 same() {
     compiled memory "$top/examples/c/norec.c"
     local word
@@ -86,7 +91,7 @@ mistake() {
     ends "$1: $3 notices it" 1 "$3"
 }
 
-for test in draws start plans seconds short whole eight same; do
+for test in draws start plans seconds short whole eight permits same; do
     plant '' || true
     ends "no mistake: $test" 0 "$test"
 done
@@ -108,6 +113,8 @@ mistake 'seconds alone run 100000 rounds' 's/plan->rounds = UINT64_MAX;/;/' seco
 mistake 'a trace begins at the first look of a violation' 's/(is_wrong || found == at)/found == at/' short
 mistake 'a trace may begin at a look that is half gone' 's/events - KEPT + look_events : 0/events - KEPT : 0/' whole
 mistake 'seven permits' 's/>= 8 \* one/>= 7 * one/' eight
+mistake 'all permits are free when one of eight is given' \
+    's/seen % one == 1 ? 0 : seen - 1/seen >= 8 * one || seen % one == 1 ? seen % one - 1 : seen - 1/' permits
 mistake 'steps depend on the time' 's/hands_over = s->spin > MOST_SPIN/hands_over = microseconds_of(CLOCK_MONOTONIC) % 2 || s->spin > MOST_SPIN/' same
 
 # The same for the package in Rust: its name, the file, the change, and the test.
