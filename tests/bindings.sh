@@ -29,8 +29,8 @@ has_told 'a program on the bench: no rescue' '"rescues":0,"rounds":500,'
 # Each atomic access as a step, which a nightly compiler can do, or this one if it is told to be one.
 steps="-Zsanitizer=thread -Zexternal-clangrt -Cunsafe-allow-abi-mismatch=sanitizer -Clink-arg=$library/libtmwatch_steps.a"
 by_steps() {
-    TMWATCH_LIB=$library RUSTC_BOOTSTRAP=1 RUSTFLAGS="$steps -Clink-arg=$library/libtmwatch_bench.a" "$cargo" "$1" --offline --locked --release \
-        --example lock --target x86_64-unknown-linux-gnu "${@:2}"
+    TMWATCH_LIB=$library RUSTC_BOOTSTRAP=1 RUSTFLAGS="$steps -Clink-arg=$library/libtmwatch_bench.a" "$cargo" "$1" --offline --locked \
+        --release --example lock --target x86_64-unknown-linux-gnu "${@:2}"
 }
 if by_steps build >"$folder/output" 2>&1; then
     ends 'each access a step' 0 by_steps run -- --schedule steps --rounds 500 --buffers

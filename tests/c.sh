@@ -226,7 +226,8 @@ wrong_bench 'records no call to commit' '/has_asked = a->calls/{n;s/note_call(a)
 wrong_bench 'records no abort' "s/note_answer(a, has_committed ? 'C' : 'A', 0);/if (has_committed) note_answer(a, 'C', 0);/" 3
 # Without its permits, threads that run freely are undecided. Nothing then keeps room for their events, so that the ring has cells for all.
 rounds=20 schedule=permits wrong_bench 'takes no permit and gives none' 's/tmwatch_permits_[a-z_]*(&[^;]*);/(void)0;/' 2
-for words in --rounds '--rounds x' '--rounds 0' '--mixes 101' '--schedule rounds --round 3' '--threads 9' '--registers 0' '--calls 17' '--writes 101' '--seed 18446744073709551616' '--none 1' '--schedule x' 3; do
+for words in --rounds '--rounds x' '--rounds 0' '--mixes 101' '--schedule rounds --round 3' '--threads 9' '--registers 0' '--calls 17' \
+    '--writes 101' '--seed 18446744073709551616' '--none 1' '--schedule x' 3; do
     read -r -a given <<<"$words"
     ends "wrong words, $words" 4 "${run[@]}" "$folder/norec_NONE" "${given[@]}"
     has_told "wrong words, $words: what is told" -x '{"fault":"usage"}'

@@ -125,8 +125,8 @@ ends 'a trace of few rounds: how many' 0 sh -c 'test "$(grep -c " [CA]$" "$1")" 
 whole_looks() {
     local rounds
     for rounds in $(seq 22050 22064); do
-        "$folder/norec" --schedule rounds --threads 1 --registers 7 --calls 1 --writes 100 --adds 0 --aborts 0 --mixes 0 --rounds "$rounds" \
-            --trace "$folder/one" >"$folder/printed" 2>&1
+        "$folder/norec" --schedule rounds --threads 1 --registers 7 --calls 1 --writes 100 --adds 0 --aborts 0 --mixes 0 \
+            --rounds "$rounds" --trace "$folder/one" >"$folder/printed" 2>&1
         "$folder/replay" <"$folder/one" >"$folder/judged" 2>&1
     done
 }

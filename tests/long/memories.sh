@@ -50,8 +50,8 @@ in_cpp() {
     "$cxx" -std=c++17 "${flags[@]}" "-DFAULT=$3" -o "$folder/$1" "$top/$2" "${link[@]}"
 }
 
-# Each of these makes a run of $rounds with $seed by $schedule, for $seconds at most if there are any: of a program in C or C++, with further
-# options of the bench; of libitm, by one of its methods; of the program in Rust.
+# Each of these makes a run of $rounds with $seed by $schedule, for $seconds at most if there are any: of a program in C or C++, with
+# further options of the bench; of libitm, by one of its methods; of the program in Rust.
 bench() {
     timeout 300 "$folder/$1" --rounds "$rounds" ${seconds:+--seconds "$seconds"} --seed "$seed" --schedule "$schedule" "${@:2}"
 }

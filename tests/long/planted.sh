@@ -6,8 +6,8 @@
 #
 # A row for each mistake says that the test fails with it which tests/c.sh, tests/steps.sh or tests/bindings.sh runs. The first rows say
 # that the tests pass without a mistake. No test here can notice that permits are taken without order (x86 keeps it), that room is asked for
-# before the permit (the ring has seldom so few cells), or that a spent watch is taken for a fault (2^40 events). The last line is 'N passed,
-# M failed', and the exit status is 1 if a row failed. Without cargo the package in Rust is skipped, and a line says so.
+# before the permit (the ring has seldom so few cells), or that a spent watch is taken for a fault (2^40 events). The last line is 'N
+# passed, M failed', and the exit status is 1 if a row failed. Without cargo the package in Rust is skipped, and a line says so.
 # Environment: BUILT (tests/common.sh), CC (cc), CARGO (cargo).
 set -eu
 # shellcheck source=tests/common.sh

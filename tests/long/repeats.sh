@@ -1,6 +1,6 @@
 #!/usr/bin/env bash
-# Runs each memory of tests/c by steps again and again with one seed: on one, two and four processors, and beside busy loops. Each run has to
-# have the same trace, and no rescue. A memory whose mutex the bench doesn't see has to show rescues.
+# Runs each memory of tests/c by steps again and again with one seed: on one, two and four processors, and beside busy loops. Each run has
+# to have the same trace, and no rescue. A memory whose mutex the bench doesn't see has to show rescues.
 #
 #   tests/long/repeats.sh
 #
