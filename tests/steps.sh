@@ -18,7 +18,7 @@ read -r -a flags <<<"${FLAGS:-}"
 strict=(-std=c11 -Wall -Wextra -pedantic -Werror -g -O2 -pthread "-I$top/include" "${flags[@]}")
 # (a fence is no more than a fence to ThreadSanitizer)
 [ "${FLAGS:-}" != -fsanitize=thread ] || strict+=(-Wno-tsan)
-wrapped=(-Wl,--wrap=pthread_mutex_lock,--wrap=pthread_mutex_unlock,--wrap=sched_yield)
+wrapped=('-Wl,--wrap=pthread_mutex_lock,--wrap=pthread_mutex_unlock,--wrap=sched_yield')
 bench=("$folder/libtmwatch_steps.a" "$folder/libtmwatch_bench.a" "$built/lib/libtmwatch.a")
 
 # The archives as packaging/layout.py makes them, with the flags.

@@ -32,7 +32,7 @@ done
 ar rcs "$folder/lib/libtmwatch_bench.a" "$folder/tmwatch_bench.o" "$folder/waits.o"
 ar rcs "$folder/lib/libtmwatch_steps.a" "$folder/accesses.o" "$folder/wide.o"
 link=("$folder/lib/libtmwatch_steps.a" "$folder/lib/libtmwatch_bench.a" "$folder/lib/libtmwatch.a"
-    -Wl,--wrap=pthread_mutex_lock,--wrap=pthread_mutex_unlock,--wrap=sched_yield)
+    '-Wl,--wrap=pthread_mutex_lock,--wrap=pthread_mutex_unlock,--wrap=sched_yield')
 
 # Compiles a memory in C: the program's name, the file, its fault, and further flags.
 in_c() {

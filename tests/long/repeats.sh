@@ -17,7 +17,7 @@ for file in tmwatch_bench waits; do
     "${CC:-cc}" -std=c11 "${flags[@]}" -c -o "$folder/$file.o" "$top/bench-c/$file.c"
 done
 link=("$folder/tmwatch_bench.o" "$folder/waits.o" "$built/lib/libtmwatch.a")
-wrapped=(-Wl,--wrap=pthread_mutex_lock,--wrap=pthread_mutex_unlock,--wrap=sched_yield)
+wrapped=('-Wl,--wrap=pthread_mutex_lock,--wrap=pthread_mutex_unlock,--wrap=sched_yield')
 
 # A row: the memory, the processors, and further words.
 row() {
