@@ -36,6 +36,7 @@ static void keep(tmwatch_attempt *a, uint64_t place, uint32_t letter, uint64_t r
     a->bench->kept[place % KEPT] = (struct kept){value, (uint8_t)a->thread, (uint8_t)reg, (char)letter, a->looks && letter == 'C'};
     if (by_steps(a->bench))
         a->bench->steps.recorded = place + 1;
+    a->keeps++;
 }
 
 /* Before an event, what the thread has stored comes out: so the record is that of the memory. */
@@ -45,10 +46,10 @@ static void drain(void)
         tmwatch_step_drain();
 }
 
-/* Says where the thread is. Whoever reads it may read what the thread has kept before. */
+/* Says where the thread is. */
 static void set_place(tmwatch_attempt *a, enum place place, unsigned reg)
 {
-    atomic_store_explicit(&a->inside, (unsigned)place + 256 * reg, memory_order_release);
+    atomic_store_explicit(&a->inside, (unsigned)place + 256 * reg, memory_order_relaxed);
 }
 
 /* Records the attempt's next call. There is room for it: the thread has asked for all of the round, or the attempt, before that began. */

@@ -54,6 +54,7 @@ struct tmwatch_attempt {
     uint64_t uses, left;  /* in this round: how many registers a transaction uses, and how many attempts are left */
     uint64_t begun;       /* how many transactions were begun by permits */
     uint64_t written;     /* how many values were drawn to be written */
+    atomic_uint_least64_t keeps; /* how many events it has kept: whoever reads this may read them */
     uint64_t stores;      /* how many writes and adds were recorded */
     uint64_t before;      /* how many commits were asked for when the attempt began */
     uint64_t foreign;     /* the most commits of others within an attempt */
@@ -104,6 +105,7 @@ struct session {
     uint64_t written[MOST_THREADS];
     uint64_t start[MOST_REGISTERS]; /* what the registers hold */
     uint64_t began;                 /* microseconds */
+    bool is_late;                   /* the time is up, or an interrupt has come */
     tmwatch_benched all;            /* of all legs before this one */
 };
 
@@ -111,9 +113,11 @@ struct session {
 enum gate { WAIT, RUN, END };
 
 struct bench {
-    struct session *session;
-    const tmwatch_memory *memory;
-    const tmwatch_plan *plan; /* of this leg */
+    struct session *session; /* of the judge alone: threads that are stuck outlive it */
+    tmwatch_memory own_memory;
+    tmwatch_plan own_plan;
+    const tmwatch_memory *memory; /* these two */
+    const tmwatch_plan *plan;
     uint64_t attempts, room;
     tmwatch watch;
     tmwatch_recorder recorders[MOST_THREADS];

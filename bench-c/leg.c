@@ -94,10 +94,25 @@ static void show_progress(struct bench *b, struct waiting *w)
     fflush(b->plan->progress);
 }
 
+/* How long a leg may take that isn't the only one and can't be repeated: on a busy machine some hundred rounds. */
+enum { LEG_MICROSECONDS = 500000 };
+
+/* Looks whether the leg's time is up, or that of all. */
+static void look_for_end(struct bench *b, uint64_t leg_began, uint64_t now)
+{
+    struct session *session = b->session;
+    if (is_interrupted || (b->plan->seconds > 0 && (now - session->began) / SECOND >= b->plan->seconds))
+        session->is_late = true;
+    bool is_long = session->plan->schedule == TMWATCH_ALL && !by_steps(b) && now - leg_began >= LEG_MICROSECONDS;
+    if (session->is_late || is_long)
+        b->is_late = true;
+}
+
 /* Judges until all threads have ended, and then what is left; or until nothing has come for too long. */
 static void judge(struct bench *b, unsigned threads)
 {
-    struct waiting w = {microseconds_of(CLOCK_MONOTONIC), 0, 0, microseconds_of(CLOCK_MONOTONIC)};
+    uint64_t began = microseconds_of(CLOCK_MONOTONIC);
+    struct waiting w = {began, 0, 0, began};
     while (b->ended < threads && !b->is_stuck) {
         uint64_t judged = judge_some(b);
         if (judged == 0)
@@ -106,8 +121,7 @@ static void judge(struct bench *b, unsigned threads)
             watch_steps(b);
         b->is_stuck = is_idle(b, &w, judged);
         show_progress(b, &w);
-        if (is_interrupted || (b->plan->seconds > 0 && (w.looked - b->session->began) / SECOND >= b->plan->seconds))
-            b->is_late = true;
+        look_for_end(b, began, w.looked);
     }
     while (judge_some(b) > 0)
         ;
@@ -194,7 +208,9 @@ static void tell_places(struct bench *b)
     static const char *const places[] = {"none", "begin", "read", "write", "add", "commit", "abort", "run"};
     fprintf(stderr, "no event for %llu seconds\n", (unsigned long long)b->plan->patience);
     for (unsigned i = 0; i < b->plan->threads; i++) {
-        unsigned inside = atomic_load_explicit(&b->workers[i].inside, memory_order_acquire), place = inside % 256;
+        unsigned inside = b->workers[i].inside, place = inside % 256;
+        /* What the trace is written from is kept. */
+        (void)b->workers[i].keeps;
         if (place == OUTSIDE)
             fprintf(stderr, "thread %u waits for the others\n", i);
         else if (place == IN_READ || place == IN_WRITE || place == IN_ADD)
@@ -240,8 +256,10 @@ static uint32_t run_leg(struct bench *b, struct session *session, const tmwatch_
 {
     memset(out, 0, sizeof *out);
     b->session = session;
-    b->memory = session->memory;
-    b->plan = plan;
+    b->own_memory = *session->memory;
+    b->own_plan = *plan;
+    b->memory = &b->own_memory;
+    b->plan = &b->own_plan;
     set_bounds(b);
     tmwatch_settings settings = TMWATCH_SETTINGS(plan->registers);
     memcpy(settings.start, plan->start, sizeof settings.start);

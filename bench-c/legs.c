@@ -130,7 +130,7 @@ static uint32_t run_legs(struct session *session)
         uint64_t before = all->told.events;
         add_leg(all, &out);
         set_again(session, &it, leg++, out.rounds);
-        goes_on = plan->schedule == TMWATCH_ALL && out.told.verdict == TMWATCH_OPAQUE_SO_FAR && !b->is_late && !b->is_stuck &&
+        goes_on = plan->schedule == TMWATCH_ALL && out.told.verdict == TMWATCH_OPAQUE_SO_FAR && !session->is_late && !b->is_stuck &&
                   all->rounds < plan->rounds && keep_start(b, out.told.events);
         if (!goes_on && status == TMWATCH_DONE && plan->trace)
             all->from = before + write_trace(b, out.told);

@@ -29,8 +29,9 @@ runs has made no step for five milliseconds of a processor, or has slept as long
 By permits, the threads run freely, each attempt takes one of eight permits (tmwatch_permits.h), and a transaction is attempted as often
 as it takes: one that never commits, until plan.seconds are over.
 
-By all, legs of up to 1000 rounds follow one another: five by steps, then in turn in rounds, by permits and by steps. In each leg but the
-first, what the plan leaves to be drawn is drawn anew. If the last look of a leg is rolled back, no other follows.
+By all, legs of up to 1000 rounds follow one another: five by steps, then in turn in rounds, by permits and by steps. One in rounds or by
+permits takes half a second at most. In each leg but the first, what the plan leaves to be drawn is drawn anew. If the last look of a leg
+is rolled back, no other follows.
 
 No pause has to be placed by hand if the memory is compiled with -fsanitize=thread and linked without it, with libtmwatch_steps.a first:
 each atomic access is then a step, and by plan.plain each other one. By plan.buffers an atomic store that isn't sequentially consistent

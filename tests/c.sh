@@ -97,7 +97,7 @@ for room in 112 16; do
     ends "room for $room events" "$([ "$room" = 112 ] && echo 0 || echo 134)" "$folder/room" none right 99 1
 done
 # The bench is compiled here, so that the flags reach it too. It sees that a thread waits for a mutex, or yields.
-waits=(-Wl,--wrap=pthread_mutex_lock,--wrap=pthread_mutex_unlock,--wrap=sched_yield)
+waits=('-Wl,--wrap=pthread_mutex_lock,--wrap=pthread_mutex_unlock,--wrap=sched_yield')
 bench=(-DTMWATCH_PAUSES "$folder/bench.o" "$folder/waits.o" "${static[@]}" "${waits[@]}")
 
 # Whether a judge's report on the bench's trace, in a file, is that of the bench, which is in another: the same verdict, with as many events
@@ -226,7 +226,8 @@ wrong_bench 'records no call to commit' '/has_asked = a->calls/{n;s/note_call(a)
 wrong_bench 'records no abort' "s/note_answer(a, has_committed ? 'C' : 'A', 0);/if (has_committed) note_answer(a, 'C', 0);/" 3
 # Without its permits, threads that run freely are undecided. Nothing then keeps room for their events, so that the ring has cells for all.
 rounds=20 schedule=permits wrong_bench 'takes no permit and gives none' 's/tmwatch_permits_[a-z_]*(&[^;]*);/(void)0;/' 2
-for words in --rounds '--rounds x' '--rounds 0' '--mixes 101' '--schedule rounds --round 3' '--threads 9' '--registers 0' '--calls 17' '--writes 101' '--seed 18446744073709551616' '--none 1' '--schedule x' 3; do
+for words in --rounds '--rounds x' '--rounds 0' '--mixes 101' '--schedule rounds --round 3' '--threads 9' '--registers 0' '--calls 17' \
+    '--writes 101' '--seed 18446744073709551616' '--none 1' '--schedule x' 3; do
     read -r -a given <<<"$words"
     ends "wrong words, $words" 4 "${run[@]}" "$folder/norec_NONE" "${given[@]}"
     has_told "wrong words, $words: what is told" -x '{"fault":"usage"}'

@@ -18,7 +18,7 @@ read -r -a flags <<<"${FLAGS:-}"
 strict=(-std=c11 -Wall -Wextra -pedantic -Werror -g -O2 -pthread "-I$top/include" "${flags[@]}")
 # (a fence is no more than a fence to ThreadSanitizer)
 [ "${FLAGS:-}" != -fsanitize=thread ] || strict+=(-Wno-tsan)
-wrapped=(-Wl,--wrap=pthread_mutex_lock,--wrap=pthread_mutex_unlock,--wrap=sched_yield)
+wrapped=('-Wl,--wrap=pthread_mutex_lock,--wrap=pthread_mutex_unlock,--wrap=sched_yield')
 bench=("$folder/libtmwatch_steps.a" "$folder/libtmwatch_bench.a" "$built/lib/libtmwatch.a")
 
 # The archives as packaging/layout.py makes them, with the flags.
@@ -125,8 +125,8 @@ ends 'a trace of few rounds: how many' 0 sh -c 'test "$(grep -c " [CA]$" "$1")" 
 whole_looks() {
     local rounds
     for rounds in $(seq 22050 22064); do
-        "$folder/norec" --schedule rounds --threads 1 --registers 7 --calls 1 --writes 100 --adds 0 --aborts 0 --mixes 0 --rounds "$rounds" \
-            --trace "$folder/one" >"$folder/printed" 2>&1
+        "$folder/norec" --schedule rounds --threads 1 --registers 7 --calls 1 --writes 100 --adds 0 --aborts 0 --mixes 0 \
+            --rounds "$rounds" --trace "$folder/one" >"$folder/printed" 2>&1
         "$folder/replay" <"$folder/one" >"$folder/judged" 2>&1
     done
 }
@@ -174,6 +174,17 @@ for compiler in "${compilers[@]}"; do
         read -r -a words < <(again "$folder/told") || true
         ends "a fence that is missing, by $compiler, again" 1 "$folder/plain_FENCE" "${words[@]}" --trace "$folder/two"
         ends "a fence that is missing, by $compiler: the same trace" 0 cmp "$folder/one" "$folder/two"
+    done
+done
+for compiler in g++ clang++; do
+    [ ${#flags[@]} -eq 0 ] && has $compiler "a class without a pause, by $compiler" || continue
+    for fault in NONE READS; do
+        ends "a class without a pause, by $compiler, $fault, compiles" 0 $compiler -std=c++17 -O2 -fsanitize=thread "-I$top/include" \
+            "-DFAULT=$fault" -c -o "$folder/memory.o" "$top/tests/c/bench_class.cpp"
+        ends "a class without a pause, by $compiler, $fault, is linked" 0 $compiler -pthread -o "$folder/class" "$folder/memory.o" \
+            "${wrapped[@]}" "${bench[@]}"
+        ends "a class without a pause, by $compiler, $fault" $([ $fault = NONE ] && echo 0 || echo 1) "$folder/class" --schedule steps \
+            --rounds 2000 --buffers
     done
 done
 ends 'buffers of a memory that is not compiled for them' 4 "$folder/norec" --buffers

@@ -8,13 +8,16 @@
 # takes 300 seconds, or if it is opaque so far and shows little: not all rounds were run, no two transactions overlapped, or a thread that
 # the bench should see waited unseen (a rescue).
 # A right memory passes if all its seeds are opaque so far. A broken one has 60 seconds by all, and passes if nine seeds in ten are violated
-# there, and the others opaque so far; by a single schedule its row only tells. Standard error has a line for each seed that came out otherwise.
+# there, and the others opaque so far; by a single schedule its row only tells. Standard error has a line for each seed that came out
+# otherwise.
 # What can't be built here is skipped, and a line says so. The last line is 'N passed, M failed', and the exit status is 1 if one failed.
-# Environment: BUILT (tests/common.sh), SEEDS (10), ROUNDS (100000, at most, of a broken memory), RIGHT_ROUNDS (20000; libitm: a tenth),
-# CC (cc), CXX (c++), CARGO (cargo).
+# Environment: BUILT (tests/common.sh), SEEDS (10), ROUNDS (100000, at most, of a broken memory by a single schedule), RIGHT_ROUNDS (20000;
+# libitm: a tenth), ONLY (a pattern: the rows whose kind and name have it), SCHEDULES (all steps rounds permits), CC (cc), CXX (c++), CARGO
+# (cargo).
 set -eu
 # shellcheck source=tests/common.sh
 . "$(dirname "${BASH_SOURCE[0]}")/../common.sh"
+only=${ONLY:-.} schedules=${SCHEDULES:-all steps rounds permits}
 seeds=${SEEDS:-10} broken_rounds=${ROUNDS:-100000} right_rounds=${RIGHT_ROUNDS:-20000}
 cc=${CC:-cc} cxx=${CXX:-c++} cargo=${CARGO:-cargo}
 use_library
@@ -29,7 +32,7 @@ done
 ar rcs "$folder/lib/libtmwatch_bench.a" "$folder/tmwatch_bench.o" "$folder/waits.o"
 ar rcs "$folder/lib/libtmwatch_steps.a" "$folder/accesses.o" "$folder/wide.o"
 link=("$folder/lib/libtmwatch_steps.a" "$folder/lib/libtmwatch_bench.a" "$folder/lib/libtmwatch.a"
-    -Wl,--wrap=pthread_mutex_lock,--wrap=pthread_mutex_unlock,--wrap=sched_yield)
+    '-Wl,--wrap=pthread_mutex_lock,--wrap=pthread_mutex_unlock,--wrap=sched_yield')
 
 # Compiles a memory in C: the program's name, the file, its fault, and further flags.
 in_c() {
@@ -47,8 +50,8 @@ in_cpp() {
     "$cxx" -std=c++17 "${flags[@]}" "-DFAULT=$3" -o "$folder/$1" "$top/$2" "${link[@]}"
 }
 
-# Each of these makes a run of $rounds with $seed by $schedule, for $seconds at most if there are any: of a program in C or C++, with further
-# options of the bench; of libitm, by one of its methods; of the program in Rust.
+# Each of these makes a run of $rounds with $seed by $schedule, for $seconds at most if there are any: of a program in C or C++, with
+# further options of the bench; of libitm, by one of its methods; of the program in Rust.
 bench() {
     timeout 300 "$folder/$1" --rounds "$rounds" ${seconds:+--seconds "$seconds"} --seed "$seed" --schedule "$schedule" "${@:2}"
 }
@@ -108,7 +111,8 @@ row() {
         of_each[found]=$((of_each[found] + 1))
         run=$(number_of rounds)
         all=$((all + ${run:-0}))
-        [ "$found" -eq "$usual" ] || [ "$kind" = told ] || echo "$name by $schedule, seed $seed: status $status, $(head -n 1 "$folder/output")" >&2
+        [ "$found" -eq "$usual" ] || [ "$kind" = told ] ||
+            echo "$name by $schedule, seed $seed: status $status, $(head -n 1 "$folder/output")" >&2
         [ "$found" -ne 1 ] || echo "$run" >>"$folder/found"
     done
     took=$(since "$began")
@@ -120,11 +124,12 @@ row() {
 
 # The rows of a memory: its name, whether it is right or broken, and how a run is made.
 rows() {
-    local schedule kind=$2
-    row "$1" "$2" all "${@:3}"
-    [ "$kind" = right ] || kind=told
-    for schedule in steps rounds permits; do
-        row "$1" "$kind" $schedule "${@:3}"
+    local schedule kind
+    [[ "$2 $1" =~ $only ]] || return 0
+    for schedule in $schedules; do
+        kind=$2
+        [ "$schedule" = all ] || [ "$kind" = right ] || kind=told
+        row "$1" $kind "$schedule" "${@:3}"
     done
 }
 
