@@ -5,8 +5,12 @@
 # server is the run's own, on a socket there. At the end it is ended, and the folder removed.
 # Environment: FOLDER, a folder that stays, for several runs. Who sets it calls `end_servers` at the end.
 # Environment: REGISTERS (3), FLAGS (further flags of the compiler, or of Java), CC (cc).
-# The exit status is 77 if a package of Debian is missing, which a line names. Nothing is installed.
+# The exit status is 77 if a package of Debian is missing, which a line names, and 2 for wrong words. Nothing is installed.
 set -eu
+if [ $# -eq 0 ] && [ "${0##*/}" = run ]; then
+    sed -n 's/^#  *examples/usage: examples/p' "$0" >&2
+    exit 2
+fi
 here=$(cd "$(dirname "${BASH_SOURCE[1]}")" && pwd)
 top=$(cd "$(dirname "${BASH_SOURCE[0]}")/../.." && pwd)
 registers=${REGISTERS:-3}

@@ -6,12 +6,12 @@
 #
 # NAME is a folder of examples/field, or sqlite. Without one, all are recorded. A row has three registers, or one if it says (1): how many
 # runs were violated by opacity and by strict serializability; of a hundred transactions judged, how many overlapped another thread's and
-# how many were rolled back unasked; all events; the least length at which opacity was violated; the seconds; and how many runs the system ended
-# itself, by an error that a line above tells: what was written before is judged. A row fails if other runs are violated than is wanted, if
-# one is undecided or malformed, if in one no transactions overlapped, or if all ended early. A system is skipped if a package of Debian is
-# missing: a line names it.
+# how many were rolled back unasked; all events; the least length at which opacity was violated; the seconds; and how many runs an error of
+# the system ended early, which a line above tells: what was written before is judged. A row fails if other runs are violated than is
+# wanted, if one is undecided or malformed, if in one no transactions overlapped, or if all ended early. A system is skipped if a package of
+# Debian is missing: a line names it.
 #
-# The last line is 'N passed, M failed'. The exit status is 1 if a row failed.
+# The last line is 'N passed, M failed'. The exit status is 1 if a row failed, and 2 for another name.
 # Environment: RUNS (10), PERCENT (100, of each row's rounds), CC (gcc); DRAWN, a folder for each row's shortest drawing by `show --why`,
 # with its trace.
 # shellcheck disable=SC2031
@@ -20,7 +20,12 @@ set -eu
 . "$(dirname "${BASH_SOURCE[0]}")/../common.sh"
 [ -x "$program" ] || "$top/build"
 runs=${RUNS:-10} percent=${PERCENT:-100} field=$top/examples/field
-names=" ${*:-ghc clojure postgres redis lmdb rocksdb bdb jdbc mariadb sqlite} "
+systems=' ghc clojure postgres redis lmdb rocksdb bdb jdbc mariadb sqlite '
+for name; do
+    case $systems in *" $name "*) ;; *) echo "$name: no system" >&2 && exit 2 ;; esac
+done
+names=${*:+ $* }
+[ -z "${DRAWN:-}" ] || mkdir -p "$DRAWN"
 export FOLDER=$folder/field CC=${CC:-gcc}
 mkdir "$FOLDER"
 # (the servers' users reach their own folders)
@@ -43,7 +48,7 @@ version_of() {
 
 # Begins the rows of a system, if it is wanted: its folder, its name and its version.
 system() {
-    case $names in *" $1 "*) ;; *) return 1 ;; esac
+    case ${names:-$systems} in *" $1 "*) ;; *) return 1 ;; esac
     system="$2 $3"
 }
 
