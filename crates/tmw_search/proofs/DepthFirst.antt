@@ -1,12 +1,13 @@
 -- A search that places one transaction after another: where each is placed that may come next, each end state is reached. One that
 -- leaves each state as it is may be placed as soon as it can be.
 use Rattle.std.proofs.Common.{◌≡◌, ◌↔◌, ◌⊎◌, ◌==◌, ◌+◌, ◌-◌, ◌*◌, ◌%◌, ◌^◌, ◌<◌, ◌≤◌, ℕ, zero, suc, Bool, true, false, List, [], ◌∷◌, length, get_or, drop, Some, IsTrue, bit_or, refl, sym, ap, subst, ◌∙◌, inl, inr, arith}
-use Rattle.std.specs.Int.{bit_at}
+use Rattle.std.specs.Int.{bit_at, bit_not, trailing_zeros, w8}
+use Rattle.std.specs.Int.Count.{count_trailing_zeros}
 use Rattle.std.specs.List.{Contains, list_all}
 use Rattle.std.specs.Prelude.{slice_get}
 use Rattle.std.proofs.Math.Seq.{drop-cons}
-use Rattle.std.proofs.lemmas.Bool.{and_parts, cases_lt, eqb-true}
-use Rattle.std.proofs.lemmas.Nat.Bits.{bit_at_ones}
+use Rattle.std.proofs.lemmas.Bool.{and_parts, eqb-true}
+use Rattle.std.proofs.lemmas.Nat.Bits.{bit_at_ones, bit_at_not, bit_at-zero, bit_at-trailing_zeros}
 use Rattle.std.proofs.lemmas.Option.{slice_get_within}
 use Rattle.tmw_defs.specs.declared.criterion.Criterion.{Criterion}
 use Rattle.tmw_defs.specs.declared.op.Op.{Op}
@@ -28,10 +29,11 @@ use Rattle.tmw_search.specs.Nexts.{end_at, is_next, is_idle, is_idle_next, Follo
 use Rattle.tmw_search.specs.Pairs.{IsAside}
 use Rattle.tmw_search.specs.ShownTransactions.{ShowsTransaction, ShowsTransactions, NoneBeforeItself}
 use Rattle.tmw_cuts.proofs.FirstMembers.{contains_here, contains_later, contains_cases, contains_none}
+use Rattle.tmw_search.proofs.BlindProof.{less_of}
 use Rattle.tmw_search.proofs.LayersBy.{fits-by, layer-step_by, layer_step-by, layer-first, layer_first, layer-last_by, layer_last-by}
 use Rattle.tmw_search.proofs.LayersProof.{same_place}
 use Rattle.tmw_cuts.proofs.Bits.{mask-set, bit_at-more_same, bit_at-more_other}
-use Rattle.tmw_search.proofs.LayerSteps.{IsMade, way_of, after-way, step-made_at, step-made, slice_get_some}
+use Rattle.tmw_search.proofs.LayerSteps.{IsMade, way_of, after-way, eight_bits, step-made_at, step-made, slice_get_some}
 use Rattle.tmw_search.proofs.Masks.{all_bits}
 
 -- operations that are reads leave each state
@@ -312,17 +314,17 @@ at-both criterion xs y place mask left s done old mid new at next held left_out 
     either ts x e true w = inl w
     either ts x e false w = inr w
 
--- one below this place may come next, and the rest leads to the end behind it
-pub record GoesBelow (criterion : Criterion) (xs : List View) (ts : List Txn) (upto n mask : ℕ) (s end : State) : Type 0 where
+-- one that is left to be tried no more may come next, and the rest leads to the end behind it
+pub record GoesTried (criterion : Criterion) (xs : List View) (ts : List Txn) (left n mask : ℕ) (s end : State) : Type 0 where
   pub place : ℕ
-  pub less : place < upto
+  pub tried : bit_at left place ≡ 0
   pub shown : View
   pub at : slice_get xs place ≡ Some shown
   pub goes : GoesAt criterion ts shown place n mask s end
 
-goes-below : (criterion : Criterion) (xs : List View) (mask left upto : ℕ) (s end : State) (ts : List Txn) → length xs ≤ 8 → 0 < left
-    → IsBegun criterion xs mask left s ts → GoesBelow criterion xs ts upto (left - 1) mask s end → GoesTo criterion ts left mask s end
-goes-below criterion xs mask left upto s end ts few some b g =
+goes-tried : (criterion : Criterion) (xs : List View) (mask left rest : ℕ) (s end : State) (ts : List Txn) → length xs ≤ 8 → 0 < left
+    → IsBegun criterion xs mask left s ts → GoesTried criterion xs ts rest (left - 1) mask s end → GoesTo criterion ts left mask s end
+goes-tried criterion xs mask left rest s end ts few some b g =
     let w = g.goes.way in
     let above = bit_or mask (1 * 2 ^ g.place % 2 ^ 8) in
     let u = end_at g.shown s g.goes.held in
@@ -335,15 +337,16 @@ goes-below criterion xs mask left upto s end ts few some b g =
     let one : suc (left - 1) ≡ left = omega (arith, some) in
     subst (λ (n : ℕ). GoesTo criterion ts n mask s end) one longer
 
-goes_below : (criterion : Criterion) (xs : List View) (mask left n : ℕ) (s end : State) (ts : List Txn) → length xs ≤ 8
-    → IsBegun criterion xs mask left s ts → GoesTo criterion ts (suc n) mask s end → GoesBelow criterion xs ts (length xs) n mask s end
-goes_below criterion xs mask left n s end ts few b (above, u, x, rest) =
+goes_tried : (criterion : Criterion) (xs : List View) (mask left n rest : ℕ) (s end : State) (ts : List Txn) → length xs ≤ 8
+    → ((i : ℕ) → i < length xs → bit_at rest i ≡ 0) → IsBegun criterion xs mask left s ts → GoesTo criterion ts (suc n) mask s end
+    → GoesTried criterion xs ts rest n mask s end
+goes_tried criterion xs mask left n rest s end ts few all b (above, u, x, more) =
     let f : Follows criterion xs (mask, s) (above, u) = step-made criterion xs ts mask above s u b.shows (few-of xs ts b.shows few)
     (fits-by criterion (Only b.start) ts b.count mask s b.layer) b.none_self x in
     let w = way_of criterion f.shown (bit_or mask (1 * 2 ^ f.place % 2 ^ 8)) s (above, u) f.way in
     record {
       place = f.place;
-      less = slice_get_within xs f.place f.shown f.at;
+      tried = all f.place (slice_get_within xs f.place f.shown f.at);
       shown = f.shown;
       at = f.at;
       goes = record {
@@ -353,64 +356,86 @@ goes_below criterion xs mask left n s end ts few b (above, u, x, rest) =
           may = w.may;
           reads = w.reads;
           goes = subst (λ (m : ℕ). GoesTo criterion ts n m (end_at f.shown s w.by) end) w.mask
-              (subst (λ (z : State). GoesTo criterion ts n above z end) w.state rest);
+              (subst (λ (z : State). GoesTo criterion ts n above z end) w.state more);
         };
       };
     }
 
-abbrev pub AddsBelow : Criterion → List View → ℕ → ℕ → ℕ → State → List State → List State → Type 0
-AddsBelow criterion xs upto mask left s old new = (ts : List Txn) → IsBegun criterion xs mask left s ts
-    → Adds true old new (GoesBelow criterion xs ts upto (left - 1) mask s)
+abbrev pub AddsTried : Criterion → List View → ℕ → ℕ → ℕ → State → List State → List State → Type 0
+AddsTried criterion xs rest mask left s old new = (ts : List Txn) → IsBegun criterion xs mask left s ts
+    → Adds true old new (GoesTried criterion xs ts rest (left - 1) mask s)
 
-pub below-next : (criterion : Criterion) (xs : List View) (x : View) (place mask left : ℕ) (s : State) (old mid new : List State)
-    → slice_get xs place ≡ Some x → AddsBelow criterion xs place mask left s old mid → AddsAt criterion xs place mask left s true mid new
-    → AddsBelow criterion xs (place + 1) mask left s old new
-below-next criterion xs x place mask left s old mid new at below adds = λ ts b.
+-- those that are not placed are left to be tried
+pub tried-none : (criterion : Criterion) (xs : List View) (mask left : ℕ) (s : State) (old : List State) → length xs ≤ 8
+    → AddsTried criterion xs (bit_not w8 mask) mask left s old old
+tried-none criterion xs mask left s old few = λ ts b.
+    let fits = eight_bits mask (length ts) (few-of xs ts b.shows few) (fits-by criterion (Only b.start) ts b.count mask s b.layer) in
+    adds-none old _ (λ e g.
+    let within : g.place < 8 = (let inside = slice_get_within xs g.place g.shown g.at in omega (arith, inside, few)) in
+    let none = eqb-true (bit_at mask g.place) 0 (and_parts (bit_at mask g.place == 0) _ g.goes.next).0 in
+    let tried = g.tried in
+    absurd (omega (arith, none, tried, bit_at_not w8 mask g.place fits within)))
+
+pub tried-next : (criterion : Criterion) (xs : List View) (x : View) (place rest mask left : ℕ) (s : State) (old mid new : List State)
+    → slice_get xs place ≡ Some x → bit_at rest place ≡ 1 → AddsTried criterion xs rest mask left s old mid
+    → AddsAt criterion xs place mask left s true mid new → AddsTried criterion xs (rest - 2 ^ place) mask left s old new
+tried-next criterion xs x place rest mask left s old mid new at one tried adds = λ ts b.
+    let less = less_of rest place one in
     adds-both true old mid new _ _ _
-    (λ e g. let less = g.less in record { place = g.place; less = omega (arith, less); shown = g.shown; at = g.at; goes = g.goes })
-    (λ e g. record { place = place; less = omega arith; shown = x; at = at; goes = g })
+    (λ e g. let was = g.tried in record {
+      place = g.place;
+      tried = sym (less.other g.place (λ same. let is = rw same at was in omega (arith, is, one))) ∙ was;
+      shown = g.shown;
+      at = g.at;
+      goes = g.goes;
+    })
+    (λ e g. record { place = place; tried = less.new; shown = x; at = at; goes = g })
     (λ e g. elim (same_place g.place place) [
       | inl same ↦ inr (
           let here = rw same at g.at in
           let is : g.shown ≡ x = (let one = here in let other = at in cc) in
           rw (is, same) at g.goes)
-      | inr apart ↦ inl (let less = g.less in record {
-        place = g.place;
-        less = elim (cases_lt g.place place) [
-          | inl is ↦ is
-          | inr past ↦ absurd (apart (omega (arith, less, past)))
-        ];
-        shown = g.shown;
-        at = g.at;
-        goes = g.goes;
-      })
-    ]) (below ts b) (adds ts x b at)
+      | inr apart ↦ inl (record { place = g.place; tried = less.other g.place apart ∙ g.tried; shown = g.shown; at = g.at; goes = g.goes })
+    ]) (tried ts b) (adds ts x b at)
 
-pub below-some : (criterion : Criterion) (xs : List View) (x : View) (place mask left : ℕ) (s : State) (old mid new : List State) → length xs ≤ 8 → 0 < left
-    → slice_get xs place ≡ Some x → AddsBelow criterion xs place mask left s old mid → AddsAt criterion xs place mask left s false mid new
-    → AddsRest criterion xs mask left s false old new
-below-some criterion xs x place mask left s old mid new few some at below adds = λ ts b.
-    let first = below ts b in
+pub tried-some : (criterion : Criterion) (xs : List View) (x : View) (place rest mask left : ℕ) (s : State) (old mid new : List State) → length xs ≤ 8
+    → 0 < left → slice_get xs place ≡ Some x → bit_at rest place ≡ 1 → AddsTried criterion xs rest mask left s old mid
+    → AddsAt criterion xs place mask left s false mid new → AddsRest criterion xs mask left s false old new
+tried-some criterion xs x place rest mask left s old mid new few some at one tried adds = λ ts b.
+    let less = less_of rest place one in
+    let first = tried ts b in
     let then = adds ts x b at in
     record {
       only = λ e has. elim (then.only e has) [
-        | inl was ↦ elim (first.only e was) [ inl old ↦ inl old | inr g ↦ inr (goes-below criterion xs mask left place s e ts few some b g) ]
-        | inr g ↦ inr (goes-below criterion xs mask left (place + 1) s e ts few some b
-            (record { place = place; less = omega arith; shown = x; at = at; goes = g }))
+        | inl was ↦ elim (first.only e was) [ inl old ↦ inl old | inr g ↦ inr (goes-tried criterion xs mask left rest s e ts few some b g) ]
+        | inr g ↦ inr (goes-tried criterion xs mask left (rest - 2 ^ place) s e ts few some b
+            (record { place = place; tried = less.new; shown = x; at = at; goes = g }))
       ];
       kept = λ e has. then.kept e (first.kept e has);
       all = λ impossible. absurd (cc);
     }
 
-pub below-all : (criterion : Criterion) (xs : List View) (mask left upto : ℕ) (s : State) (old new : List State) → length xs ≤ 8 → 0 < left
-    → upto ≡ length xs → AddsBelow criterion xs upto mask left s old new → AddsRest criterion xs mask left s true old new
-below-all criterion xs mask left upto s old new few some all below = λ ts b.
+-- no place of the list is below the lowest that is left
+lowest-past : (rest count i : ℕ) → rest < 2 ^ 8 → count ≤ trailing_zeros w8 rest → i < count → bit_at rest i ≡ 0
+lowest-past zero count i fits past within = bit_at-zero i
+lowest-past (suc rest) count i fits past within = (bit_at-trailing_zeros w8 (suc rest) (omega arith) fits).2 i (omega (arith, past, within))
+
+-- a place of the list is left
+pub lowest-left : (rest count : ℕ) → rest < 2 ^ 8 → count ≤ 8 → trailing_zeros w8 rest < count → bit_at rest (trailing_zeros w8 rest) ≡ 1
+unfolding count_trailing_zeros
+lowest-left zero count fits few less = absurd (let none : trailing_zeros w8 0 ≡ 8 = refl in omega (arith, none, few, less))
+lowest-left (suc rest) count fits few less = (bit_at-trailing_zeros w8 (suc rest) (omega arith) fits).1
+
+pub tried-all : (criterion : Criterion) (xs : List View) (mask left rest : ℕ) (s : State) (old new : List State) → length xs ≤ 8 → 0 < left
+    → rest < 2 ^ 8 → length xs ≤ trailing_zeros w8 rest → AddsTried criterion xs rest mask left s old new
+    → AddsRest criterion xs mask left s true old new
+tried-all criterion xs mask left rest s old new few some fits past tried = λ ts b.
     let one : left ≡ suc (left - 1) = omega (arith, some) in
     adds-same true old new _ _ (λ e. (
-      λ goes. rw all (goes_below criterion xs mask left (left - 1) s e ts few b
-          (subst (λ (n : ℕ). GoesTo criterion ts n mask s e) one goes)),
-      λ g. goes-below criterion xs mask left upto s e ts few some b g,
-    )) (below ts b)
+      λ goes. goes_tried criterion xs mask left (left - 1) rest s e ts few (λ i within. lowest-past rest (length xs) i fits past within) b
+          (subst (λ (n : ℕ). GoesTo criterion ts n mask s e) one goes),
+      λ g. goes-tried criterion xs mask left rest s e ts few some b g,
+    )) (tried ts b)
 
 -- what the rest leads to is an end
 pub goes-leads : (criterion : Criterion) (start : State) (ts : List Txn) (k n mask : ℕ) (s end : State) → k + n ≡ length ts

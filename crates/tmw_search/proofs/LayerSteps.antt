@@ -134,7 +134,7 @@ slice_get_some [] i within = absurd (omega arith)
 slice_get_some (x ∷ xs) zero within = (x, refl)
 slice_get_some (x ∷ xs) (suc i) within = slice_get_some xs i (omega arith)
 
-eight_bits : (n bound : ℕ) → bound ≤ 8 → n < 2 ^ bound → n < 2 ^ 8
+pub eight_bits : (n bound : ℕ) → bound ≤ 8 → n < 2 ^ bound → n < 2 ^ 8
 eight_bits n bound few fits = omega (arith, fits, pow_mono few)
 
 pub after-way : (r : State) (x : View) (t : Txn) (by : Bool) → x.ops ≡ operations t.text

@@ -122,7 +122,10 @@ fn add_rest(
         return Ok(false);
     }
     search.fuel -= 1;
-    for place in 0..items.len() {
+    let mut rest = !placed.mask;
+    while (rest.trailing_zeros() as usize) < items.len() {
+        let place = rest.trailing_zeros() as usize;
+        rest -= 1 << place;
         if !add_at(criterion, items, place, placed, state, search)? {
             return Ok(false);
         }
