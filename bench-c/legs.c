@@ -2,7 +2,7 @@
    words that repeat it. */
 
 static const uint64_t most_pause = 1 << 20;
-enum { STEPS_LEGS = 5, LEG_ROUNDS = 1000 };
+enum { STEPS_LEGS = 5, LEG_ROUNDS = 1000, ORDER = 4 };
 
 /* What a plan may leave to be drawn: where it stands, and what it is where nothing is drawn. */
 static const struct drawn {
@@ -48,14 +48,14 @@ static void draw_plan(tmwatch_plan *plan, uint64_t *draws)
 /* The plan of a leg: the first ones go by steps, then all schedules come in turn. */
 static tmwatch_plan plan_of_leg(const struct session *session, uint64_t leg, uint64_t *draws)
 {
-    static const uint64_t order[] = {TMWATCH_ROUNDS, TMWATCH_PERMITS, TMWATCH_STEPS};
+    static const uint64_t order[ORDER] = {TMWATCH_ROUNDS, TMWATCH_STEPS, TMWATCH_PERMITS, TMWATCH_STEPS};
     tmwatch_plan it = *session->plan;
     uint64_t left = it.rounds - session->all.rounds;
     if (leg > 0)
         draw_plan(&it, draws);
     else
         it = usual_plan(&it);
-    it.schedule = leg < STEPS_LEGS ? TMWATCH_STEPS : order[(leg - STEPS_LEGS) % 3];
+    it.schedule = leg < STEPS_LEGS ? TMWATCH_STEPS : order[(leg - STEPS_LEGS) % ORDER];
     it.rounds = left < LEG_ROUNDS ? left : LEG_ROUNDS;
     it.round = it.round > session->all.rounds && it.round - session->all.rounds <= LEG_ROUNDS ? it.round - session->all.rounds : 0;
     if (it.schedule != TMWATCH_PERMITS && it.attempts > MOST_ATTEMPTS / it.threads)

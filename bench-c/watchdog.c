@@ -1,8 +1,9 @@
 /* The watchdog of the steps: when the runner is blocked by what the bench doesn't see, as by a lock that another thread holds, another one
    goes too. It goes by the processor's time, so that neither load nor a debugger is taken for that. */
 
-/* How long the runner may make no step: so many looks, that far apart, that find it asleep, or so much time of a processor. */
-enum { LOOK_MICROSECONDS = 1000, MOST_SLEEPS = 5, MOST_USED = 5000 };
+/* How long the runner may make no step: so many looks, that far apart, that find it asleep, or so many microseconds of a processor. After
+   some rescues the run can't be repeated anyway, and a tenth of both is enough. */
+enum { LOOK_MICROSECONDS = 1000, MOST_SLEEPS = 50, MOST_USED = 50000, FEW_RESCUES = 10, LATER_PART = 10 };
 
 /* For the watchdog, which looks at this thread. */
 static void show_watchdog(tmwatch_attempt *a)
@@ -42,7 +43,8 @@ static bool is_blocked(struct bench *b, int runner, uint64_t steps)
         return false;
     }
     w->sleeps = is_asleep(s->tid[runner]) ? w->sleeps + 1 : 0;
-    return w->sleeps >= MOST_SLEEPS || microseconds_of(s->clock[runner]) - w->used >= MOST_USED;
+    uint64_t part = s->rescues < FEW_RESCUES ? 1 : LATER_PART;
+    return w->sleeps >= MOST_SLEEPS / part || microseconds_of(s->clock[runner]) - w->used >= MOST_USED / part;
 }
 
 /* Looks at the runner, and rescues the others from one that is blocked. */

@@ -24,14 +24,14 @@ which. A round goes by walk, which hands over often, or by priorities, which sta
 Musuvathi and Nagarakatte, ASPLOS 2010). If the memory decides nothing by time, address or chance, the same plan gives the same trace if
 `rescues` is 0. A thread that waits for another has TMWATCH_PAUSE in its loop, or the program is linked with
 -Wl,--wrap=pthread_mutex_lock,--wrap=pthread_mutex_unlock,--wrap=sched_yield. Else a rescue lets another thread go too, once the one that
-runs has made no step for five milliseconds of a processor, or has slept as long.
+runs has made no step for fifty milliseconds of a processor, or has slept as long; after ten rescues, for five.
 
 By permits, the threads run freely, each attempt takes one of eight permits (tmwatch_permits.h), and a transaction is attempted as often
 as it takes: one that never commits, until plan.seconds are over.
 
-By all, legs of up to 1000 rounds follow one another: five by steps, then in turn in rounds, by permits and by steps. One in rounds or by
-permits takes half a second at most. In each leg but the first, what the plan leaves to be drawn is drawn anew. If the last look of a leg
-is rolled back, no other follows.
+By all, legs of up to 1000 rounds follow one another: five by steps, then in turn in rounds and by permits, and by steps after each. One
+in rounds or by permits takes half a second at most. In each leg but the first, what the plan leaves to be drawn is drawn anew. If the
+last look of a leg is rolled back, no other follows.
 
 No pause has to be placed by hand if the memory is compiled with -fsanitize=thread and linked without it, with libtmwatch_steps.a first:
 each atomic access is then a step, and by plan.plain each other one. By plan.buffers an atomic store that isn't sequentially consistent

@@ -183,7 +183,7 @@ for compiler in g++ clang++; do
             "-DFAULT=$fault" -c -o "$folder/memory.o" "$top/tests/c/bench_class.cpp"
         ends "a class without a pause, by $compiler, $fault, is linked" 0 $compiler -pthread -o "$folder/class" "$folder/memory.o" \
             "${wrapped[@]}" "${bench[@]}"
-        ends "a class without a pause, by $compiler, $fault" $([ $fault = NONE ] && echo 0 || echo 1) "$folder/class" --schedule steps \
+        ends "a class without a pause, by $compiler, $fault" "$([ $fault = NONE ] && echo 0 || echo 1)" "$folder/class" --schedule steps \
             --rounds 2000 --buffers
     done
 done

@@ -71,7 +71,7 @@ outcome() {
     case "$1 $line" in
     '0 {'*'"verdict":"opaque so far"}')
         [ -z "$seconds" ] || { echo 0 && return; }
-        grep -q "\"rounds\":$rounds[,}]" "$folder/output" && grep -q '"overlapping":[1-9]' "$folder/output" &&
+        grep -q "\"rounds\":${rounds}[,}]" "$folder/output" && grep -q '"overlapping":[1-9]' "$folder/output" &&
             ! grep -q '"rescues":[1-9]' "$folder/output" && echo 0 || echo 4
         ;;
     '1 {"at":'*'"verdict":"violated"}') echo 1 ;;

@@ -143,8 +143,8 @@ if has "$cargo" 'the package in Rust'; then
         's/Why::Transactions } else { Why::States/Why::States } else { Why::Transactions/'
     in_rust 'a bench that fails leaks its trace' bench.rs \
         's/^    let trace = stream.map(|it| unsafe { Stream::close(it) }).transpose();/    Status::check(status)?;\n&/'
-    in_rust 'a dropped watch is not discarded' watch.rs 's/unsafe { ffi::tmwatch_discard(/let _ = unsafe { (/'
-    in_rust 'a recorder that comes back last is not discarded' watch.rs 's/unsafe { ffi::tmwatch_discard_recorder(/let _ = unsafe { (/'
+    in_rust 'a dropped watch is not discarded' watch.rs 's/ffi::tmwatch_discard(\(.*\)) }/let _ = \1; }/'
+    in_rust 'a recorder that comes back last is not discarded' watch.rs 's/ffi::tmwatch_discard_recorder(\(.*\)) }/let _ = \1; }/'
     in_rust 'attempts and seconds are swapped' bench.rs \
         's/^            attempts,$/            attempts: seconds,/;s/^            seconds,$/            seconds: attempts,/'
 fi
