@@ -1,8 +1,7 @@
-use Rattle.std.proofs.Common.{◌≡◌, ◌++◌, true, false, None, IsTrue, inl, inr, sym, ap, ◌∙◌}
+use Rattle.std.proofs.Common.{◌≡◌, ◌++◌, true, false, None, inl, inr, sym, ap, ◌∙◌}
 use Rattle.std.specs.Prelude.{find}
 use Rattle.std.proofs.lemmas.List.Elements.{Contains-append_cases}
 use Rattle.tmw_part.specs.Candidates.{is_new}
-use Rattle.tmw_part.specs.Found.{is_told}
 use Rattle.tmw_part.specs.Shown.{txns_of}
 use Rattle.tmw_part.specs.Steps.{contradicts}
 use Rattle.tmw_part.proofs.Closing.{found_passes}
