@@ -1,12 +1,12 @@
 #!/usr/bin/env bash
-# Times `tmwatch judge` on five kinds of run, beside `cat` and `wc -l` of the same trace.
+# Times `tmwatch judge` on six kinds of run, by opacity and by strict serializability, beside `cat` and `wc -l` of the same trace.
 #
 #   measure/judge.sh [EVENTS]
 #
-# measure/traces.c makes the traces. A line a profile has: its events, the seconds of each program (the best of RUNS runs), our events a
-# second, the ratio of our seconds to those of each, and the peak memory in KiB. If PEER is set to another program of the same bytes, it
+# measure/traces.c makes the traces. A line a profile and criterion has: its events, the seconds of each program (the best of RUNS runs), our
+# events a second, the ratio of our seconds to those of each, and the peak memory in KiB. If PEER is set to another program of the same bytes, it
 # runs too, and the line says whether its line and status are ours. The exit status is 1 if they differ.
-# Environment: PEER, PROFILES, SEED (1), RUNS (3), CC (cc), TRACES (a program that is called as measure/traces.c says, in its place).
+# Environment: PEER, PROFILES, CRITERIA, SEED (1), RUNS (3), CC (cc), TRACES (a program that is called as measure/traces.c says, in its place).
 set -eu
 # shellcheck source=tests/common.sh
 . "$(dirname "${BASH_SOURCE[0]}")/../tests/common.sh"
@@ -30,26 +30,35 @@ measure() {
 }
 
 differ=0
-printf '%-8s %10s %8s %10s %8s %6s %8s %6s %8s %6s %8s  %s\n' profile events seconds events/s cat ratio 'wc -l' ratio peer ratio KiB same
-for profile in ${PROFILES:-serial calm wide long blind}; do
-    "$traces" "$profile" "${SEED:-1}" "$events" >"$folder/trace"
-    read -r ours memory answer <<<"$(measure "$program" judge)"
-    # (through a pipe, since `cat` and `wc` may skip what they read or write where they can)
-    read -r cats _ <<<"$(measure sh -c 'cat | cat >/dev/null')"
-    read -r counts _ <<<"$(measure sh -c 'cat | wc -l')"
+printf '%-8s %-9s %10s %8s %10s %8s %6s %8s %6s %8s %6s %8s  %s\n' profile criterion events seconds events/s cat ratio 'wc -l' ratio peer ratio KiB same
+
+# A line of the profile, whose trace is there, by the criterion.
+print_line() {
+    local profile=$1 criterion=$2
+    read -r ours memory answer <<<"$(measure "$program" judge --criterion "$criterion")"
     theirs=0 same=-
     if [ -n "$peer" ]; then
-        read -r theirs _ their_answer <<<"$(measure "$peer" judge)"
+        read -r theirs _ their_answer <<<"$(measure "$peer" judge --criterion "$criterion")"
         same=yes
         [ "$answer" = "$their_answer" ] || { same=no differ=1; }
     fi
-    count=$(($(wc -l <"$folder/trace") - 1))
-    awk -v profile="$profile" -v count="$count" -v ours="$ours" -v cats="$cats" -v counts="$counts" -v theirs="$theirs" \
+    awk -v profile="$profile" -v criterion="$criterion" -v count="$count" -v ours="$ours" -v cats="$cats" -v counts="$counts" -v theirs="$theirs" \
         -v memory="$memory" -v same="$same" 'function beside(other) { return sprintf("%8.2f %6.1f", other, ours / (other > 0 ? other : 0.01)) }
         BEGIN {
             ours = ours > 0 ? ours : 0.01
-            printf "%-8s %10d %8.2f %10d %s %s %s %8d  %s\n", profile, count, ours, count / ours, beside(cats), beside(counts), \
+            printf "%-8s %-9s %10d %8.2f %10d %s %s %s %8d  %s\n", profile, criterion, count, ours, count / ours, beside(cats), beside(counts), \
                 same == "-" ? sprintf("%8s %6s", "-", "-") : beside(theirs), memory, same
         }'
+}
+
+for profile in ${PROFILES:-serial calm wide long blind bench}; do
+    "$traces" "$profile" "${SEED:-1}" "$events" >"$folder/trace"
+    count=$(($(wc -l <"$folder/trace") - 1))
+    # (through a pipe, since `cat` and `wc` may skip what they read or write where they can)
+    read -r cats _ <<<"$(measure sh -c 'cat | cat >/dev/null')"
+    read -r counts _ <<<"$(measure sh -c 'cat | wc -l')"
+    for criterion in ${CRITERIA:-opacity strict}; do
+        print_line "$profile" "$criterion"
+    done
 done
 exit $differ

@@ -13,29 +13,33 @@
 #include <string.h>
 
 /* What runs: from `least` to `most` threads at a time, from `fewest` to `greatest` operations a transaction, over so many registers;
- * of ten operations so many read, and the others write one of so many values. */
+ * of ten operations so many read, and the others write one of so many values. With `bench`, as in the bench for C, a thread runs two
+ * transactions, by up to three steps a turn. Of ten operations two add and the others read; half of what was read is then written. One
+ * transaction of eight asks to abort. */
 struct profile {
     const char *name;
     unsigned least, most, fewest, greatest, registers, reads, values;
+    bool bench;
 };
 
 /* The last two numbers of wide and of blind keep the outcomes at a cut below 64. */
 static const struct profile profiles[] = {
-    {"serial", 1, 1, 1, 4, 8, 5, 1000000},
-    {"calm", 2, 4, 1, 4, 8, 5, 1000000},
-    {"wide", 8, 8, 2, 4, 8, 8, 1000000},
-    {"long", 2, 4, 64, 64, 8, 8, 1000000},
-    {"blind", 8, 8, 1, 2, 3, 0, 3},
+    {"serial", 1, 1, 1, 4, 8, 5, 1000000, false},
+    {"calm", 2, 4, 1, 4, 8, 5, 1000000, false},
+    {"wide", 8, 8, 2, 4, 8, 8, 1000000, false},
+    {"long", 2, 4, 64, 64, 8, 8, 1000000, false},
+    {"blind", 8, 8, 1, 2, 3, 0, 3, false},
+    {"bench", 4, 4, 3, 3, 3, 10, 1000000, true},
 };
 
 enum step { CALLS, IS_ANSWERED, ASKS, COMMITS, HAS_ENDED };
 
 struct transaction {
     enum step step;
-    unsigned left;
+    unsigned left, later;
     unsigned reg;
     uint64_t value;
-    bool reads;
+    bool reads, adds, updates, gives_up;
     bool has_read[8], has_written[8];
     uint64_t read[8], written[8];
 };
@@ -78,7 +82,11 @@ static void answer(struct transaction *t, unsigned thread) {
         end(t, thread, 'A');
         return;
     }
-    t->left--;
+    if (t->adds) {
+        t->written[r] = (t->has_written[r] ? t->written[r] : memory[r]) + t->value;
+        t->has_written[r] = true;
+    }
+    if (!t->updates) t->left--;
     t->step = t->left ? CALLS : ASKS;
 }
 
@@ -97,19 +105,25 @@ static void go_on(struct transaction *t, unsigned thread, const struct profile *
     events++;
     switch (t->step) {
     case CALLS:
-        t->reg = draw(p->registers);
-        t->reads = draw(10) < p->reads;
-        t->value = draw(p->values);
+        if (!t->updates) t->reg = draw(p->registers);
+        t->reads = !t->updates && draw(10) < p->reads;
+        t->adds = p->bench && t->reads && draw(10) < 2;
+        t->updates = p->bench && t->reads && !t->adds && draw(2);
+        t->value = draw(t->adds ? 100 : p->values);
         t->step = IS_ANSWERED;
-        if (t->reads) printf("%u R %u\n", thread, t->reg);
+        if (t->adds) printf("%u N %u %" PRIu64 "\n", thread, t->reg, t->value);
+        else if (t->reads) printf("%u R %u\n", thread, t->reg);
         else printf("%u W %u %" PRIu64 "\n", thread, t->reg, t->value);
         break;
     case IS_ANSWERED: answer(t, thread); break;
     case ASKS:
-        printf("%u T\n", thread);
+        t->gives_up = p->bench && draw(8) == 0;
+        printf("%u %c\n", thread, t->gives_up ? 'X' : 'T');
         t->step = COMMITS;
         break;
-    default: commit(t, thread);
+    default:
+        if (t->gives_up) end(t, thread, 'A');
+        else commit(t, thread);
     }
 }
 
@@ -120,13 +134,17 @@ static void run_round(const struct profile *p) {
     for (unsigned k = 0; k < count; k++) {
         going[k] = k;
         all[k].left = p->fewest + draw(p->greatest - p->fewest + 1);
+        all[k].later = p->bench;
         /* All begin before any ends. */
-        go_on(&all[k], k, p);
+        if (!p->bench) go_on(&all[k], k, p);
     }
     while (count) {
         unsigned at = draw(count), thread = going[at];
-        go_on(&all[thread], thread, p);
-        if (all[thread].step == HAS_ENDED) going[at] = going[--count];
+        unsigned steps = p->bench ? 1 + draw(3) : 1;
+        while (steps-- && all[thread].step != HAS_ENDED) go_on(&all[thread], thread, p);
+        if (all[thread].step != HAS_ENDED) continue;
+        if (all[thread].later) all[thread] = (struct transaction){.left = p->fewest};
+        else going[at] = going[--count];
     }
 }
 
@@ -135,12 +153,12 @@ int main(int count, char **words) {
     for (size_t k = 0; count == 4 && k < sizeof profiles / sizeof *profiles; k++)
         if (!strcmp(profiles[k].name, words[1])) p = &profiles[k];
     if (!p) {
-        fprintf(stderr, "usage: traces serial|calm|wide|long|blind SEED EVENTS\n");
+        fprintf(stderr, "usage: traces serial|calm|wide|long|blind|bench SEED EVENTS\n");
         return 2;
     }
     state = strtoull(words[2], NULL, 10) * 2654435769u + 88172645463325252u;
     uint64_t most = strtoull(words[3], NULL, 10);
-    puts("opacity-trace 1 8");
+    puts(p->bench ? "opacity-trace 2 8 0 0 0 0 0 0 0 0" : "opacity-trace 1 8");
     while (events < most) run_round(p);
     return ferror(stdout) || fflush(stdout) ? 1 : 0;
 }

@@ -32,27 +32,27 @@ pub fn give_lines<F: LineFormat, T: Taker<F::Item>>(
     ensures { IsRun F.grammar T.takes T.lacks T.counts format bytes.now read taker.old taker.new
         result }
 {
-    let mut length = 0;
-    let mut count = read;
-    while count < MOST_ITEMS {
-        match format.give_first(&bytes[length..], taker) {
+    let mut rest = bytes;
+    let mut left = MOST_ITEMS - read;
+    while left > 0 {
+        match format.give_first(rest, taker) {
             Given::Nothing => break,
             Given::Taken(more) => {
-                length += more;
-                count += 1;
+                rest = &rest[more..];
+                left -= 1;
             }
             Given::Refused(more) => {
                 return Run {
-                    length: length + more,
-                    count: count + 1,
+                    length: bytes.len() - rest.len() + more,
+                    count: MOST_ITEMS - left + 1,
                     refused: true,
                 };
             }
         }
     }
     Run {
-        length,
-        count,
+        length: bytes.len() - rest.len(),
+        count: MOST_ITEMS - left,
         refused: false,
     }
 }

@@ -37,7 +37,7 @@ still_one h e note notes goes_on one =
     ]
 
 -- an end state of a history by opacity is one by its criterion
-ends_by : (rules : Rules) (old : Open) (events : List Event) (end : State) → rules.criterion ≡ Opacity
+pub ends_by : (rules : Rules) (old : Open) (events : List Event) (end : State) → rules.criterion ≡ Opacity
     → Ends (Contains (members old.states)) (transactions events) end → EndsOf rules.criterion old.states events end
 ends_by rules old events end opacity ends = subst (λ (by : Criterion). EndsOf by old.states events end) (sym opacity) ends
 
@@ -45,24 +45,19 @@ ends_by rules old events end opacity ends = subst (λ (by : Criterion). EndsOf b
 pub open-fine : (rules : Rules) (h : List Event) (e : Event) (old new : Open) (keeps : Keeps rules h old) (begins : Bool)
     → TakesAs rules.registers h e begins false new.tracker
     → (begins ≡ true → length (transactions (drop keeps.cut h)) < rules.window)
-    → rules.criterion ≡ Opacity
-    → (IsTrue (is_quiet_by Opacity (transactions (drop keeps.cut h)) e.thread.number e.kind)
-    ⊎ ((end : State) × Ends (Contains (members old.states)) (transactions (drop keeps.cut h ++ e ∷ [])) end))
+    → (IsTrue (is_quiet_by rules.criterion (transactions (drop keeps.cut h)) e.thread.number e.kind)
+    ⊎ ((end : State) × EndsOf rules.criterion old.states (drop keeps.cut h ++ e ∷ []) end))
     → members new.states ≡ members old.states → StandsFor new.window (drop keeps.cut h ++ e ∷ [])
     → Witnesses (members old.states) (views_of (drop keeps.cut h ++ e ∷ [])) new.witness → TellsWrong rules (h ++ e ∷ []) new None
-open-fine rules h e old new keeps begins takes room opacity ends states stands witness =
+open-fine rules h e old new keeps begins takes room ends states stands witness =
     let S = Contains (members old.states) in
     let rest = drop keeps.cut h in
     let all = rest ++ e ∷ [] in
     let narrow = narrow-push rules S keeps.cut h e takes.note keeps.sums_up takes.notes (λ is. room (sym takes.first ∙ is)) in
     let quiet = is_quiet_by rules.criterion (transactions rest) e.thread.number e.kind in
-    let some : IsTrue quiet ⊎ ((end : State) × EndsOf rules.criterion old.states all end) = elim ends [
-      | inl still ↦ inl (subst (λ (by : Criterion). IsTrue (is_quiet_by by (transactions rest) e.thread.number e.kind)) (sym opacity) still)
-      | inr (end, found) ↦ inr (end, ends_by rules old all end opacity found)
-    ] in
     let stays : StaysOpen rules.criterion old.states quiet all new = record {
       uncut = sym (windows.is_cut-push keeps.cut h e keeps.sums_up.last.is) ∙ takes.ended;
-      ends = some;
+      ends = ends;
       states = states;
       stands = stands;
       witness = subst (λ (xs : List State). Witnesses xs (views_of all) new.witness) (sym states) witness;

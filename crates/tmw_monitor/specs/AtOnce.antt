@@ -1,7 +1,7 @@
 -- What is kept of a history where its next event is taken at once.
 use Rattle.std.specs.Prelude.{◌≡◌, ℕ, List, [], ◌∷◌, ◌++◌, Option, None, position}
 use Rattle.tmw_events.specs.declared.event.Event.{Event}
-use Rattle.tmw_defs.specs.declared.criterion.Criterion.TheVariants.{Opacity}
+use Rattle.tmw_defs.specs.declared.criterion.Criterion.{Criterion}
 use Rattle.tmw_defs.specs.Verdict.{Rules}
 use Rattle.tmw_cuts.specs.Standing.{StandsFor, views_of}
 use Rattle.tmw_cuts.specs.Views.{is_open_for}
@@ -9,10 +9,10 @@ use Rattle.tmw_monitor.specs.declared.bounds.Bounds.{Bounds}
 use Rattle.tmw_monitor.specs.declared.open.Open.{Open}
 use Rattle.tmw_monitor.specs.Fitting.{Keeps, TellsWrong}
 
--- Whatever history the one is kept of, by opacity and within these bounds: nothing is wrong with the event either, and the other is
--- what is kept with it.
-abbrev pub StaysFine : Bounds → Event → Open → Open → Type 0
-StaysFine bounds event old new = (rules : Rules) (history : List Event) → rules.criterion ≡ Opacity → bounds.window ≡ rules.window
+-- Whatever history the one is kept of, by this criterion and within these bounds: nothing is wrong with the event either, and the
+-- other is what is kept with it.
+abbrev pub StaysFine : Criterion → Bounds → Event → Open → Open → Type 0
+StaysFine criterion bounds event old new = (rules : Rules) (history : List Event) → criterion ≡ rules.criterion → bounds.window ≡ rules.window
     → bounds.states ≡ rules.states → Keeps rules history old → TellsWrong rules (history ++ event ∷ []) new None
 
 -- This is the place of the transaction that is open for the event, if one is.

@@ -1,5 +1,6 @@
 //! The way that most events take: few steps, no search and no memory.
 ghost use Rattle.std.specs.Prelude.{◌≡◌, ◌<◌, None, Some, IsTrue, IsFalse};
+ghost use Rattle.tmw_defs.specs.declared.criterion.Criterion.TheVariants.{Opacity, Strict};
 ghost use Rattle.tmw_cuts.specs.Standing.{count_of};
 ghost use Rattle.tmw_monitor.specs.AtOnce.{IsOpenAt, StaysFine};
 
@@ -12,26 +13,39 @@ use tmw_events::Event;
 /// `false` and changes nothing. It is inlined into its callers, which mostly know the kind of their event.
 #[inline(always)]
 pub fn take_at_once(kept: &mut Open, bounds: Bounds, event: Event) -> bool
-    ensures taken { IsTrue result → StaysFine bounds event kept.old kept.new }
+    ensures taken { IsTrue result → StaysFine Opacity bounds event kept.old kept.new }
     ensures left { IsFalse result → kept.new ≡ kept.old }
 {
     match kept.window.open_place(event.thread) {
-        None => begin_at_once(kept, bounds, event),
+        None => begin_at_once(kept, bounds, Criterion::Opacity, event),
         Some(place) => go_on_at_once(kept, bounds, place, event),
+    }
+}
+
+/// Takes the next event if it is quiet by strict serializability and leaves some transaction live. Else it returns `false`
+/// and changes nothing.
+#[inline(always)]
+pub fn take_strictly_at_once(kept: &mut Open, bounds: Bounds, event: Event) -> bool
+    ensures taken { IsTrue result → StaysFine Strict bounds event kept.old kept.new }
+    ensures left { IsFalse result → kept.new ≡ kept.old }
+{
+    match kept.window.open_place(event.thread) {
+        None => begin_at_once(kept, bounds, Criterion::Strict, event),
+        Some(place) => ask_at_once(kept, bounds, Criterion::Strict, place, event),
     }
 }
 
 /// Takes at once an event for whose thread no transaction is open, where it begins one, for which the window has room.
 #[inline(always)]
-fn begin_at_once(kept: &mut Open, bounds: Bounds, event: Event) -> bool
+fn begin_at_once(kept: &mut Open, bounds: Bounds, criterion: Criterion, event: Event) -> bool
     requires none { IsOpenAt None event kept.old }
-    ensures taken { IsTrue result → StaysFine bounds event kept.old kept.new }
+    ensures taken { IsTrue result → StaysFine criterion bounds event kept.old kept.new }
     ensures left { IsFalse result → kept.new ≡ kept.old }
 {
     if kept.window.count() >= bounds.window {
         return false;
     }
-    if !kept.window.is_quiet(Criterion::Opacity, event) || !kept.tracker.begin(event) {
+    if !kept.window.is_quiet(criterion, event) || !kept.tracker.begin(event) {
         return false;
     }
     kept.window.push_new(event);
@@ -45,11 +59,11 @@ fn begin_at_once(kept: &mut Open, bounds: Bounds, event: Event) -> bool
 fn go_on_at_once(kept: &mut Open, bounds: Bounds, place: usize, event: Event) -> bool
     requires within { place < count_of kept.old.window }
     requires open { IsOpenAt (Some place) event kept.old }
-    ensures taken { IsTrue result → StaysFine bounds event kept.old kept.new }
+    ensures taken { IsTrue result → StaysFine Opacity bounds event kept.old kept.new }
     ensures left { IsFalse result → kept.new ≡ kept.old }
 {
     if !kept.witness.explains_open(&kept.window, place, event) {
-        return ask_at_once(kept, bounds, place, event);
+        return ask_at_once(kept, bounds, Criterion::Opacity, place, event);
     }
     if kept.tracker.go_on(event) {
         kept.window.push_at(place, event);
@@ -67,15 +81,21 @@ fn go_on_at_once(kept: &mut Open, bounds: Bounds, place: usize, event: Event) ->
     true
 }
 
-/// Takes at once an event that the order does not explain as it stands, where it is quiet, as a request to commit is.
+/// Takes at once an event of the transaction at this place where it is quiet, as a request to commit is.
 #[inline(always)]
-fn ask_at_once(kept: &mut Open, bounds: Bounds, place: usize, event: Event) -> bool
+fn ask_at_once(
+    kept: &mut Open,
+    bounds: Bounds,
+    criterion: Criterion,
+    place: usize,
+    event: Event,
+) -> bool
     requires within { place < count_of kept.old.window }
     requires open { IsOpenAt (Some place) event kept.old }
-    ensures taken { IsTrue result → StaysFine bounds event kept.old kept.new }
+    ensures taken { IsTrue result → StaysFine criterion bounds event kept.old kept.new }
     ensures left { IsFalse result → kept.new ≡ kept.old }
 {
-    if !kept.window.is_quiet(Criterion::Opacity, event) || !kept.tracker.go_on(event) {
+    if !kept.window.is_quiet(criterion, event) || !kept.tracker.go_on(event) {
         return false;
     }
     kept.window.push_at(place, event);

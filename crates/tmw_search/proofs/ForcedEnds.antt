@@ -1,103 +1,24 @@
--- End states that a search finds from one state after another: where they are forced, they are all.
-use Rattle.std.proofs.Common.{◌≡◌, ◌⊎◌, ◌↔◌, ◌+◌, ◌<◌, ◌≤◌, ℕ, suc, List, [], ◌∷◌, drop, length, get_or, sym, ap, subst, ◌∙◌, inl, inr, refl, true, arith}
+-- An end state that is known is the only one, where the end states are forced.
+use Rattle.std.proofs.Common.{◌≡◌, ◌↔◌, ◌<◌, ◌≤◌, ℕ, List, [], ◌∷◌, length, sym, subst, ◌∙◌, inl, inr, true, arith}
 use Rattle.std.specs.List.{Contains}
-use Rattle.std.proofs.Math.Seq.{drop-cons}
 use Rattle.std.proofs.lemmas.Bool.{cases_Bool}
 use Rattle.tmw_events.specs.declared.event.Event.{Event}
 use Rattle.tmw_defs.specs.declared.criterion.Criterion.{Criterion}
-use Rattle.tmw_defs.specs.Criteria.{EndsBy, LeadsBy}
+use Rattle.tmw_defs.specs.Criteria.{LeadsBy}
 use Rattle.tmw_defs.specs.Cuts.{is_cut}
 use Rattle.tmw_defs.specs.History.{Txn, transactions}
 use Rattle.tmw_defs.specs.Opaque.{State}
 use Rattle.tmw_search.proofs.SameEnds.{forced-end_by}
 use Rattle.tmw_cuts.specs.declared.states.States.{States}
 use Rattle.tmw_cuts.specs.declared.window.Window.{Window}
-use Rattle.tmw_cuts.specs.Members.{members, AddsMember}
+use Rattle.tmw_cuts.specs.Members.{members}
 use Rattle.tmw_cuts.specs.Standing.{StandsFor, views}
 use Rattle.tmw_cuts.specs.Views.{View}
-use Rattle.tmw_search.specs.declared.end_states.EndStates.{EndStates}
-use Rattle.tmw_search.specs.declared.end_states.EndStates.TheVariants.{Few, Many}
-use Rattle.tmw_search.specs.Ended.{AreEnds, AreMembers, EndsOf, Replaces}
-use Rattle.tmw_search.specs.ForcedEnds.{AreForced, AreForcedEnds}
+use Rattle.tmw_search.specs.Ended.{EndsOf, Replaces}
+use Rattle.tmw_search.specs.ForcedEnds.{AreForced}
 use Rattle.tmw_search.specs.ForcedTransactions.{is_writer, IsForced}
-use Rattle.tmw_search.specs.ShownTransactions.{ShowsTransactions}
-use Rattle.tmw_search.specs.Walks.{LeadsAll}
 use Rattle.tmw_search.proofs.Forcing.{is-forced}
-use Rattle.tmw_cuts.proofs.FirstMembers.{contains_here, contains_later, contains_cases, contains_none}
-use Rattle.tmw_search.proofs.WindowViews.{shows-views_of}
-
--- an end of the list was found from the state
-pub record HasEnd (criterion : Criterion) (xs : List View) (ends : List State) (s : State) : Type 0 where
-  pub end : State
-  pub within : Contains ends end
-  pub leads : LeadsAll criterion xs s end
-
--- the end was found from a state of the list
-pub record HasStart (criterion : Criterion) (xs : List View) (start : List State) (e : State) : Type 0 where
-  pub begun : State
-  pub within : Contains start begun
-  pub leads : LeadsAll criterion xs begun e
-
-pub record Finds (criterion : Criterion) (xs : List View) (ends left start : List State) : Type 0 where
-  pub only : (e : State) → Contains ends e → HasStart criterion xs start e
-  pub within : (s : State) → Contains left s → Contains start s
-  pub each : (s : State) → Contains start s → HasEnd criterion xs ends s ⊎ Contains left s
-
-finds-more : (criterion : Criterion) (xs : List View) (ends more : List State) (s e : State) (left start : List State) → Finds criterion xs ends (s ∷ left) start
-    → LeadsAll criterion xs s e → AddsMember ends more e → Finds criterion xs more left start
-finds-more criterion xs ends more s e left start f leads adds = record {
-  only = λ z has. elim ((adds z).0 has) [
-    | inl is ↦ record { begun = s; within = f.within s (contains_here s left); leads = rw is leads }
-    | inr old ↦ f.only z old
-  ];
-  within = λ z has. f.within z (contains_later s z left has);
-  each = λ z has. elim (f.each z has) [
-    | inl h ↦ inl (record { end = h.end; within = (adds h.end).1 (inr h.within); leads = h.leads })
-    | inr h ↦ elim (contains_cases s z left h) [
-      | inl is ↦ inl (record { end = e; within = (adds e).1 (inl refl); leads = rw (← is) leads })
-      | inr later ↦ inr later
-    ]
-  ];
-}
-
-pub finds-next : (criterion : Criterion) (xs : List View) (ends more : List State) (i : ℕ) (start : List State) (e : State) → i < length start
-    → Finds criterion xs ends (drop i start) start → LeadsAll criterion xs (get_or start i []) e → AddsMember ends more e
-    → Finds criterion xs more (drop (i + 1) start) start
-finds-next criterion xs ends more i start e within f leads adds =
-    let s : State = get_or start i [] in
-    let same : suc i ≡ i + 1 = omega arith in
-    let left : drop i start ≡ s ∷ drop (i + 1) start =
-    drop-cons start i [] within ∙ ap (λ (n : ℕ). s ∷ drop n start) same in
-    finds-more criterion xs ends more s e (drop (i + 1) start) start (subst (λ (l : List State). Finds criterion xs ends l start) left f) leads adds
-
-pub found-many : (criterion : Criterion) (xs : List View) (cap : ℕ) (ends : States) (left start : List State) → Finds criterion xs (members ends) left start
-    → cap < length (members ends) → AreForcedEnds criterion xs start cap Many
-found-many criterion xs cap ends left start f more = λ ts shows forced ended.
-    (members ends, ends.rising, more, λ e has. let h = f.only e has in (h.begun, h.within, h.leads ts shows))
-
-pub found-few : (criterion : Criterion) (xs : List View) (cap : ℕ) (ends : States) (left start : List State) → Finds criterion xs (members ends) left start → left ≡ []
-    → length (members ends) ≤ cap → AreForcedEnds criterion xs start cap (Few ends)
-found-few criterion xs cap ends left start f none few = λ ts shows forced ended. (
-  few,
-  λ e. (
-    λ has. let h = f.only e has in (h.begun, h.within, h.leads ts shows),
-    λ (s, within, leads). elim (f.each s within) [
-      | inl h ↦ subst (λ (z : State). Contains (members ends) z) (forced-end_by criterion s h.end e ts forced ended (h.leads ts shows) leads) h.within
-      | inr later ↦ absurd (contains_none s (rw none at later))
-    ],
-  ),
-)
-
--- the ends that were found from what a window shows are those of its events
-pub forced-ends : (criterion : Criterion) (states : States) (window : Window) (xs : List View) (start : List State) (cap : ℕ) (ends : EndStates)
-    → xs ≡ views window → start ≡ members states → ((events : List Event) → StandsFor window events → true ≡ is_cut events)
-    → AreForced xs → AreForcedEnds criterion xs start cap ends → AreEnds criterion states window cap ends
-forced-ends criterion states window xs start cap ends shown same cut forced are = λ events stands.
-    let ts = transactions events in
-    let is = shown ∙ stands.shows in
-    let shows : ShowsTransactions xs ts = subst (λ (v : List View). ShowsTransactions v ts) (sym is) (shows-views_of events) in
-    let only_one = is-forced ts (subst (λ (v : List View). AreForced v) is forced) in
-    subst (λ (s : List State). AreMembers cap (EndsBy criterion (Contains s) ts) ends) same (are ts shows only_one (sym (cut events stands)))
+use Rattle.tmw_cuts.proofs.FirstMembers.{contains_here, contains_cases, contains_none}
 
 one_member : (xs : List State) (s t : State) → length xs ≡ 1 → Contains xs s → Contains xs t → s ≡ t
 one_member [] s t one has too = absurd (omega (arith, one))

@@ -1,19 +1,19 @@
 -- Where the end state is forced, all legal serial orders lead to it: what each writer of a register reads and leaves there
 -- sums up to the same over each order.
-use Rattle.std.proofs.Common.{◌≡◌, ◌==◌, ◌+◌, ◌%◌, ◌^◌, ◌<◌, ◌≤◌, ◌||◌, ℕ, zero, suc, true, false, not, Bool, List, [], ◌∷◌, length, Some, None, IsTrue, cond, refl, sym, ap, ◌∙◌, inl, inr, arith}
-use Rattle.std.specs.List.{list_all, list_any, sum_by, count_by}
+use Rattle.std.proofs.Common.{◌≡◌, ◌==◌, ◌+◌, ◌%◌, ◌^◌, ◌<◌, ◌≤◌, ℕ, zero, suc, true, false, not, List, [], ◌∷◌, length, Some, IsTrue, cond, refl, sym, ap, ◌∙◌, inl, inr, arith}
+use Rattle.std.specs.List.{list_all, sum_by, count_by}
 use Rattle.std.specs.Prelude.{remove, slice_get, slice_index, slice_set, if◌then◌else◌}
-use Rattle.std.proofs.lemmas.Bool.{and_parts, and_from, cases_Bool, eqb-true, eqb-false, not-true}
+use Rattle.std.proofs.lemmas.Bool.{and_parts, cases_Bool, eqb-true, eqb-false, not-true}
 use Rattle.std.proofs.lemmas.List.{get_or-set_same, get_or-set_other, length-set, ext_get_or}
 use Rattle.std.proofs.lemmas.List.Sums.{sum_by-cons}
 use Rattle.tmw_defs.specs.declared.op.Op.{Op}
 use Rattle.tmw_defs.specs.declared.op.Op.TheVariants.{Read, Write, Add}
-use Rattle.tmw_search.specs.ForcedTransactions.{is_committed, is_writer, is_blind_writer, left_in, gives_way, settles, IsForced}
+use Rattle.tmw_search.specs.ForcedTransactions.{is_committed, is_writer, is_blind_writer, IsForced}
 use Rattle.tmw_defs.specs.History.{Txn, is_ended, status_of, operations}
-use Rattle.tmw_defs.specs.Opaque.{State, Placed, PlacesEach, precedes, may_be, keeps_order, reads_hold, after, after_writes, is_legal}
+use Rattle.tmw_defs.specs.Opaque.{State, Placed, PlacesEach, may_be, reads_hold, after, after_writes, is_legal}
 use Rattle.tmw_defs.specs.Outcomes.{end_state, Leads}
 use Rattle.tmw_defs.proofs.Removals.{list_all-places}
-use Rattle.tmw_cuts.specs.Written.{writes, writes_blindly, left_by}
+use Rattle.tmw_cuts.specs.Written.{writes, writes_blindly}
 use Rattle.tmw_search.proofs.Completions.{held_is}
 
 -- a sum over an order is the sum over the transactions that it places
@@ -306,91 +306,6 @@ same-few s a b ts r within ended few l m =
     one_of zero few some = absurd (some refl)
     one_of (suc n) few some = omega arith
 
--- what the last of its writers leaves, where all that can be it leave the same
-left_by-final : (r x : ℕ) (ops : List Op) → left_by r (Some x) ops ≡ Some (final r x ops)
-left_by-final r x [] = refl
-left_by-final r x (Read q v ∷ ops) = left_by-final r x ops
-left_by-final r x (Write q v ∷ ops) =
-    elim (cases_Bool (q.number == r)) [ inl is ↦ rw is (left_by-final r v ops) | inr other ↦ rw other (left_by-final r x ops) ]
-left_by-final r x (Add q d v ∷ ops) =
-    elim (cases_Bool (q.number == r)) [ inl is ↦ rw is (left_by-final r ((v + d) % 2 ^ 64) ops) | inr other ↦ rw other (left_by-final r x ops) ]
-
-left_by-writes : (r x : ℕ) (ops : List Op) → writes r ops ≡ true → left_by r None ops ≡ Some (final r x ops)
-left_by-writes r x [] some = absurd (cc)
-left_by-writes r x (Read q v ∷ ops) some = left_by-writes r x ops some
-left_by-writes r x (Write q v ∷ ops) some =
-    elim (cases_Bool (q.number == r)) [ inl is ↦ rw is (left_by-final r v ops) | inr other ↦ rw other (left_by-writes r x ops (rw other at some)) ]
-left_by-writes r x (Add q d v ∷ ops) some =
-    elim (cases_Bool (q.number == r)) [ inl is ↦ rw is (left_by-final r ((v + d) % 2 ^ 64) ops) | inr other ↦ rw other (left_by-writes r x ops (rw other at some)) ]
-
-placed-left : (s : State) (p : Placed) (r : ℕ) → r < length s → IsTrue (is_ended p.txn.text) → IsTrue (may_be p)
-    → is_writer r p.txn ≡ true → slice_index (after s p) r ≡ left_in r (operations p.txn.text)
-placed-left s p r within over may is =
-    let some : writes r (operations p.txn.text) ≡ true = (and_parts (is_committed (status_of p.txn.text)) _ is).1 in
-    placed-some s p r within over may is ∙ rw (is, left_by-writes r 0 (operations p.txn.text) some) refl
-
--- a value stays where whoever writes the register leaves it there
-keeps_value : (r v : ℕ) (order : List Placed) (s : State) → r < length s → Ordered s order
-    → IsTrue (list_all (λ q. not (is_writer r q.txn) || (left_in r (operations q.txn.text) == v)) order)
-    → slice_index s r ≡ v → slice_index (end_state s order) r ≡ v
-keeps_value r v [] s within o all here = here
-keeps_value r v (p ∷ order) s within o all here =
-    let (reads, legal) = and_parts (reads_hold s (operations p.txn.text)) _ o.legal in
-    let (may, mays) = and_parts (may_be p) _ o.may in
-    let (over, overs) = and_parts (is_ended p.txn.text) _ o.ended in
-    let (one, rest) = and_parts (not (is_writer r p.txn) || (left_in r (operations p.txn.text) == v)) _ all in
-    let next : slice_index (after s p) r ≡ v = elim (cases_Bool (is_writer r p.txn)) [
-      | inl is ↦ placed-left s p r within over may is ∙ eqb-true _ v (rw is at one)
-      | inr other ↦ placed-none s p r within over may other ∙ here
-    ] in
-    keeps_value r v order (after s p) (rw length-after within) (record { legal = legal; may = mays; ended = overs }) rest next
-
--- those behind one do not precede it
-not_before : (r v : ℕ) (t : Txn) (order : List Placed) → IsTrue (list_all (λ q. not (precedes q.txn t)) order)
-    → IsTrue (list_all (λ q. gives_way r v t q.txn) order)
-    → IsTrue (list_all (λ q. not (is_writer r q.txn) || (left_in r (operations q.txn.text) == v)) order)
-not_before r v t [] free all = refl
-not_before r v t (q ∷ order) free all =
-    let (behind, frees) = and_parts (not (precedes q.txn t)) _ free in
-    let (way, ways) = and_parts (gives_way r v t q.txn) _ all in
-    and_from (not (is_writer r q.txn) || (left_in r (operations q.txn.text) == v)) _ (rw (not-true _ behind) at way) (not_before r v t order frees ways)
-
-settled-end : (r v : ℕ) (ts : List Txn) (order : List Placed) (s : State) → r < length s → Ordered s order → IsTrue (keeps_order order)
-    → ((t : Txn) → IsTrue (settles r v ts t) → IsTrue (list_all (λ q. gives_way r v t q.txn) order))
-    → list_all (λ q. not (settles r v ts q.txn)) order ≡ false → slice_index (end_state s order) r ≡ v
-settled-end r v ts [] s within o kept ways some = absurd (cc)
-settled-end r v ts (p ∷ order) s within o kept ways some =
-    let (reads, legal) = and_parts (reads_hold s (operations p.txn.text)) _ o.legal in
-    let (may, mays) = and_parts (may_be p) _ o.may in
-    let (over, overs) = and_parts (is_ended p.txn.text) _ o.ended in
-    let (free, keeps) = and_parts (list_all (λ q. not (precedes q.txn p.txn)) order) _ kept in
-    let more : Ordered (after s p) order = record { legal = legal; may = mays; ended = overs } in
-    elim (cases_Bool (settles r v ts p.txn)) [
-      | inl is ↦
-          let (writer, rest) = and_parts (is_writer r p.txn) _ is in
-          let (value, all) = and_parts (left_in r (operations p.txn.text) == v) _ rest in
-          let behind = (and_parts (gives_way r v p.txn p.txn) _ (ways p.txn is)).1 in
-          keeps_value r v order (after s p) (rw length-after within) more (not_before r v p.txn order free behind)
-          (placed-left s p r within over may writer ∙ eqb-true _ v value)
-      | inr other ↦
-          settled-end r v ts order (after s p) (rw length-after within) more keeps
-          (λ t is. (and_parts (gives_way r v t p.txn) _ (ways t is)).1) (rw other at some)
-    ]
-
-none_all : (p : Txn → Bool) (ts : List Txn) → IsTrue (list_any p ts) → list_all (λ t. not (p t)) ts ≡ false
-none_all p [] some = absurd (cc)
-none_all p (t ∷ ts) some =
-    elim (cases_Bool (p t)) [ inl is ↦ rw is refl | inr other ↦ rw other (none_all p ts (rw other at some)) ]
-
-same-settled : (s a : State) (ts : List Txn) (r v : ℕ) → r < length s → IsTrue (list_all (λ t. is_ended t.text) ts)
-    → IsTrue (list_any (settles r v ts) ts) → Leads s ts a → slice_index a r ≡ v
-same-settled s a ts r v within ended some l =
-    sym (ap (λ (z : State). slice_index z r) l.2)
-    ∙ settled-end r v ts l.0 s within (ordered s a ts ended l) l.1.kept
-    (λ t is. list_all-places (gives_way r v t) ts l.0 l.1.each
-    ∙ (and_parts (left_in r (operations t.text) == v) _ (and_parts (is_writer r t) _ is).1).1)
-    (list_all-places (λ t. not (settles r v ts t)) ts l.0 l.1.each ∙ none_all (settles r v ts) ts some)
-
 pub forced-end : (s a b : State) (ts : List Txn) → IsForced ts → IsTrue (list_all (λ t. is_ended t.text) ts) → Leads s ts a → Leads s ts b
     → a ≡ b
 forced-end s a b ts forced ended l m =
@@ -400,6 +315,5 @@ forced-end s a b ts forced ended l m =
     let inside : r < length s = omega (arith, within, size) in
     elim (forced r) [
       | inl few ↦ same-few s a b ts r inside ended few l m
-      | inr (inl none) ↦ same-blind s a b ts r inside ended none l m
-      | inr (inr (v, some)) ↦ same-settled s a ts r v inside ended some l ∙ sym (same-settled s b ts r v inside ended some m)
+      | inr none ↦ same-blind s a b ts r inside ended none l m
     ])

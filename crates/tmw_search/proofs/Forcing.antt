@@ -1,26 +1,24 @@
 -- The masks of a window's writers: a register that two of them write, or that one writes blindly, has its bit.
-use Rattle.std.proofs.Common.{◌≡◌, ◌==◌, ◌||◌, ◌+◌, ◌-◌, ◌≤◌, min, ℕ, zero, suc, Bool, true, false, not, List, [], ◌∷◌, length, map, take, Option, Some, None, IsTrue, bit_and, bit_or, cond, refl, sym, ap, ◌∙◌, inl, inr, arith}
+use Rattle.std.proofs.Common.{◌≡◌, ◌==◌, ◌||◌, ◌+◌, ◌-◌, ◌≤◌, min, ℕ, Bool, true, false, not, List, [], ◌∷◌, length, map, take, Some, bit_and, bit_or, cond, refl, sym, ap, ◌∙◌, inl, inr, arith}
 use Rattle.std.specs.Int.{bit_at}
-use Rattle.std.specs.List.{list_all, list_any, count_by}
-use Rattle.std.specs.Prelude.{nat_le, slice_get, option_map}
-use Rattle.std.proofs.lemmas.Option.{slice_get-map, slice_get_within, get_or_from_slice_get}
-use Rattle.std.proofs.lemmas.Bool.{and_from, or_right, cases_Bool, cases_lt, eqb-true, eq-eqb, le-leb, lt-leb}
+use Rattle.std.specs.List.{list_all, count_by}
+use Rattle.std.specs.Prelude.{nat_le, slice_get}
+use Rattle.std.proofs.lemmas.Option.{slice_get_within, get_or_from_slice_get}
+use Rattle.std.proofs.lemmas.Bool.{cases_Bool, cases_lt, eqb-true, eq-eqb, le-leb, lt-leb}
 use Rattle.std.proofs.lemmas.List.Folds.{list_all-map}
 use Rattle.std.proofs.lemmas.List.{take_all}
 use Rattle.std.proofs.lemmas.List.Sums.{sum_by-cons, sum_by_more}
 use Rattle.std.proofs.lemmas.Nat.Bits.{bit_at-zero, bit_at-lt, bit_at_and, bit_at_or, same_from_bits}
 use Rattle.tmw_defs.specs.declared.op.Op.{Op}
 use Rattle.tmw_defs.specs.declared.op.Op.TheVariants.{Read, Write, Add}
-use Rattle.tmw_search.specs.ForcedTransactions.{is_committed, is_writer, left_in, gives_way, settles, IsSettled, IsForced}
-use Rattle.tmw_defs.specs.History.{Txn, operations}
-use Rattle.tmw_defs.specs.Opaque.{precedes}
+use Rattle.tmw_search.specs.ForcedTransactions.{is_committed, is_writer, IsForced}
+use Rattle.tmw_defs.specs.History.{Txn}
 use Rattle.tmw_search.proofs.LayersProof.{bit_cases}
-use Rattle.tmw_cuts.specs.Standing.{before_of, view_of}
-use Rattle.tmw_cuts.proofs.Bits.{bit_at-before_of}
+use Rattle.tmw_cuts.specs.Standing.{view_of}
 use Rattle.tmw_cuts.specs.Views.{View, bit}
 use Rattle.tmw_cuts.specs.Registers.{IsMaskOf}
 use Rattle.tmw_cuts.specs.Written.{is_read, writes}
-use Rattle.tmw_search.specs.ForcedEnds.{is_shared, is_without_blind, shows_writer, shows_way, AreSettled, AreDecided, AreForced}
+use Rattle.tmw_search.specs.ForcedEnds.{is_shared, is_without_blind, shows_writer, AreDecided, AreForced}
 
 -- one bit of a mask
 pub mask-bit : (holds : ℕ → Bool) (mask r : ℕ) → IsMaskOf holds mask → bit_at mask r ≡ bit (holds r)
@@ -149,46 +147,9 @@ count-map r all (t ∷ ts) =
     sum_by-cons (λ y. flag (shows_writer r y)) (view_of all t) (map (view_of all) ts) in
     omega (arith, one, shown, count-map r all ts)
 
-all-at : (p : Txn → Bool) (ts : List Txn) → ((i : ℕ) (t : Txn) → slice_get ts i ≡ Some t → IsTrue (p t)) → IsTrue (list_all p ts)
-all-at p [] each = refl
-all-at p (t ∷ ts) each = and_from (p t) _ (each 0 t refl) (all-at p ts (λ i u at. each (suc i) u at))
-
-any-at : (p : Txn → Bool) (ts : List Txn) (i : ℕ) (t : Txn) → slice_get ts i ≡ Some t → IsTrue (p t) → IsTrue (list_any p ts)
-any-at p [] i t at is = absurd (cc)
-any-at p (u ∷ ts) zero t at is = let same : u ≡ t = cc in rw (same, is) refl
-any-at p (u ∷ ts) (suc i) t at is = or_right (p u) _ (any-at p ts i t at is)
-
--- a view at a place shows the transaction there
-view-at : (ts : List Txn) (i : ℕ) (x : View) → slice_get (map (view_of ts) ts) i ≡ Some x → (t : Txn) × (slice_get ts i ≡ Some t) × (view_of ts t ≡ x)
-view-at ts i x at = within (slice_get ts i) refl (sym (slice_get-map (view_of ts) ts i) ∙ at)
-  where
-    within : (found : Option Txn) → slice_get ts i ≡ found → option_map (view_of ts) found ≡ Some x
-        → (t : Txn) × (slice_get ts i ≡ Some t) × (view_of ts t ≡ x)
-    within None is same = absurd (cc)
-    within (Some t) is same = (t, is, cc)
-
-is-settled : (r : ℕ) (ts : List Txn) → AreSettled r (map (view_of ts) ts) → IsSettled r ts
-is-settled r ts is =
-    let (t, at, shown) = view-at ts is.place is.last is.at in
-    let writer : IsTrue (is_writer r t) = rw (← shown) at is.writes_it in
-    let value : left_in r (operations t.text) ≡ is.value = rw (← shown) at is.leaves in
-    let ways : IsTrue (list_all (gives_way r is.value t) ts) = all-at (gives_way r is.value t) ts (λ j u there. way t u j there (
-    rw (← shown) at (is.others j (view_of ts u) (slice_get-map (view_of ts) ts j ∙ ap (option_map (view_of ts)) there)))) in
-    (is.value, any-at (settles r is.value ts) ts is.place t at (and_from _ _ writer (and_from _ _ (eq-eqb _ _ value) ways)))
-  where
-    flag_is : (b : Bool) → (bit b == 1) ≡ b
-    flag_is true = refl
-    flag_is false = refl
-
-    way : (t u : Txn) (j : ℕ) → slice_get ts j ≡ Some u → IsTrue (shows_way r is.value (view_of ts t) j (view_of ts u)) → IsTrue (gives_way r is.value t u)
-    way t u j there shown =
-        let bits : (bit_at (before_of ts t) j == 1) ≡ precedes u t = ap (λ n. n == 1) (bit_at-before_of ts t u j there) ∙ flag_is (precedes u t) in
-        rw bits at shown
-
 pub is-forced : (ts : List Txn) → AreForced (map (view_of ts) ts) → IsForced ts
 is-forced ts forced = λ r.
     elim (forced r) [
       | inl few ↦ inl (omega (arith, few, count-map r ts ts))
-      | inr (inl none) ↦ inr (inl (sym (list_all-map (is_without_blind r) (view_of ts) ts) ∙ none))
-      | inr (inr is) ↦ inr (inr (is-settled r ts is))
+      | inr none ↦ inr (sym (list_all-map (is_without_blind r) (view_of ts) ts) ∙ none)
     ]

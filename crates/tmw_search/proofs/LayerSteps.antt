@@ -48,7 +48,7 @@ way_is criterion x above s by p has =
       | inr other ↦ absurd (contains_none p (rw other at has))
     ]
 
-way_of : (criterion : Criterion) (x : View) (above : ℕ) (s : State) (p : ℕ × State) → Contains (ways criterion x above s) p
+pub way_of : (criterion : Criterion) (x : View) (above : ℕ) (s : State) (p : ℕ × State) → Contains (ways criterion x above s) p
     → IsWay criterion x above s p
 way_of criterion x above s p has =
     elim (Contains-append_cases (way criterion x above s true) (way criterion x above s false) p has) [
@@ -134,7 +134,7 @@ slice_get_some [] i within = absurd (omega arith)
 slice_get_some (x ∷ xs) zero within = (x, refl)
 slice_get_some (x ∷ xs) (suc i) within = slice_get_some xs i (omega arith)
 
-eight_bits : (n bound : ℕ) → bound ≤ 8 → n < 2 ^ bound → n < 2 ^ 8
+pub eight_bits : (n bound : ℕ) → bound ≤ 8 → n < 2 ^ bound → n < 2 ^ 8
 eight_bits n bound few fits = omega (arith, fits, pow_mono few)
 
 pub after-way : (r : State) (x : View) (t : Txn) (by : Bool) → x.ops ≡ operations t.text

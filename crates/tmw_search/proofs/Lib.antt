@@ -2,6 +2,7 @@ mod BlindEnds
 mod BlindProof
 mod Choosing
 mod Completions
+mod DepthFirst
 pub mod ForcedEnds
 mod ForcedProof
 mod Forcing
@@ -14,14 +15,13 @@ pub mod LayerSteps
 mod LayersBy
 pub mod LayersProof
 pub mod Masks
+mod OnlyOne
 mod OrderRanks
-mod Pruning
 mod RankedOrders
 mod SameEnds
 mod Setting
 mod Sorting
 mod StrictSteps
-mod Walking
 mod WritersFound
 mod WindowLayers
 pub mod WindowViews

@@ -192,6 +192,21 @@ chosen_bits (t ∷ ts) mask each =
     chosen-here mask t ts one
     ∙ ap (λ xs. t ∷ xs) (chosen_bits ts (mask / 2) (λ j within. sym (bit_at-suc mask j) ∙ each (suc j) (omega (arith, within))))
 
+-- where all are chosen, the bit of each is set
+pub all_bits : (ts : List Txn) (mask : ℕ) → length (chosen mask ts) ≡ length ts → (j : ℕ) → j < length ts → bit_at mask j ≡ 1
+all_bits [] mask all j within = absurd (omega (arith, within))
+all_bits (t ∷ ts) mask all zero within =
+    elim (low_bit mask) [
+      | inl one ↦ bit_at_lowest mask ∙ one
+      | inr even ↦ absurd (omega (arith, all, ap length (chosen-past mask t ts even), length-chosen-le ts (mask / 2)))
+    ]
+all_bits (t ∷ ts) mask all (suc i) within =
+    elim (low_bit mask) [
+      | inl one ↦ bit_at-suc mask i
+          ∙ all_bits ts (mask / 2) (omega (arith, all, ap length (chosen-here mask t ts one))) i (omega (arith, within))
+      | inr even ↦ absurd (omega (arith, all, ap length (chosen-past mask t ts even), length-chosen-le ts (mask / 2)))
+    ]
+
 -- a mask that chooses all that another does chooses no fewer
 pub chosen-le : (ts : List Txn) (a b : ℕ) → ((i : ℕ) (t : Txn) → slice_get ts i ≡ Some t → bit_at a i ≡ 1 → bit_at b i ≡ 1)
     → length (chosen a ts) ≤ length (chosen b ts)

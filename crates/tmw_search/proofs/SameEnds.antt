@@ -1,20 +1,20 @@
 -- Where all transactions have ended, their ends by strict serializability are those of the committed ones by opacity.
-use Rattle.std.proofs.Common.{◌≡◌, ◌==◌, ◌||◌, ◌+◌, ◌≤◌, ℕ, Bool, true, false, not, List, [], ◌∷◌, IsTrue, cond, refl, sym, subst, ◌∙◌, inl, inr, arith}
-use Rattle.std.specs.List.{list_all, list_any, count_by}
-use Rattle.std.proofs.lemmas.Bool.{and_parts, and_from, or_right, cases_Bool}
+use Rattle.std.proofs.Common.{◌≡◌, ◌+◌, ◌≤◌, ℕ, Bool, not, List, [], ◌∷◌, IsTrue, cond, refl, sym, subst, ◌∙◌, inl, inr, arith}
+use Rattle.std.specs.List.{list_all, count_by}
+use Rattle.std.proofs.lemmas.Bool.{and_parts, and_from}
 use Rattle.std.proofs.lemmas.List.Sums.{sum_by-cons}
 use Rattle.tmw_defs.specs.declared.criterion.Criterion.{Criterion}
 use Rattle.tmw_defs.specs.declared.criterion.Criterion.TheVariants.{Opacity, Strict}
 use Rattle.tmw_defs.specs.declared.status.Status.{Status}
 use Rattle.tmw_defs.specs.declared.status.Status.TheVariants.{Live, Pending, Committed, Aborted}
 use Rattle.tmw_defs.specs.Criteria.{LeadsBy, EndsBy}
-use Rattle.tmw_defs.specs.History.{Txn, is_ended, status_of, operations}
+use Rattle.tmw_defs.specs.History.{Txn, is_ended, status_of}
 use Rattle.tmw_defs.specs.Opaque.{State, Placed, may_be, may_hold, Explains}
 use Rattle.tmw_defs.specs.Outcomes.{Leads, Ends}
 use Rattle.tmw_defs.specs.Strict.{AreHeld}
 use Rattle.tmw_defs.proofs.Held.{list_all-held}
 use Rattle.tmw_defs.proofs.Removals.{list_all-places}
-use Rattle.tmw_search.specs.ForcedTransactions.{is_committed, is_writer, is_blind_writer, left_in, gives_way, settles, IsForced}
+use Rattle.tmw_search.specs.ForcedTransactions.{is_committed, is_writer, is_blind_writer, IsForced}
 use Rattle.tmw_search.proofs.ForcedProof.{forced-end}
 use Rattle.tmw_search.proofs.Holding.{most_held, ended-held, committed-held, committed_held}
 
@@ -71,54 +71,11 @@ count_among p (t ∷ us) members (inr (may, more, is, rest)) =
     let fewer = count_among p us more rest in
     rw is (omega (arith, one, two, fewer))
 
--- one that has committed is held
-any_held : (p : Txn → Bool) → ((t : Txn) → IsTrue (p t) → IsTrue (is_committed (status_of t.text))) → (us members : List Txn)
-    → AreHeld us members → IsTrue (list_any p us) → IsTrue (list_any p members)
-any_held p committed [] members none some = absurd (cc)
-any_held p committed (t ∷ us) members are some =
-    elim (cases_Bool (p t)) [
-      | inl is ↦ elim are [
-        | inl (may_not, rest) ↦ absurd (never_out (status_of t.text) (committed t is) may_not)
-        | inr (may, more, same, rest) ↦ rw (same, is) refl
-      ]
-      | inr other ↦
-          let later : IsTrue (list_any p us) = rw other at some in
-          elim are [
-            | inl (may_not, rest) ↦ any_held p committed us members rest later
-            | inr (may, more, same, rest) ↦ rw (same, other) (any_held p committed us more rest later)
-          ]
-    ]
-  where
-    never_out : (status : Status) → IsTrue (is_committed status) → IsTrue (may_hold status false) → ⊥
-    never_out Committed is may = absurd (cc)
-    never_out Live is may = absurd (cc)
-    never_out Pending is may = absurd (cc)
-    never_out Aborted is may = absurd (cc)
-
-any_more : (p q : Txn → Bool) → ((t : Txn) → IsTrue (p t) → IsTrue (q t)) → (ts : List Txn) → IsTrue (list_any p ts) → IsTrue (list_any q ts)
-any_more p q each [] some = absurd (cc)
-any_more p q each (t ∷ ts) some =
-    elim (cases_Bool (p t)) [
-      | inl is ↦ rw (each t is) refl
-      | inr other ↦ or_right (q t) _ (any_more p q each ts (rw other at some))
-    ]
-
-settles-held : (r v : ℕ) (us members : List Txn) → AreHeld us members → (t : Txn) → IsTrue (settles r v us t) → IsTrue (settles r v members t)
-settles-held r v us members are t is =
-    let (writer, rest) = and_parts (is_writer r t) _ is in
-    let (value, all) = and_parts (left_in r (operations t.text) == v) _ rest in
-    and_from _ _ writer (and_from _ _ value (list_all-held (gives_way r v t) us members are all))
-
 forced-among : (us members : List Txn) → IsForced us → AreHeld us members → IsForced members
 forced-among us members forced are = λ r.
     elim (forced r) [
       | inl few ↦ inl (omega (arith, few, count_among (is_writer r) us members are))
-      | inr (inl none) ↦ inr (inl (list_all-held (λ t. not (is_blind_writer r t)) us members are none))
-      | inr (inr (v, some)) ↦ inr (inr (
-        v,
-        any_more (settles r v us) (settles r v members) (settles-held r v us members are) members
-            (any_held (settles r v us) (λ t is. (and_parts (is_committed (status_of t.text)) _ (and_parts (is_writer r t) _ is).0).0) us members are some),
-      ))
+      | inr none ↦ inr (list_all-held (λ t. not (is_blind_writer r t)) us members are none)
     ]
 
 -- a forced end is forced by each criterion

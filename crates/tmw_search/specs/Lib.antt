@@ -1,6 +1,7 @@
 pub mod BlindEnds
 pub mod BlindTransactions
 pub mod Choices
+pub mod DepthFirst
 pub mod Ended
 pub mod ForcedEnds
 pub mod ForcedTransactions
@@ -9,4 +10,3 @@ pub mod Layers
 pub mod Nexts
 pub mod Pairs
 pub mod ShownTransactions
-pub mod Walks

@@ -1,5 +1,5 @@
 -- What placing one transaction more makes of a set of placed ones and the state that they have led to.
-use Rattle.std.specs.Prelude.{◌≡◌, ◌==◌, ◌&&◌, ◌||◌, ◌*◌, ◌^◌, ◌%◌, ◌++◌, ℕ, Bool, true, false, not, List, [], ◌∷◌, Option, Some, None, IsTrue, bit_and, bit_or, flat_map, position, slice_get, if◌then◌else◌}
+use Rattle.std.specs.Prelude.{◌≡◌, ◌==◌, ◌&&◌, ◌||◌, ◌*◌, ◌^◌, ◌%◌, ◌++◌, ℕ, Bool, true, false, not, List, [], ◌∷◌, Some, IsTrue, bit_and, bit_or, flat_map, slice_get, if◌then◌else◌}
 use Rattle.std.specs.Int.{bit_at, bit_not, w8}
 use Rattle.std.specs.List.{Contains, list_all, enumerate_from}
 use Rattle.tmw_defs.specs.declared.criterion.Criterion.{Criterion}
@@ -48,17 +48,5 @@ abbrev pub is_idle : View → Bool
 is_idle x = not (may_hold x.status true) || list_all is_read x.ops
 
 -- it may come next, leaves each state as it is, and read what the state has
-abbrev pub is_idle_next : View → ℕ → ℕ × State → Bool
-is_idle_next x place p = is_next x place p.0 && (is_idle x && reads_hold p.1 x.ops)
-
--- the first such place
-unfoldable pub first_idle : List View → ℕ × State → Option ℕ
-first_idle xs p = position (λ (at : ℕ × View). is_idle_next at.1 at.0 p) (enumerate_from 0 xs)
-
-abbrev pub idle_or_all : Criterion → List View → ℕ × State → Option ℕ → List (ℕ × State)
-idle_or_all criterion xs p None = nexts_of criterion xs p
-idle_or_all criterion xs p (Some place) = (bit_or p.0 (1 * 2 ^ place % 2 ^ 8), p.1) ∷ []
-
--- The pairs after one placing more: one that leaves each state as it is is placed as soon as it can be, and no other in its place.
-abbrev pub pruned_from : Criterion → List View → ℕ × State → List (ℕ × State)
-pruned_from criterion xs p = idle_or_all criterion xs p (first_idle xs p)
+abbrev pub is_idle_next : View → ℕ → ℕ → State → Bool
+is_idle_next x place mask s = is_next x place mask && (is_idle x && reads_hold s x.ops)

@@ -6,14 +6,14 @@ ghost use Rattle.tmw_cuts.specs.Standing.{StandsFor, count_of};
 ghost use Rattle.tmw_search.specs.Ended.{AreLayer, AreLastOf, TellsEnd, AreEnds, EndsOf, Replaces};
 ghost use Rattle.tmw_search.specs.Pairs.{pair_cmp};
 
+use crate::alone::known_or_alone;
 use crate::aside::{Aside, set_aside};
 use crate::blind::{are_blind, find_blind_ends};
+use crate::depth_first::search_ends;
 use crate::end_states::EndStates;
-use crate::forced::{find_ends, is_forced};
-use crate::last_pairs::last_pairs;
+use crate::forced::is_forced;
 use crate::layers::layer_of;
 use crate::nexts::Reached;
-use crate::walk::finds_end;
 use std::alloc::{AllocError, Global};
 use tmw_cuts::{State, States, Window};
 use tmw_defs::Criterion;
@@ -55,7 +55,14 @@ fn last_of(
 {
     let items = window.transactions();
     let aside = set_aside(criterion, items);
-    last_pairs(criterion, alloc, states.states(), items, &aside)
+    layer_of(
+        criterion,
+        alloc,
+        states.states(),
+        items,
+        &aside,
+        items.len(),
+    )
 }
 
 /// Tells whether the window's transactions have a legal serial order, for some completion, from one of the states. By
@@ -68,9 +75,13 @@ pub fn possible(
 ) -> Result<bool, AllocError>
     ensures { IfOk result (TellsEnd criterion states.now window.now) }
 {
-    // Mostly an order is found at once, and then no memory is needed.
-    if finds_end(criterion, window.transactions(), states.states()) {
+    // One end tells that there is one.
+    let found = search_ends(criterion, alloc, window.transactions(), states.states(), 0)?;
+    if !found.ends.is_empty() {
         return Ok(true);
+    }
+    if found.done {
+        return Ok(false);
     }
     let last = last_of(criterion, alloc, states, window)?;
     Ok(!last.is_empty())
@@ -88,21 +99,22 @@ pub fn outcomes(
     ensures { IfOk result (AreEnds criterion states.now window.now cap) }
 {
     let items = window.transactions();
-    if window.is_cut() && is_forced(items) {
-        // All orders from a state end in one, so that one of them tells the end.
-        if let Some(ends) = find_ends(criterion, alloc, items, states.states(), cap)? {
-            return Ok(ends);
-        }
-    }
     if are_blind(criterion, items) {
         return find_blind_ends(alloc, items, states.states(), cap);
+    }
+    let found = search_ends(criterion, alloc, items, states.states(), cap as usize)?;
+    // The first state past the cap settles it. At a cap of 0 any end is `Many`, and no end is `Few` of no state.
+    if found.ends.len() > cap as usize {
+        return Ok(EndStates::Many);
+    }
+    if found.done {
+        return Ok(EndStates::Few(found.ends));
     }
     // A set has its states in rising order, register 0 first, so the order of the search does not show.
     let mut ends = States::empty(alloc);
     let last = last_of(criterion, alloc, states, window)?;
     for (_all, state) in &last {
         ends.insert(*state)?;
-        // The first state past the cap settles it. At a cap of 0 any end is `Many`, and no end is `Few` of no state.
         if ends.len() > cap as usize {
             return Ok(EndStates::Many);
         }
@@ -125,7 +137,7 @@ pub fn replace_by_outcomes(
         → Replaces criterion states.old cap events states.new few) }
     ensures err { OnErr result (members states.new ≡ members states.old) }
 {
-    if let Some(end) = known {
+    if let Some(end) = known_or_alone(states, window, known) {
         if states.len() == 1 && cap > 0 && window.is_cut() && is_forced(window.transactions()) {
             states.put_only(end);
             return Ok(true);

@@ -1,13 +1,15 @@
-ghost use Rattle.std.specs.Prelude.{◌≡◌, ◌≤◌, ◌<◌, ◌++◌, IfSome, OnOk, length, flat_map, map};
+//! Transactions that leave each state as it is are placed as soon as they can be: whatever can follow can follow them too.
+ghost use Rattle.std.specs.Prelude.{◌≡◌, ◌<◌, ◌≤◌, length, map};
 ghost use Rattle.tmw_cuts.specs.Views.{view};
-ghost use Rattle.tmw_search.specs.Nexts.{is_idle, is_idle_next, first_idle, pruned_from};
+ghost use Rattle.tmw_search.specs.DepthFirst.{IsOnward};
+ghost use Rattle.tmw_search.specs.Nexts.{is_idle, is_idle_next};
 
-use crate::nexts::{Reached, is_next, may_hold, push_nexts};
-use std::alloc::AllocError;
-use tmw_cuts::Txn;
-use tmw_defs::Criterion;
+use crate::nexts::{is_next, may_hold};
+use crate::progress::Progress;
+use tmw_cuts::{State, Txn};
 
 /// Whether no completion holds it, or its operations write nothing, so that it leaves each state as it is.
+#[inline(always)]
 fn is_idle(item: &Txn) -> bool
     ensures { result ≡ is_idle (view item.now) }
 {
@@ -15,61 +17,49 @@ fn is_idle(item: &Txn) -> bool
 }
 
 /// Tells whether the transaction may come next, leaves each state as it is, and read what the state has.
-fn is_idle_next(item: &Txn, place: usize, reached: &Reached) -> bool
+#[inline(always)]
+fn is_idle_next(item: &Txn, place: usize, mask: u8, state: &State) -> bool
     requires { place < 8 }
-    ensures { result ≡ is_idle_next (view item.now) place reached.now }
+    ensures { result ≡ is_idle_next (view item.now) place mask state.now }
 {
-    is_next(item, place, reached.0) && is_idle(item) && item.fits(&reached.1)
+    is_next(item, place, mask) && is_idle(item) && item.fits(state)
 }
 
-/// The first such transaction.
-fn idle_place(items: &[Txn], reached: &Reached) -> Option<usize>
+/// Returns the transactions that leave each state as it is, as a mask. Nothing is claimed of it: it says where to look.
+pub fn idle_of(items: &[Txn]) -> u8
     requires { length items.now ≤ 8 }
-    ensures first { result ≡ first_idle (map view items.now) reached.now }
-    ensures within { IfSome result (λ place. place < length items.now) }
 {
+    let mut idle = 0;
     for (place, item) in items.iter().enumerate() {
-        if is_idle_next(item, place, reached) {
-            return Some(place);
+        if is_idle(item) {
+            idle |= 1 << place;
         }
     }
-    None
+    idle
 }
 
-/// Adds what placing one transaction more makes of what was reached. One that leaves each state as it is is placed as soon as it can
-/// be, and no other in its place: whatever can follow can follow it too.
-fn push_pruned(
-    criterion: Criterion,
-    nexts: &mut Vec<Reached>,
-    items: &[Txn],
-    reached: &Reached,
-) -> Result<(), AllocError>
+/// Places those of `idle` that leave each state as it is and read what this one has, as long as one of them can be next.
+/// The rest then leads to the same ends.
+#[inline(always)]
+pub fn place_idle(items: &[Txn], idle: u8, progress: Progress, state: &State) -> Progress
     requires { length items.now ≤ 8 }
-    ensures { OnOk result (nexts.new.items
-        ≡ nexts.old.items ++ pruned_from criterion (map view items.now) reached.now) }
+    ensures onward { IsOnward (map view items.now) state.now progress.mask progress.left result.mask
+        result.left }
+    ensures fewer { result.left ≤ progress.left }
 {
-    match idle_place(items, reached) {
-        Some(place) => {
-            nexts.push((reached.0 | 1 << place, reached.1))?;
-            Ok(())
+    let Progress { mut mask, mut left } = progress;
+    let mut rest = idle & !mask;
+    while rest != 0 {
+        let place = rest.trailing_zeros() as usize;
+        rest &= rest - 1;
+        let Some(item) = items.get(place) else {
+            break;
+        };
+        if left > 0 && is_idle_next(item, place, mask, state) {
+            mask |= 1 << place;
+            left -= 1;
+            rest = idle & !mask;
         }
-        None => push_nexts(criterion, nexts, items, reached),
     }
-}
-
-/// Adds what placing one transaction more makes of each of these pairs. One that leaves the state as it is is placed alone.
-pub fn push_all_pruned(
-    criterion: Criterion,
-    nexts: &mut Vec<Reached>,
-    items: &[Txn],
-    layer: &[Reached],
-) -> Result<(), AllocError>
-    requires { length items.now ≤ 8 }
-    ensures { OnOk result (nexts.new.items
-        ≡ nexts.old.items ++ flat_map (pruned_from criterion (map view items.now)) layer.now) }
-{
-    for reached in layer {
-        push_pruned(criterion, nexts, items, reached)?;
-    }
-    Ok(())
+    Progress { mask, left }
 }

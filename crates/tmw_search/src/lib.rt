@@ -1,21 +1,23 @@
-//! The end states of a window, by a search for one serial order and by layers.
+//! The end states of a window, depth first and by layers, and a guess of a serial order.
 #![tactic(auto)]
 
+mod alone;
 mod aside;
 mod blind;
 mod choices;
+mod depth_first;
 mod end_states;
 mod ends;
 mod forced;
 mod idle;
-mod last_pairs;
 mod lasts;
 mod layers;
 mod nexts;
+mod progress;
 mod reach;
-mod walk;
+mod seek;
 
 pub use end_states::EndStates;
 pub use ends::{layer, outcomes, possible, replace_by_outcomes};
 pub use nexts::{is_next, may_hold};
-pub use walk::{Step, find_order};
+pub use seek::{Step, seek_order};

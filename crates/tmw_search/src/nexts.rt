@@ -1,4 +1,4 @@
-ghost use Rattle.std.specs.Prelude.{◌≡◌, ◌<◌, ◌≤◌, ◌++◌, OnOk, IfSome, IsTrue, length, flat_map, map};
+ghost use Rattle.std.specs.Prelude.{◌≡◌, ◌<◌, ◌≤◌, ◌++◌, OnOk, IfSome, IfNone, IsTrue, IsFalse, length, flat_map, map};
 ghost use Rattle.tmw_cuts.specs.Views.{view};
 ghost use Rattle.tmw_defs.specs.Opaque.{may_hold};
 ghost use Rattle.tmw_search.specs.Layers.{reads_asked};
@@ -33,8 +33,11 @@ pub fn is_next(item: &Txn, place: usize, mask: u8) -> bool
 /// Returns the state in which the transaction leaves the memory, held or left out, if what is asked of its reads
 /// holds.
 pub fn end_of(criterion: Criterion, item: &Txn, held: bool, state: &State) -> Option<State>
-    ensures { IfSome result (λ end. IsTrue (reads_asked criterion held state.now item.now.ops.items)
+    ensures some { IfSome result (λ end. IsTrue
+        (reads_asked criterion held state.now item.now.ops.items)
         × (end ≡ end_at (view item.now) state.now held)) }
+    ensures none { IfNone result (IsFalse
+        (reads_asked criterion held state.now item.now.ops.items)) }
 {
     if criterion == Criterion::Strict && !held {
         return Some(*state);

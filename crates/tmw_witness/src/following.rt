@@ -249,6 +249,9 @@ impl Witness {
             → Witnesses starts (views_of events) self.old
             → Witnesses starts (views_of (events ++ event ∷ [])) self.new }
     {
+        if !self.known {
+            return;
+        }
         let Some(place) = place else {
             self.follow_new(window, event);
             return;

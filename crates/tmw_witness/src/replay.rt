@@ -10,7 +10,7 @@ ghost use Rattle.tmw_cuts.specs.Views.{view};
 
 use crate::witness::Witness;
 use tmw_cuts::{State, States, Txn, Window};
-use tmw_search::{Step, find_order, is_next, may_hold};
+use tmw_search::{Step, is_next, may_hold, seek_order};
 
 impl Witness {
     ghost use Rattle.tmw_witness.specs.Witnessing.{Witnesses};
@@ -76,15 +76,15 @@ impl Witness {
         self.known = false;
         let items = window.transactions();
         for start in starts.states() {
-            if let Some(steps) = find_order(items, start) {
+            if let Some(steps) = seek_order(items, start) {
                 self.take(items, start, &steps);
                 return;
             }
         }
     }
 
-    /// Tells whether an order of the window's transactions is known. If none is, it looks for one, by a walk that may
-    /// miss one, and keeps what it finds. A known order stays as it was.
+    /// Tells whether an order of the window's transactions is known. If none is, it guesses one, checks the
+    /// guess and keeps it if it is one. A known order stays as it was.
     pub fn finds(&mut self, starts: &States, window: &Window) -> bool
         ensures known { result ≡ self.new.known }
         ensures keeps { IsTrue self.old.known → self.new ≡ self.old }

@@ -1,11 +1,13 @@
--- The lines read so far were taken.
-use Rattle.std.proofs.Common.{◌-◌}
+-- The lines before the rest were taken.
+use Rattle.std.proofs.Common.{◌≡◌, ◌≤◌, ◌^◌, ◌-◌, length, drop}
 use Rattle.tmw_lines.specs.GivenLines.{AreTaken}
 use Rattle.tmw_lines.proofs.given_lines.give_lines.Given as goal
 
-abbrev pub invariant-loop-count : goal.invariant-loop-count
-invariant-loop-count g l =
-    AreTaken g.F.LineFormat.grammar g.T.Taker.takes g.T.Taker.counts l.format l.bytes l.read l.fn.taker l.taker l.length l.count
+abbrev pub invariant-loop-left : goal.invariant-loop-left
+invariant-loop-left g l =
+    (l.left ≤ 2 ^ 40) × (length l.rest ≤ length l.bytes) × (l.rest ≡ drop (length l.bytes - length l.rest) l.bytes)
+    × AreTaken g.F.LineFormat.grammar g.T.Taker.takes g.T.Taker.counts l.format l.bytes l.read l.fn.taker l.taker
+    (length l.bytes - length l.rest) (2 ^ 40 - l.left)
 
-abbrev pub decreases-loop-count : goal.decreases-loop-count
-decreases-loop-count g l = 1099511627776 - l.count
+abbrev pub decreases-loop-left : goal.decreases-loop-left
+decreases-loop-left g l = l.left

@@ -7,7 +7,7 @@ use Rattle.tmw_monitor.proofs.Opening.{notes_open}
 use Rattle.tmw_monitor.proofs.at_once.begin_at_once.Goals as goal
 
 pub returns-clause-taken : goal.returns-clause-taken
-returns-clause-taken c took rules history opacity window states keeps =
+returns-clause-taken c took rules history by window states keeps =
     let old = c.args.kept.now in
     let e = c.args.event in
     let rest = drop keeps.cut history in
@@ -17,5 +17,5 @@ returns-clause-taken c took rules history opacity window states keeps =
     let quiet = sym (c.is_quiet.ensures rest keeps.stands) ∙ c.if-not-is_quiet.false in
     let count = c.count.ensures.stands rest keeps.stands in
     let free = c.if-count-bounds.false in
-    open-fine rules history e old _ keeps true takes (λ begins. omega (arith, count, free, window)) opacity (inl quiet) refl pushed
+    open-fine rules history e old _ keeps true takes (λ begins. omega (arith, count, free, window)) (inl (rw (← by) quiet)) refl pushed
     (c.follow_new.ensures (members old.states) rest pushed (c.requires.none rest keeps.stands) keeps.witness)

@@ -11,7 +11,7 @@ use Rattle.tmw_cuts.proofs.FirstMembers.{contains_here}
 use Rattle.tmw_search.proofs.WindowViews.{shows-views_of}
 use Rattle.tmw_witness.specs.Witnessing.{rank_of, committed_of, state_of}
 use Rattle.tmw_witness.proofs.Path.{witness-ends}
-use Rattle.tmw_monitor.proofs.AtOnce.{open-fine, last-fine}
+use Rattle.tmw_monitor.proofs.AtOnce.{ends_by, open-fine, last-fine}
 use Rattle.tmw_monitor.proofs.at_once.go_on_at_once.Goals as goal
 
 pub returns-then-go_on-clause-taken : goal.returns-then-go_on-clause-taken
@@ -29,7 +29,7 @@ returns-then-go_on-clause-taken c took rules history opacity window states keeps
     witness-ends (Contains starts) (views_of all) (transactions all) (rank_of w) (committed_of w) (state_of w) w.top
     (witness (c.explains_open.ensures.known explained)) (shows-views_of all) in
     open-fine rules history e old _ keeps false (c.go_on.ensures.takes c.if-go_on.true rules.registers history keeps.tracks)
-    (λ begins. absurd (cc)) opacity (inr (state_of w w.top, ends)) refl (c.push_at.ensures.stands rest keeps.stands (sym at)) witness
+    (λ begins. absurd (cc)) (inr (state_of w w.top, ends_by rules old all (state_of w w.top) (sym opacity) ends)) refl (c.push_at.ensures.stands rest keeps.stands (sym at)) witness
 
 pub returns-clause-taken : goal.returns-clause-taken
 returns-clause-taken c took rules history opacity window states keeps =
@@ -50,6 +50,6 @@ returns-clause-taken c took rules history opacity window states keeps =
     let same : c.go_on.new.self ≡ old.tracker = c.go_on.ensures.kept c.if-go_on.false in
     let tracks : Tracks rules.registers history c.go_on.new.self = rw same keeps.tracks in
     last-fine rules history e old _ keeps (state_of w w.top) (c.end_last.ensures.takes c.if-not-end_last.false rules.registers history tracks)
-    opacity (omega (arith, positive, states)) (sym (c.count.ensures.stands rest keeps.stands) ∙ c.if-count-ne1.false)
+    (sym opacity) (omega (arith, positive, states)) (sym (c.count.ensures.stands rest keeps.stands) ∙ c.if-count-ne1.false)
     (sym c.len.ensures ∙ c.if-len-ne1.false) ends only c.clear.ensures.stands
     (c.restart_at_end-end.ensures.witnesses (members c.put_only.new.self) (rw c.put_only.ensures (contains_here c.restart_at_end-end.result [])))

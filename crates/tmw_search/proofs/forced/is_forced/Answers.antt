@@ -8,4 +8,4 @@ returns-then-shared-eq0 c = λ _. none-shared (map view c.args.items.now) c.shar
 
 pub returns-else-shared-eq0 : goal.returns-else-shared-eq0
 returns-else-shared-eq0 c = λ is.
-    shared-decided (map view c.args.items.now) c.shared_registers-shared.result c.shared_registers-shared.ensures (c.are_settled.ensures is)
+    shared-decided (map view c.args.items.now) c.shared_registers-shared.result c.shared_registers-shared.ensures (c.none_is_blind.ensures is)

@@ -12,7 +12,7 @@ returns-then-take_at_once-clause-ok c judged_by history fits =
     let fine : c.args.self.now.verdict ≡ so_far c.args.self.now.criterion = search rules in
     let opacity : c.args.self.now.criterion ≡ Opacity = search rules in
     fits-next judged_by history c.args.event c.args.self.now c.take_at_once.new.kept fits fine
-    (c.if-take_at_once.ensures.taken refl judged_by history (sym fits.criterion ∙ opacity) fits.window fits.states (fits.keeps fine))
+    (c.if-take_at_once.ensures.taken refl judged_by history (sym opacity ∙ fits.criterion) fits.window fits.states (fits.keeps fine))
 
 pub returns-then-take_at_once-clause-keeps : goal.returns-then-take_at_once-clause-keeps
 returns-then-take_at_once-clause-keeps c judged_by history fits =
