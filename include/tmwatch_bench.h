@@ -15,20 +15,39 @@ That is a whole program, or by one call from a program of your own:
 
 Link libtmwatch_bench.a before libtmwatch.a. No proof covers the bench; the verdict is the watch's.
 
-In a round each thread makes one transaction, and then all wait for one another. A transaction that is rolled back is attempted again, and a
-round has at most eight attempts, so that its run is decided. By permits, the threads run freely instead, each attempt takes one of eight
-permits (tmwatch_permits.h), and a transaction is attempted as often as it takes: one that never commits, until plan.seconds are over.
+In a round each thread makes its share of transactions, and then all wait for one another. A transaction that is rolled back is attempted
+again, and a round has at most eight attempts, so that its run is decided. In an even round each thread makes one transaction; in a mixed
+one, one thread makes a long transaction, and others several short ones.
+
+By steps, one thread runs at a time. Beside each call, and at each TMWATCH_PAUSE, it may hand over to another: the seed says when and to
+which. A round goes by walk, which hands over often, or by priorities, which starve a thread for long (PCT, by Burckhardt, Kothari,
+Musuvathi and Nagarakatte, ASPLOS 2010). If the memory decides nothing by time, address or chance, the same plan gives the same trace if
+`rescues` is 0. A thread that waits for another has TMWATCH_PAUSE in its loop, or the program is linked with
+-Wl,--wrap=pthread_mutex_lock,--wrap=pthread_mutex_unlock,--wrap=sched_yield. Else a rescue lets another thread go too, once the one that
+runs has made no step for fifty milliseconds of a processor, or has slept as long; after ten rescues, for five.
+
+By permits, the threads run freely, each attempt takes one of eight permits (tmwatch_permits.h), and a transaction is attempted as often
+as it takes: one that never commits, until plan.seconds are over.
+
+By all, legs of up to 1000 rounds follow one another: five by steps, then in turn in rounds and by permits, and by steps after each. One
+in rounds or by permits takes half a second at most. In each leg but the first, what the plan leaves to be drawn is drawn anew. If the
+last look of a leg is rolled back, no other follows.
+
+No pause has to be placed by hand if the memory is compiled with -fsanitize=thread and linked without it, with libtmwatch_steps.a first:
+each atomic access is then a step, and by plan.plain each other one. By plan.buffers an atomic store that isn't sequentially consistent
+may be delayed, as in the store buffers of x86. Loads aren't reordered, and what inline assembly does isn't seen.
 
 A call is recorded before the memory is asked, and its answer after it has answered; a transaction's first call, before the memory begins
-it. Each is recorded by turns (tmwatch_next, tmwatch_answered), so that no record is malformed. No two writes have the same value, a
-register is read before it is written, and an addend is any number below 2^64 - 1. Each 64th round and at the end, one thread reads all
-registers while the others wait; by permits, some time after each 512 attempts, and at the end.
+it. Each is recorded by turns (tmwatch_next, tmwatch_answered), so that no record is malformed. No two writes have the same value, and
+values have all 64 bits; a register is read before it is written, and an addend is any number below 2^64 - 1. Each 64th round and at the
+end, one thread reads all registers while the others wait; by permits, some time after each 512 attempts, and at the end.
 
 What the program owes beside the duties of tmwatch.h. Nothing of it is tested:
 
 1. The memory has words of 64 bits, which hold what plan.start says, and nobody else uses it while the bench runs.
 2. All threads may call its functions at once, each with a `tx` of its own.
-3. Each function returns, and throws nothing. It calls nothing of the bench but tmwatch_begins, tmwatch_calls and TMWATCH_PAUSE.
+3. Each function returns, and throws nothing. It calls nothing of the bench but tmwatch_begins, tmwatch_calls, tmwatch_thread and
+   TMWATCH_PAUSE.
 4. By permits, tmwatch_begins may wait until other threads' attempts have ended: `run` calls it with no lock held that they may wait for.
 */
 #ifndef TMWATCH_BENCH_H
@@ -70,52 +89,81 @@ typedef struct tmwatch_memory {
 
 /* How the threads run together. */
 enum tmwatch_schedule {
-    TMWATCH_ROUNDS = 0, /* in rounds, of one transaction a thread */
-    TMWATCH_PERMITS = 1 /* freely, each attempt by one of eight permits */
+    TMWATCH_ROUNDS = 0,  /* in rounds, each thread with its share of at most eight attempts */
+    TMWATCH_PERMITS = 1, /* freely, each attempt by one of eight permits */
+    TMWATCH_STEPS = 2,   /* in rounds, one thread at a time: at each step the seed says which */
+    TMWATCH_ALL = 3      /* in legs: first by steps, then by each of these in turn */
 };
 
-/* What is run. */
+/* A number of a plan that is the usual one, or, by TMWATCH_ALL, another one in each leg but the first. */
+#define TMWATCH_DRAWN UINT64_MAX
+
+/* What is run. Those with two stars may be TMWATCH_DRAWN, which is the usual number in brackets. */
 typedef struct tmwatch_plan {
-    uint64_t rounds;    /* how many at most; by permits, transactions of each thread */
-    uint64_t seed;      /* which transactions and pauses are drawn */
-    uint64_t threads;   /* 1 to 8 */
-    uint64_t registers; /* 1 to 8 */
-    uint64_t calls;     /* how many registers a transaction reads, reads and writes, or adds to: 1 to 16 */
+    uint64_t rounds;    /* how many at most, 1 or more; by permits, transactions of each thread */
+    uint64_t seed;      /* what transactions, pauses and steps are drawn from */
+    uint64_t threads;   /* ** (4) 1 to 8 */
+    uint64_t registers; /* ** (3) 1 to 8 */
+    uint64_t calls;     /* ** (3) how many registers a transaction reads, reads and writes, or adds to: 1 to 16 */
     uint64_t attempts;  /* of each transaction, at most: threads * attempts is at most 8; 0: as many as that allows. By permits: any number;
                            0: as many as it takes */
-    uint64_t writes;    /* of 100 registers that are read, how many are written then */
-    uint64_t adds;      /* of 100 calls, how many add instead, if the memory has `add` */
-    uint64_t aborts;    /* of 100 transactions, how many ask to abort at their end */
-    uint64_t pause;     /* beside a call, one time in two, a thread waits fewer turns of a loop than this, at most 2^20; 0: never */
+    uint64_t writes;    /* ** (50) of 100 registers that are read, how many are written then */
+    uint64_t adds;      /* ** (20) of 100 calls, how many add instead, if the memory has `add` */
+    uint64_t aborts;    /* ** (12) of 100 transactions, how many ask to abort at their end */
+    uint64_t pause;     /* ** (100) beside a call, one time in two, a thread waits fewer turns of a loop than this, at most 2^20;
+                           0: never */
     uint64_t seconds;   /* after this time no round begins, and by permits no attempt; 0: the rounds alone count */
     uint64_t schedule;  /* a tmwatch_schedule */
     uint64_t start[8];  /* what the registers hold at first */
     FILE *trace;        /* or null: here the run's end is written as a trace, maybe of no event */
+    uint64_t mixes;     /* ** (50) of 100 rounds, how many are mixed: one thread makes one long transaction, others several short
+                           ones, of eight attempts in all */
+    uint64_t round;     /* by steps: before this round tmwatch_break is called; by all, one of the first 5000; 0: never */
+    uint64_t buffers;   /* 1: stores are delayed, as drawn (libtmwatch_steps.a); or 0 */
+    uint64_t plain;     /* 1: plain accesses are steps too (libtmwatch_steps.a); or 0 */
+    uint64_t patience;  /* after so many seconds without an event the run is given up; 0: never */
+    FILE *progress;     /* or null: here a line says twice a second how far the run is */
 } tmwatch_plan;
 
-#define TMWATCH_PLAN {100000, 1, 4, 3, 3, 0, 50, 20, 12, 100, 0, TMWATCH_ROUNDS, {0, 0, 0, 0, 0, 0, 0, 0}, NULL}
+#define TMWATCH_PLAN                                                                                                                     \
+    {100000, 1, TMWATCH_DRAWN, TMWATCH_DRAWN, TMWATCH_DRAWN, 0, TMWATCH_DRAWN, TMWATCH_DRAWN, TMWATCH_DRAWN, TMWATCH_DRAWN, 0,             \
+     TMWATCH_ALL, {0, 0, 0, 0, 0, 0, 0, 0}, NULL, TMWATCH_DRAWN, 0, 0, 0, 10, NULL}
 
 /* What came out. */
 typedef struct tmwatch_benched {
     tmwatch_told told;     /* the verdict on all that was recorded */
     tmwatch_counts counts; /* what it covers: if none_overlapped is 1, no two transactions met, and the run shows nothing */
-    uint64_t rounds;       /* how many rounds were run; by permits, how many transactions each thread has begun, at least */
+    uint64_t rounds;       /* how many rounds were run, by steps up to the one that is wrong; by permits, how many transactions each thread
+                              has begun, at least */
     uint64_t from;         /* how many events precede the trace, if one was written */
+    uint64_t foreign;      /* the most commits of other threads within one attempt, at least */
+    uint64_t stores;       /* how many writes and adds were recorded */
+    uint64_t steps;        /* by steps: at how many a thread might hand over, */
+    uint64_t switches;     /* how many times one did, */
+    uint64_t rescues;      /* and how many times a thread was blocked, so that another went too: if any, the run need not come again */
+    tmwatch_plan again;    /* a plan that makes the run's end again, */
+    bool is_certain;       /* for sure, if the memory decides nothing by time, address or chance; else it may go otherwise */
 } tmwatch_benched;
 
+/* A further status of the bench: no event came for plan.patience seconds. */
+enum { TMWATCH_STUCK = 32 };
+
 /*
-Runs the plan's rounds on the memory, and tells in *benched what came out. Once the verdict is another than opaque so far, no further round
-begins, and by permits no attempt; some may have been run by then. The statuses come in this order; but for TMWATCH_DONE, *benched stays.
+Runs the plan's rounds on the memory, and tells in *benched what came out. Once the verdict is another than opaque so far, no further
+round begins, and by permits no attempt; some may have been run by then. The statuses come in this order; but for TMWATCH_DONE and
+TMWATCH_STUCK, *benched stays.
 
 TMWATCH_MISSING: a function that the memory has to have is null. TMWATCH_BAD_SIZE: not 1 to 8 threads. TMWATCH_BAD_REGISTERS: not 1 to 8.
-TMWATCH_BAD_START: as in tmwatch_open. TMWATCH_BAD_BOUNDS: the calls, the attempts, a part of 100, the pause or the schedule are out of
-their range.
-TMWATCH_MEMORY: a growth of memory or a thread was refused, before or while the rounds ran. TMWATCH_MISFIT: `run` has answered true where
-tmwatch_calls has not. TMWATCH_OUT_OF_TURN: `run` has called tmwatch_calls twice in one attempt. Another status: as the watch answered.
+TMWATCH_BAD_START: as in tmwatch_open. TMWATCH_BAD_BOUNDS: the rounds, the calls, the attempts, a part of 100, the pause, the schedule or
+the round are out of their range; or buffers are asked for, and the memory isn't compiled for libtmwatch_steps.a. TMWATCH_MEMORY: a growth
+of memory or a thread was refused, before or while the rounds ran. TMWATCH_MISFIT: `run` has answered true where tmwatch_calls has not.
+TMWATCH_OUT_OF_TURN: `run` has called tmwatch_calls twice in one attempt. TMWATCH_STUCK: no event came for plan.patience seconds. Standard
+error then tells where each thread is; the threads go on, so that neither they nor what they use is given back. Another status: as the
+watch answered.
 
-The trace ends with the event at length `at`, or with the last one if nothing is wrong. If something is, it begins after the last reading of
-all registers, whose values are its start; else with the run, or with the earliest such reading among the last 131,072 events. Its `at` is
-the run's less benched->from.
+The trace ends with the event at length `at`, or with the last one if nothing is wrong. If something is, it begins after the last reading
+of all registers, whose values are its start; else with the leg, or with the earliest such reading among the last 131,072 events. Its `at`
+is the run's less benched->from.
 
 Memory: some 3 MiB and what the watch takes, which are given back.
 */
@@ -126,14 +174,26 @@ TMWATCH_PURE bool tmwatch_begins(tmwatch_attempt *attempt);
 TMWATCH_PURE bool tmwatch_calls(tmwatch_attempt *attempt);
 
 /*
-Prints three lines of JSON: the report as `tmwatch judge` prints it; how many rounds were run and, if there are any, how many events precede
-the trace; and the counts as `judge --summary` prints them. If nothing is wrong, but two threads or more ran and no two transactions
-overlapped, or none has committed, standard error says so; and if the very first transaction is wrong, as from another start.
+Prints lines of JSON: the report as `tmwatch judge` prints it; how the rounds went; the counts as `judge --summary` prints them; and, if
+something is wrong, the words that make it again. docs/FORMATS.md has them. Standard error then says those too, or, if nothing is wrong,
+why the run can't show much; and if the very first transaction is wrong, as from another start.
 */
 void tmwatch_bench_print(FILE *file, const tmwatch_benched *benched);
 
-/* Waits as beside a call, in a thread of a bench, and else not at all. */
+/* Prints the words of a plan for tmwatch_bench_main: its seed, and what isn't the default. */
+void tmwatch_bench_words(FILE *file, const tmwatch_plan *plan);
+
+/* Waits as beside a call, in a thread of a bench, and else not at all. By steps, another thread may go on there. */
 TMWATCH_PURE void tmwatch_pause(void);
+
+/* The number of this thread among those of its bench, from 0 on; 0 in any other thread. */
+TMWATCH_PURE unsigned tmwatch_thread(void);
+
+/* Ends all benches of the process, and those that begin later, as if their time were over. A signal handler may call it. */
+void tmwatch_bench_end(void);
+
+/* Does nothing. By steps it is called before the round plan.round, so that a debugger may stop there. */
+void tmwatch_break(void);
 
 /* Stands in the memory between two of its own steps, where threads are to meet under test. It is nothing unless TMWATCH_PAUSES is defined
    before this header, as by the compiler's -DTMWATCH_PAUSES. */
@@ -145,8 +205,9 @@ TMWATCH_PURE void tmwatch_pause(void);
 
 /*
 Runs the bench by a program's words, prints what came out, and answers with the exit status of `tmwatch judge`: the verdict's number, or 4
-where the words are wrong, something was refused, or a file can't be written. Standard error then says what. --help alone prints the words
-there are, with 0. The memory's registers hold 0 at first.
+where the words are wrong, something was refused, no event came for long, or a file can't be written. Standard error then says what.
+--help and --version alone print what they say, with 0. Beside a trace, a file with .run after its name gets what is printed, and the
+words. The first SIGINT or SIGTERM ends the rounds, and a second one the program. The memory's registers hold 0 at first.
 */
 int tmwatch_bench_main(const tmwatch_memory *memory, int count, char **words);
 

@@ -10,7 +10,8 @@ The folder gets:
     lib/libtmwatch.so.0           a link to it
     lib/libtmwatch.so             a link to that, for -ltmwatch
     lib/libtmwatch_bench.a        the bench for memories in C, which no proof covers
-    lib/pkgconfig                 tmwatch.pc and tmwatch_bench.pc
+    lib/libtmwatch_steps.a        its steps for memories that are compiled with -fsanitize=thread
+    lib/pkgconfig                 tmwatch.pc, tmwatch_bench.pc and tmwatch_steps.pc
     include                       the headers
 
 Exit status: 0 all is there; 1 a tool failed; 2 other words.
@@ -27,11 +28,16 @@ TOP = os.path.dirname(os.path.dirname(os.path.realpath(__file__)))
 # What a program that is linked against the library loads. The number goes up when a program that was linked before no longer runs.
 SONAME = "libtmwatch.so.0"
 HEADERS = ("tmwatch.h", "tmwatch_bench.h", "tmwatch_bench.hpp", "tmwatch_permits.h")
+# By these words of the linker the bench sees that a thread waits.
+WRAPPED = "-Wl,--wrap=pthread_mutex_lock,--wrap=pthread_mutex_unlock,--wrap=sched_yield"
 # What each package for pkg-config is, and what it needs of others.
 PACKAGES = {
     "tmwatch": ("A watch that judges whether a transactional memory is opaque", ""),
     "tmwatch_bench": ("A bench that runs a transactional memory under such a watch", " -pthread\nRequires: tmwatch"),
+    "tmwatch_steps": ("Steps of that bench at each access of a memory", f" {WRAPPED}\nRequires: tmwatch_bench"),
 }
+# What the archives of the bench are made from, in bench-c.
+ARCHIVES = {"libtmwatch_bench.a": ("tmwatch_bench", "waits"), "libtmwatch_steps.a": ("accesses", "wide")}
 PACKAGE = """prefix=${{pcfiledir}}/../..
 includedir=${{prefix}}/include
 libdir=${{prefix}}/lib
@@ -71,10 +77,13 @@ def link_shared(room, call):
 
 
 def build_bench(room, call):
-    """Compiles the bench for memories in C into an archive of its own, so that the library's has nothing but what is proved."""
-    words = ["-std=c11", "-O2", "-fPIC", "-pthread", f"-I{TOP}/include", "-c", "-o", "tmwatch_bench.o", f"{TOP}/bench-c/tmwatch_bench.c"]
-    call([os.environ.get("CC", "cc"), *words], cwd=room)
-    call(["ar", "rcs", "lib/libtmwatch_bench.a", "tmwatch_bench.o"], cwd=room)
+    """Compiles the bench for memories in C into archives of its own, so that the library's has nothing but what is proved."""
+    version = f'-DTMWATCH_VERSION="{read_version()}"'
+    cc = [os.environ.get("CC", "cc"), "-std=c11", "-O2", "-fPIC", "-pthread", f"-I{TOP}/include", version, "-c"]
+    for archive, files in ARCHIVES.items():
+        for name in files:
+            call([*cc, "-o", f"{name}.o", f"{TOP}/bench-c/{name}.c"], cwd=room)
+        call(["ar", "rcs", f"lib/{archive}", *(f"{name}.o" for name in files)], cwd=room)
 
 
 def lay_out(archive, to, call):

@@ -23,6 +23,21 @@ ends 'the tests' 0 env TMWATCH_LIB="$library" "$cargo" test --offline --locked
 grep '^test ' "$folder/output" || true
 ends 'the tests, optimized' 0 env TMWATCH_LIB="$library" "$cargo" test --offline --locked --release
 ends 'the pages' 0 env TMWATCH_LIB="$library" "$cargo" doc --offline --locked
+ends 'a program on the bench' 0 env TMWATCH_LIB="$library" "$cargo" run --offline --locked --release --example lock -- --schedule steps \
+    --rounds 500
+has_told 'a program on the bench: no rescue' '"rescues":0,"rounds":500,'
+# Each atomic access as a step, which a nightly compiler can do, or this one if it is told to be one.
+steps="-Zsanitizer=thread -Zexternal-clangrt -Cunsafe-allow-abi-mismatch=sanitizer -Clink-arg=$library/libtmwatch_steps.a"
+by_steps() {
+    TMWATCH_LIB=$library RUSTC_BOOTSTRAP=1 RUSTFLAGS="$steps -Clink-arg=$library/libtmwatch_bench.a" "$cargo" "$1" --offline --locked \
+        --release --example lock --target x86_64-unknown-linux-gnu "${@:2}"
+}
+if by_steps build >"$folder/output" 2>&1; then
+    ends 'each access a step' 0 by_steps run -- --schedule steps --rounds 500 --buffers
+    has_told 'each access a step: no rescue' '"rescues":0,"rounds":500,'
+else
+    echo "each access a step: skipped, since the compiler has it not: $(tail -n 1 "$folder/output")"
+fi
 if command -v pkg-config >/dev/null; then
     ends 'by the package' 0 env -u TMWATCH_LIB PKG_CONFIG_PATH="$library/pkgconfig" "$cargo" build --offline --locked
 fi

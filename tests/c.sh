@@ -1,6 +1,6 @@
 #!/usr/bin/env bash
-# Compiles the programs of tests/c and examples/c over the library for C, without a warning, and runs them; then runs tests/bindings.sh over
-# the same library.
+# Compiles the programs of tests/c and examples/c over the library for C, without a warning, and runs them; then runs tests/steps.sh and
+# tests/bindings.sh over the same library.
 #
 #   tests/c.sh
 #
@@ -96,14 +96,15 @@ for room in 112 16; do
         "$top/examples/recorders/little.c"
     ends "room for $room events" "$([ "$room" = 112 ] && echo 0 || echo 134)" "$folder/room" none right 99 1
 done
-# The bench is compiled here, so that the flags reach it too.
-bench=(-DTMWATCH_PAUSES "$folder/bench.o" "${static[@]}")
+# The bench is compiled here, so that the flags reach it too. It sees that a thread waits for a mutex, or yields.
+waits=('-Wl,--wrap=pthread_mutex_lock,--wrap=pthread_mutex_unlock,--wrap=sched_yield')
+bench=(-DTMWATCH_PAUSES "$folder/bench.o" "$folder/waits.o" "${static[@]}" "${waits[@]}")
 
 # Whether a judge's report on the bench's trace, in a file, is that of the bench, which is in another: the same verdict, with as many events
 # less as precede the trace.
 is_same_report() {
     local from first
-    from=$(sed -n 's/^{"from":\([0-9]*\),.*/\1/p' "$1")
+    from=$(sed -n 's/^{"foreign":.*"from":\([0-9]*\),.*/\1/p' "$1")
     first=$(sed -n '1s/^{"[a-z]*":\([0-9]*\),.*/\1/p' "$1")
     diff <(head -n 1 "$1" | sed "s/:[0-9][0-9]*/:$((first - ${from:-0}))/g") <(head -n 1 "$2")
 }
@@ -122,16 +123,17 @@ on_bench() {
         ends "$row" "$wanted" "${run[@]}" "$folder/$name" --rounds "$most" --seed "$seed" --trace "$folder/trace" \
             --schedule "${schedule:-rounds}" "${words[@]}"
         has_told "$row, has met" '"overlapping":[1-9]'
-        "$folder/bench_replay" <"$folder/trace" >"$folder/replayed" || true
+        "$folder/bench_replay" <"$folder/trace" >"$folder/replayed" 2>/dev/null || true
         ends "$row, by the library" 0 is_same_report "$folder/told" "$folder/replayed"
         if [ -x "$program" ]; then
             "$program" judge --summary <"$folder/trace" >"$folder/judged" || true
-            ends "$row, by the program" 0 diff <(sed 2d "$folder/replayed") "$folder/judged"
+            ends "$row, by the program" 0 diff <(sed '2d; 4d' "$folder/replayed") "$folder/judged"
         fi
     done
 }
 
 ends 'the bench compiles' 0 "$cc" -std=c11 "${strict[@]}" -c -o "$folder/bench.o" "$top/bench-c/tmwatch_bench.c"
+ends 'waits compile' 0 "$cc" -std=c11 "${strict[@]}" -c -o "$folder/waits.o" "$top/bench-c/waits.c"
 ends 'a replay compiles' 0 "$cc" -std=c11 "${strict[@]}" -o "$folder/bench_replay" "$top/tests/c/bench_replay.c" "${bench[@]}"
 program bench_plans "$top/tests/c/bench_plans.c" 0 '' "${bench[@]}"
 [ ! -x "$folder/bench_plans" ] || "$folder/bench_plans" print >"$folder/lines" 2>&1 || true
@@ -141,10 +143,11 @@ has_told 'bank: has met' '"overlapping":[1-9]'
 program bank_broken "$top/examples/c/bank.c" 1 "$rounds broken" "${bench[@]}"
 ends 'bank: output that can not be written' 4 sh -c '"$@" >/dev/full' sh "${run[@]}" "$folder/bank" 9
 program bench_memory "$top/tests/c/bench_memory.c" 0 '' "${bench[@]}" "${wrapped[@]}" -Wl,--wrap=pthread_create
-# The same in rounds and by permits.
-on_both() {
+# The same in rounds, by permits and by steps.
+on_each() {
     on_bench "$@"
     schedule=permits on_bench "$@"
+    schedule=steps on_bench "$@"
 }
 
 # Compiles a memory: its name, its file and its fault, or NONE.
@@ -154,16 +157,16 @@ compile_memory() {
 
 for fault in NONE READS COMMIT PLACE; do
     compile_memory norec examples/c/norec.c "$fault"
-    on_both "norec_$fault" "$([ "$fault" = NONE ] && echo 0 || echo 1)" 1 2 3
+    on_each "norec_$fault" "$([ "$fault" = NONE ] && echo 0 || echo 1)" 1 2 3
 done
 for fault in NONE READS; do
     compile_memory jumping tests/c/bench_jumping.c "$fault"
-    on_both "jumping_$fault" "$([ "$fault" = NONE ] && echo 0 || echo 1)" 1 2 3
+    on_each "jumping_$fault" "$([ "$fault" = NONE ] && echo 0 || echo 1)" 1 2 3
 done
 # A memory of tests/c: its name, its fault or NONE, and its exit status. A broken one is run in rounds alone.
 on_memory() {
     compile_memory "$1" "tests/c/bench_$1.c" "$2"
-    if [ "$3" -eq 0 ]; then on_both "$1_$2" 0 1 2 3; else on_bench "$1_$2" "$3" 1 2 3; fi
+    if [ "$3" -eq 0 ]; then on_each "$1_$2" 0 1 2 3; else on_bench "$1_$2" "$3" 1 2 3; fi
 }
 on_memory tl2 NONE 0
 on_memory tl2 BEFORE 1
@@ -177,7 +180,7 @@ on_memory locks NONE 0
 on_memory locks EARLY 1
 if command -v "$cxx" >/dev/null; then
     ends 'a lock compiles, in C++17' 0 "$cxx" -std=c++17 "${strict[@]}" -o "$folder/lock" "$top/tests/c/bench_lock.cpp" "${bench[@]}"
-    on_both lock 0 1 2 3
+    on_each lock 0 1 2 3
     # Of this run not all events are kept for the trace.
     rounds=$((3 * rounds)) on_bench lock 0 4
 fi
@@ -208,10 +211,12 @@ until_met() {
 
 # A bench that is wrong, over a memory that is right: what is wrong, the change of its source, and the exit status.
 wrong_bench() {
-    sed "$2" "$top/bench-c/tmwatch_bench.c" >"$folder/wrong.c"
+    rm -rf "$folder/bench-c"
+    cp -r "$top/bench-c" "$folder/bench-c"
+    sed -i "$2" "$folder"/bench-c/*.c
     ends "a bench that $1 compiles" 0 "$cc" -std=c11 "${strict[@]}" -o "$folder/wrong" \
-        "$top/examples/c/norec.c" "$folder/wrong.c" "${static[@]}"
-    ends "a bench that $1" "$3" until_met "${run[@]}" "$folder/wrong" --rounds "$rounds" --schedule "${schedule:-rounds}"
+        "$top/examples/c/norec.c" "$folder/bench-c/tmwatch_bench.c" "${static[@]}"
+    ends "a bench that $1" "$3" until_met "${run[@]}" "$folder/wrong" --rounds "$rounds" --mixes 0 --schedule "${schedule:-rounds}"
 }
 
 wrong_bench 'records that a transaction has committed before it commits' \
@@ -221,26 +226,26 @@ wrong_bench 'records no call to commit' '/has_asked = a->calls/{n;s/note_call(a)
 wrong_bench 'records no abort' "s/note_answer(a, has_committed ? 'C' : 'A', 0);/if (has_committed) note_answer(a, 'C', 0);/" 3
 # Without its permits, threads that run freely are undecided. Nothing then keeps room for their events, so that the ring has cells for all.
 rounds=20 schedule=permits wrong_bench 'takes no permit and gives none' 's/tmwatch_permits_[a-z_]*(&[^;]*);/(void)0;/' 2
-for words in --rounds '--rounds x' '--threads 9' '--registers 0' '--calls 17' '--writes 101' '--seed 18446744073709551616' '--none 1' '--schedule x' 3; do
+for words in --rounds '--rounds x' '--rounds 0' '--mixes 101' '--schedule rounds --round 3' '--threads 9' '--registers 0' '--calls 17' \
+    '--writes 101' '--seed 18446744073709551616' '--none 1' '--schedule x' 3; do
     read -r -a given <<<"$words"
     ends "wrong words, $words" 4 "${run[@]}" "$folder/norec_NONE" "${given[@]}"
     has_told "wrong words, $words: what is told" -x '{"fault":"usage"}'
     case $words in
-    --threads* | --registers* | --calls* | --writes*) reason='a number is out of its range' ;;
+    --threads* | --registers* | --calls* | --writes* | '--rounds 0' | --mixes* | *--round\ 3) reason='a number is out of its range' ;;
     --none*) reason='wrong, or without its value: --none' ;;
     *) reason="wrong, or without its value: ${given[-1]}" ;;
     esac
     ends "wrong words, $words: why" 0 grep -qxF -- "$reason" "$folder/told"
 done
 ends 'the words there are' 0 "${run[@]}" "$folder/norec_NONE" --help
-sed 's/begin, read, write, add, commit, cancel/begin, read, write, add, NULL, cancel/; /^static bool commit/,/^}/d' "$top/examples/c/norec.c" \
-    >"$folder/lacking.c"
+sed 's/ norec_commit, norec_abort/ NULL, norec_abort/; /^static bool norec_commit/,/^}/d' "$top/examples/c/norec.c" >"$folder/lacking.c"
 ends 'a memory without a function compiles' 0 "$cc" -std=c11 -O2 -pthread "-I$built/include" "-I$top/examples/c" "${flags[@]}" \
     -o "$folder/lacking" "$folder/lacking.c" "${bench[@]}"
 ends 'a memory without a function' 4 "${run[@]}" "$folder/lacking"
 has_told 'a memory without a function: which' -x "the memory's function \`commit\` is null"
 ends 'all words' 0 "${run[@]}" "$folder/norec_NONE" --rounds 9 --seed 3 --threads 2 --registers 2 --calls 2 \
-    --writes 90 --adds 0 --aborts 0 --pause 9 --seconds 9 --schedule permits
+    --writes 90 --adds 0 --aborts 0 --mixes 9 --pause 9 --seconds 9 --schedule permits --patience 9 --quiet --plain
 ends 'a trace that can not be opened' 4 "${run[@]}" "$folder/norec_NONE" --rounds 9 --trace "$folder/none/trace"
 has_told 'a trace that can not be opened: which' "none/trace\$"
 ends 'a trace that can not be written' 4 "${run[@]}" "$folder/norec_NONE" --rounds 9 --trace /dev/full
@@ -254,5 +259,6 @@ if command -v pkg-config >/dev/null; then
     ends 'a memory by the package' 0 "${run[@]}" "$folder/package" --rounds 100
     ends 'the package' 0 env PKG_CONFIG_PATH="$built/lib/pkgconfig" sh -c "$cc -std=c11 ${FLAGS:-} -o '$folder/package' '$top/tests/c/misuse.c' \$(pkg-config --cflags --libs tmwatch)"
 fi
+ends 'the bench by steps' 0 "$top/tests/steps.sh"
 ends 'the bindings' 0 "$top/tests/bindings.sh"
 end_rows

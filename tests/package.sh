@@ -106,7 +106,7 @@ in_prefix() {
 rounds=${ROUNDS:-500}
 if has pkg-config 'programs in C'; then
     for at in in_root in_prefix; do
-        tells "pkg-config, $at" "$version"$'\n'"$version" 0 "$at" --modversion tmwatch tmwatch_bench
+        tells "pkg-config, $at" "$version"$'\n'"$version"$'\n'"$version" 0 "$at" --modversion tmwatch tmwatch_bench tmwatch_steps
         read -r -a cflags < <("$at" --cflags tmwatch)
         read -r -a libs < <("$at" --libs tmwatch)
         read -r -a bench < <("$at" --libs tmwatch_bench)
@@ -178,7 +178,8 @@ ends 'the prototypes of libtmwatch.3' 0 "$cc" -std=c11 -Wall -Wextra -Werror "-I
     "$folder/prototypes.c"
 {
     nm -D --defined-only "$library/libtmwatch.so" | cut -d' ' -f3
-    nm -g --defined-only "$library/libtmwatch_bench.a" | sed -n 's/.* T //p'
+    # (those of tmwatch_step_ and __wrap_ are there for libtmwatch_steps.a and the linker)
+    nm -g --defined-only "$library/libtmwatch_bench.a" | sed -n 's/.* T //p' | grep -v '^tmwatch_step_\|^__wrap_'
     # (two functions are there for the others)
     awk '/^static inline/ && !/_(look|enter)\(/ { sub(/\(.*/, ""); sub(/.*[ *]/, ""); print }' "$root/usr/include/tmwatch_permits.h"
 } | sort >"$folder/wanted"

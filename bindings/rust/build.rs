@@ -35,5 +35,9 @@ fn main() {
     // The bench calls the watch, so that it comes first.
     println!("cargo:rustc-link-lib=static=tmwatch_bench");
     println!("cargo:rustc-link-lib=static=tmwatch");
+    // So that the bench sees by steps that a thread waits for a lock of the standard library, in what is built here.
+    for kind in ["tests", "examples"] {
+        println!("cargo:rustc-link-arg-{kind}=-Wl,--wrap=syscall,--wrap=sched_yield,--wrap=pthread_mutex_lock,--wrap=pthread_mutex_unlock");
+    }
     println!("cargo:rustc-env=TMWATCH_INCLUDE={}", folder.join("../include").display());
 }

@@ -29,8 +29,10 @@ static bool begin(void *memory, void *transaction)
     struct bank *bank = memory;
     struct tx *tx = transaction;
     memset(tx, 0, sizeof *tx);
-    while ((tx->version = bank->version) % 2 == 1)
+    while ((tx->version = bank->version) % 2 == 1) {
+        TMWATCH_PAUSE();
         sched_yield();
+    }
     return true;
 }
 

@@ -24,42 +24,43 @@ static bool undo_unless(bool is_done, void *tx)
     return is_done;
 }
 
-static bool begin(void *memory, void *tx)
+static bool norec_begin(void *memory, void *tx)
 {
     (void)memory;
     memory_begin(tx);
     return true;
 }
 
-static bool read(void *memory, void *tx, unsigned reg, uint64_t *value)
+static bool norec_read(void *memory, void *tx, unsigned reg, uint64_t *value)
 {
     (void)memory;
     return undo_unless(memory_read(tx, &words[reg], value), tx);
 }
 
-static bool write(void *memory, void *tx, unsigned reg, uint64_t value)
+static bool norec_write(void *memory, void *tx, unsigned reg, uint64_t value)
 {
     (void)memory;
     return undo_unless(memory_write(tx, &words[reg], value), tx);
 }
 
-static bool add(void *memory, void *tx, unsigned reg, uint64_t addend, uint64_t *before)
+static bool norec_add(void *memory, void *tx, unsigned reg, uint64_t addend, uint64_t *before)
 {
-    return read(memory, tx, reg, before) && write(memory, tx, reg, *before + addend);
+    return norec_read(memory, tx, reg, before) && norec_write(memory, tx, reg, *before + addend);
 }
 
-static bool commit(void *memory, void *tx)
+static bool norec_commit(void *memory, void *tx)
 {
     (void)memory;
     return undo_unless(memory_commit(tx), tx);
 }
 
-static void cancel(void *memory, void *tx)
+static void norec_abort(void *memory, void *tx)
 {
     (void)memory;
     memory_undo(tx);
 }
 
-static const tmwatch_memory memory = {NULL, sizeof(struct tx), begin, read, write, add, commit, cancel, NULL};
+static const tmwatch_memory memory = {NULL,       sizeof(struct tx), norec_begin, norec_read, norec_write, norec_add,
+                                      norec_commit, norec_abort,      NULL};
 
 TMWATCH_BENCH_MAIN(memory)

@@ -109,6 +109,9 @@ static tmwatch_plan one_thread(void)
     tmwatch_plan plan = usual;
     plan.rounds = 300;
     plan.threads = 1;
+    plan.registers = 3;
+    plan.adds = 20;
+    plan.schedule = TMWATCH_ROUNDS;
     memcpy(plan.start, words, plan.registers * sizeof *words);
     return plan;
 }
@@ -140,7 +143,11 @@ static void refuse_plans(void)
     REFUSES(TMWATCH_BAD_BOUNDS, calls, 0);
     REFUSES(TMWATCH_BAD_BOUNDS, calls, 17);
     REFUSES(TMWATCH_BAD_BOUNDS, attempts, 3);
-    REFUSES(TMWATCH_BAD_BOUNDS, schedule, 2);
+    REFUSES(TMWATCH_BAD_BOUNDS, schedule, 4);
+    REFUSES(TMWATCH_BAD_BOUNDS, rounds, 0);
+    REFUSES(TMWATCH_BAD_BOUNDS, mixes, 101);
+    REFUSES(TMWATCH_BAD_BOUNDS, round, 5001);
+    REFUSES(TMWATCH_BAD_BOUNDS, buffers, 1);
     REFUSES(TMWATCH_BAD_BOUNDS, writes, 101);
     REFUSES(TMWATCH_BAD_BOUNDS, adds, 101);
     REFUSES(TMWATCH_BAD_BOUNDS, aborts, 101);
@@ -168,7 +175,7 @@ static tmwatch_benched run(const tmwatch_memory *it, tmwatch_plan plan)
     return benched;
 }
 
-/* A memory for one thread, again and again, also with other registers and with no round. A look comes before rounds 0, 64, .. and 300. */
+/* A memory for one thread, again and again. A look comes before rounds 0, 64, .. and 300. */
 static void run_one_thread(void)
 {
     for (uint64_t seed = 1; seed < 20; seed++) {
@@ -180,9 +187,6 @@ static void run_one_thread(void)
         CHECK(out.counts.transactions == 306 && out.counts.widest == 1 && out.counts.overlapping == 0 && !out.counts.none_overlapped);
         CHECK(out.counts.unasked == 0 && out.counts.aborted > 10 && out.counts.aborted + out.counts.committed == 306);
     }
-    tmwatch_plan plan = one_thread();
-    plan.rounds = 0;
-    CHECK(run(&memory, plan).counts.transactions == 1);
 }
 
 /* What the memory holds is known from the first look on. */
@@ -237,10 +241,7 @@ static void run_by_permits(void)
     tmwatch_benched out = run(&memory, plan);
     CHECK(out.told.verdict == TMWATCH_OPAQUE_SO_FAR && out.rounds == 300 && out.from == 0);
     CHECK(out.counts.transactions == 302 && out.counts.widest == 1 && out.counts.overlapping == 0);
-    plan.rounds = 0;
     memcpy(plan.start, words, plan.registers * sizeof *words);
-    out = run(&memory, plan);
-    CHECK(out.counts.transactions == 1 && out.rounds == 0);
     plan.start[2]++;
     out = run(&memory, plan);
     CHECK(out.told.verdict == TMWATCH_VIOLATED && out.told.at == 6);
@@ -271,6 +272,26 @@ static void never_begin(void)
     CHECK(out.counts.committed == 0 && out.counts.transactions > 3 && out.counts.unasked == out.counts.transactions);
 }
 
+/* Begins in no thread but 1. */
+static bool begin_in_one(void *memory, void *tx)
+{
+    return tmwatch_thread() == 1 && begin(memory, tx);
+}
+
+/* By permits, as many rounds are told as the thread has begun that has begun the fewest. */
+static void refuse_a_thread(void)
+{
+    tmwatch_memory it = memory;
+    tmwatch_plan plan = one_thread();
+    it.begin = begin_in_one;
+    plan.threads = 2;
+    plan.seconds = 1;
+    plan.rounds = UINT64_MAX;
+    plan.schedule = TMWATCH_PERMITS;
+    tmwatch_benched out = run(&it, plan);
+    CHECK(out.told.verdict == TMWATCH_OPAQUE_SO_FAR && out.rounds == 1 && out.counts.committed > 10);
+}
+
 /* A time ends the rounds, and a pause outside of a bench is none. */
 static void run_for_a_second(void)
 {
@@ -282,27 +303,40 @@ static void run_for_a_second(void)
     tmwatch_pause();
 }
 
-/* Prints results of each verdict, one of a run that shows nothing, and one in which none has committed. */
-static void print_all(void)
+/* Results of each verdict, of a run that shows nothing, of one in which none has committed, and of steps. */
+static const tmwatch_benched results[] = {
+    {.told = {12, 0, TMWATCH_OPAQUE_SO_FAR, 0}, .counts = {1, 2, 3, 4, 5, 6, 7, 8, 0}, .rounds = 9, .stores = 1},
+    {.told = {12, 11, TMWATCH_VIOLATED, 0}, .counts = {1, 2, 3, 4, 5, 6, 7, 8, 0}, .rounds = 9, .from = 10, .again = TMWATCH_PLAN},
+    {.told = {12, 11, TMWATCH_UNDECIDED, TMWATCH_TRANSACTIONS}, .counts = {1, 2, 3, 4, 5, 6, 7, 8, 0}, .rounds = 9, .again = TMWATCH_PLAN},
+    {.told = {12, 11, TMWATCH_UNDECIDED, TMWATCH_STATES}, .counts = {1, 2, 3, 4, 5, 6, 7, 8, 0}, .rounds = 9, .again = TMWATCH_PLAN},
+    {.told = {12, 11, TMWATCH_MALFORMED, 0}, .counts = {1, 0, 3, 4, 0, 6, 7, 8, 1}, .rounds = 9, .again = TMWATCH_PLAN},
+    {.told = {12, 0, TMWATCH_OPAQUE_SO_FAR, 0}, .counts = {1, 2, 3, 4, 0, 6, 0, 8, 1}, .rounds = 9, .stores = 1, .again = {.threads = 1}},
+    {.told = {0, 0, TMWATCH_OPAQUE_SO_FAR, 0}, .rounds = 9},
+    {.told = {12, 1, TMWATCH_VIOLATED, 0},
+     .counts = {.transactions = 1},
+     .rounds = 3,
+     .foreign = 7,
+     .steps = 20,
+     .switches = 4,
+     .rescues = 2,
+     .again = {.schedule = TMWATCH_STEPS, .seed = 5, .rounds = 3, .round = 3, .threads = 2, .registers = TMWATCH_DRAWN, .calls = 1,
+               .writes = TMWATCH_DRAWN, .adds = 0, .aborts = TMWATCH_DRAWN, .pause = TMWATCH_DRAWN, .mixes = TMWATCH_DRAWN, .buffers = 1,
+               .patience = 10}},
+    {.told = {12, 7, TMWATCH_VIOLATED, 0}, .rounds = 3, .steps = 20, .again = {.schedule = TMWATCH_ALL, .seed = 1, .rounds = 3, .round = 3},
+     .is_certain = true},
+};
+
+static void print_results(void)
 {
-    static const tmwatch_benched all[] = {
-        {{12, 0, TMWATCH_OPAQUE_SO_FAR, 0}, {1, 2, 3, 4, 5, 6, 7, 8, 0}, 9, 0},
-        {{12, 11, TMWATCH_VIOLATED, 0}, {1, 2, 3, 4, 5, 6, 7, 8, 0}, 9, 10},
-        {{12, 11, TMWATCH_UNDECIDED, TMWATCH_TRANSACTIONS}, {1, 2, 3, 4, 5, 6, 7, 8, 0}, 9, 10},
-        {{12, 11, TMWATCH_UNDECIDED, TMWATCH_STATES}, {1, 2, 3, 4, 5, 6, 7, 8, 0}, 9, 10},
-        {{12, 11, TMWATCH_MALFORMED, 0}, {1, 0, 3, 4, 0, 6, 7, 8, 1}, 9, 10},
-        {{12, 0, TMWATCH_OPAQUE_SO_FAR, 0}, {1, 2, 3, 4, 0, 6, 7, 8, 1}, 9, 0},
-        {{0, 0, TMWATCH_OPAQUE_SO_FAR, 0}, {0, 0, 0, 0, 0, 0, 0, 0, 0}, 9, 0},
-    };
     setvbuf(stdout, NULL, _IONBF, 0);
-    for (size_t i = 0; i < sizeof all / sizeof all[0]; i++)
-        tmwatch_bench_print(stdout, &all[i]);
+    for (size_t i = 0; i < sizeof results / sizeof results[0]; i++)
+        tmwatch_bench_print(stdout, &results[i]);
 }
 
 int main(int count, char **given)
 {
     if (count > 1 && strcmp(given[1], "print") == 0) {
-        print_all();
+        print_results();
         return 0;
     }
     refuse_plans();
@@ -312,6 +346,7 @@ int main(int count, char **given)
     refuse_runs();
     run_by_permits();
     never_begin();
+    refuse_a_thread();
     run_for_a_second();
     return 0;
 }

@@ -3,6 +3,7 @@ A memory after TL2 (Dice, Shalev and Shavit, DISC 2006) on the bench. Each word 
 kept until the commit. The commit locks what it writes, raises the clock, validates what was read, stores, and unlocks with the new version.
 
 A read looks at the word's lock before it loads the value and afterwards. By -DFAULT=BEFORE it looks only before; by AFTER, only afterwards.
+By LOCKED the validation takes a locked word for a good one. By HALF a commit stores the upper halves of its values after it has unlocked.
 */
 #include "tmwatch_bench.h"
 #include <stdatomic.h>
@@ -12,7 +13,7 @@ A read looks at the word's lock before it loads the value and afterwards. By -DF
 #endif
 
 enum { REGISTERS = 8 };
-enum fault { NONE, BEFORE, AFTER };
+enum fault { NONE, BEFORE, AFTER, LOCKED, HALF };
 
 /* `lock` is the version doubled, and odd while a commit holds it. */
 struct word {
@@ -56,7 +57,7 @@ static bool read(void *memory, void *tx, unsigned reg, uint64_t *value)
     TMWATCH_PAUSE();
     uint64_t after = words[reg].lock;
     it->has_read[reg] = true;
-    if (fault != NONE)
+    if (fault == BEFORE || fault == AFTER)
         return is_good(it, fault == BEFORE ? before : after);
     return is_good(it, before) && before == after;
 }
@@ -91,7 +92,7 @@ static bool take_locks(struct tx *tx)
 static bool is_valid(const struct tx *tx)
 {
     for (unsigned reg = 0; reg < REGISTERS; reg++)
-        if (tx->has_read[reg] && !tx->holds[reg] && !is_good(tx, words[reg].lock))
+        if (tx->has_read[reg] && !tx->holds[reg] && !is_good(tx, fault == LOCKED ? words[reg].lock / 2 * 2 : words[reg].lock))
             return false;
     return true;
 }
@@ -102,10 +103,14 @@ static void give_locks(struct tx *tx, bool stores, uint64_t version)
     for (unsigned reg = 0; reg < REGISTERS; reg++) {
         if (!tx->holds[reg])
             continue;
+        uint64_t lower = words[reg].value >> 32 << 32 | (uint32_t)tx->written[reg];
         if (stores)
-            words[reg].value = tx->written[reg];
+            words[reg].value = fault == HALF ? lower : tx->written[reg];
         TMWATCH_PAUSE();
         words[reg].lock = stores ? 2 * version : words[reg].lock - 1;
+        TMWATCH_PAUSE();
+        if (stores && fault == HALF)
+            words[reg].value = tx->written[reg];
     }
 }
 

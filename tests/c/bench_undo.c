@@ -3,7 +3,7 @@ A memory that locks a word when it first writes it, and writes in place, after T
 PPoPP 2008), on the bench. A transaction that aborts restores what the words held before, and then unlocks them with a new version.
 
 By -DFAULT=UNLOCK it unlocks them before it restores. By VERSION it unlocks them with their old version: a read that looks at the lock
-before and after the load can't tell that the value it has loaded was undone in between.
+before and after the load can't tell that the value it has loaded was undone in between. By CLOCK it raises the clock by a load and a store.
 */
 #include "tmwatch_bench.h"
 #include <stdatomic.h>
@@ -13,7 +13,7 @@ before and after the load can't tell that the value it has loaded was undone in 
 #endif
 
 enum { REGISTERS = 8 };
-enum fault { NONE, UNLOCK, VERSION };
+enum fault { NONE, UNLOCK, VERSION, CLOCK };
 
 /* `lock` is the version doubled, and odd while a transaction holds it. */
 struct word {
@@ -56,12 +56,22 @@ static void restore(const struct tx *tx)
     }
 }
 
+static uint64_t raise_clock(void)
+{
+    if (fault != CLOCK)
+        return ++ticks;
+    uint64_t version = ticks + 1;
+    TMWATCH_PAUSE();
+    ticks = version;
+    return version;
+}
+
 static void cancel(void *memory, void *tx)
 {
     (void)memory;
     if (fault != UNLOCK)
         restore(tx);
-    give_locks(tx, fault != VERSION, fault != VERSION ? ++ticks : 0);
+    give_locks(tx, fault != VERSION, fault != VERSION ? raise_clock() : 0);
     if (fault == UNLOCK)
         restore(tx);
 }
@@ -139,7 +149,7 @@ static bool commit(void *memory, void *tx)
     (void)memory;
     if (!holds_any(tx))
         return true;
-    uint64_t version = ++ticks;
+    uint64_t version = raise_clock();
     TMWATCH_PAUSE();
     if (!undo_unless(is_valid(tx), tx))
         return false;

@@ -4,7 +4,8 @@ transaction reads the clock when it begins, and then of each word the newest ver
 always; it aborts only if a version that it needs is no longer kept. A commit that writes takes the one lock, validates what was read, adds
 its versions, and then raises the clock.
 
-By -DFAULT=CLOCK the commit raises the clock first: a transaction that begins then misses its versions.
+By -DFAULT=CLOCK the commit raises the clock first: a transaction that begins then misses its versions. By DROPPED a read returns the oldest
+version that is kept, if the one it needs isn't. By AGAIN it doesn't look whether the version was overwritten while it loaded the value.
 */
 #include "tmwatch_bench.h"
 #include <sched.h>
@@ -15,7 +16,7 @@ By -DFAULT=CLOCK the commit raises the clock first: a transaction that begins th
 #endif
 
 enum { REGISTERS = 8, KEPT = 4 };
-enum fault { NONE, CLOCK };
+enum fault { NONE, CLOCK, DROPPED, AGAIN };
 
 /* A version: the clock of its commit, and the value. */
 struct version {
@@ -56,10 +57,12 @@ static bool read_version(struct word *word, uint64_t snapshot, uint64_t *value)
         TMWATCH_PAUSE();
         if (then > snapshot)
             continue;
+        TMWATCH_PAUSE();
         *value = version->value;
-        return version->ticks == then;
+        return fault == AGAIN || version->ticks == then;
     }
-    return false;
+    *value = word->versions[(newest + 1) % KEPT].value;
+    return fault == DROPPED;
 }
 
 static bool read(void *memory, void *tx, unsigned reg, uint64_t *value)
@@ -102,6 +105,7 @@ static void add_version(struct word *word, uint64_t value, uint64_t now)
 {
     struct version *version = &word->versions[(word->newest + 1) % KEPT];
     version->ticks = UINT64_MAX;
+    TMWATCH_PAUSE();
     version->value = value;
     version->ticks = now;
     word->newest++;
@@ -135,8 +139,10 @@ static bool commit(void *memory, void *tx)
     (void)memory;
     if (!has_written(it))
         return true;
-    while (atomic_exchange(&is_locked, true))
+    while (atomic_exchange(&is_locked, true)) {
+        TMWATCH_PAUSE();
         sched_yield();
+    }
     bool is_done = is_valid(it);
     if (is_done)
         publish(it);

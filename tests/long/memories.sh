@@ -1,19 +1,23 @@
 #!/usr/bin/env bash
-# Runs transactional memories on the bench for memories in C, in rounds and by permits: right ones, and ones with a known fault.
+# Runs transactional memories on the bench for memories in C, by each schedule and by all in turn: right ones, and ones with a known fault.
 #
 #   tests/long/memories.sh
 #
-# A row for each memory and schedule says how many seeds came out opaque so far, violated, undecided, malformed and other; the least and the
-# most `at` of the violated ones; and the seconds of all. A run is other if it ends without a verdict, if it takes 300 seconds, or
-# if it is opaque so far and shows little: not all rounds were run, or no two transactions overlapped.
-# A right memory passes if all its seeds are opaque so far. A broken one passes if nine seeds in ten are violated, and the others opaque so
-# far. Standard error has a line for each seed that came out otherwise.
+# A row for each memory and schedule says how many seeds came out opaque so far, violated, undecided, malformed and other; the median of the
+# rounds of the violated ones; how many rounds a second were run; and the seconds of all. A run is other if it ends without a verdict, if it
+# takes 300 seconds, or if it is opaque so far and shows little: not all rounds were run, no two transactions overlapped, or a thread that
+# the bench should see waited unseen (a rescue).
+# A right memory passes if all its seeds are opaque so far. A broken one has 60 seconds by all, and passes if nine seeds in ten are violated
+# there, and the others opaque so far; by a single schedule its row only tells. Standard error has a line for each seed that came out
+# otherwise.
 # What can't be built here is skipped, and a line says so. The last line is 'N passed, M failed', and the exit status is 1 if one failed.
-# Environment: BUILT (tests/common.sh), SEEDS (10), ROUNDS (100000, at most, of a broken memory), RIGHT_ROUNDS (20000; libitm: a tenth),
-# CC (cc), CXX (c++), CARGO (cargo).
+# Environment: BUILT (tests/common.sh), SEEDS (10), ROUNDS (100000, at most, of a broken memory by a single schedule), RIGHT_ROUNDS (20000;
+# libitm: a tenth), ONLY (a pattern: the rows whose kind and name have it), SCHEDULES (all steps rounds permits), CC (cc), CXX (c++), CARGO
+# (cargo).
 set -eu
 # shellcheck source=tests/common.sh
 . "$(dirname "${BASH_SOURCE[0]}")/../common.sh"
+only=${ONLY:-.} schedules=${SCHEDULES:-all steps rounds permits}
 seeds=${SEEDS:-10} broken_rounds=${ROUNDS:-100000} right_rounds=${RIGHT_ROUNDS:-20000}
 cc=${CC:-cc} cxx=${CXX:-c++} cargo=${CARGO:-cargo}
 use_library
@@ -22,13 +26,23 @@ flags=(-O2 -Wall -Wextra -pthread -DTMWATCH_PAUSES "-I$top/include")
 # The bench is compiled here, so that it is the one of this folder.
 mkdir "$folder/lib"
 cp "$built/lib/libtmwatch.a" "$folder/lib"
-"$cc" -std=c11 "${flags[@]}" -c -o "$folder/bench.o" "$top/bench-c/tmwatch_bench.c"
-ar rcs "$folder/lib/libtmwatch_bench.a" "$folder/bench.o"
-link=("$folder/lib/libtmwatch_bench.a" "$folder/lib/libtmwatch.a")
+for file in tmwatch_bench waits accesses wide; do
+    "$cc" -std=c11 "${flags[@]}" -c -o "$folder/$file.o" "$top/bench-c/$file.c"
+done
+ar rcs "$folder/lib/libtmwatch_bench.a" "$folder/tmwatch_bench.o" "$folder/waits.o"
+ar rcs "$folder/lib/libtmwatch_steps.a" "$folder/accesses.o" "$folder/wide.o"
+link=("$folder/lib/libtmwatch_steps.a" "$folder/lib/libtmwatch_bench.a" "$folder/lib/libtmwatch.a"
+    '-Wl,--wrap=pthread_mutex_lock,--wrap=pthread_mutex_unlock,--wrap=sched_yield')
 
 # Compiles a memory in C: the program's name, the file, its fault, and further flags.
 in_c() {
     "$cc" -std=c11 "${flags[@]}" "-DFAULT=$3" "${@:4}" -o "$folder/$1" "$top/$2" "${link[@]}"
+}
+
+# Compiles a memory in C without its pauses: each atomic access is a step.
+without_pauses() {
+    "$cc" -std=c11 -O2 -fsanitize=thread -Wno-tsan "-I$top/include" "-DFAULT=$3" -c -o "$folder/memory.o" "$top/$2"
+    "$cc" -pthread -o "$folder/$1" "$folder/memory.o" "${link[@]}"
 }
 
 # The same in C++.
@@ -36,10 +50,10 @@ in_cpp() {
     "$cxx" -std=c++17 "${flags[@]}" "-DFAULT=$3" -o "$folder/$1" "$top/$2" "${link[@]}"
 }
 
-# Each of these makes a run of $rounds with $seed by $schedule: of a program in C or C++, with further options of the bench; of libitm, by
-# one of its methods; of the program in Rust.
+# Each of these makes a run of $rounds with $seed by $schedule, for $seconds at most if there are any: of a program in C or C++, with
+# further options of the bench; of libitm, by one of its methods; of the program in Rust.
 bench() {
-    timeout 300 "$folder/$1" --rounds "$rounds" --seed "$seed" --schedule "$schedule" "${@:2}"
+    timeout 300 "$folder/$1" --rounds "$rounds" ${seconds:+--seconds "$seconds"} --seed "$seed" --schedule "$schedule" "${@:2}"
 }
 
 libitm() {
@@ -47,7 +61,7 @@ libitm() {
 }
 
 rust() {
-    timeout 300 "$folder/target/release/examples/lock" "$rounds" "$seed" "$schedule"
+    bench target/release/examples/lock
 }
 
 # Prints the place of a run's outcome among the five that a row has, by its exit status and by what it has printed.
@@ -56,7 +70,9 @@ outcome() {
     line=$(head -n 1 "$folder/output")
     case "$1 $line" in
     '0 {'*'"verdict":"opaque so far"}')
-        grep -q "\"rounds\":$rounds}" "$folder/output" && grep -q '"overlapping":[1-9]' "$folder/output" && echo 0 || echo 4
+        [ -z "$seconds" ] || { echo 0 && return; }
+        grep -q "\"rounds\":${rounds}[,}]" "$folder/output" && grep -q '"overlapping":[1-9]' "$folder/output" &&
+            ! grep -q '"rescues":[1-9]' "$folder/output" && echo 0 || echo 4
         ;;
     '1 {"at":'*'"verdict":"violated"}') echo 1 ;;
     '2 {"at":'*'"verdict":"undecided"'*) echo 2 ;;
@@ -71,53 +87,74 @@ is_wanted() {
     case $1 in
     right) [ "$opaque" -eq "$seeds" ] ;;
     broken) [ $((10 * violated)) -ge $((9 * seeds)) ] && [ $((opaque + violated)) -eq "$seeds" ] ;;
+    told) [ $((opaque + violated)) -eq "$seeds" ] ;;
     esac
 }
 
-# A row: its name, whether the memory is right or broken, the schedule, and how a run is made.
+# The number that follows this key in what a run has printed.
+number_of() {
+    sed -n "s/.*\"$1\":\([0-9]*\).*/\1/p" "$folder/output" | head -n 1
+}
+
+# A row: its name, whether the memory is right, broken, or only told of, the schedule, and how a run is made.
 row() {
-    local name=$1 kind=$2 schedule=$3 least='' most='' of_each=(0 0 0 0 0) passes=passed began=$EPOCHREALTIME seed status found
-    local rounds=$broken_rounds usual=1
-    [ "$kind" = broken ] || rounds=$right_rounds usual=0
+    local name=$1 kind=$2 schedule=$3 of_each=(0 0 0 0 0) passes=passed began=$EPOCHREALTIME seed status found run
+    local rounds=$broken_rounds usual=1 seconds='' all=0 took
+    [ "$kind" != right ] || rounds=$right_rounds usual=0
+    [ "$kind" != broken ] || seconds=60 rounds=100000000
     shift 3
+    : >"$folder/found"
     for seed in $(seq "$seeds"); do
         status=0
         "$@" >"$folder/output" 2>"$folder/told" || status=$?
         found=$(outcome $status)
         of_each[found]=$((of_each[found] + 1))
-        [ "$found" -eq "$usual" ] || echo "$name by $schedule, seed $seed: status $status, $(head -n 1 "$folder/output")" >&2
-        [ "$found" -eq 1 ] || continue
-        found=$(sed -n '1s/^{"at":\([0-9]*\),.*/\1/p' "$folder/output")
-        [ -n "$least" ] && [ "$least" -le "$found" ] || least=$found
-        [ -n "$most" ] && [ "$most" -ge "$found" ] || most=$found
+        run=$(number_of rounds)
+        all=$((all + ${run:-0}))
+        [ "$found" -eq "$usual" ] || [ "$kind" = told ] ||
+            echo "$name by $schedule, seed $seed: status $status, $(head -n 1 "$folder/output")" >&2
+        [ "$found" -ne 1 ] || echo "$run" >>"$folder/found"
     done
+    took=$(since "$began")
     counts is_wanted "$kind" "${of_each[@]}" || passes=FAILED
-    printf '%-36s %-8s %6d %8d %9d %9d %5d %8s %8s %7s  %s\n' "$name" "$schedule" "${of_each[@]}" "${least:--}" "${most:--}" \
-        "$(since "$began")" $passes
+    printf '%-36s %-8s %6d %8d %9d %9d %5d %8s %8.0f %7s  %s\n' "$name" "$schedule" "${of_each[@]}" \
+        "$(sort -n "$folder/found" | awk '{ it[NR] = $1 } END { print NR ? it[int((NR + 1) / 2)] : "-" }')" \
+        "$(echo "$all $took" | awk '{ print $1 / $2 }')" "$took" $passes
 }
 
 # The rows of a memory: its name, whether it is right or broken, and how a run is made.
 rows() {
-    row "$1" "$2" rounds "${@:3}"
-    row "$1" "$2" permits "${@:3}"
+    local schedule kind
+    [[ "$2 $1" =~ $only ]] || return 0
+    for schedule in $schedules; do
+        kind=$2
+        [ "$schedule" = all ] || [ "$kind" = right ] || kind=told
+        row "$1" $kind "$schedule" "${@:3}"
+    done
 }
 
-printf '%-36s %-8s %6s %8s %9s %9s %5s %8s %8s %7s\n' memory schedule opaque violated undecided malformed other least most seconds
+printf '%-36s %-8s %6s %8s %9s %9s %5s %8s %8s %7s\n' memory schedule opaque violated undecided malformed other median /second seconds
 
 for fault in NONE READS COMMIT PLACE; do
     in_c norec_$fault examples/c/norec.c $fault
 done
-for fault in NONE BEFORE AFTER; do
+for fault in NONE BEFORE AFTER LOCKED HALF; do
     in_c tl2_$fault tests/c/bench_tl2.c $fault
 done
-for fault in NONE CLOCK; do
+for fault in NONE CLOCK DROPPED AGAIN; do
     in_c versions_$fault tests/c/bench_versions.c $fault
 done
-for fault in NONE UNLOCK VERSION; do
+for fault in NONE UNLOCK VERSION CLOCK; do
     in_c undo_$fault tests/c/bench_undo.c $fault
 done
 for fault in NONE EARLY; do
     in_c locks_$fault tests/c/bench_locks.c $fault
+done
+for fault in NONE WRAP; do
+    in_c sequence_$fault tests/c/bench_sequence.c $fault
+done
+for fault in NONE FENCE; do
+    without_pauses readers_$fault tests/c/bench_readers.c $fault
 done
 in_c jumping tests/c/bench_jumping.c NONE
 
@@ -127,6 +164,8 @@ rows 'versions' right bench versions_NONE
 rows 'undo log' right bench undo_NONE
 rows 'a lock for each register' right bench locks_NONE
 rows 'NOrec that restarts by longjmp' right bench jumping
+rows 'one sequence' right bench sequence_NONE
+rows 'visible readers, delayed stores' right bench readers_NONE --buffers
 if has "$cxx" 'memories in C++'; then
     in_cpp lock tests/c/bench_lock.cpp NONE
     in_cpp class tests/c/bench_class.cpp NONE
@@ -149,14 +188,20 @@ if has "$cargo" 'a memory in Rust'; then
     rows 'Rust, a lock for each register' right rust
 fi
 
-# The last but one shows only if another transaction writes and is rolled back within one read. So most of them ask to abort here.
 rows 'NOrec, reads not validated' broken bench norec_READS
 rows 'NOrec, commits not validated' broken bench norec_COMMIT
 rows 'NOrec, writes in place' broken bench norec_PLACE
 rows 'TL2, one look, before the load' broken bench tl2_BEFORE
 rows 'TL2, one look, after the load' broken bench tl2_AFTER
+rows 'TL2, lock bit ignored in validation' broken bench tl2_LOCKED
+rows 'TL2, upper half after the release' broken bench tl2_HALF --adds 0
 rows 'versions, the clock first' broken bench versions_CLOCK
+rows 'versions, a dropped one returned' broken bench versions_DROPPED
+rows 'versions, overwritten, no second look' broken bench versions_AGAIN
 rows 'undo log, unlocks before it undoes' broken bench undo_UNLOCK
-rows 'undo log, an abort keeps the version' broken bench undo_VERSION --threads 8 --registers 1 --calls 2 --aborts 80
+rows 'undo log, an abort keeps the version' broken bench undo_VERSION
+rows 'undo log, clock by load and store' broken bench undo_CLOCK
 rows 'a lock given back early' broken bench locks_EARLY
+rows 'one sequence, wraps after 4 commits' broken bench sequence_WRAP
+rows 'visible readers, no fence' broken bench readers_FENCE --buffers
 end_rows

@@ -23,7 +23,7 @@ row() {
     local seed status of_each=(0 0 0 0 0)
     for seed in $(seq "$seeds"); do
         status=0
-        timeout 120 "$folder/$2" --rounds "$rounds" --seed "$seed" --pause 1000 >"$folder/output" 2>"$folder/told" || status=$?
+        timeout 120 "$folder/$2" --rounds "$rounds" --seed "$seed" --schedule rounds --pause 1000 >"$folder/output" 2>"$folder/told" || status=$?
         [ $status -lt 4 ] || status=4
         of_each[status]=$((of_each[status] + 1))
     done
@@ -38,24 +38,27 @@ shows() {
 # A mistake: its name, and the change of the bench's source. It is none without a change.
 mistake() {
     local memory is_shown=no is_hidden=yes
-    sed "$2" "$top/bench-c/tmwatch_bench.c" >"$folder/bench.c"
-    "${CC:-cc}" -std=c11 "${flags[@]}" -c -o "$folder/bench.o" "$folder/bench.c"
+    rm -rf "$folder/bench-c"
+    cp -r "$top/bench-c" "$folder/bench-c"
+    sed -i "$2" "$folder"/bench-c/*.c
+    "${CC:-cc}" -std=c11 "${flags[@]}" -c -o "$folder/bench.o" "$folder/bench-c/tmwatch_bench.c"
     for memory in lock norec versions; do
         "${CXX:-c++}" -pthread -o "$folder/$memory" "$folder/$memory.o" "$folder/bench.o" "$built/lib/libtmwatch.a"
         row "$1" "$memory"
         ! shows || is_shown=yes
         [ "$opaque" -eq "$seeds" ] || is_hidden=no
     done
-    if cmp -s "$folder/bench.c" "$top/bench-c/tmwatch_bench.c"; then is_shown=$is_hidden; fi
+    if diff -r "$folder/bench-c" "$top/bench-c" >"$folder/told"; then is_shown=$is_hidden; fi
     counts [ $is_shown = yes ] || true
 }
 
 printf '%-36s %-9s %6s %8s %9s %9s %7s\n' mistake memory opaque violated undecided malformed refused
 mistake 'none' ''
 mistake 'C is recorded before the commit' \
-    's/return m->commit(m->memory, a->tx);/return end_attempt(a, true), pause_sometimes(a), m->commit(m->memory, a->tx);/'
+    's/return m->commit(m->memory, a->tx);/return end_attempt(a, true), pause_sometimes(a, 0), m->commit(m->memory, a->tx);/'
 mistake 'T is left out' '/has_asked = a->calls/{n;s/note_call(a);/if (a->has_asked) note_call(a);/}'
 mistake 'no barrier' 's/b->round == round; turns++/turns == 0; turns++/'
 mistake 'begins before the first call' \
-    's/!tmwatch_begins(a) || !m->begin(m->memory, a->tx)/!m->begin(m->memory, a->tx) || (pause_sometimes(a), !tmwatch_begins(a))/'
+    's/if (!tmwatch_begins(a))$/if (!m->begin(m->memory, a->tx) || (pause_sometimes(a, 0), !tmwatch_begins(a)))/
+    s/if (!m->begin(m->memory, a->tx))$/if (false)/'
 end_rows

@@ -1,13 +1,11 @@
 //! Two-phase locking on the bench, with a mutex for each register.
 //!
-//!     TMWATCH_LIB=../../built/lib cargo run --release --example lock -- 20000 1 permits
+//!     TMWATCH_LIB=../../built/lib cargo run --release --example lock -- --rounds 20000
 //!
-//! The words are the number of rounds, a seed, and `rounds` or `permits`. The program prints what a memory in C prints on the bench. The
-//! exit status is the verdict's number, or 4 if nothing was run.
+//! The words, what is printed and the exit status are those of a memory in C: `--help` tells them.
 
-use std::process::ExitCode;
 use std::sync::{Mutex, MutexGuard};
-use tmwatch::{bench, pause, Aborted, Benched, Memory, Plan, Verdict, Why};
+use tmwatch::{bench_main, pause, Aborted, Memory};
 
 /// A register under its lock, and what it held before.
 struct Held<'m> {
@@ -71,45 +69,6 @@ impl Memory for Locks {
     }
 }
 
-/// Prints the three lines of `tmwatch_bench_print`, and returns the verdict's number.
-fn print(benched: &Benched) -> u8 {
-    let events = benched.told.events;
-    let (number, line) = match benched.told.verdict {
-        Verdict::OpaqueSoFar => (0, format!(r#"{{"events":{events},"verdict":"opaque so far"}}"#)),
-        Verdict::Violated { at } => (1, format!(r#"{{"at":{at},"events":{events},"verdict":"violated"}}"#)),
-        Verdict::Undecided { at, why } => {
-            let why = if why == Why::States { "states" } else { "transactions" };
-            (2, format!(r#"{{"at":{at},"events":{events},"verdict":"undecided","why":"{why}"}}"#))
-        }
-        Verdict::Malformed { at } => (3, format!(r#"{{"at":{at},"events":{events},"verdict":"malformed"}}"#)),
-    };
-    println!("{line}\n{{\"rounds\":{}}}", benched.rounds);
-    let it = &benched.counts;
-    print!(r#"{{"aborted":{},"committed":{},"cuts":{},"live":{},"#, it.aborted, it.committed, it.cuts, it.live);
-    print!(r#""overlapping":{},"transactions":{},"#, it.overlapping, it.transactions);
-    println!(r#""unasked":{},"widest":{}}}"#, it.unasked, it.widest);
-    number
-}
-
-/// Returns the plan of the program's words, if they are right.
-fn plan() -> Option<Plan> {
-    let words: Vec<String> = std::env::args().skip(1).collect();
-    let [rounds, seed, schedule] = &words[..] else { return None };
-    let permits = schedule == "permits";
-    let is_right = permits || schedule == "rounds";
-    is_right.then_some(Plan { rounds: rounds.parse().ok()?, seed: seed.parse().ok()?, permits, ..Plan::default() })
-}
-
-fn main() -> ExitCode {
-    let Some(plan) = plan() else {
-        eprintln!("lock ROUNDS SEED rounds|permits");
-        return ExitCode::from(4);
-    };
-    match bench(&Locks::default(), &plan) {
-        Ok(benched) => ExitCode::from(print(&benched)),
-        Err(status) => {
-            eprintln!("{status}");
-            ExitCode::from(4)
-        }
-    }
+fn main() {
+    bench_main(&Locks::default())
 }

@@ -1,8 +1,9 @@
 //! The bench for a memory in Rust.
 
 use crate::{ffi, Counts, Status, Told};
-use std::ffi::{c_char, c_uint, c_void, CStr};
+use std::ffi::{c_char, c_int, c_uint, c_void, CStr, CString};
 use std::mem::{align_of, size_of, MaybeUninit};
+use std::os::unix::ffi::OsStringExt;
 use std::ptr::{from_ref, null_mut};
 
 /// The transaction has aborted and is rolled back.
@@ -42,39 +43,64 @@ pub trait Memory: Sync {
     fn abort<'m>(&'m self, transaction: Self::Transaction<'m>);
 }
 
-/// What is run. include/tmwatch_bench.h says more of each.
+/// A number of a plan that is the usual one, or, with [`Schedule::All`], another one in each leg but the first.
+pub const DRAWN: u64 = u64::MAX;
+
+/// How the threads run together.
+#[derive(Clone, Copy, Debug, PartialEq, Eq)]
+pub enum Schedule {
+    /// In rounds: each thread makes its share, and waits for all others.
+    Rounds = 0,
+    /// Freely, each attempt under one of eight permits.
+    Permits = 1,
+    /// In rounds, one thread at a time. At each step the seed says which. A `std::sync::Mutex` is not seen: call [`pause`] in a loop on
+    /// `try_lock`.
+    Steps = 2,
+    /// In legs: first by steps, then by each of these in turn.
+    All = 3,
+}
+
+/// What is run. include/tmwatch_bench.h says more of each. The numbers with a usual one in brackets may be [`DRAWN`].
 #[derive(Clone, Copy, Debug, PartialEq, Eq)]
 pub struct Plan {
     /// How many rounds, at most.
     pub rounds: u64,
     /// Which transactions and pauses are drawn.
     pub seed: u64,
-    /// 1 to 8.
+    /// 1 to 8 (4).
     pub threads: u64,
-    /// 1 to 8.
+    /// 1 to 8 (3).
     pub registers: u64,
-    /// How many registers a transaction uses: 1 to 16.
+    /// How many registers a transaction uses: 1 to 16 (3).
     pub calls: u64,
     /// How often a transaction is attempted: `threads * attempts` is at most 8. 0: as often as that allows.
     ///
-    /// With `permits`, any number. 0: as often as it takes, so that a transaction which always aborts ends only after `seconds`.
+    /// By permits, any number. 0: as often as it takes, so that a transaction which always aborts ends only after `seconds`.
     pub attempts: u64,
-    /// Of 100 registers that are read, how many are written then.
+    /// Of 100 registers that are read, how many are written then (50).
     pub writes: u64,
-    /// Of 100 calls, how many add.
+    /// Of 100 calls, how many add (20).
     pub adds: u64,
-    /// Of 100 transactions, how many ask to abort at their end.
+    /// Of 100 transactions, how many ask to abort at their end (12).
     pub aborts: u64,
-    /// The longest pause beside a call, in turns of a loop, at most 2^20.
+    /// The longest pause beside a call, in turns of a loop, at most 2^20 (100).
     pub pause: u64,
     /// After this time no round begins. 0: the rounds alone count.
     pub seconds: u64,
-    /// Whether threads run freely, each attempt under one of eight permits, and not in rounds.
-    pub permits: bool,
+    /// How the threads run together.
+    pub schedule: Schedule,
     /// What the registers hold at first.
     pub start: [u64; 8],
     /// Whether the run's end is returned as a trace.
     pub trace: bool,
+    /// Of 100 rounds, how many mix one long transaction with several short ones (50).
+    pub mixes: u64,
+    /// By steps, the C function `tmwatch_break` is called before this round, for a debugger. 0: never.
+    pub round: u64,
+    /// Whether stores are delayed, of a memory that is compiled for libtmwatch_steps.a.
+    pub buffers: bool,
+    /// Whether plain accesses of such a memory are steps too.
+    pub plain: bool,
 }
 
 impl Default for Plan {
@@ -83,18 +109,22 @@ impl Default for Plan {
         Plan {
             rounds: 100_000,
             seed: 1,
-            threads: 4,
-            registers: 3,
-            calls: 3,
+            threads: DRAWN,
+            registers: DRAWN,
+            calls: DRAWN,
             attempts: 0,
-            writes: 50,
-            adds: 20,
-            aborts: 12,
-            pause: 100,
+            writes: DRAWN,
+            adds: DRAWN,
+            aborts: DRAWN,
+            pause: DRAWN,
             seconds: 0,
-            permits: false,
+            schedule: Schedule::All,
             start: [0; 8],
             trace: false,
+            mixes: DRAWN,
+            round: 0,
+            buffers: false,
+            plain: false,
         }
     }
 }
@@ -110,6 +140,20 @@ pub struct Benched {
     pub rounds: u64,
     /// How many events precede the trace.
     pub from: u64,
+    /// The most commits of other threads within one attempt, at least.
+    pub foreign: u64,
+    /// How many writes and adds were recorded.
+    pub stores: u64,
+    /// By steps: at how many a thread might hand over to another.
+    pub steps: u64,
+    /// By steps: how many times one did.
+    pub switches: u64,
+    /// By steps: how many times a thread was blocked, so that another went too. If any, the run need not come again.
+    pub rescues: u64,
+    /// The words for [`bench_main`] by which the run's end is made again.
+    pub again: String,
+    /// Whether that is certain, if the memory decides nothing by time, address or chance.
+    pub is_certain: bool,
     /// The run's end, for `tmwatch show`, if the plan asked for it.
     pub trace: Option<String>,
 }
@@ -279,31 +323,78 @@ pub(crate) unsafe fn run_table(table: &ffi::Memory, plan: &Plan) -> Result<Bench
     let stream = if plan.trace { Some(Stream::open()?) } else { None };
     // SAFETY: the stream is open.
     let trace = stream.map_or(null_mut(), |it| unsafe { (*it).stream });
-    let Plan { rounds, seed, threads, registers, calls, attempts, writes, adds, aborts, pause, seconds, permits, start, .. } = *plan;
-    let plan = ffi::Plan {
-        rounds,
-        seed,
-        threads,
-        registers,
-        calls,
-        attempts,
-        writes,
-        adds,
-        aborts,
-        pause,
-        seconds,
-        schedule: u64::from(permits),
-        start,
-        trace,
-    };
-    let mut benched = ffi::Benched::default();
+    let mut benched = MaybeUninit::uninit();
     // SAFETY: all pointers live through the call, which ends its threads; the caller's promise.
-    let status = unsafe { ffi::tmwatch_bench(table, &plan, &mut benched) };
+    let status = unsafe { ffi::tmwatch_bench(table, &plan.to_c(trace), benched.as_mut_ptr()) };
     // SAFETY: it was opened above, and the bench has returned.
     let trace = stream.map(|it| unsafe { Stream::close(it) }).transpose();
     Status::check(status)?;
-    let ffi::Benched { told, counts, rounds, from } = benched;
-    Ok(Benched { told: told.into(), counts, rounds, from, trace: trace? })
+    // SAFETY: the status says that it was written.
+    let benched: ffi::Benched = unsafe { benched.assume_init() };
+    let again = words_of(&benched.again)?;
+    let ffi::Benched { told, counts, rounds, from, foreign, stores, steps, switches, rescues, is_certain, .. } = benched;
+    let (told, trace) = (told.into(), trace?);
+    Ok(Benched { told, counts, rounds, from, foreign, stores, steps, switches, rescues, again, is_certain, trace })
+}
+
+impl Plan {
+    fn to_c(self, trace: *mut c_void) -> ffi::Plan {
+        let Plan { rounds, seed, threads, registers, calls, attempts, writes, adds, aborts, pause, seconds, start, .. } = self;
+        ffi::Plan {
+            rounds,
+            seed,
+            threads,
+            registers,
+            calls,
+            attempts,
+            writes,
+            adds,
+            aborts,
+            pause,
+            seconds,
+            schedule: self.schedule as u64,
+            start,
+            trace,
+            mixes: self.mixes,
+            round: self.round,
+            buffers: u64::from(self.buffers),
+            plain: u64::from(self.plain),
+            // A bench that is given up would leave threads behind that use the memory.
+            patience: 0,
+            progress: null_mut(),
+        }
+    }
+}
+
+/// Returns the words of a plan.
+fn words_of(plan: &ffi::Plan) -> Result<String, Status> {
+    let stream = Stream::open()?;
+    // SAFETY: the stream is open.
+    unsafe { ffi::tmwatch_bench_words((*stream).stream, plan) };
+    // SAFETY: it was opened above.
+    unsafe { Stream::close(stream) }
+}
+
+/// Runs the bench by the program's words, as a memory in C does, prints what came out, and ends the program.
+///
+/// # Panics
+/// Panics as [`bench()`] does.
+pub fn bench_main<M: Memory>(memory: &M) -> ! {
+    // SAFETY: as in `bench`; the process ends before the memory does.
+    unsafe { main_of_table(&table(memory)) }
+}
+
+/// Runs the bench on the memory of this table, by the program's words.
+///
+/// # Safety
+/// As `run_table`, until the process ends.
+pub(crate) unsafe fn main_of_table(table: &ffi::Memory) -> ! {
+    let words: Vec<CString> = std::env::args_os().filter_map(|word| CString::new(word.into_vec()).ok()).collect();
+    let mut pointers: Vec<*mut c_char> = words.iter().map(|word| word.as_ptr().cast_mut()).collect();
+    let count = c_int::try_from(pointers.len()).unwrap_or(c_int::MAX);
+    pointers.push(null_mut());
+    // SAFETY: the words live through the call, which only reads them; the caller's promise.
+    std::process::exit(unsafe { ffi::tmwatch_bench_main(table, count, pointers.as_mut_ptr()) })
 }
 
 /// Stands in a memory between two of its own steps, where threads are to meet: waits as beside a call, in a thread of a bench, and else not
@@ -311,4 +402,10 @@ pub(crate) unsafe fn run_table(table: &ffi::Memory, plan: &Plan) -> Result<Bench
 pub fn pause() {
     // SAFETY: it takes nothing, and any thread may call it.
     unsafe { ffi::tmwatch_pause() }
+}
+
+/// Returns the number of this thread among those of its bench, from 0 on; 0 in any other thread.
+pub fn thread() -> usize {
+    // SAFETY: as in `pause`.
+    unsafe { ffi::tmwatch_thread() as usize }
 }

@@ -65,15 +65,27 @@ pub struct Plan {
     pub schedule: u64,
     pub start: [u64; 8],
     pub trace: *mut c_void,
+    pub mixes: u64,
+    pub round: u64,
+    pub buffers: u64,
+    pub plain: u64,
+    pub patience: u64,
+    pub progress: *mut c_void,
 }
 
 #[repr(C)]
-#[derive(Clone, Copy, Default)]
 pub struct Benched {
     pub told: Told,
     pub counts: Counts,
     pub rounds: u64,
     pub from: u64,
+    pub foreign: u64,
+    pub stores: u64,
+    pub steps: u64,
+    pub switches: u64,
+    pub rescues: u64,
+    pub again: Plan,
+    pub is_certain: bool,
 }
 
 extern "C" {
@@ -89,7 +101,10 @@ extern "C" {
     pub fn tmwatch_bench(memory: *const Memory, plan: *const Plan, benched: *mut Benched) -> u32;
     pub fn tmwatch_begins(attempt: *mut c_void) -> bool;
     pub fn tmwatch_calls(attempt: *mut c_void) -> bool;
+    pub fn tmwatch_bench_words(file: *mut c_void, plan: *const Plan);
+    pub fn tmwatch_bench_main(memory: *const Memory, count: c_int, words: *mut *mut c_char) -> c_int;
     pub fn tmwatch_pause();
+    pub fn tmwatch_thread() -> c_uint;
     // The C library's: a stream that writes into memory.
     pub fn open_memstream(bytes: *mut *mut c_char, size: *mut usize) -> *mut c_void;
     pub fn ferror(stream: *mut c_void) -> c_int;
@@ -132,8 +147,11 @@ mod tests {
         layout!(to, Memory, "tmwatch_memory", memory tx_size begin read write add commit abort run);
         layout!(
             to, Plan, "tmwatch_plan", rounds seed threads registers calls attempts writes adds aborts pause seconds schedule start trace
+            mixes round buffers plain patience progress
         );
-        layout!(to, Benched, "tmwatch_benched", told counts rounds from);
+        layout!(
+            to, Benched, "tmwatch_benched", told counts rounds from foreign stores steps switches rescues again is_certain
+        );
         to
     }
 
@@ -165,7 +183,11 @@ mod tests {
             ("aborts", plan.aborts),
             ("pause", plan.pause),
             ("seconds", plan.seconds),
-            ("schedule", u64::from(plan.permits)),
+            ("schedule", plan.schedule as u64),
+            ("mixes", plan.mixes),
+            ("round", plan.round),
+            ("buffers", u64::from(plan.buffers)),
+            ("plain", u64::from(plan.plain)),
         ] {
             same(&format!("plan.{name}"), number);
         }

@@ -17,7 +17,7 @@ mod retrying;
 mod told;
 mod watch;
 
-pub use bench::{bench, pause, Aborted, Benched, Memory, Plan};
-pub use retrying::{bench_retrying, Attempt, RetryingMemory};
+pub use bench::{bench, bench_main, pause, thread, Aborted, Benched, Memory, Plan, Schedule, DRAWN};
+pub use retrying::{bench_retrying, bench_retrying_main, Attempt, RetryingMemory};
 pub use told::{Counts, Status, Told, Verdict, Why};
 pub use watch::{Event, Recorder, Settings, Watch};

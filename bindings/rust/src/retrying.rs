@@ -1,6 +1,6 @@
 //! The bench for a memory in Rust that itself attempts a transaction again.
 
-use crate::bench::run_table;
+use crate::bench::{main_of_table, run_table};
 use crate::{ffi, Aborted, Benched, Plan, Status};
 use std::cell::Cell;
 use std::ffi::{c_uint, c_void};
@@ -181,11 +181,8 @@ unsafe extern "C" fn run<M: RetryingMemory>(memory: *mut c_void, slot: *mut c_vo
     memory.run(&Attempt { attempt, transaction, memory: PhantomData })
 }
 
-/// Runs the plan's rounds on a memory that itself attempts again, as [`bench`](crate::bench()) does on one that doesn't.
-///
-/// If the memory's `run` is wrong, it may return [`Status::Misfit`] or [`Status::OutOfTurn`].
-pub fn bench_retrying<M: RetryingMemory>(memory: &M, plan: &Plan) -> Result<Benched, Status> {
-    let table = ffi::Memory {
+fn table<M: RetryingMemory>(memory: &M) -> ffi::Memory {
+    ffi::Memory {
         memory: from_ref(memory).cast_mut().cast(),
         tx_size: size_of::<Cell<*mut c_void>>(),
         begin: None,
@@ -195,7 +192,19 @@ pub fn bench_retrying<M: RetryingMemory>(memory: &M, plan: &Plan) -> Result<Benc
         commit: None,
         abort: None,
         run: Some(run::<M>),
-    };
+    }
+}
+
+/// Runs the plan's rounds on a memory that itself attempts again, as [`bench`](crate::bench()) does on one that doesn't.
+///
+/// If the memory's `run` is wrong, it may return [`Status::Misfit`] or [`Status::OutOfTurn`].
+pub fn bench_retrying<M: RetryingMemory>(memory: &M, plan: &Plan) -> Result<Benched, Status> {
     // SAFETY: the memory is Sync and borrowed meanwhile; its functions take the bench's pointers.
-    unsafe { run_table(&table, plan) }
+    unsafe { run_table(&table(memory), plan) }
+}
+
+/// Runs the bench by the program's words, as [`bench_main`](crate::bench_main) does, on a memory that itself attempts again.
+pub fn bench_retrying_main<M: RetryingMemory>(memory: &M) -> ! {
+    // SAFETY: as in `bench_retrying`; the process ends before the memory does.
+    unsafe { main_of_table(&table(memory)) }
 }

@@ -149,3 +149,18 @@ pub struct Counts {
     /// Two threads or more ran, and no two transactions overlapped: this run shows nothing.
     pub none_overlapped: bool,
 }
+
+#[cfg(test)]
+mod tests {
+    use super::*;
+
+    #[test]
+    fn each_verdict_is_told() {
+        let told = |verdict, why| Told::from(ffi::Told { events: 9, at: 7, verdict, why }).verdict;
+        assert_eq!(told(0, 0), Verdict::OpaqueSoFar);
+        assert_eq!(told(1, 0), Verdict::Violated { at: 7 });
+        assert_eq!(told(2, 1), Verdict::Undecided { at: 7, why: Why::Transactions });
+        assert_eq!(told(2, 2), Verdict::Undecided { at: 7, why: Why::States });
+        assert_eq!(told(3, 0), Verdict::Malformed { at: 7 });
+    }
+}

@@ -2,7 +2,7 @@
 
 use std::sync::atomic::{AtomicBool, AtomicI64, AtomicU64, Ordering::SeqCst};
 use std::sync::{Mutex, MutexGuard};
-use tmwatch::{bench, pause, Aborted, Memory, Plan, Status, Verdict};
+use tmwatch::{bench, pause, thread, Aborted, Memory, Plan, Schedule, Status, Verdict};
 
 /// How many transactions were made and not yet dropped.
 static LIVE: AtomicI64 = AtomicI64::new(0);
@@ -18,6 +18,7 @@ struct OneLock {
 struct Locked<'m> {
     words: MutexGuard<'m, [u64; 8]>,
     before: [u64; 8],
+    reads: u64,
     writes: u64,
 }
 
@@ -36,11 +37,17 @@ impl Memory for OneLock {
         }
         let words = self.words.lock().unwrap();
         LIVE.fetch_add(1, SeqCst);
-        Ok(Locked { before: *words, words, writes: 0 })
+        Ok(Locked { before: *words, words, reads: 0, writes: 0 })
     }
 
+    /// Aborts at a sixth read.
     fn read<'m>(&'m self, it: &mut Locked<'m>, register: usize) -> Result<u64, Aborted> {
         pause();
+        it.reads += 1;
+        if it.reads == 6 {
+            *it.words = it.before;
+            return Err(Aborted);
+        }
         Ok(it.words[register])
     }
 
@@ -100,7 +107,7 @@ fn one_lock_is_opaque_so_far() {
     let memory = OneLock { words: Mutex::new(start), ..OneLock::default() };
     for seed in 1..4 {
         let start = *memory.words.lock().unwrap();
-        let plan = Plan { rounds: 2000, seed, start, trace: true, ..Plan::default() };
+        let plan = Plan { rounds: 2000, registers: 3, seed, schedule: Schedule::Rounds, start, trace: true, ..Plan::default() };
         let benched = bench(&memory, &plan).unwrap();
         assert_eq!(benched.told.verdict, Verdict::OpaqueSoFar);
         assert_eq!(benched.rounds, 2000);
@@ -115,7 +122,7 @@ fn one_lock_is_opaque_so_far() {
 #[test]
 fn a_memory_without_a_lock_is_violated() {
     for seed in 1..4 {
-        let plan = Plan { seed, trace: true, ..Plan::default() };
+        let plan = Plan { seed, registers: 3, trace: true, ..Plan::default() };
         let benched = bench(&Racing::default(), &plan).unwrap();
         let Verdict::Violated { at } = benched.told.verdict else { panic!("{:?}", benched.told) };
         let trace = benched.trace.unwrap();
@@ -174,4 +181,143 @@ fn wrong_plans_are_refused() {
     assert_eq!(refused(|plan| plan.registers = 0), Status::BadRegisters);
     assert_eq!(refused(|plan| plan.start[3] = 1), Status::BadStart);
     assert_eq!(refused(|plan| plan.calls = 17), Status::BadBounds);
+}
+
+/// A sequence of commits, odd while one stores, on which a read is not checked, if `is_broken`.
+struct Sequence {
+    now: AtomicU64,
+    words: [AtomicU64; 8],
+    is_broken: bool,
+}
+
+impl Sequence {
+    fn new(is_broken: bool) -> Sequence {
+        Sequence { now: AtomicU64::new(0), words: Default::default(), is_broken }
+    }
+}
+
+/// The sequence at the beginning, and what is to be written.
+type Written = (u64, [Option<u64>; 8]);
+
+impl Memory for Sequence {
+    type Transaction<'m> = Written;
+
+    fn begin(&self) -> Result<Written, Aborted> {
+        assert!(thread() < 8);
+        let now = self.now.load(SeqCst);
+        if now % 2 == 1 {
+            return Err(Aborted);
+        }
+        Ok((now, [None; 8]))
+    }
+
+    fn read(&self, it: &mut Written, register: usize) -> Result<u64, Aborted> {
+        pause();
+        let value = it.1[register].unwrap_or_else(|| self.words[register].load(SeqCst));
+        pause();
+        let is_good = self.is_broken || self.now.load(SeqCst) == it.0;
+        is_good.then_some(value).ok_or(Aborted)
+    }
+
+    fn write(&self, it: &mut Written, register: usize, value: u64) -> Result<(), Aborted> {
+        it.1[register] = Some(value);
+        Ok(())
+    }
+
+    fn commit(&self, it: Written) -> Result<(), Aborted> {
+        if it.1 == [None; 8] {
+            return Ok(());
+        }
+        self.now.compare_exchange(it.0, it.0 + 1, SeqCst, SeqCst).map_err(|_| Aborted)?;
+        for (word, value) in self.words.iter().zip(it.1) {
+            pause();
+            if let Some(value) = value {
+                word.store(value, SeqCst);
+            }
+        }
+        self.now.store(it.0 + 2, SeqCst);
+        Ok(())
+    }
+
+    fn abort(&self, _: Written) {}
+}
+
+#[test]
+fn steps_give_the_same_run_by_the_same_seed() {
+    let run = |seed, is_broken| {
+        let plan = Plan { rounds: 1000, seed, schedule: Schedule::Steps, trace: true, ..Plan::default() };
+        bench(&Sequence::new(is_broken), &plan).unwrap()
+    };
+    let (one, other) = (run(1, false), run(2, false));
+    assert_eq!(one.told.verdict, Verdict::OpaqueSoFar);
+    assert_eq!((one.rescues, other.rescues), (0, 0));
+    assert!(one.foreign > 2 && one.stores > 1000 && one.switches > 1000 && one.steps > one.switches, "{one:?}");
+    assert_eq!(run(1, false), one);
+    assert_ne!(other.trace, one.trace);
+    let broken = run(1, true);
+    let Verdict::Violated { .. } = broken.told.verdict else { panic!("{:?}", broken.told) };
+    assert!(broken.is_certain);
+    assert_eq!(broken.again, format!("--schedule steps --seed 1 --round {}", broken.rounds));
+    let plan = Plan { rounds: broken.rounds, schedule: Schedule::Steps, round: broken.rounds, trace: true, ..Plan::default() };
+    assert_eq!(bench(&Sequence::new(true), &plan).unwrap().trace, broken.trace);
+}
+
+#[test]
+fn seeds_and_schedules_are_passed_on() {
+    let trace = |schedule, seed| {
+        let plan = Plan { rounds: 1, threads: 1, seed, schedule, trace: true, ..Plan::default() };
+        let benched = bench(&Sequence::new(false), &plan).unwrap();
+        assert_eq!(benched.steps > 0, schedule == Schedule::Steps || schedule == Schedule::All);
+        benched.trace.unwrap()
+    };
+    for schedule in [Schedule::Rounds, Schedule::Permits, Schedule::Steps, Schedule::All] {
+        assert_ne!(trace(schedule, 1), trace(schedule, 2));
+    }
+}
+
+#[test]
+fn a_plan_out_of_range_is_refused() {
+    let refused = |plan| bench(&Sequence::new(false), &plan).unwrap_err();
+    assert_eq!(refused(Plan { threads: 9, ..Plan::default() }), Status::BadSize);
+    assert_eq!(refused(Plan { rounds: 0, ..Plan::default() }), Status::BadBounds);
+    assert_eq!(refused(Plan { mixes: 101, ..Plan::default() }), Status::BadBounds);
+    assert_eq!(refused(Plan { buffers: true, ..Plan::default() }), Status::BadBounds);
+    assert_eq!(refused(Plan { round: 5001, ..Plan::default() }), Status::BadBounds);
+    // One by permits is never out of range; in rounds, eight attempts are.
+    assert_eq!(refused(Plan { attempts: 8, ..Plan::default() }), Status::BadBounds);
+    assert!(bench(&Sequence::new(false), &Plan { rounds: 5, attempts: 8, schedule: Schedule::Permits, ..Plan::default() }).is_ok());
+}
+
+/// A transaction that is aligned to more than what the bench gives.
+#[repr(align(32))]
+struct Wide;
+
+struct Aligned;
+
+impl Memory for Aligned {
+    type Transaction<'m> = Wide;
+
+    fn begin(&self) -> Result<Wide, Aborted> {
+        Ok(Wide)
+    }
+
+    fn read(&self, _: &mut Wide, _: usize) -> Result<u64, Aborted> {
+        Ok(0)
+    }
+
+    fn write(&self, _: &mut Wide, _: usize, _: u64) -> Result<(), Aborted> {
+        Ok(())
+    }
+
+    fn commit(&self, _: Wide) -> Result<(), Aborted> {
+        Ok(())
+    }
+
+    fn abort(&self, _: Wide) {}
+}
+
+#[test]
+#[should_panic(expected = "aligns")]
+fn a_wide_transaction_is_refused() {
+    let _ = bench(&Aligned, &Plan { rounds: 1, ..Plan::default() });
 }

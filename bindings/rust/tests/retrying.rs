@@ -3,7 +3,7 @@
 use std::cell::Cell;
 use std::sync::atomic::{AtomicBool, AtomicU64, Ordering::SeqCst};
 use std::sync::{Mutex, MutexGuard};
-use tmwatch::{bench_retrying, pause, Aborted, Attempt, Plan, RetryingMemory, Status, Verdict};
+use tmwatch::{bench_retrying, pause, Aborted, Attempt, Plan, RetryingMemory, Schedule, Status, Verdict};
 
 /// Stores all that a transaction writes when it commits, and its version is odd meanwhile. If `looks`, each read looks whether the version
 /// is still the one at which the attempt began.
@@ -137,9 +137,9 @@ impl RetryingMemory for OneLock {
 
 #[test]
 fn a_right_memory_is_opaque_so_far() {
-    for (seed, permits) in [(1, false), (2, false), (1, true), (2, true)] {
+    for (seed, schedule) in [(1, Schedule::Rounds), (2, Schedule::Steps), (1, Schedule::Permits), (2, Schedule::Permits)] {
         let start = [7, 8, 9, 0, 0, 0, 0, 0];
-        let plan = Plan { rounds: 2000, seed, permits, start, trace: true, ..Plan::default() };
+        let plan = Plan { rounds: 2000, seed, schedule, registers: 3, start, trace: true, ..Plan::default() };
         for benched in [
             bench_retrying(&Versioned::new(true, start), &plan).unwrap(),
             bench_retrying(&OneLock { words: Mutex::new(start), refuses: AtomicBool::new(true) }, &plan).unwrap(),
@@ -156,8 +156,8 @@ fn a_right_memory_is_opaque_so_far() {
 
 #[test]
 fn a_memory_that_does_not_look_is_violated() {
-    for (seed, permits) in [(1, false), (2, false), (1, true), (2, true)] {
-        let benched = bench_retrying(&Versioned::new(false, [0; 8]), &Plan { seed, permits, ..Plan::default() }).unwrap();
+    for (seed, schedule) in [(1, Schedule::Rounds), (2, Schedule::Steps), (1, Schedule::Permits), (2, Schedule::All)] {
+        let benched = bench_retrying(&Versioned::new(false, [0; 8]), &Plan { seed, schedule, ..Plan::default() }).unwrap();
         assert!(matches!(benched.told.verdict, Verdict::Violated { .. }), "{:?}", benched.told);
     }
 }

@@ -1,0 +1,257 @@
+/* A step at each access of a memory that its compiler has marked by -fsanitize=thread and that is linked without that sanitizer: no pause
+   has to be placed by hand. The compiler calls the functions here in place of each atomic access, and before each other one.
+
+   With drawn buffers, an atomic store that isn't sequentially consistent may stay in its thread's buffer for some steps, as in the store
+   buffers of x86 (Sewell, Sarkar, Owens, Zappa Nardelli and Myreen, CACM 2010): the stores of a thread come out in their order, a read of
+   the thread sees them, and they are out before a read-modify-write, a sequentially consistent store or fence, a plain store to what other
+   threads may see, and each recorded event. Loads aren't reordered. */
+#include "step.h"
+#include <string.h>
+
+enum { BUFFERED = 8, SEQUENTIAL = __ATOMIC_SEQ_CST };
+
+/* What is stored and not out yet. */
+struct stored {
+    void *to;
+    uint64_t value;
+    unsigned bytes;
+};
+
+static _Thread_local struct stored buffer[BUFFERED];
+static _Thread_local unsigned buffered;
+
+static void put(const struct stored *it)
+{
+    switch (it->bytes) {
+    case 1:
+        __atomic_store_n((uint8_t *)it->to, (uint8_t)it->value, SEQUENTIAL);
+        break;
+    case 2:
+        __atomic_store_n((uint16_t *)it->to, (uint16_t)it->value, SEQUENTIAL);
+        break;
+    case 4:
+        __atomic_store_n((uint32_t *)it->to, (uint32_t)it->value, SEQUENTIAL);
+        break;
+    default:
+        __atomic_store_n((uint64_t *)it->to, it->value, SEQUENTIAL);
+    }
+}
+
+static void drain_one(void)
+{
+    put(&buffer[0]);
+    memmove(buffer, buffer + 1, --buffered * sizeof buffer[0]);
+}
+
+/* For the bench too: before each event. */
+void tmwatch_step_drain(void);
+void tmwatch_step_drain(void)
+{
+    while (buffered > 0)
+        drain_one();
+}
+
+/* A step, at which one store in four comes out. */
+static void at_step(void)
+{
+    tmwatch_step_how *how = tmwatch_step_accesses();
+    tmwatch_pause();
+    if (buffered == 0 || !how)
+        return;
+    how->draws = how->draws * UINT64_C(6364136223846793005) + UINT64_C(1442695040888963407);
+    if (how->draws >> 62 == 0)
+        drain_one();
+}
+
+static bool is_own(const tmwatch_step_how *how, const void *at)
+{
+    const char *it = at;
+    return (it >= how->own[0] && it < how->own_end[0]) || (it >= how->own[1] && it < how->own_end[1]);
+}
+
+/* Whether a store of this order is buffered. */
+static bool is_buffered(int order)
+{
+    const tmwatch_step_how *how = tmwatch_step_accesses();
+    return how && how->has_buffers && order != SEQUENTIAL;
+}
+
+static void store_later(void *to, uint64_t value, unsigned bytes)
+{
+    if (buffered == BUFFERED)
+        drain_one();
+    buffer[buffered++] = (struct stored){to, value, bytes};
+}
+
+/* Whether the thread's newest store to these bytes is not out, and then its value. If another one overlaps them, all comes out. */
+static bool is_forwarded(const volatile void *at, unsigned bytes, uint64_t *value)
+{
+    uintptr_t from = (uintptr_t)at;
+    for (unsigned i = buffered; i > 0; i--) {
+        const struct stored *it = &buffer[i - 1];
+        uintptr_t to = (uintptr_t)it->to;
+        if (to + it->bytes <= from || from + bytes <= to)
+            continue;
+        if (to == from && it->bytes == bytes) {
+            *value = it->value;
+            return true;
+        }
+        tmwatch_step_drain();
+        return false;
+    }
+    return false;
+}
+
+/* Before a plain load of so many bytes. */
+static void before_load(const void *at, unsigned bytes, bool is_volatile)
+{
+    uint64_t value;
+    const tmwatch_step_how *how = tmwatch_step_accesses();
+    if (!how || (!is_volatile && is_own(how, at)))
+        return;
+    if (is_volatile || how->has_plain)
+        at_step();
+    if (is_forwarded(at, bytes, &value))
+        tmwatch_step_drain();
+}
+
+/* Before a plain store, whose value isn't known. */
+static void before_store(const void *at, bool is_volatile)
+{
+    const tmwatch_step_how *how = tmwatch_step_accesses();
+    if (!how || (!is_volatile && is_own(how, at)))
+        return;
+    if (is_volatile || how->has_plain)
+        at_step();
+    tmwatch_step_drain();
+}
+
+#define UNUSED __attribute__((unused))
+#define NOTHING(name, ...)   \
+    void name(__VA_ARGS__);  \
+    void name(__VA_ARGS__) {}
+NOTHING(__tsan_init, void)
+NOTHING(__tsan_func_entry, void *caller UNUSED)
+NOTHING(__tsan_func_exit, void)
+NOTHING(__tsan_vptr_update, void **at UNUSED, void *to UNUSED)
+NOTHING(__tsan_vptr_read, void **at UNUSED)
+NOTHING(__tsan_atomic_signal_fence, int order UNUSED)
+
+#define CALLED(name, does, ...)  \
+    void name(__VA_ARGS__);      \
+    void name(__VA_ARGS__)       \
+    {                            \
+        does;                    \
+    }
+#define PLAIN(infix, bytes, is_volatile)                                                       \
+    CALLED(__tsan_##infix##read##bytes, before_load(at, bytes, is_volatile), const void *at)   \
+    CALLED(__tsan_##infix##write##bytes, before_store(at, is_volatile), const void *at)
+#define READ_WRITE(infix, bytes) CALLED(__tsan_##infix##read_write##bytes, before_store(at, false), const void *at)
+#define PLAINS(bytes)                    \
+    PLAIN(, bytes, false)                \
+    PLAIN(unaligned_, bytes, false)      \
+    PLAIN(volatile_, bytes, true)        \
+    PLAIN(unaligned_volatile_, bytes, true) \
+    READ_WRITE(, bytes)                  \
+    READ_WRITE(unaligned_, bytes)
+PLAINS(1)
+PLAINS(2)
+PLAINS(4)
+PLAINS(8)
+PLAINS(16)
+CALLED(__tsan_read_range, before_load(at, (unsigned)bytes, false), const void *at, unsigned long bytes)
+CALLED(__tsan_write_range, before_store(at, false), const void *at, unsigned long bytes UNUSED)
+
+void *__tsan_memcpy(void *to, const void *from, size_t bytes);
+void *__tsan_memmove(void *to, const void *from, size_t bytes);
+void *__tsan_memset(void *to, int byte, size_t bytes);
+
+void *__tsan_memcpy(void *to, const void *from, size_t bytes)
+{
+    before_load(from, (unsigned)bytes, false);
+    before_store(to, false);
+    return memcpy(to, from, bytes);
+}
+
+void *__tsan_memmove(void *to, const void *from, size_t bytes)
+{
+    before_load(from, (unsigned)bytes, false);
+    before_store(to, false);
+    return memmove(to, from, bytes);
+}
+
+void *__tsan_memset(void *to, int byte, size_t bytes)
+{
+    before_store(to, false);
+    return memset(to, byte, bytes);
+}
+
+/* A step, and all that was stored comes out: before a read-modify-write. */
+static void at_change(void)
+{
+    at_step();
+    tmwatch_step_drain();
+}
+
+/* An atomic access, as declared for the compiler: its type, what it is called, its parameters, and what it does. */
+#define ATOMIC(type, name, ...) \
+    type name(__VA_ARGS__);     \
+    type name(__VA_ARGS__)
+#define CHANGE(bits, type, name, op)                                                              \
+    ATOMIC(type, __tsan_atomic##bits##_##name, volatile type *at, type value, int order UNUSED)   \
+    {                                                                                             \
+        at_change();                                                                              \
+        return op(at, value, SEQUENTIAL);                                                         \
+    }
+#define COMPARE(bits, type, name)                                                                                              \
+    ATOMIC(int, __tsan_atomic##bits##_compare_exchange_##name, volatile type *at, type *held, type value, int order UNUSED,    \
+           int failed UNUSED)                                                                                                  \
+    {                                                                                                                          \
+        at_change();                                                                                                           \
+        return __atomic_compare_exchange_n(at, held, value, 0, SEQUENTIAL, SEQUENTIAL);                                        \
+    }
+#define ATOMICS(bits, type)                                                                                                    \
+    ATOMIC(type, __tsan_atomic##bits##_load, const volatile type *at, int order UNUSED)                                        \
+    {                                                                                                                          \
+        uint64_t value;                                                                                                        \
+        at_step();                                                                                                             \
+        return is_forwarded(at, sizeof(type), &value) ? (type)value : __atomic_load_n(at, SEQUENTIAL);                         \
+    }                                                                                                                          \
+    ATOMIC(void, __tsan_atomic##bits##_store, volatile type *at, type value, int order)                                        \
+    {                                                                                                                          \
+        at_step();                                                                                                             \
+        if (is_buffered(order)) {                                                                                              \
+            store_later((void *)(uintptr_t)at, value, sizeof(type));                                                           \
+            return;                                                                                                            \
+        }                                                                                                                      \
+        tmwatch_step_drain();                                                                                                  \
+        __atomic_store_n(at, value, SEQUENTIAL);                                                                               \
+    }                                                                                                                          \
+    CHANGE(bits, type, exchange, __atomic_exchange_n)                                                                          \
+    CHANGE(bits, type, fetch_add, __atomic_fetch_add)                                                                          \
+    CHANGE(bits, type, fetch_sub, __atomic_fetch_sub)                                                                          \
+    CHANGE(bits, type, fetch_and, __atomic_fetch_and)                                                                          \
+    CHANGE(bits, type, fetch_or, __atomic_fetch_or)                                                                            \
+    CHANGE(bits, type, fetch_xor, __atomic_fetch_xor)                                                                          \
+    CHANGE(bits, type, fetch_nand, __atomic_fetch_nand)                                                                        \
+    COMPARE(bits, type, strong)                                                                                                \
+    COMPARE(bits, type, weak)                                                                                                  \
+    ATOMIC(type, __tsan_atomic##bits##_compare_exchange_val, volatile type *at, type held, type value, int order UNUSED,       \
+           int failed UNUSED)                                                                                                  \
+    {                                                                                                                          \
+        at_change();                                                                                                           \
+        __atomic_compare_exchange_n(at, &held, value, 0, SEQUENTIAL, SEQUENTIAL);                                              \
+        return held;                                                                                                           \
+    }
+ATOMICS(8, uint8_t)
+ATOMICS(16, uint16_t)
+ATOMICS(32, uint32_t)
+ATOMICS(64, uint64_t)
+
+/* All comes out at a sequentially consistent fence, and at no weaker one. */
+ATOMIC(void, __tsan_atomic_thread_fence, int order)
+{
+    at_step();
+    if (order == SEQUENTIAL)
+        tmwatch_step_drain();
+}

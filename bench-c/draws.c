@@ -1,0 +1,106 @@
+/* What is drawn from the seed: transactions, what they write and add, and who makes how many. */
+
+/* Odd numbers, which keep apart what they multiply: of a round's draws, and of the values that are written. */
+static const uint64_t apart_rounds = 0xD1342543DE82EF95, apart_values = 0x9E3779B97F4A7C15;
+
+/* A number below `below` (Steele, Lea and Flood, OOPSLA 2014). */
+static uint64_t draw(uint64_t *draws, uint64_t below)
+{
+    uint64_t word = *draws += 0x9E3779B97F4A7C15;
+    word = (word ^ word >> 30) * 0xBF58476D1CE4E5B9;
+    word = (word ^ word >> 27) * 0x94D049BB133111EB;
+    return (word ^ word >> 31) % below;
+}
+
+/* Sets what a thread draws from. */
+static void set_draws(tmwatch_attempt *a)
+{
+    a->draws = a->bench->plan->seed * MOST_THREADS + a->thread;
+    a->addends = ~a->draws;
+    a->pauses = a->draws ^ apart_rounds;
+}
+
+static bool is_start(const tmwatch_plan *plan, uint64_t value)
+{
+    for (unsigned reg = 0; reg < plan->registers; reg++)
+        if (plan->start[reg] == value)
+            return true;
+    return false;
+}
+
+/* A value of all 64 bits that no register began with and nobody else writes: none comes twice, since the factor is odd. */
+static uint64_t fresh_value(tmwatch_attempt *a)
+{
+    uint64_t value;
+    do
+        value = (++a->written * MOST_THREADS + a->thread) * apart_values;
+    while (is_start(a->bench->plan, value));
+    return value;
+}
+
+/* Draws what an attempt writes and adds: other values than the one before. An addend is any number below 2^64 - 1, so that no sum is likely
+   to come twice. */
+static void draw_values(tmwatch_attempt *a)
+{
+    for (tmwatch_call *call = a->calls; call < a->calls + a->count; call++)
+        if (call->letter == 'W')
+            call->value = fresh_value(a);
+        else if (call->letter == 'N')
+            call->value = draw(&a->addends, UINT64_MAX);
+}
+
+static void add_call(tmwatch_attempt *a, char letter, uint64_t reg)
+{
+    a->calls[a->count++] = (tmwatch_call){(uint32_t)letter, reg, 0};
+}
+
+/* A transaction uses registers, one after another: it adds to one, or reads it, and then may write it. */
+static void draw_transaction(tmwatch_attempt *a)
+{
+    const tmwatch_plan *plan = a->bench->plan;
+    a->looks = false;
+    a->most = plan->attempts > 0 && plan->attempts < a->left ? plan->attempts : a->left;
+    a->count = 0;
+    bool asks_abort = draw(&a->draws, 100) < plan->aborts;
+    for (uint64_t used = 0; used < a->uses; used++) {
+        uint64_t reg = draw(&a->draws, plan->registers);
+        bool adds = draw(&a->draws, 100) < plan->adds && a->bench->memory->add;
+        bool writes = draw(&a->draws, 100) < plan->writes && !adds;
+        add_call(a, adds ? 'N' : 'R', reg);
+        if (writes)
+            add_call(a, 'W', reg);
+    }
+    add_call(a, asks_abort ? 'X' : 'T', 0);
+}
+
+/* Draws whether the round is mixed: one thread makes one long transaction, and some others several short ones. All threads draw the same,
+   and go on from *draws. */
+static bool draw_mix(const struct bench *b, uint64_t *draws)
+{
+    *draws = b->plan->seed * apart_rounds + b->round;
+    return !by_permits(b) && b->plan->threads > 1 && draw(draws, 100) < b->plan->mixes;
+}
+
+/* How many registers the long transaction of a mixed round uses. */
+static uint64_t long_uses(const tmwatch_plan *plan)
+{
+    return 2 * plan->calls < MOST_USES ? 2 * plan->calls : MOST_USES;
+}
+
+/* Draws the thread's share of a round: whether that is mixed. Then all have eight attempts together, of which the long transaction has
+   one. */
+static bool draw_share(tmwatch_attempt *a)
+{
+    const tmwatch_plan *plan = a->bench->plan;
+    uint64_t draws, threads = plan->threads;
+    a->uses = plan->calls;
+    a->left = a->bench->attempts;
+    if (!draw_mix(a->bench, &draws))
+        return false;
+    uint64_t first = draw(&draws, threads), others = 1 + draw(&draws, threads - 1);
+    a->left = a->thread == first;
+    for (unsigned i = 1; i < MOST_ATTEMPTS; i++)
+        a->left += a->thread == (first + 1 + draw(&draws, others)) % threads;
+    a->uses = a->thread == first ? long_uses(plan) : 1 + draw(&a->draws, 2);
+    return true;
+}

@@ -1,0 +1,230 @@
+/* By steps: one thread runs at a time, the runner. At each step, beside a call or at a pause, it may hand over, as drawn from the seed
+   alone. A round goes by walk, which hands over often, or by priorities, which starve a thread for long (Burckhardt, Kothari, Musuvathi
+   and Nagarakatte, ASPLOS 2010). */
+
+/* After so many pauses without a call, a thread is held for one that waits for another. */
+enum { MOST_SPIN = 128 };
+/* What a round's length is taken for at first. */
+enum { FIRST_LENGTH = 64 };
+
+static void lock_steps(struct steps *s)
+{
+    while (atomic_exchange_explicit(&s->is_locked, true, memory_order_acquire))
+        nap(1);
+}
+
+static void unlock_steps(struct steps *s)
+{
+    atomic_store_explicit(&s->is_locked, false, memory_order_release);
+}
+
+/* Who of these threads runs next: by walk any, by priorities the highest; nobody if none is able to. One that waits for a mutex is only if
+   no other is, since a thread that isn't the bench's may have unlocked that. The steps are locked. */
+static int choose(struct steps *s, unsigned threads)
+{
+    unsigned able = s->ready & threads & ~s->stuck;
+    int found = NOBODY;
+    if (able == 0)
+        return NOBODY;
+    if (able & ~s->waiting)
+        able &= ~s->waiting;
+    uint64_t skipped = s->odds > 0 ? draw(&s->draws, (uint64_t)__builtin_popcount(able)) : 0;
+    for (int i = 0; i < MOST_THREADS; i++) {
+        if (!(able >> i & 1))
+            continue;
+        if (s->odds > 0 && skipped-- == 0)
+            return i;
+        if (s->odds == 0 && (found == NOBODY || s->priority[i] > s->priority[found]))
+            found = i;
+    }
+    return found;
+}
+
+/* Waits until this thread is the runner, or all is over. */
+static void wait_turn(tmwatch_attempt *a)
+{
+    struct steps *s = &a->bench->steps;
+    while (s->runner != (int)a->thread && !s->is_over)
+        sem_wait(&s->go[a->thread]);
+    s->awake = (int)a->thread;
+}
+
+/* Makes another the runner, and unlocks the steps. */
+static void let_go(struct steps *s, int next)
+{
+    s->spin = 0;
+    s->runner = next;
+    unlock_steps(s);
+    if (next != NOBODY)
+        sem_post(&s->go[next]);
+}
+
+/* A thread that a rescue held for stuck has come to a step: it waits for its turn as all others. */
+static void come_back(tmwatch_attempt *a)
+{
+    struct steps *s = &a->bench->steps;
+    lock_steps(s);
+    s->stuck &= ~(1u << a->thread);
+    if (s->runner == NOBODY)
+        s->runner = (int)a->thread;
+    unlock_steps(s);
+    wait_turn(a);
+}
+
+/* Hands over to another: by walk to any, by priorities to the highest, which may be this thread still. */
+static void hand_over(tmwatch_attempt *a)
+{
+    struct steps *s = &a->bench->steps;
+    lock_steps(s);
+    int next = s->runner == (int)a->thread ? choose(s, s->odds > 0 ? ~(1u << a->thread) : ~0u) : NOBODY;
+    if (next == NOBODY || next == (int)a->thread) {
+        unlock_steps(s);
+        return;
+    }
+    s->switches++;
+    let_go(s, next);
+    wait_turn(a);
+}
+
+/* A step of this thread: in the memory with so many pauses, or beside a call with none. */
+static void step(tmwatch_attempt *a, unsigned pauses)
+{
+    struct steps *s = &a->bench->steps;
+    if (a->looks)
+        return;
+    if (s->runner != (int)a->thread)
+        come_back(a);
+    s->step++;
+    s->spin = pauses > 0 ? s->spin + pauses : 0;
+    bool hands_over = s->spin > MOST_SPIN || (s->odds > 0 && draw(&s->draws, s->odds) == 0);
+    while (s->changes > 0 && s->change[s->changes - 1] < s->step) {
+        s->changes--;
+        hands_over = true;
+    }
+    if (hands_over) {
+        s->priority[a->thread] = --s->lowest;
+        s->spin = 0;
+    }
+    /* Whoever reads this, as the watchdog, may read what this thread has set before. */
+    s->steps++;
+    if (hands_over)
+        hand_over(a);
+}
+
+/* Draws at which steps of the round the runner gets the lowest priority. */
+static void draw_changes(struct steps *s)
+{
+    uint64_t changes = draw(&s->draws, MOST_CHANGES), length = s->length[s->is_mixed] / 16;
+    for (s->changes = 0; s->changes < changes; s->changes++) {
+        uint64_t at = draw(&s->draws, length + length / 4 + 1), place = s->changes;
+        for (; place > 0 && s->change[place - 1] < at; place--)
+            s->change[place] = s->change[place - 1];
+        s->change[place] = at;
+    }
+}
+
+/* Draws how the round goes. */
+static void draw_round(struct bench *b)
+{
+    struct steps *s = &b->steps;
+    uint64_t draws;
+    s->is_mixed = draw_mix(b, &draws);
+    s->ready = (1u << b->plan->threads) - 1;
+    s->waiting = s->stuck = 0;
+    s->step = s->spin = s->changes = 0;
+    bool walks = draw(&s->draws, 2) == 0;
+    s->odds = walks ? UINT64_C(2) << draw(&s->draws, 4) : 0;
+    s->lowest = UINT64_C(1) << 32;
+    for (unsigned i = 0; i < MOST_THREADS; i++)
+        s->priority[i] = s->lowest + draw(&s->draws, 1 << 20) * MOST_THREADS + i;
+    if (s->odds == 0)
+        draw_changes(s);
+}
+
+__attribute__((noinline)) void tmwatch_break(void)
+{
+    __asm__ volatile("");
+}
+
+/* Does what is between two rounds, alone: the last thread of a round. */
+static void turn_round(tmwatch_attempt *a)
+{
+    struct bench *b = a->bench;
+    struct steps *s = &b->steps;
+    uint64_t round = b->round;
+    s->awake = NOBODY;
+    if (round > 0)
+        s->length[s->is_mixed] += s->step - s->length[s->is_mixed] / 16;
+    wait_for_room(a);
+    b->is_over = is_last(b, round);
+    if (!b->stops && (b->is_over || round % LOOK == 0))
+        look(a);
+    b->round = round + 1;
+    s->starts[b->round % STARTS] = s->recorded;
+    if (!b->is_over && b->round == b->plan->round)
+        tmwatch_break();
+}
+
+/* Begins the next round, or lets all threads end. */
+static void begin_round(struct bench *b)
+{
+    struct steps *s = &b->steps;
+    lock_steps(s);
+    draw_round(b);
+    s->is_over = b->is_over;
+    let_go(s, choose(s, ~0u));
+    for (unsigned i = 0; i < b->plan->threads && s->is_over; i++)
+        sem_post(&s->go[i]);
+}
+
+/* Ends the thread's part of a round, and waits for its turn in the next one, if there is any. */
+static bool meet_by_steps(tmwatch_attempt *a)
+{
+    struct bench *b = a->bench;
+    struct steps *s = &b->steps;
+    if (s->runner != (int)a->thread)
+        come_back(a);
+    lock_steps(s);
+    s->ready &= ~(1u << a->thread);
+    if (s->ready == 0) {
+        unlock_steps(s);
+        turn_round(a);
+        begin_round(b);
+    } else {
+        s->switches++;
+        let_go(s, choose(s, ~0u));
+    }
+    wait_turn(a);
+    return !b->is_over;
+}
+
+/* Waits for the thread's turn in the first round, which thread 0 begins. */
+static bool meet_first(tmwatch_attempt *a)
+{
+    if (a->thread == 0)
+        return meet_by_steps(a);
+    wait_turn(a);
+    return !a->bench->is_over;
+}
+
+/* Thread 0 is the first to run, and alone. */
+static void set_steps(struct bench *b)
+{
+    struct steps *s = &b->steps;
+    s->draws = ~b->plan->seed * apart_values;
+    s->ready = 1;
+    s->runner = 0;
+    s->awake = NOBODY;
+    s->length[0] = s->length[1] = 16 * FIRST_LENGTH;
+    for (unsigned i = 0; i < MOST_THREADS; i++)
+        sem_init(&s->go[i], 0, 0);
+}
+
+/* In which round the event at this length was recorded. */
+static uint64_t round_of(const struct bench *b, uint64_t at)
+{
+    uint64_t round = b->round - 1;
+    while (round > 0 && b->steps.starts[round % STARTS] >= at)
+        round--;
+    return round;
+}

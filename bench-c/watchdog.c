@@ -1,0 +1,70 @@
+/* The watchdog of the steps: when the runner is blocked by what the bench doesn't see, as by a lock that another thread holds, another one
+   goes too. It goes by the processor's time, so that neither load nor a debugger is taken for that. */
+
+/* How long the runner may make no step: so many looks, that far apart, that find it asleep, or so many microseconds of a processor. After
+   some rescues the run can't be repeated anyway, and a tenth of both is enough. */
+enum { LOOK_MICROSECONDS = 1000, MOST_SLEEPS = 50, MOST_USED = 50000, FEW_RESCUES = 10, LATER_PART = 10 };
+
+/* For the watchdog, which looks at this thread. */
+static void show_watchdog(tmwatch_attempt *a)
+{
+    struct steps *s = &a->bench->steps;
+    s->tid[a->thread] = (int)syscall(SYS_gettid);
+    pthread_getcpuclockid(pthread_self(), &s->clock[a->thread]);
+}
+
+/* Whether a thread sleeps, as far as the system tells. */
+static bool is_asleep(int tid)
+{
+    char name[64], line[256] = "";
+    snprintf(name, sizeof name, "/proc/self/task/%d/stat", tid);
+    FILE *file = fopen(name, "r");
+    if (!file)
+        return false;
+    bool has_read = fgets(line, sizeof line, file) != NULL;
+    fclose(file);
+    const char *after = strrchr(line, ')');
+    return has_read && after && after[1] == ' ' && after[2] == 'S';
+}
+
+/* Whether the runner has made no step for too long. */
+static bool is_blocked(struct bench *b, int runner, uint64_t steps)
+{
+    struct steps *s = &b->steps;
+    struct watchdog *w = &b->watchdog;
+    bool is_new = runner != w->runner || steps != w->steps;
+    w->runner = runner != NOBODY && s->awake == runner ? runner : NOBODY;
+    w->steps = steps;
+    if (w->runner == NOBODY)
+        return false;
+    if (is_new) {
+        w->sleeps = 0;
+        w->used = microseconds_of(s->clock[runner]);
+        return false;
+    }
+    w->sleeps = is_asleep(s->tid[runner]) ? w->sleeps + 1 : 0;
+    uint64_t part = s->rescues < FEW_RESCUES ? 1 : LATER_PART;
+    return w->sleeps >= MOST_SLEEPS / part || microseconds_of(s->clock[runner]) - w->used >= MOST_USED / part;
+}
+
+/* Looks at the runner, and rescues the others from one that is blocked. */
+static void watch_steps(struct bench *b)
+{
+    struct steps *s = &b->steps;
+    uint64_t now = microseconds_of(CLOCK_MONOTONIC), steps = s->steps;
+    int runner = s->runner;
+    if (s->is_over || now - b->watchdog.looked < LOOK_MICROSECONDS)
+        return;
+    b->watchdog.looked = now;
+    if (!is_blocked(b, runner, steps))
+        return;
+    lock_steps(s);
+    int next = s->runner == runner && s->steps == steps && s->awake == runner ? choose(s, ~(1u << runner)) : NOBODY;
+    if (next == NOBODY) {
+        unlock_steps(s);
+        return;
+    }
+    s->stuck |= 1u << runner;
+    s->rescues++;
+    let_go(s, next);
+}

@@ -1,0 +1,70 @@
+/* Atomic accesses of 16 bytes for accesses.c: each is a step, and no store of them is buffered. */
+#include "tmwatch_bench.h"
+
+void tmwatch_step_drain(void);
+
+#ifdef __x86_64__
+__extension__ typedef unsigned __int128 wide;
+#define CX16 __attribute__((target("cx16")))
+
+static void at_wide(void)
+{
+    tmwatch_pause();
+    tmwatch_step_drain();
+}
+
+#define WIDE(type, name, ...)                \
+    type __tsan_atomic128_##name(__VA_ARGS__); \
+    CX16 type __tsan_atomic128_##name(__VA_ARGS__)
+#define UNUSED __attribute__((unused))
+
+WIDE(wide, load, const volatile wide *at, int order UNUSED)
+{
+    at_wide();
+    return __sync_val_compare_and_swap((volatile wide *)(uintptr_t)at, (wide)0, (wide)0);
+}
+
+WIDE(wide, compare_exchange_val, volatile wide *at, wide held, wide value, int order UNUSED, int failed UNUSED)
+{
+    at_wide();
+    return __sync_val_compare_and_swap(at, held, value);
+}
+
+/* A read-modify-write, by compare-and-swap: what is stored, by what is there (`seen`). */
+#define WIDE_CHANGE(name, stored)                                          \
+    WIDE(wide, name, volatile wide *at, wide value, int order UNUSED)      \
+    {                                                                      \
+        wide seen, then = 0;                                               \
+        at_wide();                                                         \
+        do {                                                               \
+            seen = then;                                                   \
+            then = __sync_val_compare_and_swap(at, seen, (wide)(stored));  \
+        } while (then != seen);                                            \
+        return seen;                                                       \
+    }
+WIDE_CHANGE(exchange, value)
+WIDE_CHANGE(fetch_add, seen + value)
+WIDE_CHANGE(fetch_sub, seen - value)
+WIDE_CHANGE(fetch_and, seen & value)
+WIDE_CHANGE(fetch_or, seen | value)
+WIDE_CHANGE(fetch_xor, seen ^ value)
+WIDE_CHANGE(fetch_nand, ~(seen & value))
+
+WIDE(void, store, volatile wide *at, wide value, int order)
+{
+    __tsan_atomic128_exchange(at, value, order);
+}
+
+WIDE(int, compare_exchange_strong, volatile wide *at, wide *held, wide value, int order, int failed)
+{
+    wide seen = __tsan_atomic128_compare_exchange_val(at, *held, value, order, failed);
+    int is_done = seen == *held;
+    *held = seen;
+    return is_done;
+}
+
+WIDE(int, compare_exchange_weak, volatile wide *at, wide *held, wide value, int order, int failed)
+{
+    return __tsan_atomic128_compare_exchange_strong(at, held, value, order, failed);
+}
+#endif

@@ -1,0 +1,85 @@
+//! What the package takes it gives back: a watch and recorders that are dropped in either order, and a bench that is refused. Alone in its
+//! program, so that no other test's blocks are counted.
+
+use tmwatch::{bench, Aborted, Event, Memory, Plan, Settings, Status, Watch};
+
+/// The part of the C library's `struct mallinfo2` that is looked at.
+#[repr(C)]
+struct Heap {
+    arena: usize,
+    ordblks: usize,
+    smblks: usize,
+    hblks: usize,
+    hblkhd: usize,
+    usmblks: usize,
+    fsmblks: usize,
+    uordblks: usize,
+    fordblks: usize,
+    keepcost: usize,
+}
+
+extern "C" {
+    fn mallinfo2() -> Heap;
+}
+
+/// Returns how many bytes are taken.
+fn taken() -> usize {
+    // SAFETY: it takes nothing.
+    let heap = unsafe { mallinfo2() };
+    heap.uordblks + heap.hblkhd
+}
+
+/// Does it a hundred times, and returns how many bytes more are taken then.
+fn growth(mut does: impl FnMut()) -> usize {
+    does();
+    let before = taken();
+    (0..100).for_each(|_| does());
+    taken().saturating_sub(before)
+}
+
+struct Idle;
+
+impl Memory for Idle {
+    type Transaction<'m> = ();
+
+    fn begin(&self) -> Result<(), Aborted> {
+        Err(Aborted)
+    }
+
+    fn read(&self, _: &mut (), _: usize) -> Result<u64, Aborted> {
+        Err(Aborted)
+    }
+
+    fn write(&self, _: &mut (), _: usize, _: u64) -> Result<(), Aborted> {
+        Err(Aborted)
+    }
+
+    fn commit(&self, _: ()) -> Result<(), Aborted> {
+        Err(Aborted)
+    }
+
+    fn abort(&self, _: ()) {}
+}
+
+/// Less than a watch takes for its ring, and less than a hundred streams.
+const FEW: usize = 16 * 1024;
+
+#[test]
+fn all_is_given_back() {
+    let open = || Watch::open(&Settings::new(2), 2).unwrap();
+    let watch_first = growth(|| {
+        let (watch, mut recorders) = open();
+        drop(watch);
+        recorders[0].record(Event::Read { register: 1 }).unwrap();
+    });
+    let recorders_first = growth(|| {
+        let (watch, recorders) = open();
+        drop(recorders);
+        drop(watch);
+    });
+    let refused = growth(|| {
+        let plan = Plan { threads: 9, trace: true, ..Plan::default() };
+        assert_eq!(bench(&Idle, &plan).unwrap_err(), Status::BadSize);
+    });
+    assert!(watch_first < FEW && recorders_first < FEW && refused < FEW, "{watch_first} {recorders_first} {refused}");
+}

@@ -1,0 +1,45 @@
+#!/usr/bin/env bash
+# Ends ./build by SIGTERM while it proves, and looks whether a process or a folder is left. Nothing is built.
+#
+#   tests/build.sh
+#
+# A line for each row. The last one is 'N passed, M failed', and the exit status is 1 if a row failed.
+set -eu
+# shellcheck source=tests/common.sh
+. "$(dirname "${BASH_SOURCE[0]}")/common.sh"
+mkdir "$folder/copy" "$folder/room"
+tar c -C "$top" --exclude=out --exclude=.git --exclude=built . | tar x -C "$folder/copy"
+
+# Starts a build of the copy, ends it once it proves, and returns its exit status.
+ended() {
+    local status=0
+    TMPDIR=$folder/room "$folder/copy/build" --library "$folder/built" >"$folder/said" 2>&1 &
+    for _ in {1..100}; do
+        ! ls "$folder"/room/*/crates/*/out >"$folder/listed" 2>&1 || break
+        sleep 0.2
+    done
+    sleep 1
+    kill $!
+    wait $! || status=$?
+    cat "$folder/said"
+    return $status
+}
+
+# Fails if a process is left that works in the script's folder.
+none_works() {
+    local process
+    for process in /proc/[0-9]*; do
+        case $(readlink "$process/cwd" 2>/dev/null) in "$folder"/*) echo "$process" && return 1 ;; esac
+    done
+}
+
+none_left() {
+    ls "$folder/room"
+    [ -z "$(ls "$folder/room")" ]
+}
+
+ends 'a build that is ended' 143 ended
+has_told 'a build that is ended: what is told' '^stopped: '
+ends 'a build that is ended: no folder' 0 none_left
+ends 'a build that is ended: no process' 0 none_works
+end_rows

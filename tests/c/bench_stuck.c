@@ -1,0 +1,87 @@
+/*
+A memory of one lock on the bench, in which thread 1 forgets to unlock: by -DFAULT=SPIN the next transaction spins at its begin; by MUTEX
+it waits for a mutex; by READ thread 1 never returns from a read of register 2. By NONE nothing is forgotten.
+*/
+#include "tmwatch_bench.h"
+#include <pthread.h>
+#include <stdatomic.h>
+
+#ifndef FAULT
+#define FAULT NONE
+#endif
+
+enum { REGISTERS = 8 };
+enum fault { NONE, SPIN, MUTEX, READ };
+
+struct tx {
+    uint64_t before[REGISTERS];
+};
+
+static const enum fault fault = FAULT;
+static uint64_t words[REGISTERS];
+static pthread_mutex_t mutex = PTHREAD_MUTEX_INITIALIZER;
+static atomic_bool is_locked;
+static unsigned begun[REGISTERS];
+
+static void lock(void)
+{
+    if (fault == SPIN)
+        while (atomic_exchange(&is_locked, true))
+            TMWATCH_PAUSE();
+    else
+        pthread_mutex_lock(&mutex);
+}
+
+static void unlock(void)
+{
+    bool forgets = tmwatch_thread() == 1 && ++begun[1] > 20 && (fault == SPIN || fault == MUTEX);
+    if (fault == SPIN && !forgets)
+        is_locked = false;
+    else if (!forgets)
+        pthread_mutex_unlock(&mutex);
+}
+
+static bool begin(void *memory, void *tx)
+{
+    (void)memory;
+    lock();
+    for (unsigned reg = 0; reg < REGISTERS; reg++)
+        ((struct tx *)tx)->before[reg] = words[reg];
+    return true;
+}
+
+static bool read(void *memory, void *tx, unsigned reg, uint64_t *value)
+{
+    (void)memory, (void)tx;
+    while (fault == READ && reg == 2 && tmwatch_thread() == 1 && begun[1] > 20)
+        TMWATCH_PAUSE();
+    *value = words[reg];
+    TMWATCH_PAUSE();
+    return true;
+}
+
+static bool write(void *memory, void *tx, unsigned reg, uint64_t value)
+{
+    (void)memory, (void)tx;
+    words[reg] = value;
+    return true;
+}
+
+static bool commit(void *memory, void *tx)
+{
+    (void)memory, (void)tx;
+    unlock();
+    return true;
+}
+
+static void cancel(void *memory, void *tx)
+{
+    (void)memory;
+    for (unsigned reg = 0; reg < REGISTERS; reg++)
+        words[reg] = ((struct tx *)tx)->before[reg];
+    unlock();
+}
+
+static const tmwatch_memory memory = {NULL, sizeof(struct tx), begin, read, write, NULL, commit, cancel, NULL};
+
+TMWATCH_BENCH_MAIN(memory)

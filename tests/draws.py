@@ -1,0 +1,134 @@
+#!/usr/bin/env python3
+"""Compares the transactions of a bench's trace with those that its plan says, drawn here anew.
+
+    tests/draws.py TRACE ROUNDS SEED THREADS CALLS WRITES ADDS ABORTS MIXES
+
+The trace is that of a whole run in rounds or by steps, of a memory with `add`. Each attempt of each thread has to be the beginning of what
+the plan says, with its registers and values, and each round has to have its share of attempts; a transaction that reads all registers alone
+is a look. Prints how many attempts were compared, and how many values, all of which differ. Exit status: 0 all is so; 1 it is not.
+"""
+import sys
+
+WORD, SPLIT, ROUNDS, VALUES = 2**64, 0x9E3779B97F4A7C15, 0xD1342543DE82EF95, 0x9E3779B97F4A7C15
+MOST_ATTEMPTS, MOST_USES, PLACES = 8, 16, 8
+
+
+class Draws:
+    """Numbers by SplitMix64 (Steele, Lea and Flood, OOPSLA 2014)."""
+
+    def __init__(self, state):
+        self.state = state % WORD
+
+    def below(self, most):
+        self.state = word = (self.state + SPLIT) % WORD
+        word = (word ^ word >> 30) * 0xBF58476D1CE4E5B9 % WORD
+        word = (word ^ word >> 27) * 0x94D049BB133111EB % WORD
+        return (word ^ word >> 31) % most
+
+
+class Thread:
+    """What a thread draws: by the plan (seed, threads, calls, writes, adds, aborts, mixes), and the start of the registers."""
+
+    def __init__(self, number, plan, start):
+        self.number, self.plan, self.start, self.written, self.round = number, plan, start, 0, 0
+        self.draws = Draws(plan[0] * PLACES + number)
+        self.addends = Draws(~(plan[0] * PLACES + number))
+        self.left, self.most, self.made, self.is_mixed = 0, 0, 0, False
+
+    def draw_share(self):
+        seed, threads, calls = self.plan[:3]
+        self.round += 1
+        draws = Draws(seed * ROUNDS + self.round)
+        self.left, self.uses = MOST_ATTEMPTS // threads, calls
+        self.is_mixed = threads > 1 and draws.below(100) < self.plan[6]
+        if self.is_mixed:
+            first, others = draws.below(threads), 1 + draws.below(threads - 1)
+            owners = [(first + 1 + draws.below(others)) % threads for _ in range(1, MOST_ATTEMPTS)]
+            self.left = owners.count(self.number) + (self.number == first)
+            self.uses = min(2 * calls, MOST_USES) if self.number == first else 1 + self.draws.below(2)
+
+    def draw_transaction(self):
+        _, _, _, writes, adds, aborts, _ = self.plan
+        while self.left == 0:
+            self.draw_share()
+        self.calls, self.most, self.made = [], self.left, 0
+        end = "X" if self.draws.below(100) < aborts else "T"
+        for _ in range(self.uses):
+            register, is_add = self.draws.below(len(self.start)), self.draws.below(100) < adds
+            is_write = self.draws.below(100) < writes and not is_add
+            self.calls += [("N" if is_add else "R", register)] + ([("W", register)] if is_write else [])
+        self.calls.append((end, None))
+
+    def value_of(self, letter):
+        if letter == "N":
+            return self.addends.below(WORD - 1)
+        while letter == "W":
+            self.written += 1
+            value = (self.written * PLACES + self.number) * VALUES % WORD
+            if value not in self.start:
+                return value
+
+    def next_attempt(self):
+        """Returns the calls of the next attempt, with their values."""
+        if self.made == 0:
+            self.draw_transaction()
+        self.made += 1
+        return [(letter, register, self.value_of(letter)) for letter, register in self.calls]
+
+    def end_attempt(self, is_over):
+        tried = self.made
+        if is_over or self.made == self.most:
+            self.made = 0
+            self.left = self.left - tried if self.is_mixed else 0
+
+
+def read_attempts(lines, registers):
+    """Yields each attempt at its end: the thread, its calls, whether none follows it, and whether it may be a look."""
+    live = {}
+    for line in lines:
+        words = line.split()
+        thread, letter = int(words[0]), words[1]
+        if letter in "RWNTX":
+            calls, met = live.setdefault(thread, ([], set(live)))
+            for others in live.values():
+                others[1].update(live)
+            register = int(words[2]) if letter in "RWN" else None
+            calls.append((letter, register, int(words[3]) if letter in "WN" else None))
+        elif letter in "CA":
+            calls, met = live.pop(thread)
+            alone = met <= {thread} and [it[:2] for it in calls] == [("R", k) for k in range(registers)] + [("T", None)]
+            yield thread, calls, letter == "C" or calls[-1][0] == "X", alone
+
+
+def compare(lines, rounds, plan):
+    start = [int(it) for it in lines[0].split()[3:]]
+    threads = [Thread(number, plan, start) for number in range(plan[1])]
+    due = [it.next_attempt() for it in threads]
+    attempts, values = 0, []
+    for thread, calls, is_over, alone in read_attempts(lines[1:], len(start)):
+        if due[thread][: len(calls)] != calls or threads[thread].round > rounds:
+            if alone:
+                continue
+            return f"attempt {attempts}: thread {thread} has {calls}, and its plan {due[thread]}"
+        attempts += 1
+        values += [value for letter, _, value in calls if letter in "WN"]
+        threads[thread].end_attempt(is_over)
+        due[thread] = threads[thread].next_attempt()
+    if len(set(values)) < len(values):
+        return "a value comes twice"
+    if any(it.round <= rounds for it in threads):
+        return f"the threads have come to rounds {[it.round for it in threads]}"
+    print(f"{attempts} attempts, {len(values)} values")
+    return None
+
+
+def main(words):
+    with open(words[0], encoding="ascii") as it:
+        wrong = compare(it.read().splitlines(), int(words[1]), [int(word) for word in words[2:]])
+    if wrong:
+        print(wrong)
+    return 1 if wrong else 0
+
+
+if __name__ == "__main__":
+    sys.exit(main(sys.argv[1:]))

@@ -1,0 +1,68 @@
+#!/usr/bin/env bash
+# Runs each memory of tests/c by steps again and again with one seed: on one, two and four processors, and beside busy loops. Each run has
+# to have the same trace, and no rescue. A memory whose mutex the bench doesn't see has to show rescues.
+#
+#   tests/long/repeats.sh
+#
+# A row for each memory and each number of processors says how many runs there were, how many traces, and how many rescues. The last line is
+# 'N passed, M failed', and the exit status is 1 if a row failed.
+# Environment: BUILT (tests/common.sh), RUNS (20), ROUNDS (2000), CC (cc), CXX (c++).
+set -eu
+# shellcheck source=tests/common.sh
+. "$(dirname "${BASH_SOURCE[0]}")/../common.sh"
+runs=${RUNS:-20} rounds=${ROUNDS:-2000}
+use_library
+flags=(-O2 -Wall -Wextra -pthread -DTMWATCH_PAUSES "-I$top/include")
+for file in tmwatch_bench waits; do
+    "${CC:-cc}" -std=c11 "${flags[@]}" -c -o "$folder/$file.o" "$top/bench-c/$file.c"
+done
+link=("$folder/tmwatch_bench.o" "$folder/waits.o" "$built/lib/libtmwatch.a")
+wrapped=('-Wl,--wrap=pthread_mutex_lock,--wrap=pthread_mutex_unlock,--wrap=sched_yield')
+
+# A row: the memory, the processors, and further words.
+row() {
+    local traces rescues=0 passes=passed
+    : >"$folder/sums"
+    for _ in $(seq "$runs"); do
+        taskset -c "$2" timeout 120 "$folder/$1" --schedule steps --rounds "$rounds" --trace "$folder/trace" "${@:3}" \
+            >"$folder/output" 2>"$folder/told" || [ $? -eq 1 ]
+        sha256sum <"$folder/trace" >>"$folder/sums"
+        rescues=$((rescues + $(sed -n 's/.*"rescues":\([0-9]*\),.*/\1/p' "$folder/output")))
+    done
+    traces=$(sort -u "$folder/sums" | wc -l)
+    counts [ "$traces $rescues" = '1 0' ] || passes=FAILED
+    printf '%-14s %-10s %5d %7d %8d  %s\n' "$1" "$beside$2" "$runs" "$traces" "$rescues" $passes
+}
+
+"${CXX:-c++}" -std=c++17 "${flags[@]}" -DFAULT=NONE -o "$folder/class" "$top/tests/c/bench_class.cpp" "${link[@]}" "${wrapped[@]}"
+"${CXX:-c++}" -std=c++17 "${flags[@]}" -o "$folder/lock" "$top/tests/c/bench_lock.cpp" "${link[@]}" "${wrapped[@]}"
+names=(class lock norec norec_READS)
+"${CC:-cc}" -std=c11 "${flags[@]}" -o "$folder/norec" "$top/examples/c/norec.c" "${link[@]}" "${wrapped[@]}"
+"${CC:-cc}" -std=c11 "${flags[@]}" -DFAULT=READS -o "$folder/norec_READS" "$top/examples/c/norec.c" "${link[@]}" "${wrapped[@]}"
+for name in tl2 versions undo locks readers sequence jumping stuck; do
+    "${CC:-cc}" -std=c11 "${flags[@]}" -DFAULT=NONE -o "$folder/$name" "$top/tests/c/bench_$name.c" "${link[@]}" "${wrapped[@]}"
+    names+=("$name")
+done
+printf '%-14s %-10s %5s %7s %8s\n' memory processors runs traces rescues
+beside=''
+for name in "${names[@]}"; do
+    for processors in 0 0,1 0-3; do
+        row "$name" $processors
+    done
+done
+beside='busy '
+loops=()
+for _ in 1 2 3 4; do
+    (while :; do :; done) &
+    loops+=($!)
+done
+trap 'kill "${loops[@]}"; rm -rf "$folder"' EXIT
+for name in "${names[@]}"; do
+    row "$name" 0-3
+done
+kill "${loops[@]}"
+trap 'rm -rf "$folder"' EXIT
+"${CC:-cc}" -std=c11 "${flags[@]}" -DFAULT=NONE -o "$folder/unseen" "$top/tests/c/bench_stuck.c" "${link[@]}"
+ends 'a mutex that is not seen' 0 "$folder/unseen" --schedule steps --rounds 50
+has_told 'a mutex that is not seen: rescues' '"rescues":[1-9]'
+end_rows
