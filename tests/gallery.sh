@@ -1,7 +1,7 @@
 #!/usr/bin/env bash
 # Judges each trace of examples/ by each criterion, and compares the lines and the exit status with its row in examples/verdicts.txt. Then
 # it draws each trace that docs/GALLERY.md shows, with the reason if it is violated, and compares that with the page; and compares the
-# window that `show` draws, and the part that `show --why` draws, with both.
+# window that `show` draws, and the part that `show --why` draws, with both. What docs/FIELD.md draws is compared, too.
 #
 #   tests/gallery.sh
 #   tests/gallery.sh draw NAME
@@ -82,6 +82,15 @@ for name in $(sed -n 's/^    \$ .* examples\/\(.*\)\.trace$/\1/p' "$top/docs/GAL
         done < <("$top/tmwatch" "${command[@]}" <"$top/examples/$name.trace" | grep '^ *[0-9]')
         count "$words of $name" "$how"
     done
+done
+
+page=$(<"$top/docs/FIELD.md")
+for trace in $(sed -n 's/^    \$ .* < \(.*\.trace\)$/\1/p' "$top/docs/FIELD.md"); do
+    drawn="    \$ ./tmwatch show --why < $trace"$'\n'$("$top/tmwatch" show --why <"$top/$trace" | sed 's/^/    /')
+    case "$page" in
+    *$'\n\n'"$drawn"$'\n\n'*) count "$trace in FIELD.md" right ;;
+    *) count "$trace in FIELD.md" "is not drawn as there" ;;
+    esac
 done
 
 end_rows

@@ -1,0 +1,172 @@
+"""Records random transactions of any store with five methods, and writes the trace that `tmwatch judge` reads.
+
+    from tmwatch_recorder import Refused, Store, main
+
+    class Mine(Store):                      # each thread has an object of its own
+        def begin(self): ...
+        def read(self, register): ...       # returns the value
+        def write(self, register, value): ...
+        def commit(self): ...
+        def abort(self): ...                # rolls back: also called after a Refused
+
+    main(lambda options: [Mine() for thread in range(options.threads)])
+
+`begin`, `read`, `write` and `commit` raise Refused if the store refuses the transaction. Each register holds 0 at first. All threads
+make one transaction a round, then wait for one another, so that a round's transactions are few enough to be judged.
+"""
+import argparse
+import os
+import random
+import sys
+import threading
+import time
+
+MOST_ATTEMPTS = 8  # that `judge` weighs at once, so that a round has no more
+SLOW = 4           # one transaction in so many is slower by so many, so that others begin and end inside it
+
+
+class Refused(Exception):
+    """The store refuses the transaction: a conflict, a deadlock, a lock that was waited for in vain."""
+
+
+class Store:
+    """What one thread asks. Registers are numbers from 0 on, and values are whole numbers from 0 on."""
+
+    def begin(self):
+        raise NotImplementedError
+
+    def read(self, register):
+        raise NotImplementedError
+
+    def write(self, register, value):
+        raise NotImplementedError
+
+    def commit(self):
+        raise NotImplementedError
+
+    def abort(self):
+        raise NotImplementedError
+
+
+class Worker:
+    """One thread's transactions. `events` is all threads' list: CPython appends in one step, so its order is the order of events."""
+
+    def __init__(self, thread, store, events, options):
+        self.thread, self.store, self.events, self.options = thread, store, events, options
+        self.draws = random.Random(options.seed * MOST_ATTEMPTS + thread)
+
+    def record(self, event):
+        self.events.append(f"{self.thread} {event}\n")
+
+    def rest(self, most=1):
+        """Sleeps one time in two, up to `most` times the longest pause of this transaction."""
+        if self.draws.random() < 0.5:
+            time.sleep(self.draws.random() * self.pause * most)
+
+    def transaction(self, number):
+        options = self.options
+        plan = [(self.draws.randrange(options.registers), self.draws.random() < 0.5) for _ in range(options.steps)]
+        asks_to_abort = self.draws.random() < options.aborts
+        self.pause = options.pause / 1e6 * (SLOW if self.draws.randrange(SLOW) == 0 else 1)
+        attempts = min(2, MOST_ATTEMPTS // options.threads)
+        for attempt in range(attempts):
+            self.rest(SLOW)
+            # no other attempt of the run writes this value
+            fresh = (number * options.threads + self.thread) * attempts + attempt + 1
+            if self.attempt(plan, asks_to_abort, fresh):
+                break
+
+    def attempt(self, plan, asks_to_abort, fresh):
+        """Makes an attempt, and returns whether it ended as was asked. A call is recorded before it is made, an answer after it came."""
+        try:
+            for step, (register, writes) in enumerate(plan):
+                self.record(f"R {register}")
+                if step == 0:
+                    self.store.begin()
+                self.record(f"V {self.store.read(register)}")
+                self.rest()
+                if writes:
+                    self.record(f"W {register} {fresh}")
+                    self.store.write(register, fresh)
+                    self.record("K")
+                    self.rest()
+            self.record("X" if asks_to_abort else "T")
+            if not asks_to_abort:
+                self.store.commit()
+                self.record("C")
+                return True
+            is_done = True
+        except Refused:
+            is_done = False
+        self.store.abort()
+        self.record("A")
+        return is_done
+
+
+def run(stores, options, output):
+    """Makes `options.rounds` rounds of one transaction a store, and writes the trace. If a store fails, so does this."""
+    events, failures = [], []
+
+    def write_events():
+        output.writelines(events)
+        events.clear()
+
+    barrier = threading.Barrier(len(stores), write_events)
+
+    def work(worker):
+        try:
+            for number in range(options.rounds):
+                worker.transaction(number)
+                barrier.wait()
+        except threading.BrokenBarrierError:
+            pass
+        except BaseException as failure:
+            failures.append(failure)
+            barrier.abort()
+
+    output.write(f"opacity-trace 1 {options.registers}\n")
+    workers = [Worker(thread, store, events, options) for thread, store in enumerate(stores)]
+    threads = [threading.Thread(target=work, args=(worker,)) for worker in workers]
+    for thread in threads:
+        thread.start()
+    for thread in threads:
+        thread.join()
+    if failures and not isinstance(failures[0], BrokenPipeError):
+        write_events()
+        output.flush()
+    if failures:
+        raise failures[0]
+    output.flush()
+
+
+def between(least, most):
+    """The type of a whole number within bounds."""
+    def number(text):
+        value = int(text)
+        if not least <= value <= most:
+            raise argparse.ArgumentTypeError(f"{value} is not {least} to {most}")
+        return value
+    return number
+
+
+def new_parser(description):
+    parser = argparse.ArgumentParser(description=description, formatter_class=argparse.ArgumentDefaultsHelpFormatter)
+    add = parser.add_argument
+    add("--threads", type=between(1, 8), default=4, help="1 to 8; each has two attempts at a transaction, or one if there are more than 4")
+    add("--registers", type=between(1, 8), default=3, help="1 to 8; with 1, snapshot isolation is opaque")
+    add("--rounds", type=between(0, 2**31), default=1000, help="rounds of one transaction a thread")
+    add("--seed", type=int, default=1, help="of all that is drawn by chance; threads interleave as they may")
+    add("--steps", type=between(1, 100), default=3, help="registers that a transaction reads; it writes one in two of them")
+    add("--pause", type=between(0, 10**6), default=150, help="longest sleep between two calls, in microseconds")
+    add("--aborts", type=float, default=0.12, help="share of transactions that ask to abort")
+    add("--output", type=argparse.FileType("w"), default="-", help="file of the trace, or - for standard output")
+    return parser
+
+
+def main(make_stores, description=None, parser=None):
+    """Reads the command line, makes the stores, one a thread, and runs them."""
+    options = (parser or new_parser(description)).parse_args()
+    try:
+        run(make_stores(options), options, options.output)
+    except BrokenPipeError:  # the reader has seen enough, as `judge --first`
+        os.dup2(os.open(os.devnull, os.O_WRONLY), sys.stdout.fileno())
