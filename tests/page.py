@@ -2,21 +2,28 @@
 """Opens the pages of `show --page` in a headless browser, and compares what they draw and say with the trace.
 
     tests/page.py PROGRAM BROWSER 'TRACE OPTION..'..
-    tests/page.py PROGRAM BROWSER --picture FILE SIZE MODE SCRIPT TRACE
+    tests/page.py PROGRAM BROWSER --picture FILE SIZE MODE SCRIPT 'TRACE OPTION..'
+    tests/page.py PROGRAM - --compare FILE SIZE MODE SCRIPT 'TRACE OPTION..'
 
 What is expected is read from the trace itself and from the text that `show` writes, never from the page's own JSON. Each page that differs
 is told; the last line is 'N passed, M failed', and the exit status is 1 if one failed. By --picture it writes a screenshot of so many
-pixels, as 1440x520, in MODE light or dark, after the page has run SCRIPT.
+pixels, as 1440x520, in MODE light or dark, after the page has run SCRIPT. The file keeps a checksum of the page and of these words. By
+--compare nothing is written, and the exit status is 1 if the page and these words have another checksum than the file keeps.
 """
+import hashlib
 import html
 import json
 import os
 import re
+import struct
 import subprocess
 import sys
 import tempfile
+import zlib
 
 MOST = 400
+# What a picture's text begins with, and how many bytes the last chunk of a picture has.
+KEPT, LAST = b'page\0', 12
 CALLS = {'R': 'R {}', 'W': 'W {} := {}', 'N': 'N {} += {}', 'T': 'commit', 'X': 'abort'}
 ENDS = {'C': 'committed', 'A': 'aborted', 'T': 'commit-pending'}
 
@@ -214,18 +221,39 @@ def compare(program, browser, words):
     return not found
 
 
-def picture(program, browser, file, size, mode, script, trace):
-    """Writes a screenshot."""
-    page = shown(program, trace, '--page').replace('</body>', f'<script>{script}</script>\n</body>')
+def pictured(program, size, mode, script, words):
+    """Returns the page that is drawn in a picture, and the checksum that the picture keeps."""
+    trace, *options = words.split()
+    page = shown(program, trace, '--page', *options).replace('</body>', f'<script>{script}</script>\n</body>')
     if mode == 'dark':
         page = page.replace('@media screen and (prefers-color-scheme: dark)', '@media screen')
+    return page, hashlib.sha256(f'{size} {page}'.encode()).hexdigest().encode()
+
+
+def picture(program, browser, file, size, *words):
+    """Writes a screenshot, with the checksum as a text of its own before the last chunk."""
+    page, checksum = pictured(program, size, *words)
     opened(browser, page, '--window-size=' + size.replace('x', ','), '--screenshot=' + os.path.abspath(file))
+    with open(file, 'rb') as source:
+        image = source.read()
+    text = b'tEXt' + KEPT + checksum
+    chunk = struct.pack('>I', len(text) - 4) + text + struct.pack('>I', zlib.crc32(text))
+    with open(file, 'wb') as sink:
+        sink.write(image[:-LAST] + chunk + image[-LAST:])
+
+
+def is_pictured(program, file, *words):
+    """Whether a picture is one of what the program writes now."""
+    with open(file, 'rb') as source:
+        return b'tEXt' + KEPT + pictured(program, *words)[1] in source.read()
 
 
 def main(program, browser, *rest):
     if rest[0] == '--picture':
         picture(program, browser, *rest[1:])
         return 0
+    if rest[0] == '--compare':
+        return 0 if is_pictured(program, *rest[1:]) else 1
     right = [compare(program, browser, trace) for trace in rest]
     print(f'{sum(right)} passed, {len(right) - sum(right)} failed')
     return 0 if all(right) else 1

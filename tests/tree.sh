@@ -5,6 +5,7 @@
 #   tests/tree.sh FILE
 #
 # - crates.txt, from top to bottom: a crate stands on crates above it. Crates of the kit have no line there.
+# - Each link of a page leads to a file and a heading that are there (tests/links.py).
 # - The version of the program's specification, which builds and tests read, is that of the program's source, of the package in Rust and
 #   of the newest heading in CHANGELOG.md. No other file has it.
 # FILE is another crates.txt, which alone is checked.
@@ -49,6 +50,7 @@ files_with_version() {
 
 ends 'edges of crates.txt' 0 edges_go_down "${1:-$top/crates.txt}"
 if [ $# -eq 0 ]; then
+    ends 'links of pages' 0 python3 "$top/tests/links.py"
     mapfile -t source < <(find "$top"/crates/*/src -name '*.rt')
     ends "version $version, in the program" 0 is_of_version '.*"tmwatch \([0-9][0-9.]*\), by .*' "${source[@]}"
     ends 'version, in the command line' 0 is_of_version '.*\.version("\(.*\)").*' "${source[@]}"

@@ -1,0 +1,48 @@
+#!/usr/bin/env bash
+# Compares each picture of docs/pictures with what it shows.
+#
+#   tests/pictures.sh
+#   tests/pictures.sh write
+#
+# A picture (.png) of the page of `show` keeps a checksum of its page: it has to be that of the page which the program writes. A drawing
+# (.svg) has to be what tests/drawings.py writes. `write` makes all anew, the pictures by Chromium (tests/page.py).
+#
+# Each row that fails is printed. The last line is 'N passed, M failed', and the exit status is 1 if a row failed.
+# Environment: PROGRAM, the program (the built one); BROWSER (chromium), for `write`.
+set -eu
+# shellcheck source=tests/common.sh
+. "$(dirname "${BASH_SOURCE[0]}")/common.sh"
+pictures=$top/docs/pictures examples=$top/examples program=${PROGRAM:-$program}
+drawings=(crates verdict cut moments)
+
+# Calls these words for each picture: its file, its size, light or dark, what the page runs, and the trace with options.
+each_picture() {
+    "$@" "$pictures/broken.png" 1000x376 light "for (const id of ['told', 'states']) document.getElementById(id).hidden = true" \
+        "$examples/ghc_stm.trace --why"
+    "$@" "$pictures/light.png" 1100x470 light '' "$examples/real_time_order.trace"
+    "$@" "$pictures/dark.png" 1100x470 dark "document.querySelector('#chart .tx[data-first=\"2\"]').focus()" "$examples/real_time_order.trace"
+    "$@" "$pictures/read.png" 1100x470 light \
+        "const read = document.querySelector('#chart .op[data-first=\"1\"]'); read.focus(); read.dispatchEvent(new MouseEvent('click'))" \
+        "$examples/long_fork.trace"
+}
+
+# Makes a picture.
+write_picture() {
+    python3 "$top/tests/page.py" "$program" "${BROWSER:-chromium}" --picture "$@"
+}
+
+# Compares a picture.
+compare_picture() {
+    counts python3 "$top/tests/page.py" "$program" - --compare "$@" || echo "$1 is not as 'tests/pictures.sh write' makes it"
+}
+
+if [ "${1:-}" = write ]; then
+    for name in "${drawings[@]}"; do "$top/tests/drawings.py" "$name" >"$pictures/$name.svg"; done
+    each_picture write_picture
+    exit
+fi
+for name in "${drawings[@]}"; do
+    counts cmp -s <("$top/tests/drawings.py" "$name") "$pictures/$name.svg" || echo "$name.svg is not as 'tests/pictures.sh write' makes it"
+done
+each_picture compare_picture
+end_rows
