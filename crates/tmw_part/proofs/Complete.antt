@@ -1,7 +1,7 @@
 -- Where no candidate is new and no contradiction that is tried is met, no reason tells only the candidates.
 use Rattle.std.proofs.Common.{◌≡◌, ◌==◌, ◌&&◌, ◌+◌, ◌<◌, ◌≤◌, ℕ, zero, suc, Bool, true, false, not, List, [], ◌∷◌, ◌++◌, length, map, Option, Some, None, IsTrue, refl, sym, ap, ◌∙◌, inl, inr, subst, arith}
 use Rattle.std.specs.Prelude.{slice_get, take, find, remove}
-use Rattle.std.specs.List.{Contains, flat_map, list_any, range_with_len, AllByRecursion}
+use Rattle.std.specs.List.{Contains, filter, flat_map, list_any, range_with_len, AllByRecursion}
 use Rattle.std.proofs.lemmas.Bool.{and_parts, and_from, or_cases, cases_Bool, cases_lt, eqb-true, not_from_false, ltb-true}
 use Rattle.std.proofs.lemmas.List.{take_all}
 use Rattle.std.proofs.lemmas.List.Folds.{list_any-append}
@@ -17,12 +17,12 @@ use Rattle.tmw_part.specs.declared.step.Step.TheVariants.{RealTime, From, ReadFi
 use Rattle.tmw_part.specs.declared.step.Contradiction.{Contradiction}
 use Rattle.tmw_part.specs.declared.step.Contradiction.TheVariants.{Cycle, NoSource, Unlike}
 use Rattle.tmw_part.specs.Test.{nothing}
-use Rattle.tmw_part.specs.Steps.{txn_at, ops_at, needed_of, first_unlike, is_pair, is_some_of, is_same_source, orders, gives, supplies, is_before, has_place, may_come_from, is_held, is_asked, is_rival, is_known_rival, follows, contradicts, Derives}
-use Rattle.tmw_part.specs.Candidates.{real_times, firsts_with, firsts, throughs_between, throughs, told_candidates, all_throughs, IsWithin, MayBe, sources_like, sources_of, sources_at, sources, is_new, unlike_of, unlikes_at, without_source, ends, tells}
-use Rattle.tmw_part.specs.Found.{TellAmong, TellNoReason, is_told}
+use Rattle.tmw_part.specs.Steps.{txn_at, ops_at, needed_of, first_unlike, is_pair, is_some_of, is_same_source, orders, gives, supplies, is_before, has_place, may_come_from, is_held, is_asked, is_rival, is_known_rival, has_writer, follows, contradicts, Derives}
+use Rattle.tmw_part.specs.Candidates.{real_times, firsts_with, firsts, throughs_between, throughs, told_candidates, silent_candidates, IsWithin, MayBe, sources_like, sources_of, sources_at, sources, is_new, unlike_of, unlikes_at, without_source, ends, tells}
+use Rattle.tmw_part.specs.Found.{TellAmong, TellNoReason, TriesSilent, is_told}
 use Rattle.tmw_part.specs.Reasons.{IsReason, TriesEnds}
 use Rattle.tmw_part.proofs.Covering.{Covers, any-mono, follows-mono, contradicts-mono}
-use Rattle.tmw_part.proofs.ListFacts.{In, in-left, in-right, in-map, in-flat_map, in-range, in_from_contains, contains_from_in, contains-get, get-contained, in-else, all-in, all-map, all-flat_map, none_passes, find_any, none_all, all-more, get_some}
+use Rattle.tmw_part.proofs.ListFacts.{In, in-left, in-right, in-map, in-flat_map, in-range, in_from_contains, contains_from_in, contains-get, get-contained, in-else, in-filter, all-in, all-map, all-append, all-flat_map, none_passes, find_any, none_all, all-more, get_some}
 use Rattle.tmw_part.proofs.StepsProof.{some_of, same_writer}
 
 in-places : (ts : List Txn) (a : ℕ) → a < length ts → In a (range_with_len 0 (length ts))
@@ -218,17 +218,45 @@ module _ (ts : List Txn) (registers : List Ix) (each : (register : Ix) → Conta
       let range = all-in (InRange ts) steps x (all_within criterion states ts steps derives) (in_from_contains steps x is) in
       contains_from_in _ x (in-told x range told)
 
-in-throughs : (ts : List Txn) (a c b : ℕ) → a < length ts → c < length ts → b < length ts
-    → In (Through a c b) (all_throughs (range_with_len 0 (length ts)))
-in-throughs ts a c b one between other =
-    let places = range_with_len 0 (length ts) in
-    in-flat_map (throughs places) a (Through a c b) places (in-places ts a one)
-    (in-flat_map (throughs_between places a) c (Through a c b) places (in-places ts c between)
-    (in-map (Through a c) b places (in-places ts b other)))
+  in-silent : (step : Step) → InRange ts step → is_told step ≡ false
+      → In step (silent_candidates (sources ts registers (range_with_len 0 (length ts))) (range_with_len 0 (length ts)))
+  in-silent (RealTime one other) range untold = absurd (cc)
+  in-silent (From s) may untold =
+      let places = range_with_len 0 (length ts) in
+      in-left _ _ _ (in-map From s (filter (λ t. not (has_writer t)) (sources ts registers places))
+      (in-filter (λ t. not (has_writer t)) (sources ts registers places) s (in-sources s may) (rw untold refl)))
+  in-silent (ReadFirst s w) range untold = absurd (cc)
+  in-silent (ChangedFirst w s) range untold = absurd (cc)
+  in-silent (Through one between other) (a, c, b) untold =
+      let places = range_with_len 0 (length ts) in
+      in-right (Through one between other) (map From (filter (λ t. not (has_writer t)) (sources ts registers places))) _
+      (in-flat_map (throughs places) one (Through one between other) places (in-places ts one a)
+      (in-flat_map (throughs_between places one) between (Through one between other) places (in-places ts between c)
+      (in-map (Through one between) other places (in-places ts other b))))
 
--- steps by a third transaction are not told
-pub throughs_untold : (places : List ℕ) → AllByRecursion (λ step. is_told step ≡ false) (all_throughs places)
-throughs_untold places = all-flat_map _ (throughs places) places (λ a. all-flat_map _ (throughs_between places a) places (λ c. all-map _ (Through a c) places (λ b. refl)))
+  -- each step that is not told is tried
+  pub tries_silent : (criterion : Criterion) (states : List State)
+      → TriesSilent criterion states ts (silent_candidates (sources ts registers (range_with_len 0 (length ts))) (range_with_len 0 (length ts)))
+  tries_silent criterion states = record {
+    all = λ steps step derives new untold.
+        let range = follows_within criterion states ts steps (all_within criterion states ts steps derives) step new in
+        contains_from_in _ step (in-silent step range untold);
+    untold = λ step is. all-in (λ x. is_told x ≡ false) _ step (silent_untold (sources ts registers (range_with_len 0 (length ts)))) (in_from_contains _ step is);
+  }
+    where
+      starts_untold : (all : List Source) → AllByRecursion (λ x. is_told x ≡ false) (map From (filter (λ t. not (has_writer t)) all))
+      starts_untold [] = tt
+      starts_untold (s ∷ all) =
+          elim (cases_Bool (has_writer s)) [
+            | inl has ↦ rw has (starts_untold all)
+            | inr none ↦ rw none (none, starts_untold all)
+          ]
+
+      silent_untold : (all : List Source) → AllByRecursion (λ x. is_told x ≡ false) (silent_candidates all (range_with_len 0 (length ts)))
+      silent_untold all =
+          let places = range_with_len 0 (length ts) in
+          all-append _ (map From (filter (λ t. not (has_writer t)) all)) _ (starts_untold all)
+          (all-flat_map _ (throughs places) places (λ a. all-flat_map _ (throughs_between places a) places (λ c. all-map _ (Through a c) places (λ b. refl))))
 
 -- what a step says that is told is known
 given_orders : (steps : List Step) (s : Source) (a b : ℕ) → IsTrue (list_any (gives s) steps) → IsTrue (orders a b (From s)) → IsTrue (is_before steps a b)
@@ -339,12 +367,12 @@ tries_ends criterion states ts registers all steps end reason = contains_from_in
         (in-flat_map (λ register. unlike_of a register (first_unlike register.number None (ops_at ts a))) r unlike registers
         (in_from_contains registers r (all r)) (rw first (inl refl)))))
 
--- Where no step is new that is one of these or by a third transaction, and none of the contradictions is met, no reason tells only these.
-pub tells_none : (criterion : Criterion) (states : List State) (ts : List Txn) (told : List Step) (tried : List Contradiction) (steps : List Step)
-    → TriesEnds criterion states ts tried → Derives criterion states ts steps
-    → find (is_new criterion states ts steps) (told ++ all_throughs (range_with_len 0 (length ts))) ≡ None
+-- Where no step is new that is one of these or isn't told, and none of the contradictions is met, no reason tells only these.
+pub tells_none : (criterion : Criterion) (states : List State) (ts : List Txn) (told silent : List Step) (tried : List Contradiction)
+    (steps : List Step) → TriesSilent criterion states ts silent → TriesEnds criterion states ts tried → Derives criterion states ts steps
+    → find (is_new criterion states ts steps) (told ++ silent) ≡ None
     → find (contradicts criterion states ts steps) tried ≡ None → TellNoReason criterion states ts told
-tells_none criterion states ts told tried steps tries derives closed none = record {
+tells_none criterion states ts told silent tried steps quiet tries derives closed none = record {
   none = λ others end reason among.
       let covers = subst (Covers steps) (take_all (length others) others (omega arith)) (upto others reason.derives among (length others) (omega arith)) in
       met end (contradicts-mono criterion states ts steps others covers end reason.ends);
@@ -355,21 +383,19 @@ tells_none criterion states ts told tried steps tries derives closed none = reco
         let member = in_from_contains tried end (tries steps end (record { derives = derives; ends = is })) in
         let e = sym (none_passes (contradicts criterion states ts steps) tried end none member) ∙ is in cc
 
-    candidate : (step : Step) → InRange ts step → (IsTrue (is_told step) → In step told)
-        → In step (told ++ all_throughs (range_with_len 0 (length ts)))
-    candidate (RealTime one other) range is = in-left _ told _ (is refl)
-    candidate (From s) range is = in-left _ told _ (is refl)
-    candidate (ReadFirst s w) range is = in-left _ told _ (is refl)
-    candidate (ChangedFirst w s) range is = in-left _ told _ (is refl)
-    candidate (Through one between other) (a, c, b) is = in-right _ told _ (in-throughs ts one between other a c b)
+    candidate : (step : Step) → IsTrue (follows criterion states ts steps step) → (IsTrue (is_told step) → In step told) → In step (told ++ silent)
+    candidate step new allowed =
+        elim (cases_Bool (is_told step)) [
+          | inl is ↦ in-left step told silent (allowed is)
+          | inr untold ↦ in-right step told silent (in_from_contains silent step (quiet.all steps step derives new untold))
+        ]
 
     known : (step : Step) → (IsTrue (is_told step) → In step told) → IsTrue (follows criterion states ts steps step) → IsTrue (tells steps step)
     known step allowed new =
         elim (cases_Bool (tells steps step)) [
           | inl is ↦ is
           | inr untold ↦
-              let range = follows_within criterion states ts steps (all_within criterion states ts steps derives) step new in
-              let old = none_passes (is_new criterion states ts steps) _ step closed (candidate step range allowed) in
+              let old = none_passes (is_new criterion states ts steps) _ step closed (candidate step new allowed) in
               let is = and_from (not (tells steps step)) _ (not_from_false _ untold) new in
               let e = sym old ∙ is in absurd (cc)
         ]

@@ -166,7 +166,7 @@ in-found p (y ∷ ys) x found =
 pub contains-found : {A : Type 0} (p : A → Bool) (xs : List A) (x : A) → find p xs ≡ Some x → Contains xs x
 contains-found p xs x is = contains_from_in xs x (in-found p xs x is)
 
-in-filter : {A : Type 0} (p : A → Bool) (xs : List A) (x : A) → In x xs → IsTrue (p x) → In x (filter p xs)
+pub in-filter : {A : Type 0} (p : A → Bool) (xs : List A) (x : A) → In x xs → IsTrue (p x) → In x (filter p xs)
 in-filter p [] x is passes = is
 in-filter p (y ∷ ys) x is passes =
     elim (cases_Bool (p y)) [
@@ -196,7 +196,7 @@ pub all-map : {A B : Type 0} (P : B → Type 0) (f : A → B) (xs : List A) → 
 all-map P f [] each = tt
 all-map P f (x ∷ xs) each = (each x, all-map P f xs each)
 
-all-append : {A : Type 0} (P : A → Type 0) (xs ys : List A) → AllByRecursion P xs → AllByRecursion P ys → AllByRecursion P (xs ++ ys)
+pub all-append : {A : Type 0} (P : A → Type 0) (xs ys : List A) → AllByRecursion P xs → AllByRecursion P ys → AllByRecursion P (xs ++ ys)
 all-append P [] ys front back = back
 all-append P (x ∷ xs) ys front back = (front.0, all-append P xs ys front.1 back)
 

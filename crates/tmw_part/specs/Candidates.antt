@@ -1,6 +1,6 @@
 -- The steps and contradictions that are tried: each that may follow from some.
 use Rattle.std.specs.Prelude.{◌≡◌, ◌&&◌, ◌<◌, ℕ, Bool, not, List, [], ◌∷◌, ◌++◌, length, map, Option, Some, None}
-use Rattle.std.specs.List.{flat_map, list_any}
+use Rattle.std.specs.List.{filter, flat_map, list_any}
 use Rattle.tmw_events.specs.declared.ix.Ix.{Ix}
 use Rattle.tmw_defs.specs.declared.criterion.Criterion.{Criterion}
 use Rattle.tmw_defs.specs.History.{Txn}
@@ -10,7 +10,7 @@ use Rattle.tmw_part.specs.declared.step.Contradiction.TheVariants.{Cycle, NoSour
 use Rattle.tmw_part.specs.declared.step.Source.{Source}
 use Rattle.tmw_part.specs.declared.step.Step.{Step}
 use Rattle.tmw_part.specs.declared.step.Step.TheVariants.{RealTime, From, ReadFirst, ChangedFirst, Through}
-use Rattle.tmw_part.specs.Steps.{ops_at, needed_of, first_unlike, from_else, gives, is_before, ends_before, follows}
+use Rattle.tmw_part.specs.Steps.{ops_at, needed_of, first_unlike, from_else, gives, has_writer, is_before, ends_before, follows}
 
 -- Of transactions with these places, those that real time may order after the one.
 abbrev pub real_times : List ℕ → ℕ → List Step
@@ -29,12 +29,12 @@ throughs_between places one between = map (Through one between) places
 abbrev pub throughs : List ℕ → ℕ → List Step
 throughs places one = flat_map (throughs_between places one) places
 
--- Each step that is told of transactions with these places, where these are the sources; and each by a third transaction.
+-- Each step but those by a third transaction, of transactions with these places, where these are the sources; and each that is not told.
 abbrev pub told_candidates : List Source → List ℕ → List Step
 told_candidates sources places = (flat_map (real_times places) places ++ map From sources) ++ flat_map (firsts places) sources
 
-abbrev pub all_throughs : List ℕ → List Step
-all_throughs places = flat_map (throughs places) places
+abbrev pub silent_candidates : List Source → List ℕ → List Step
+silent_candidates sources places = map From (filter (λ s. not (has_writer s)) sources) ++ flat_map (throughs places) places
 
 -- The writer is the start or one of so many transactions.
 abbrev pub IsWithin : ℕ → Option ℕ → Type 0

@@ -6,9 +6,10 @@ use Rattle.tmw_defs.specs.History.{Txn}
 use Rattle.tmw_defs.specs.Opaque.{State}
 use Rattle.tmw_part.specs.declared.reason.Reason.{Reason}
 use Rattle.tmw_part.specs.declared.step.Step.{Step}
-use Rattle.tmw_part.specs.declared.step.Step.TheVariants.{Through}
+use Rattle.tmw_part.specs.declared.step.Step.TheVariants.{From, Through}
 use Rattle.tmw_part.specs.declared.step.Contradiction.{Contradiction}
 use Rattle.tmw_part.specs.Reasons.{IsNeededEach, IsReason}
+use Rattle.tmw_part.specs.Steps.{Derives, follows, has_writer}
 
 -- The threads of transactions.
 abbrev pub threads_of : List Txn → List ℕ
@@ -18,8 +19,9 @@ threads_of ts = map (λ t. t.thread) ts
 abbrev pub HasNoReason : Criterion → List State → List Txn → Type 0
 HasNoReason criterion states ts = (steps : List Step) (end : Contradiction) → IsReason criterion states ts steps end → ⊥
 
--- The step says more than that two others follow each other.
+-- The step is told in a sentence, unless it follows by a third transaction or says that a value stood there from the start.
 abbrev pub is_told : Step → Bool
+is_told (From s) = has_writer s
 is_told (Through one between other) = false
 is_told _ = true
 
@@ -30,6 +32,12 @@ TellAmong steps told = (x : Step) → Contains steps x → IsTrue (is_told x) �
 -- No reason tells only these.
 pub record TellNoReason (criterion : Criterion) (states : List State) (ts : List Txn) (told : List Step) : Type 0 where
   pub none : (steps : List Step) (end : Contradiction) → IsReason criterion states ts steps end → TellAmong steps told → ⊥
+
+-- These are not told, and each step is among them that isn't told and follows from steps that follow.
+pub record TriesSilent (criterion : Criterion) (states : List State) (ts : List Txn) (silent : List Step) : Type 0 where
+  pub all : (steps : List Step) (step : Step) → Derives criterion states ts steps → IsTrue (follows criterion states ts steps step)
+      → is_told step ≡ false → Contains silent step
+  pub untold : (step : Step) → Contains silent step → is_told step ≡ false
 
 -- Some reason tells only these.
 pub record TellReason (criterion : Criterion) (states : List State) (ts : List Txn) (told : List Step) : Type 0 where

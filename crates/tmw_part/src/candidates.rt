@@ -1,8 +1,10 @@
-ghost use Rattle.std.specs.Prelude.{◌≡◌, ◌++◌, IfOk, OnOk, map};
-ghost use Rattle.std.specs.List.{flat_map};
+ghost use Rattle.std.specs.Prelude.{◌≡◌, ◌++◌, IfOk, OnOk, map, not};
+ghost use Rattle.std.specs.List.{filter, flat_map};
 ghost use Rattle.tmw_part.specs.declared.step.Step.TheVariants.{From};
-ghost use Rattle.tmw_part.specs.Candidates.{all_throughs, firsts, real_times, throughs, throughs_between, told_candidates};
+ghost use Rattle.tmw_part.specs.Candidates.{firsts, real_times, silent_candidates, throughs, throughs_between, told_candidates};
+ghost use Rattle.tmw_part.specs.Steps.{has_writer};
 
+use crate::follows::has_writer;
 use crate::step::{Source, Step};
 use std::alloc::{AllocError, Global};
 
@@ -99,19 +101,46 @@ fn push_throughs(steps: &mut Vec<Step>, one: usize, places: &[usize]) -> Result<
     Ok(())
 }
 
-/// Returns the steps by a third transaction to try, of transactions with these places.
-pub(crate) fn all_throughs(alloc: Global, places: &[usize]) -> Result<Vec<Step>, AllocError>
-    ensures { IfOk result (λ steps. steps.items ≡ all_throughs places.now) }
+/// Adds the steps that lead from a transaction to another by a third.
+fn push_all_throughs(steps: &mut Vec<Step>, places: &[usize]) -> Result<(), AllocError>
+    ensures { OnOk result (steps.new.items
+        ≡ steps.old.items ++ flat_map (throughs places.now) places.now) }
+{
+    for one in places {
+        push_throughs(steps, *one, places)?;
+    }
+    Ok(())
+}
+
+/// Adds the steps that say that a value stood there from the start.
+fn push_starts(steps: &mut Vec<Step>, sources: &[Source]) -> Result<(), AllocError>
+    ensures { OnOk result (steps.new.items
+        ≡ steps.old.items ++ map From (filter (λ s. not (has_writer s)) sources.now)) }
+{
+    for source in sources {
+        if !has_writer(source) {
+            steps.push(Step::From(*source))?;
+        }
+    }
+    Ok(())
+}
+
+/// Returns the steps to try that are not told, of transactions with these places and these sources.
+pub(crate) fn silent_candidates(
+    alloc: Global,
+    sources: &[Source],
+    places: &[usize],
+) -> Result<Vec<Step>, AllocError>
+    ensures { IfOk result (λ steps. steps.items ≡ silent_candidates sources.now places.now) }
 {
     let mut steps = Vec::new(alloc);
-    for one in places {
-        push_throughs(&mut steps, *one, places)?;
-    }
+    push_starts(&mut steps, sources)?;
+    push_all_throughs(&mut steps, places)?;
     Ok(steps)
 }
 
-/// Returns the other steps to try, of transactions with these places and these sources. Those that tell more are tried
-/// first.
+/// Returns the steps to try but those by a third transaction, of transactions with these places and these sources. Those
+/// that tell more are tried first.
 pub(crate) fn told_candidates(
     alloc: Global,
     sources: &[Source],

@@ -238,7 +238,7 @@ fn is_known_rival(
 }
 
 /// Whether the value comes from a transaction, not from the start.
-fn has_writer(source: &Source) -> bool
+pub(crate) fn has_writer(source: &Source) -> bool
     ensures { result ≡ has_writer source.now }
 {
     !is_same_writer(source.writer, None)

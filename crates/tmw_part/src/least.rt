@@ -1,8 +1,6 @@
 //! A reason that tells as little as can be.
 ghost use Rattle.std.specs.Prelude.{◌≡◌, ◌<◌, IfOk, IfSome, IfNone, IsTrue, IsFalse, ℕ, length, remove};
-ghost use Rattle.std.specs.List.{range_with_len};
-ghost use Rattle.tmw_part.specs.Candidates.{all_throughs};
-ghost use Rattle.tmw_part.specs.Found.{TellAmong, TellNoReason, TellReason};
+ghost use Rattle.tmw_part.specs.Found.{TellAmong, TellNoReason, TellReason, TriesSilent};
 ghost use Rattle.tmw_part.specs.Reasons.{IsReason, TriesEnds};
 ghost use Rattle.tmw_part.specs.Shown.{txns_of};
 
@@ -21,10 +19,10 @@ pub(crate) fn find_among(
     states: &[State],
     transactions: &[Transaction],
     told: &[Step],
-    throughs: &[Step],
+    silent: &[Step],
     ends: &[Contradiction],
 ) -> Result<Option<(Vec<Step>, Contradiction)>, AllocError>
-    requires throughs { throughs.now ≡ all_throughs (range_with_len 0 (length transactions.now)) }
+    requires silent { TriesSilent criterion states.now (txns_of transactions.now) silent.now }
     requires ends { TriesEnds criterion states.now (txns_of transactions.now) ends.now }
     ensures some { IfOk result (λ found. IfSome found (λ pair.
         IsReason criterion states.now (txns_of transactions.now) pair.0.items pair.1
@@ -34,7 +32,7 @@ pub(crate) fn find_among(
 {
     let mut candidates = Vec::new(alloc);
     candidates.extend_from_slice(told)?;
-    candidates.extend_from_slice(throughs)?;
+    candidates.extend_from_slice(silent)?;
     let steps = close(criterion, alloc, states, transactions, &candidates)?;
     let Some(end) = find_end(criterion, states, transactions, &steps, ends) else {
         return Ok(None);
@@ -48,12 +46,12 @@ fn leave_out(
     states: &[State],
     transactions: &[Transaction],
     told: &mut Vec<Step>,
-    throughs: &[Step],
+    silent: &[Step],
     ends: &[Contradiction],
     place: usize,
 ) -> Result<bool, AllocError>
     requires place { place < length told.old.items }
-    requires throughs { throughs.now ≡ all_throughs (range_with_len 0 (length transactions.now)) }
+    requires silent { TriesSilent criterion states.now (txns_of transactions.now) silent.now }
     requires ends { TriesEnds criterion states.now (txns_of transactions.now) ends.now }
     ensures out { IfOk result (λ out. IsTrue out → (told.new.items ≡ remove told.old.items place)
         × TellReason criterion states.now (txns_of transactions.now) told.new.items) }
@@ -64,17 +62,7 @@ fn leave_out(
     let alloc = *told.allocator();
     let mut rest = told.to_vec(alloc)?;
     let _step = rest.remove(place);
-    if find_among(
-        criterion,
-        alloc,
-        states,
-        transactions,
-        &rest,
-        throughs,
-        ends,
-    )?
-    .is_none()
-    {
+    if find_among(criterion, alloc, states, transactions, &rest, silent, ends)?.is_none() {
         return Ok(false);
     }
     *told = rest;
@@ -87,10 +75,10 @@ fn leave_out_each(
     states: &[State],
     transactions: &[Transaction],
     told: &mut Vec<Step>,
-    throughs: &[Step],
+    silent: &[Step],
     ends: &[Contradiction],
 ) -> Result<bool, AllocError>
-    requires throughs { throughs.now ≡ all_throughs (range_with_len 0 (length transactions.now)) }
+    requires silent { TriesSilent criterion states.now (txns_of transactions.now) silent.now }
     requires ends { TriesEnds criterion states.now (txns_of transactions.now) ends.now }
     ensures reason { let ts = txns_of transactions.now in
         IfOk result (λ _. TellReason criterion states.now ts told.old.items
@@ -105,7 +93,7 @@ fn leave_out_each(
     let mut place = told.len();
     while place > 0 {
         place -= 1;
-        if leave_out(criterion, states, transactions, told, throughs, ends, place)? {
+        if leave_out(criterion, states, transactions, told, silent, ends, place)? {
             out = true;
         }
     }
@@ -118,11 +106,11 @@ pub(crate) fn narrow(
     states: &[State],
     transactions: &[Transaction],
     told: Vec<Step>,
-    throughs: &[Step],
+    silent: &[Step],
     ends: &[Contradiction],
 ) -> Result<Vec<Step>, AllocError>
     requires reason { TellReason criterion states.now (txns_of transactions.now) told.items }
-    requires throughs { throughs.now ≡ all_throughs (range_with_len 0 (length transactions.now)) }
+    requires silent { TriesSilent criterion states.now (txns_of transactions.now) silent.now }
     requires ends { TriesEnds criterion states.now (txns_of transactions.now) ends.now }
     ensures reason { IfOk result (λ kept.
         TellReason criterion states.now (txns_of transactions.now) kept.items) }
@@ -132,7 +120,7 @@ pub(crate) fn narrow(
     let mut kept = told;
     let mut more = true;
     while more {
-        more = leave_out_each(criterion, states, transactions, &mut kept, throughs, ends)?;
+        more = leave_out_each(criterion, states, transactions, &mut kept, silent, ends)?;
     }
     Ok(kept)
 }

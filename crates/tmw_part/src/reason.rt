@@ -1,12 +1,12 @@
-ghost use Rattle.std.specs.List.{filter, range_with_len};
-ghost use Rattle.std.specs.Prelude.{◌≡◌, IfOk, MatchOption, length, map};
+ghost use Rattle.std.specs.List.{filter};
+ghost use Rattle.std.specs.Prelude.{◌≡◌, IfOk, MatchOption, map};
 ghost use Rattle.tmw_defs.specs.History.{transactions};
-ghost use Rattle.tmw_part.specs.Found.{FindsReason, HasNoReason, IsLeastReason, TellReason, is_told, threads_of};
-ghost use Rattle.tmw_part.specs.Candidates.{all_throughs};
+ghost use Rattle.tmw_part.specs.Found.{FindsReason, HasNoReason, IsLeastReason, TellReason, TriesSilent, is_told, threads_of};
 ghost use Rattle.tmw_part.specs.Reasons.{ReasonLaw, ReasonTells, TriesEnds};
 ghost use Rattle.tmw_part.specs.Shown.{txns_of};
 
 use crate::ends::find_end;
+use crate::follows::has_writer;
 use crate::least::{find_among, narrow};
 use crate::prune::prune;
 use crate::step::{Contradiction, Step};
@@ -41,14 +41,19 @@ fn threads_of(alloc: Global, transactions: &[Transaction]) -> Result<Vec<Ix>, Al
     Ok(threads)
 }
 
-/// Whether the step says more than that two others follow each other.
+/// Whether the step is told in a sentence: it doesn't follow by a third transaction, nor say that a value stood there from
+/// the start.
 fn is_told(step: &Step) -> bool
     ensures { result ≡ is_told step.now }
 {
-    !matches!(*step, Step::Through { .. })
+    match step {
+        Step::From(source) => has_writer(source),
+        Step::Through { .. } => false,
+        _ => true,
+    }
 }
 
-/// Those of the steps that say more than that two others follow each other.
+/// Those of the steps that are told.
 fn told_of(alloc: Global, steps: &[Step]) -> Result<Vec<Step>, AllocError>
     ensures { IfOk result (λ told. told.items ≡ filter is_told steps.now) }
 {
@@ -68,17 +73,17 @@ fn find_least(
     states: &[State],
     transactions: &[Transaction],
     told: Vec<Step>,
-    throughs: &[Step],
+    silent: &[Step],
     ends: &[Contradiction],
 ) -> Result<Option<(Vec<Step>, Contradiction)>, AllocError>
     requires reason { TellReason criterion states.now (txns_of transactions.now) told.items }
-    requires throughs { throughs.now ≡ all_throughs (range_with_len 0 (length transactions.now)) }
+    requires silent { TriesSilent criterion states.now (txns_of transactions.now) silent.now }
     requires ends { TriesEnds criterion states.now (txns_of transactions.now) ends.now }
     ensures { let ts = txns_of transactions.now in IfOk result (λ found. MatchOption found ⊥
         (λ pair. IsLeastReason criterion states.now ts pair.0.items pair.1)) }
 {
-    let few = narrow(criterion, states, transactions, told, throughs, ends)?;
-    let found = find_among(criterion, alloc, states, transactions, &few, throughs, ends)?;
+    let few = narrow(criterion, states, transactions, told, silent, ends)?;
+    let found = find_among(criterion, alloc, states, transactions, &few, silent, ends)?;
     let Some((steps, end)) = found else {
         return Ok(None);
     };
@@ -108,7 +113,7 @@ fn find_steps(
         states,
         transactions,
         &tried.told,
-        &tried.throughs,
+        &tried.silent,
         &tried.ends,
     )?;
     let Some((steps, end)) = found else {
@@ -122,7 +127,7 @@ fn find_steps(
         states,
         transactions,
         told,
-        &tried.throughs,
+        &tried.silent,
         &tried.ends,
     )
 }

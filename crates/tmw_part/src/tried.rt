@@ -1,26 +1,24 @@
-ghost use Rattle.std.specs.Prelude.{◌≡◌, IfOk, List, length};
-ghost use Rattle.std.specs.List.{range_with_len};
+ghost use Rattle.std.specs.Prelude.{IfOk, List};
 ghost use Rattle.tmw_defs.specs.declared.criterion.Criterion.{Criterion};
 ghost use Rattle.tmw_defs.specs.Opaque.{State};
 ghost use Rattle.tmw_part.specs.declared.step.Step.{Step};
-ghost use Rattle.tmw_part.specs.Candidates.{all_throughs};
-ghost use Rattle.tmw_part.specs.Found.{TellAmong};
+ghost use Rattle.tmw_part.specs.Found.{TellAmong, TriesSilent};
 ghost use Rattle.tmw_part.specs.Reasons.{TriesEnds};
 ghost use Rattle.tmw_part.specs.Shown.{txns_of};
 ghost use Rattle.tmw_part.specs.Steps.{Derives};
 
-use crate::candidates::{all_throughs, told_candidates};
+use crate::candidates::{silent_candidates, told_candidates};
 use crate::ends::ends;
 use crate::sources::{places, registers, sources};
 use crate::step::{Contradiction, Step};
 use crate::transaction::Transaction;
 use std::alloc::{AllocError, Global};
 
-/// What is tried to find a reason: steps that are told, steps by a third transaction, and contradictions.
+/// What is tried to find a reason: steps, those that are not told in a sentence, and contradictions.
 #[derive(Drop)]
 pub struct Tried {
     pub told: Vec<Step>,
-    pub throughs: Vec<Step>,
+    pub silent: Vec<Step>,
     pub ends: Vec<Contradiction>,
 }
 
@@ -30,8 +28,8 @@ impl Tried {
         ensures told { IfOk result (λ tried. (criterion : Criterion) (states : List State)
             (steps : List Step) → Derives criterion states (txns_of transactions.now) steps
             → TellAmong steps tried.told.items) }
-        ensures throughs { IfOk result (λ tried.
-            tried.throughs.items ≡ all_throughs (range_with_len 0 (length transactions.now))) }
+        ensures silent { IfOk result (λ tried. (criterion : Criterion) (states : List State)
+            → TriesSilent criterion states (txns_of transactions.now) tried.silent.items) }
         ensures ends { IfOk result (λ tried. (criterion : Criterion) (states : List State)
             → TriesEnds criterion states (txns_of transactions.now) tried.ends.items) }
     {
@@ -39,12 +37,8 @@ impl Tried {
         let registers = registers(alloc)?;
         let sources = sources(alloc, transactions, &registers, &places)?;
         let told = told_candidates(alloc, &sources, &places)?;
-        let throughs = all_throughs(alloc, &places)?;
+        let silent = silent_candidates(alloc, &sources, &places)?;
         let ends = ends(alloc, transactions, &registers, &places, &sources)?;
-        Ok(Tried {
-            told,
-            throughs,
-            ends,
-        })
+        Ok(Tried { told, silent, ends })
     }
 }

@@ -12,7 +12,7 @@ use Rattle.tmw_part.specs.declared.step.Step.TheVariants.{RealTime, From, ReadFi
 use Rattle.tmw_show.specs.declared.command.word.Word.{Word}
 use Rattle.tmw_show.specs.declared.command.word.Word.TheVariants.{Transaction, Number, Saying}
 use Rattle.tmw_show.specs.declared.command.word.Phrase.{Phrase}
-use Rattle.tmw_show.specs.declared.command.word.Phrase.TheVariants.{Ended, Began, Read, OfRegister, SoAfter, WhichLeftIt, SoBefore, WhichChangedIt, Changed, Whose, ReadThere, NobodyLeft, HadToFind, Cycle as IsCycle}
+use Rattle.tmw_show.specs.declared.command.word.Phrase.TheVariants.{Ended, Began, Read, OfRegister, SoAfter, WhichLeftIt, SoBefore, WhichElse, LeftElse, Whose, ReadThere, NobodyLeft, HadToFind, Cycle as IsCycle}
 
 -- the numbers of the threads
 abbrev pub numbers_of : Reason → List ℕ
@@ -44,8 +44,8 @@ phrase_text OfRegister = codes " of register "
 phrase_text SoAfter = codes ", so it stands after "
 phrase_text WhichLeftIt = codes ", which left it there"
 phrase_text SoBefore = codes ", so it stands before "
-phrase_text WhichChangedIt = codes ", which changed it"
-phrase_text Changed = codes " changed register "
+phrase_text WhichElse = codes ", which left another value there"
+phrase_text LeftElse = codes " left another value in register "
 phrase_text Whose = codes ", whose value "
 phrase_text ReadThere = codes " read there"
 phrase_text NobodyLeft = codes ", which no state before these events has there and no other commit can have left"
@@ -79,7 +79,7 @@ abbrev pub source_words : Source → List Word
 source_words s = left_words s s.writer
 
 abbrev pub read_first_words : Source → ℕ → List Word
-read_first_words s rival = of_source s ++ (Saying SoBefore ∷ Transaction rival ∷ Saying WhichChangedIt ∷ [])
+read_first_words s rival = of_source s ++ (Saying SoBefore ∷ Transaction rival ∷ Saying WhichElse ∷ [])
 
 -- before whom it stands: the source's writer (a reason has this step only where there is one)
 abbrev pub later_words : Option ℕ → List Word
@@ -88,7 +88,7 @@ later_words (Some writer) = Saying SoBefore ∷ Transaction writer ∷ []
 
 abbrev pub changed_first_words : ℕ → Source → List Word
 changed_first_words rival s =
-    Transaction rival ∷ Saying Changed ∷ Number s.register.number
+    Transaction rival ∷ Saying LeftElse ∷ Number s.register.number
     ∷ (later_words s.writer ++ (Saying Whose ∷ Transaction s.reader ∷ Saying ReadThere ∷ []))
 
 -- The sentence of a step. What follows through a third transaction is in the sentences of the others, and that a value stood there from the

@@ -135,11 +135,12 @@ fn phrase_text(phrase: Phrase) -> &'static str
         Phrase::SoAfter => ", so it stands after ",
         Phrase::WhichLeftIt => ", which left it there",
         Phrase::SoBefore => ", so it stands before ",
-        Phrase::WhichChangedIt => ", which changed it",
-        Phrase::Changed => " changed register ",
+        Phrase::WhichElse => ", which left another value there",
+        Phrase::LeftElse => " left another value in register ",
         Phrase::Whose => ", whose value ",
         Phrase::ReadThere => " read there",
-        Phrase::NobodyLeft => ", which no state before these events has there and no other commit can have left",
+        Phrase::NobodyLeft =>
+            ", which no state before these events has there and no other commit can have left",
         Phrase::HadToFind => ", where it had to find ",
         Phrase::Cycle => " would stand before itself: a cycle",
     }
@@ -276,7 +277,7 @@ fn read_first_words(alloc: Global, source: &Source, rival: usize) -> Result<Vec<
     let mut words = read_words(alloc, source.reader, source.value, source.register)?;
     words.push(Word::Saying(Phrase::SoBefore))?;
     words.push(Word::Transaction(rival))?;
-    words.push(Word::Saying(Phrase::WhichChangedIt))?;
+    words.push(Word::Saying(Phrase::WhichElse))?;
     Ok(words)
 }
 
@@ -290,7 +291,7 @@ fn changed_first_words(
 {
     let mut words = Vec::new(alloc);
     words.push(Word::Transaction(rival))?;
-    words.push(Word::Saying(Phrase::Changed))?;
+    words.push(Word::Saying(Phrase::LeftElse))?;
     words.push(Word::Number(source.register.get() as u64))?;
     if let Some(writer) = source.writer {
         words.push(Word::Saying(Phrase::SoBefore))?;

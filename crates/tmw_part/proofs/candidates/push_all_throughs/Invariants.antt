@@ -1,8 +1,8 @@
 use Rattle.std.proofs.Common.{◌≡◌, ◌++◌, drop}
 use Rattle.std.specs.List.{flat_map}
 use Rattle.tmw_part.specs.Candidates.{throughs}
-use Rattle.tmw_part.proofs.candidates.all_throughs.Given as goal
+use Rattle.tmw_part.proofs.candidates.push_all_throughs.Given as goal
 
 abbrev pub invariant-loop-one : goal.invariant-loop-one
 invariant-loop-one l =
-    l.steps.items ++ flat_map (throughs l.places) (drop l.one-index l.places) ≡ flat_map (throughs l.places) l.places
+    l.steps.items ++ flat_map (throughs l.places) (drop l.one-index l.places) ≡ l.fn.steps.items ++ flat_map (throughs l.places) l.places

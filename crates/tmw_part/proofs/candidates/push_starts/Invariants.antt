@@ -1,0 +1,10 @@
+use Rattle.std.proofs.Common.{◌≡◌, ◌++◌, not, drop, map}
+use Rattle.std.specs.List.{filter}
+use Rattle.tmw_part.specs.declared.step.Step.TheVariants.{From}
+use Rattle.tmw_part.specs.Steps.{has_writer}
+use Rattle.tmw_part.proofs.candidates.push_starts.Given as goal
+
+abbrev pub invariant-loop-source : goal.invariant-loop-source
+invariant-loop-source l =
+    l.steps.items ++ map From (filter (λ s. not (has_writer s)) (drop l.source-index l.sources))
+    ≡ l.fn.steps.items ++ map From (filter (λ s. not (has_writer s)) l.sources)
