@@ -30,7 +30,7 @@ unsigned tmwatch_thread(void)
     return this_thread ? this_thread->thread : 0;
 }
 
-/* Keeps an event that was recorded at this place. */
+/* Keeps an event that was recorded at this place, after what is counted of it. */
 static void keep(tmwatch_attempt *a, uint64_t place, uint32_t letter, uint64_t reg, uint64_t value)
 {
     a->bench->kept[place % KEPT] = (struct kept){value, (uint8_t)a->thread, (uint8_t)reg, (char)letter, a->looks && letter == 'C'};
@@ -60,8 +60,8 @@ static void note_call(tmwatch_attempt *a)
     uint32_t status = tmwatch_next(a->recorder, a->calls, a->count, &a->turn, &place);
     if (status == TMWATCH_DONE) {
         const tmwatch_call *call = &a->calls[a->turn.place];
-        keep(a, place, call->letter, call->register_number, call->value);
         a->stores += call->letter == 'W' || call->letter == 'N';
+        keep(a, place, call->letter, call->register_number, call->value);
     } else
         stop(a->bench, status);
     if (a->turn.place == 0)

@@ -52,7 +52,7 @@ struct tmwatch_attempt {
     uint64_t made, most;  /* how many attempts were begun, or all, since none is to follow; and how many there may be */
     uint64_t tried;       /* how many attempts were begun, of all transactions */
     uint64_t uses, left;  /* in this round: how many registers a transaction uses, and how many attempts are left */
-    uint64_t begun;       /* how many transactions were begun by permits */
+    atomic_uint_least64_t begun; /* by permits: how many transactions were begun */
     uint64_t written;     /* how many values were drawn to be written */
     atomic_uint_least64_t keeps; /* how many events it has kept: whoever reads this may read them */
     uint64_t stores;      /* how many writes and adds were recorded */

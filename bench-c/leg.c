@@ -169,8 +169,10 @@ static uint64_t count_rounds(const struct bench *b, const tmwatch_told *told)
     uint64_t rounds = UINT64_MAX;
     if (!by_permits(b))
         return by_steps(b) && told->at > 0 ? round_of(b, told->at) : b->round - 1;
-    for (unsigned i = 0; i < b->plan->threads; i++)
-        rounds = b->workers[i].begun < rounds ? b->workers[i].begun : rounds;
+    for (unsigned i = 0; i < b->plan->threads; i++) {
+        uint64_t begun = b->workers[i].begun;
+        rounds = begun < rounds ? begun : rounds;
+    }
     return rounds;
 }
 
