@@ -16,7 +16,7 @@ from html import escape
 TOP = os.path.dirname(os.path.dirname(os.path.realpath(__file__)))
 FONT = 'font-family="DejaVu Sans, Verdana, sans-serif"'
 INK, SOFT, EDGE, PAPER, BAND = '#1c2430', '#5d6878', '#b9c1cc', '#ffffff', '#f7f8fa'
-GREEN, GREEN_FILL, BLUE, BLUE_FILL, RED, RED_FILL = '#2f8465', '#e3f2eb', '#2f6cb3', '#e2edf9', '#c4232b', '#fdeceb'
+GREEN, GREEN_FILL, BLUE, BLUE_FILL, RED = '#2f8465', '#e3f2eb', '#2f6cb3', '#e2edf9', '#c4232b'
 
 
 class Drawing:
@@ -105,7 +105,7 @@ def draw_verdict():
 
 
 def transactions_of(events):
-    """Returns each transaction of a trace's events, as its thread, first and last event and whether it has ended, and the cuts."""
+    """Returns the transactions of a trace, each with its thread, first and last event; and the cuts."""
     found, current, cuts = [], {}, [0]
     for number, line in enumerate(events, 1):
         thread = int(line[0])
