@@ -3,7 +3,7 @@ use tmw_drive::Ending;
 use tmw_show::Shown;
 
 /// What threads have made of a workload, with no event kept but those of the last window.
-#[derive(Debug, Drop)]
+#[derive(Drop)]
 pub struct HuntRun {
     /// The workload's registers, how many events the log has, the verdict on it, and its last window.
     pub shown: Shown,
