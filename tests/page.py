@@ -78,6 +78,11 @@ def shown(program, trace, *options):
         return subprocess.run([program, 'show', *options], stdin=source, capture_output=True, check=False).stdout.decode('ascii')
 
 
+def shortened(text):
+    """A text as it is drawn: of a long number only both ends."""
+    return re.sub(r'\d{11,}', lambda number: number[0][:4] + '\u2026' + number[0][-4:], text)
+
+
 def operations_of(transaction):
     """The operations of a transaction: first and last event, text, the register and value read, and those written."""
     events, found = transaction['events'], []
@@ -162,7 +167,7 @@ def differences(page, text, want):
     same('what is needed', run.get('needed'), want['needed'])
     same('why', run.get('why'), want['why'])
     told = text.split('<section id="why"', 1)[1].split('</section>', 1)[0]
-    same('the sentences below', '; '.join(html.unescape(item) for item in re.findall(r'<li>([^<]*)</li>', told)) or None, want['why'])
+    same('the sentences of the reason', '; '.join(html.unescape(item) for item in re.findall(r'<li>([^<]*)</li>', told)) or None, want['why'])
     faint = [bar[0] for bar in bars if want['needed'] and want['needed'][bar[0] - want['cut'] - 1] == '0']
     same('what is faint', sorted(int(first) for first in every(r'<g class="op spare[^>]*data-first="(\d+)"')), sorted(faint))
     same('the mark in the page', (run.get('mark'), run.get('told')), (want['mark'], want['told']))
@@ -172,7 +177,9 @@ def differences(page, text, want):
     same('boxes', sorted(every(r'<g class="tx[^>]*data-first="(\d+)" data-last="(\d+)" data-thread="(\d)" data-status="([^"]*)"')),
          sorted((str(tx['first']), str(tx['last']), tx['thread'], tx['status']) for tx in boxes))
     drawn = every(r'<g class="op[^>]*data-first="(\d+)" data-last="(\d+)"><rect[^>]*></rect>(?:<line[^>]*></line>)?<text[^>]*>([^<]*)</text>')
-    same('operations', sorted((int(first), int(last), html.unescape(words)) for first, last, words in drawn), [bar[:3] for bar in bars])
+    same('operations', sorted((int(first), int(last), html.unescape(words)) for first, last, words in drawn),
+         [(first, last, shortened(words)) for first, last, words, *_ in bars])
+    same('the numbers of events', [int(n) for n in every(r'<text class="number[^>]*data-event="(\d+)"')], list(range(want['start'], want['end'] + 1)) if boxes else [])
     same('the number marked', [int(n) for n in every(r'<text class="number mark"[^>]*data-event="(\d+)"')], mark)
     same('the operation marked', [(int(a), int(b)) for a, b in every(r'<g class="op[^"]* marked[^>]*data-first="(\d+)" data-last="(\d+)"')],
          [bar[:2] for bar in bars if mark and mark[0] in bar[:2]])
@@ -182,6 +189,9 @@ def differences(page, text, want):
     if report['verdict'] == 'malformed':
         same('the reason', head.split(': ', 1)[1], want['told'].split(': ', 1)[1])
     legend = html.unescape(text.split('id="legend"', 1)[1].split('id="board"', 1)[0])
+    letters = {words.split()[0] for _, _, words, *_ in bars} & {'R', 'W', 'N'}
+    explained = re.search(r'<p id="letters"[^>]*>([^<]*)', text).group(1)
+    same('the letters explained', set(re.findall(r'\b([RWN]) 0 ', explained)), letters)
     same('the legend', not mark or f'event {mark[0]}: {want["told"]}' in legend, True)
     about = re.search(r'<p id="about"[^>]*>([^<]*)', text).group(1)
     same('the extent', f'{want["start"]} to {want["end"]}' in about or not boxes, True)
