@@ -34,6 +34,8 @@ p { margin: 0 0 4px; }
 ul { margin: 0 0 4px; padding-left: 18px; }
 .soft { color: var(--soft); }
 #about { margin: 4px 0 0; }
+#why { margin: 14px 0 0; }
+#letters { margin: 0 0 6px; font-size: 12px; }
 #legend { display: flex; flex-wrap: wrap; gap: 4px 18px; margin: 16px 0 6px; font-size: 12px; color: var(--soft); }
 #legend i { display: inline-block; width: 18px; height: 11px; margin-right: 6px; border-width: 1.5px; border-style: solid; border-radius: 3px; vertical-align: -1px; }
 #legend i.aborted { border-style: dashed; }
@@ -82,6 +84,7 @@ i.marked { background: var(--wrong-fill); border-color: var(--wrong); }
 .tx.before > text, .tx.after > text { font-weight: 700; }
 .reading .op:not(.picked):not(.source) { opacity: .35; }
 .why .tx.spare, .why .tx:not(.spare) .op.spare { opacity: .25; }
+.why .op.spare text { display: none; }
 button { font: inherit; color: inherit; background: var(--band); border: 1px solid var(--edge); border-radius: 4px; padding: 0 8px; cursor: pointer; }
 .tx, .op { outline: none; }
 .tx:focus-visible > rect, .op:focus-visible rect { stroke: var(--ink); stroke-width: 2.5; }
@@ -95,7 +98,7 @@ button { font: inherit; color: inherit; background: var(--band); border: 1px sol
   h1 { font-size: 17px; }
   #legend { margin: 8px 0 4px; font-size: 11px; }
   h2 { font-size: 11px; }
-  #board, #told, button { display: none; }
+  #board, #told, #letters, button { display: none; }
   #print { display: block; flex: 1 1 0; min-height: 0; }
   #print > svg { width: 100%; height: 100%; }
   #below { margin-top: 8px; }
@@ -112,11 +115,12 @@ button { font: inherit; color: inherit; background: var(--band); border: 1px sol
 </header>
 <noscript><p>This page draws a run by a script of its own. It needs no network.</p></noscript>
 <main>
+<section id="why" hidden><h2>Why</h2><ul></ul></section>
 <div id="legend"></div>
+<p id="letters" class="soft"></p>
 <div id="board"><div id="names"></div><div id="scroll"></div></div>
 <div id="print"></div>
 <div id="below">
-<section id="why" hidden><h2>Why</h2><ul></ul></section>
 <section id="told" aria-live="polite"></section>
 <section id="states"><h2 id="held"></h2><div id="tables"></div></section>
 </div>
@@ -129,8 +133,9 @@ pub const TAIL: &[u8] = br##"</script>
 <script>
 'use strict';
 (() => {
-// At most so many events are drawn, so many writes listed, and of so many a part is found. Sizes are in pixels.
-const MOST = 400, LISTED = 24, SEARCHED = 1000, TOP = 24, LANE = 45, CHAR = 6.65;
+// At most so many events are drawn, so many writes listed, and of so many a part is found. Of a number with more digits than WIDE the
+// drawing has the first and the last ENDS. Sizes are in pixels.
+const MOST = 400, LISTED = 24, SEARCHED = 1000, WIDE = 10, ENDS = 4, TOP = 24, LANE = 45, CHAR = 6.65;
 
 // What the program has written: values stay texts, since 64 bits do not fit a number. An event is its line of the trace.
 const run = JSON.parse(document.getElementById('run').textContent);
@@ -143,8 +148,9 @@ const events = run.events.map(line => {
   return event;
 });
 const first = earlier + 1, last = earlier + events.length;
-// Where it is asked why the window is violated: which events are violated by themselves.
-const needed = events.length > SEARCHED ? undefined : run.needed;
+// Where it is asked why the window is violated: which events are violated by themselves. The others take no room, unless the page is
+// loaded again to show all.
+const needed = events.length > SEARCHED ? undefined : run.needed, showsAll = location.hash === '#all';
 const from = Math.max(first, last - MOST + 1);
 const byId = id => document.getElementById(id);
 const group = n => String(n).replace(/\B(?=(\d{3})+$)/g, ',');
@@ -183,6 +189,7 @@ events.forEach((event, i) => {
   if (event.k === 'C' || event.k === 'A') open.delete(event.t);
 });
 
+const shorten = text => text.replace(/\d+/g, digits => digits.length > WIDE ? `${digits.slice(0, ENDS)}\u2026${digits.slice(-ENDS)}` : digits);
 function textOf({ call, answer }) {
   const bare = answer && (answer.v === undefined ? answer.k : `${answer.k} ${answer.v}`);
   if (!call) return bare;
@@ -195,6 +202,7 @@ function textOf({ call, answer }) {
 for (const op of ops) {
   const { call, answer } = op, isAdd = call && call.k === 'N', has = answer && answer.k === 'V';
   op.text = textOf(op);
+  op.drawn = shorten(op.text);
   op.where = op.first === op.last ? `event ${op.first}` : `events ${op.first} and ${op.last}`;
   op.isMarked = mark !== undefined && (op.first === mark || op.last === mark);
   if (op.isMarked) op.where += `, ${wrong}`;
@@ -231,7 +239,7 @@ const shown = txs.filter(tx => tx.last >= from || !isEnded(tx)), bars = ops.filt
 const threads = [...new Set(shown.map(tx => tx.thread))].sort();
 const ends = new Map();
 const need = (part, width, end = Math.max(part.last, from)) => ends.set(end, [...(ends.get(end) || []), [Math.max(part.first, from), width]]);
-bars.forEach(op => need(op, op.text.length * CHAR + 14));
+bars.filter(op => showsAll || !op.isSpare).forEach(op => need(op, op.drawn.length * CHAR + 14));
 shown.forEach(tx => need(tx, heading(tx, tx.status).length * 6.05 + 16));
 function columns(least) {
   const left = [0];
@@ -239,8 +247,8 @@ function columns(least) {
     left.push(Math.max(left.at(-1) + least, ...(ends.get(n) || []).map(([start, width]) => left[start - from] + width)));
   return left;
 }
-const room = byId('scroll').clientWidth;
-const left = [44, 36, 30, 26, 22, 18, 15, 12, 10].map(columns).find(c => c.at(-1) <= room - 1) || columns(10);
+const room = byId('scroll').clientWidth, digits = Math.ceil(String(last).length * CHAR + 6);
+const left = [44, 36, 30, 26, 22, 18, 15].filter(least => least > digits).map(columns).find(c => c.at(-1) <= room - 1) || columns(digits);
 const xOf = n => left[Math.max(n, from) - from], endOf = n => left[Math.max(n, from) - from + 1];
 const width = Math.ceil(left.at(-1)), height = TOP + LANE * threads.length + 4;
 const yOf = thread => TOP + LANE * threads.indexOf(thread);
@@ -254,14 +262,10 @@ threads.forEach((thread, i) => {
   make('div', { style: `height: ${LANE}px` }, byId('names'), `thread ${thread}`);
 });
 if (mark >= from) make('title', {}, make('rect', { class: 'column', x: xOf(mark), y: TOP - 2, width: endOf(mark) - xOf(mark), height: height - TOP }, chart), `event ${mark}: ${wrong}`);
-const digits = String(last).length * CHAR + 8, middle = n => (xOf(n) + endOf(n)) / 2;
-const markAt = mark >= from ? Math.min(middle(mark), width - digits / 2) : Infinity;
-for (let n = from, free = 0; n <= last; n++) {
-  const x = n === mark ? markAt : middle(n);
-  if (n !== mark && (x - digits / 2 < free || markAt - x < digits)) continue;
-  free = x + digits / 2;
-  make('text', { class: n === mark ? 'number mark' : 'number', x: Math.max(x, digits / 2 - 4), y: 14, 'data-event': n }, chart, n);
-  extents.push([x - digits / 2 + 4, x + digits / 2 - 4]);
+const middle = n => (xOf(n) + endOf(n)) / 2;
+for (let n = from; n <= last; n++) {
+  make('text', { class: n === mark ? 'number mark' : 'number', x: middle(n), y: 14, 'data-event': n }, chart, n);
+  extents.push([middle(n) - digits / 2 + 3, middle(n) + digits / 2 - 3]);
   make('line', { class: 'tick', x1: middle(n), x2: middle(n), y1: 19, y2: n === mark ? 19 : height - 4 }, chart);
 }
 function label(parent, text, char, x, y, right) {
@@ -289,7 +293,7 @@ for (const op of bars) {
     'aria-label': `${op.text}, ${op.where}`, 'data-first': op.first, 'data-last': op.last }, op.tx.node);
   make('rect', { x, y, width: Math.max(right - x, 2), height: 21, rx: 3 }, op.node);
   if (op.isMarked) make('line', { class: 'cap', x1: op.last === mark ? right : x, x2: op.last === mark ? right : x, y1: y, y2: y + 21 }, op.node);
-  label(op.node, op.text, CHAR, x + 4, y + 14.5, right - 4);
+  label(op.node, op.drawn, CHAR, x + 4, y + 14.5, right - 4);
   make('title', {}, op.node, `${op.text}, ${op.where}`);
   op.node.addEventListener('click', click => { click.stopPropagation(); pick(op.read === undefined ? null : op); if (!picked) relate(op.tx); });
 }
@@ -312,7 +316,8 @@ function tell(title, parts, kind = '') {
 const rest = () => tell('How to read it', [
   'Point at a transaction, or reach it by Tab, to see what it comes before and after in real time.',
   'Click a read, or press Enter on it, to see where its value was written. Escape, or a click elsewhere, goes back.',
-  'Arrow keys go from operation to operation.'], 'soft');
+  'Arrow keys go from operation to operation.',
+  'Events are numbered from the first of the trace. If the bench in C wrote it, add the number after "from" in FILE.run beside it, if there is one.'], 'soft');
 function relate(tx) {
   chart.classList.toggle('related', tx !== null && picked === null);
   if (picked) return;
@@ -331,15 +336,17 @@ function relate(tx) {
     told('In real time it comes before', names.after, 'It precedes no transaction of this window in real time.'),
     told('It overlaps', names.beside, 'It overlaps no other.')]);
 }
+const isSourceOf = (op, other) => op && other !== op && other.wrote === op.read && other.call.r === op.call.r;
 function pick(op) {
   picked = null;
   relate(null);
   picked = op;
-  const isSource = other => op && other !== op && other.wrote === op.read && other.call.r === op.call.r;
-  const sources = ops.filter(isSource);
   chart.classList.toggle('reading', op !== null);
-  bars.forEach(other => { other.node.classList.toggle('picked', other === op); other.node.classList.toggle('source', isSource(other)); });
-  if (op === null) return;
+  bars.forEach(other => { other.node.classList.toggle('picked', other === op); other.node.classList.toggle('source', isSourceOf(op, other)); });
+  if (op !== null) tellOf(op);
+}
+function tellOf(op) {
+  const sources = ops.filter(other => isSourceOf(op, other));
   const have = states.filter(state => state[op.call.r] === op.read).length;
   const start = have === 0 ? `no state at the start of the window has ${op.read} in register ${op.call.r}.`
     : states.length === 1 ? `the state at the start of the window has ${op.read} in register ${op.call.r}.`
@@ -375,11 +382,9 @@ if (run.why !== undefined) {
   for (const sentence of run.why.split('; ')) make('li', {}, byId('why').querySelector('ul'), sentence);
 }
 if (needed !== undefined) {
-  const all = make('button', { type: 'button' }, byId('legend'), 'Show all events');
-  chart.classList.add('why');
-  all.addEventListener('click', () => {
-    all.textContent = chart.classList.toggle('why') ? 'Show all events' : 'Show the part';
-  });
+  const button = make('button', { type: 'button' }, byId('legend'), showsAll ? 'Show the part' : 'Show all events');
+  chart.classList.toggle('why', !showsAll);
+  button.addEventListener('click', () => { location.hash = showsAll ? '' : 'all'; location.reload(); });
 }
 byId('held').textContent = states.length === 1 ? 'The registers at the start of the window' : `The ${states.length} states from which the window may begin`;
 const rows = Math.ceil(states.length / Math.ceil(states.length / 16));
@@ -388,7 +393,15 @@ for (let i = 0; i < states.length; i += rows) {
   for (let r = 0; r < registers; r++) make('th', { scope: 'col' }, head, `r${r}`);
   for (const state of states.slice(i, i + rows)) state.reduce((tr, value) => (make('td', {}, tr, value), tr), make('tr', {}, body));
 }
+// What the legend doesn't name: the letters of operations that are drawn.
+const letters = { R: 'R 0 = 5: a read of register 0 was answered 5', W: 'W 0 := 5: 5 was written to register 0',
+  N: 'N 0 += 5 was 2: 5 was added to register 0, which held 2', wide: 'of a long number both ends: point at it, or see below' };
+const isDrawn = letter => letter === 'wide' ? bars.some(op => op.drawn !== op.text) : bars.some(op => op.call && op.call.k === letter);
+byId('letters').textContent = Object.keys(letters).filter(isDrawn).map(letter => letters[letter]).join('; ');
 rest();
+// At first the page tells of the marked event, if that is a read and no reason is told.
+const atFirst = bars.find(op => op.isMarked && op.read !== undefined);
+if (atFirst && run.why === undefined) tellOf(atFirst);
 
 // On paper: the drawing in as many rows as make it largest on one sheet.
 const fit = n => Math.min(1030 / (width / n + 70), (560 - 13 * rows) / (n * (height + 10)));
