@@ -160,7 +160,7 @@ int main(void)
     discard_all();
     while (close_refused(closing))
         closing++;
-    CHECK(one > 30 && from > 30 && closing > 5);
+    CHECK(one > 20 && from > 20 && closing > 5);
     peak = 0;
     run(0, false);
     long first = peak;
