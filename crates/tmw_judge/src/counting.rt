@@ -1,10 +1,23 @@
 //! What is counted of the events that are judged: nothing, or what a history has shown.
+use crate::by_criterion::ByCriterion;
+use crate::monitors::feed_each;
+use std::alloc::AllocError;
 use tmw_counts::{Counter, Summary};
+use tmw_defs::Criterion;
 use tmw_events::{Event, Registers};
+use tmw_monitor::Monitor;
 
-/// Counts the events of a history, one after another.
+/// Counts the events of a history, one after another, and feeds them to monitors. Its type tells what these mostly judge by, so that
+/// their steps are inlined into the reading of each kind's line, and an event is no value in memory.
 pub trait Counting: Drop {
-    ghost use Rattle.std.specs.Prelude.{◌<◌, ◌-◌, ◌^◌, ℕ, Bool, List, [], ◌∷◌, ◌++◌, length, IsTrue, IsFalse};
+    ghost use Rattle.std.specs.Prelude.{◌<◌, ◌-◌, ◌^◌, ℕ, Bool, List, [], ◌∷◌, ◌++◌, OnOk, OnErr, length, IsTrue, IsFalse};
+    ghost use Rattle.tmw_defs.specs.declared.criterion.Asked.{Asked};
+    ghost use Rattle.tmw_monitor.specs.Monitor.{fed_of};
+    ghost use Rattle.tmw_monitor.specs.declared.bounds.Bounds.{Bounds};
+    ghost use Rattle.tmw_trace.specs.declared.header.Header.{Header};
+    ghost use Rattle.tmw_judge.specs.ByCriterion.{Each};
+    ghost use Rattle.tmw_judge.specs.Feeding.{LackEvent};
+    ghost use Rattle.tmw_judge.specs.Judging.{AreFed};
     ghost use Rattle.tmw_defs.specs.History.{is_well_formed};
     ghost use Rattle.tmw_events.specs.declared.event.Event.{Event};
     ghost use Rattle.tmw_judge.specs.Counted.{HasSummary};
@@ -29,6 +42,18 @@ pub trait Counting: Drop {
         ensures ill_formed { (registers : ℕ) (history : List Event) → length history < 2 ^ 64 - 1
             → IsFalse (is_well_formed registers (history ++ event ∷ []))
             → counts registers history self.old → counts registers history self.new };
+
+    /// Feeds an event to each monitor. After a failed allocation none has taken it, or of two the first alone.
+    fn feed(monitors: &mut ByCriterion<Monitor>, event: Event) -> Result<(), AllocError>
+        requires { Each (λ _ monitor. fed_of monitor < 2 ^ 40) monitors.old }
+        ensures fed { OnOk result
+            ((header : Header) (bounds : Bounds) (asked : Asked) (history : List Event)
+            → AreFed header bounds asked history monitors.old
+            → AreFed header bounds asked (history ++ event ∷ []) monitors.new) }
+        ensures refused { OnErr result
+            ((header : Header) (bounds : Bounds) (asked : Asked) (history : List Event)
+            → AreFed header bounds asked history monitors.old
+            → LackEvent header bounds asked history event monitors.new) };
 
     /// Returns what the counted history has shown, if it counts.
     fn summary(&self) -> Option<Summary>
@@ -55,6 +80,58 @@ impl Counting for Uncounted {
     #[inline(always)]
     fn take(&mut self, _event: Event) {}
 
+    #[inline(always)]
+    fn feed(monitors: &mut ByCriterion<Monitor>, event: Event) -> Result<(), AllocError> {
+        if let ByCriterion::Opacity(monitor) = monitors {
+            monitor.feed_expecting(Criterion::Opacity, event)?;
+            return Ok(());
+        }
+        // A copy that only this way needs, so that the event is mostly no value in memory.
+        let copied = Event {
+            thread: event.thread,
+            kind: event.kind,
+        };
+        feed_each(monitors, copied)
+    }
+
+    fn summary(&self) -> Option<Summary> {
+        None
+    }
+}
+
+/// Counts nothing, of a history that is judged by strict serializability.
+#[derive(Drop)]
+pub struct StrictUncounted;
+
+impl Counting for StrictUncounted {
+    ghost use Rattle.std.specs.Prelude.{false};
+
+    ghost counted = { false };
+
+    ghost counts = { λ registers history counting. Unit {0} };
+
+    #[inline(always)]
+    fn begin(_registers: Registers) -> StrictUncounted {
+        StrictUncounted
+    }
+
+    #[inline(always)]
+    fn take(&mut self, _event: Event) {}
+
+    #[inline(always)]
+    fn feed(monitors: &mut ByCriterion<Monitor>, event: Event) -> Result<(), AllocError> {
+        if let ByCriterion::Strict(monitor) = monitors {
+            monitor.feed_expecting(Criterion::Strict, event)?;
+            return Ok(());
+        }
+        // A copy that only this way needs, so that the event is mostly no value in memory.
+        let copied = Event {
+            thread: event.thread,
+            kind: event.kind,
+        };
+        feed_each(monitors, copied)
+    }
+
     fn summary(&self) -> Option<Summary> {
         None
     }
@@ -74,6 +151,11 @@ impl Counting for Counter {
 
     fn take(&mut self, event: Event) {
         let _refused = self.take(event);
+    }
+
+    #[inline(always)]
+    fn feed(monitors: &mut ByCriterion<Monitor>, event: Event) -> Result<(), AllocError> {
+        Uncounted::feed(monitors, event)
     }
 
     fn summary(&self) -> Option<Summary> {

@@ -7,7 +7,7 @@ ghost use Rattle.std.proofs.Common.{append_assoc, append-nil};
 
 use crate::counting::Counting;
 use crate::judges::Judges;
-use crate::monitors::{any_open, feed_each};
+use crate::monitors::any_open;
 use std::alloc::AllocError;
 use tmw_events::Event;
 use tmw_lines::{Taker, TextFault, give_items};
@@ -25,7 +25,7 @@ impl<C: Counting> Taker<Event> for Judges<C> {
     #[inline(always)]
     fn take(&mut self, event: Event) -> Result<(), AllocError> {
         let open = any_open(&self.monitors);
-        feed_each(&mut self.monitors, event)?;
+        C::feed(&mut self.monitors, event)?;
         if open {
             self.counting.take(event);
         }

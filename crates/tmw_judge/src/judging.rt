@@ -8,7 +8,7 @@ ghost use Rattle.tmw_judge.specs.FeedingFirst.{AnswersFed, FeedsFor};
 ghost use Rattle.tmw_report.specs.CommandRun.{failures_after_answer};
 
 use crate::answer::Answer;
-use crate::counting::{Counting, Uncounted};
+use crate::counting::{Counting, StrictUncounted, Uncounted};
 use crate::feeding::feed_events;
 use crate::feeding_first::feed_first;
 use crate::judges::Judges;
@@ -32,10 +32,16 @@ pub fn judge<S: Source>(alloc: Global, source: &mut S, options: Options) -> Resu
     ensures failures { S.from.failures source.new ≡ failures_after_answer result
         (S.from.failures source.old) }
 {
-    if options.summary {
-        judge_by::<S, Counter>(alloc, source, options.bounds, options.asked, options.first)
-    } else {
-        judge_by::<S, Uncounted>(alloc, source, options.bounds, options.asked, options.first)
+    let Options {
+        bounds,
+        asked,
+        first,
+        summary,
+    } = options;
+    match (summary, asked) {
+        (true, _) => judge_by::<S, Counter>(alloc, source, bounds, asked, first),
+        (false, Asked::Strict) => judge_by::<S, StrictUncounted>(alloc, source, bounds, asked, first),
+        (false, _) => judge_by::<S, Uncounted>(alloc, source, bounds, asked, first),
     }
 }
 

@@ -72,40 +72,9 @@ pub fn any_open(monitors: &ByCriterion<Monitor>) -> bool
     }
 }
 
-/// Feeds an event to each monitor. After a failed allocation none has taken it, or of two the first alone. Where
-/// opacity alone is requested it is inlined into the reading of each kind's line, so that an event is no value in
-/// memory.
-#[inline(always)]
-pub fn feed_each(monitors: &mut ByCriterion<Monitor>, event: Event) -> Result<(), AllocError>
-    requires { Each (λ _ monitor. fed_of monitor < 2 ^ 40) monitors.old }
-    ensures fed { OnOk result
-        ((header : Header) (bounds : Bounds) (asked : Asked) (history : List Event)
-        → AreFed header bounds asked history monitors.old
-        → AreFed header bounds asked (history ++ event ∷ []) monitors.new) }
-    ensures refused { OnErr result
-        ((header : Header) (bounds : Bounds) (asked : Asked) (history : List Event)
-        → AreFed header bounds asked history monitors.old
-        → LackEvent header bounds asked history event monitors.new) }
-{
-    match monitors {
-        ByCriterion::Opacity(monitor) => {
-            monitor.feed(event)?;
-            Ok(())
-        }
-        _ => {
-            // A copy that only this way needs, so that the event is mostly no value in memory.
-            let copied = Event {
-                thread: event.thread,
-                kind: event.kind,
-            };
-            feed_others(monitors, copied)
-        }
-    }
-}
-
-/// Feeds the event to each monitor, apart from the callers that mostly have one.
+/// Feeds the event to each monitor. After a failed allocation none has taken it, or of two the first alone.
 #[inline(never)]
-fn feed_others(monitors: &mut ByCriterion<Monitor>, event: Event) -> Result<(), AllocError>
+pub fn feed_each(monitors: &mut ByCriterion<Monitor>, event: Event) -> Result<(), AllocError>
     requires { Each (λ _ monitor. fed_of monitor < 2 ^ 40) monitors.old }
     ensures fed { OnOk result
         ((header : Header) (bounds : Bounds) (asked : Asked) (history : List Event)

@@ -99,7 +99,6 @@ impl Monitor {
 
     /// Takes the next event and returns the verdict on all events so far. A verdict that something is wrong is final,
     /// and from then on each call succeeds. After a failed allocation the event is not taken: feed it again.
-    #[inline(always)]
     pub fn feed(&mut self, event: Event) -> Result<Verdict, AllocError>
         requires room { fed_of self.old < 2 ^ 40 }
         ensures ok { OnOk result (FeedsOne event self.old self.new) }
@@ -112,9 +111,34 @@ impl Monitor {
         ensures keeps { OnOk result (HoldsWith event self.old self.new) }
         ensures keeps_err { OnErr result (HoldsStill self.old self.new) }
     {
-        if self.criterion == Criterion::Opacity
-            && is_so_far(self.criterion, self.verdict)
-            && take_at_once(&mut self.kept, self.bounds, event)
+        match self.criterion {
+            Criterion::Opacity => self.feed_expecting(Criterion::Opacity, event),
+            Criterion::Strict => self.feed_expecting(Criterion::Strict, event),
+        }
+    }
+
+    /// Takes the next event as `feed` does, soonest where the criterion is the expected one. It is inlined into its callers,
+    /// which mostly know the criterion and the kind of their event.
+    #[inline(always)]
+    pub fn feed_expecting(
+        &mut self,
+        expected: Criterion,
+        event: Event,
+    ) -> Result<Verdict, AllocError>
+        requires room { fed_of self.old < 2 ^ 40 }
+        ensures ok { OnOk result (FeedsOne event self.old self.new) }
+        ensures verdict { IfOk result (λ verdict. verdict ≡ verdict_of self.new) }
+        ensures err { OnErr result (StaysFit self.old self.new) }
+        ensures stays { (IsOpen self.old → ⊥) → result ≡ Ok (verdict_of self.old) }
+        ensures criterion { criterion_of self.new ≡ criterion_of self.old }
+
+        // What is kept, whether the event was taken or not.
+        ensures keeps { OnOk result (HoldsWith event self.old self.new) }
+        ensures keeps_err { OnErr result (HoldsStill self.old self.new) }
+    {
+        if self.criterion == expected
+            && is_so_far(expected, self.verdict)
+            && take_at_once(expected, &mut self.kept, self.bounds, event)
         {
             self.count += 1;
             return Ok(self.verdict);

@@ -1,10 +1,8 @@
 ghost use Rattle.std.specs.Prelude.{◌≡◌, ◌+◌, List, [], ◌∷◌, ◌++◌, IfOk, OnErr, length};
 ghost use Rattle.tmw_events.specs.declared.event.Event.{Event};
-ghost use Rattle.tmw_defs.specs.declared.criterion.Criterion.TheVariants.{Strict};
 ghost use Rattle.tmw_defs.specs.Verdict.{Rules};
 ghost use Rattle.tmw_monitor.specs.Fitting.{Keeps, TellsWrong};
 
-use crate::at_once::take_strictly_at_once;
 use crate::bounds::Bounds;
 use crate::open::Open;
 use crate::taken::take_event;
@@ -15,53 +13,8 @@ use tmw_events::Event;
 /// Takes the next event, after which the history has length `at`, and returns the verdict if something is wrong with
 /// it. Nothing was wrong before it. If nothing is, what is kept is then that of the longer history. After a failed
 /// allocation it is as before.
-#[inline(always)]
-pub fn next_wrong(
-    alloc: Global,
-    criterion: Criterion,
-    kept: &mut Open,
-    bounds: Bounds,
-    at: u64,
-    event: Event,
-) -> Result<Option<Verdict>, AllocError>
-    ensures ok { IfOk result (λ wrong. (rules : Rules) (history : List Event)
-        → criterion ≡ rules.criterion → bounds.window ≡ rules.window → bounds.states ≡ rules.states
-        → at ≡ length history + 1 → Keeps rules history kept.old
-        → TellsWrong rules (history ++ event ∷ []) kept.new wrong) }
-    ensures err { OnErr result ((rules : Rules) (history : List Event)
-        → Keeps rules history kept.old → Keeps rules history kept.new) }
-{
-    match criterion {
-        Criterion::Opacity => step_wrong(alloc, criterion, kept, bounds, at, event),
-        Criterion::Strict => strictly_wrong(alloc, kept, bounds, at, event),
-    }
-}
-
-/// Takes the next event by strict serializability: at once, or as any other.
-#[inline(always)]
-fn strictly_wrong(
-    alloc: Global,
-    kept: &mut Open,
-    bounds: Bounds,
-    at: u64,
-    event: Event,
-) -> Result<Option<Verdict>, AllocError>
-    ensures ok { IfOk result (λ wrong. (rules : Rules) (history : List Event)
-        → Strict ≡ rules.criterion → bounds.window ≡ rules.window → bounds.states ≡ rules.states
-        → at ≡ length history + 1 → Keeps rules history kept.old
-        → TellsWrong rules (history ++ event ∷ []) kept.new wrong) }
-    ensures err { OnErr result ((rules : Rules) (history : List Event)
-        → Keeps rules history kept.old → Keeps rules history kept.new) }
-{
-    if take_strictly_at_once(kept, bounds, event) {
-        return Ok(None);
-    }
-    step_wrong(alloc, Criterion::Strict, kept, bounds, at, event)
-}
-
-/// Takes the next event step by step.
 #[inline(never)]
-fn step_wrong(
+pub fn next_wrong(
     alloc: Global,
     criterion: Criterion,
     kept: &mut Open,

@@ -15,7 +15,7 @@ pub mod LayerSteps
 mod LayersBy
 pub mod LayersProof
 pub mod Masks
-mod OnlyOne
+pub mod OnlyOne
 mod OrderRanks
 mod RankedOrders
 mod SameEnds

@@ -5,22 +5,16 @@ use Rattle.std.specs.List.{Contains}
 use Rattle.std.specs.Prelude.{slice_get}
 use Rattle.std.proofs.lemmas.Nat.Bits.{bit_at-zero}
 use Rattle.std.proofs.lemmas.Option.{slice_get_within}
-use Rattle.tmw_events.specs.declared.event.Event.{Event}
 use Rattle.tmw_defs.specs.declared.criterion.Criterion.{Criterion}
 use Rattle.tmw_defs.specs.declared.criterion.Criterion.TheVariants.{Opacity, Strict}
 use Rattle.tmw_defs.specs.declared.op.Op.{Op}
 use Rattle.tmw_defs.specs.declared.status.Status.TheVariants.{Committed}
 use Rattle.tmw_defs.specs.Criteria.{LeadsBy}
-use Rattle.tmw_defs.specs.History.{Txn, status_of, operations, transactions}
+use Rattle.tmw_defs.specs.History.{Txn, status_of, operations}
 use Rattle.tmw_defs.specs.Opaque.{State, reads_hold, after_writes}
 use Rattle.tmw_defs.specs.Outcomes.{Only}
-use Rattle.tmw_cuts.specs.declared.states.States.{States}
-use Rattle.tmw_cuts.specs.declared.window.Window.{Window}
-use Rattle.tmw_cuts.specs.Members.{members}
 use Rattle.tmw_cuts.specs.Replaying.{Replays}
-use Rattle.tmw_cuts.specs.Standing.{StandsFor, views}
 use Rattle.tmw_cuts.specs.Views.{View, bit}
-use Rattle.tmw_search.specs.Ended.{EndsOf}
 use Rattle.tmw_search.specs.DepthFirst.{GoesTo}
 use Rattle.tmw_search.specs.Layers.{is_aside, reads_asked, AreAside, IsStep}
 use Rattle.tmw_search.specs.ShownTransactions.{ShowsTransactions}
@@ -29,7 +23,6 @@ use Rattle.tmw_search.proofs.DepthFirst.{goes-leads}
 use Rattle.tmw_search.proofs.LayerSteps.{slice_get_some}
 use Rattle.tmw_search.proofs.LayersBy.{layer-first}
 use Rattle.tmw_search.proofs.Masks.{chosen-zero}
-use Rattle.tmw_search.proofs.WindowViews.{shows-views_of}
 
 only_place : (ts : List Txn) (i : ℕ) (t : Txn) → length ts ≡ 1 → slice_get ts i ≡ Some t → i ≡ 0
 only_place ts i t one at = omega (arith, one, slice_get_within ts i t at)
@@ -49,7 +42,7 @@ none-aside criterion ts t one first committed = record {
     not_aside Opacity u is = refl
     not_aside Strict u is = rw is refl
 
-alone-leads : (criterion : Criterion) (xs : List View) (x : View) (ts : List Txn) (s : State) → ShowsTransactions xs ts → xs ≡ x ∷ []
+pub alone-leads : (criterion : Criterion) (xs : List View) (x : View) (ts : List Txn) (s : State) → ShowsTransactions xs ts → xs ≡ x ∷ []
     → x.status ≡ Committed → IsTrue (reads_hold s x.ops) → LeadsBy criterion s ts (after_writes s x.ops)
 alone-leads criterion xs x ts s shows is committed reads =
     let one : length ts ≡ 1 = sym shows.same_length ∙ ap length is in
@@ -78,30 +71,17 @@ alone-leads criterion xs x ts s shows is committed reads =
     asked Opacity u holds = holds
     asked Strict u holds = holds
 
-first_contained : (xs : List State) (x : State) → slice_get xs 0 ≡ Some x → Contains xs x
+pub first_contained : (xs : List State) (x : State) → slice_get xs 0 ≡ Some x → Contains xs x
 first_contained [] x at = absurd (cc)
 first_contained (y ∷ ys) x at = let is : y ≡ x = cc in subst (λ (z : State). Contains (y ∷ ys) z) is (contains_here y ys)
 
-one_of : (xs : List View) (x : View) → length xs ≡ 1 → slice_get xs 0 ≡ Some x → xs ≡ x ∷ []
+pub one_of : (xs : List View) (x : View) → length xs ≡ 1 → slice_get xs 0 ≡ Some x → xs ≡ x ∷ []
 one_of [] x one at = absurd (cc)
 one_of (y ∷ []) x one at = let is : y ≡ x = cc in ap (λ z. z ∷ []) is
 one_of (y ∷ z ∷ xs) x one at = absurd (omega (arith, one))
-
--- the end of a window's only transaction, from the first of the states
-pub alone-ends : (states : States) (window : Window) (xs : List View) (x : View) (s : State) → xs ≡ views window → length xs ≡ 1
-    → slice_get xs 0 ≡ Some x → x.status ≡ Committed → slice_get (members states) 0 ≡ Some s → IsTrue (reads_hold s x.ops)
-    → (criterion : Criterion) (events : List Event) → StandsFor window events → EndsOf criterion states events (after_writes s x.ops)
-alone-ends states window xs x s shown one at committed first reads = λ criterion events stands.
-    let ts = transactions events in
-    let shows : ShowsTransactions xs ts = subst (λ (v : List View). ShowsTransactions v ts) (sym (shown ∙ stands.shows)) (shows-views_of events) in
-    (s, first_contained (members states) s first, alone-leads criterion xs x ts s shows (one_of xs x one at) committed reads)
 
 -- what is so of the state after the operations, if each was answered what the registers held
 pub replayed : (s : State) (ops : List Op) (found : Option State) (P : State → Type 0) → Replays s ops found
     → (IsTrue (reads_hold s ops) → P (after_writes s ops)) → IfSome found P
 replayed s ops None P is step = tt
 replayed s ops (Some end) P is step = subst P (sym is.1) (step is.0)
-
-pub if_some : (found : Option State) (P Q : State → Type 0) → ((s : State) → P s → Q s) → IfSome found P → IfSome found Q
-if_some (Some s) P Q step holds = step s holds
-if_some None P Q step holds = holds

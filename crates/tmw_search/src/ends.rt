@@ -6,7 +6,6 @@ ghost use Rattle.tmw_cuts.specs.Standing.{StandsFor, count_of};
 ghost use Rattle.tmw_search.specs.Ended.{AreLayer, AreLastOf, TellsEnd, AreEnds, EndsOf, Replaces};
 ghost use Rattle.tmw_search.specs.Pairs.{pair_cmp};
 
-use crate::alone::known_or_alone;
 use crate::aside::{Aside, set_aside};
 use crate::blind::{are_blind, find_blind_ends};
 use crate::depth_first::search_ends;
@@ -137,7 +136,7 @@ pub fn replace_by_outcomes(
         → Replaces criterion states.old cap events states.new few) }
     ensures err { OnErr result (members states.new ≡ members states.old) }
 {
-    if let Some(end) = known_or_alone(states, window, known) {
+    if let Some(end) = known {
         if states.len() == 1 && cap > 0 && window.is_cut() && is_forced(window.transactions()) {
             states.put_only(end);
             return Ok(true);

@@ -1,7 +1,6 @@
 //! The end states of a window, depth first and by layers, and a guess of a serial order.
 #![tactic(auto)]
 
-mod alone;
 mod aside;
 mod blind;
 mod choices;

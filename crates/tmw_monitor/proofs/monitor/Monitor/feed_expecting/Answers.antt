@@ -1,18 +1,17 @@
 -- What was taken at once left the history fine.
-use Rattle.std.proofs.Common.{rules, ◌≡◌, ◌∷◌, [], ◌++◌, refl, sym, ap, ◌∙◌}
-use Rattle.tmw_defs.specs.declared.criterion.Criterion.TheVariants.{Opacity}
+use Rattle.std.proofs.Common.{rules, ◌≡◌, ◌∷◌, [], ◌++◌, refl, ap, ◌∙◌}
 use Rattle.tmw_defs.specs.Criteria.{so_far}
 use Rattle.tmw_monitor.proofs.Feeding.{fits-next}
 use Rattle.tmw_monitor.proofs.OnlyOpen.{keeps_only_open}
-use Rattle.tmw_monitor.proofs.monitor.Monitor.feed.Goals.{else-eq-via-then-eq+then-is_so_far+else-take_at_once, else-eq-via-then-eq+else-is_so_far, else-eq-via-else-eq}
-use Rattle.tmw_monitor.proofs.monitor.Monitor.feed.Goals as goal
+use Rattle.tmw_monitor.proofs.monitor.Monitor.feed_expecting.Goals.{else-eq-via-then-eq+then-is_so_far+else-take_at_once, else-eq-via-then-eq+else-is_so_far, else-eq-via-else-eq}
+use Rattle.tmw_monitor.proofs.monitor.Monitor.feed_expecting.Goals as goal
 
 pub returns-then-take_at_once-clause-ok : goal.returns-then-take_at_once-clause-ok
 returns-then-take_at_once-clause-ok c judged_by history fits =
     let fine : c.args.self.now.verdict ≡ so_far c.args.self.now.criterion = search rules in
-    let opacity : c.args.self.now.criterion ≡ Opacity = search rules in
+    let expected : c.args.expected ≡ judged_by.criterion = search rules in
     fits-next judged_by history c.args.event c.args.self.now c.take_at_once.new.kept fits fine
-    (c.if-take_at_once.ensures.taken refl judged_by history (sym opacity ∙ fits.criterion) fits.window fits.states (fits.keeps fine))
+    (c.if-take_at_once.ensures.taken refl judged_by history expected fits.window fits.states (fits.keeps fine))
 
 pub returns-then-take_at_once-clause-keeps : goal.returns-then-take_at_once-clause-keeps
 returns-then-take_at_once-clause-keeps c judged_by history fits =

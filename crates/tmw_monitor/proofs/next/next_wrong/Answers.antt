@@ -13,8 +13,8 @@ use Rattle.tmw_witness.specs.Witnessing.{Witnesses}
 use Rattle.tmw_monitor.proofs.Opening.{notes_open, cut_open, narrow-push, wide-push}
 use Rattle.tmw_monitor.proofs.SoFar.{so_far-apart}
 use Rattle.tmw_monitor.proofs.Told.{follows-told}
-use Rattle.tmw_monitor.proofs.next.step_wrong.Goals.{else-note-via-then-note+else-count-bounds, else-note-via-else-note}
-use Rattle.tmw_monitor.proofs.next.step_wrong.Goals as goal
+use Rattle.tmw_monitor.proofs.next.next_wrong.Goals.{else-note-via-then-note+else-count-bounds, else-note-via-else-note}
+use Rattle.tmw_monitor.proofs.next.next_wrong.Goals as goal
 
 pub returns-in_default-clause-ok : goal.returns-in_default-clause-ok
 returns-in_default-clause-ok c rules history criterion window states at keeps =
