@@ -1,12 +1,20 @@
 -- The verdict where nothing is wrong is that of the criterion, and no verdict that something is.
-use Rattle.std.proofs.Common.{◌≡◌}
+use Rattle.std.proofs.Common.{◌≡◌, List, sym}
+use Rattle.tmw_events.specs.declared.event.Event.{Event}
 use Rattle.tmw_defs.specs.declared.criterion.Criterion.{Criterion}
 use Rattle.tmw_defs.specs.declared.criterion.Criterion.TheVariants.{Opacity, Strict}
 use Rattle.tmw_defs.specs.declared.verdict.Verdict.{Verdict}
 use Rattle.tmw_defs.specs.declared.verdict.Verdict.TheVariants.{OpaqueSoFar, StrictSoFar}
 use Rattle.tmw_defs.specs.Criteria.{so_far}
+use Rattle.tmw_defs.specs.Verdict.{Rules, IsVerdict}
 
 pub so_far-apart : (criterion : Criterion) (verdict : Verdict) → (verdict ≡ OpaqueSoFar → ⊥) → (verdict ≡ StrictSoFar → ⊥)
     → verdict ≡ so_far criterion → ⊥
 so_far-apart Opacity verdict opaque strict is = opaque is
 so_far-apart Strict verdict opaque strict is = strict is
+
+-- the verdict where nothing is wrong tells what the history is judged by
+pub so_far-tells : (rules : Rules) (history : List Event) (expected : Criterion) (verdict : Verdict) → verdict ≡ so_far expected
+    → IsVerdict rules history verdict → expected ≡ rules.criterion
+so_far-tells rules history Opacity verdict is judged = let told : IsVerdict rules history OpaqueSoFar = rw is at judged in sym told.0
+so_far-tells rules history Strict verdict is judged = let told : IsVerdict rules history StrictSoFar = rw is at judged in sym told.0

@@ -136,8 +136,8 @@ impl Monitor {
         ensures keeps { OnOk result (HoldsWith event self.old self.new) }
         ensures keeps_err { OnErr result (HoldsStill self.old self.new) }
     {
-        if self.criterion == expected
-            && is_so_far(expected, self.verdict)
+        // Only what is judged by the expected criterion has this verdict.
+        if is_so_far(expected, self.verdict)
             && take_at_once(expected, &mut self.kept, self.bounds, event)
         {
             self.count += 1;
