@@ -8,6 +8,10 @@ use Rattle.tmw_events.specs.declared.event.Event.{Event}
 use Rattle.tmw_defs.specs.History.{Txn, status_of, transactions}
 use Rattle.tmw_defs.specs.Opaque.{State, Placed, may_hold, may_be, PlacesEach, precedes, keeps_order, reads_hold, after, is_legal, HasOrder, IsFinalOpaque, IsOpaque}
 use Rattle.tmw_defs.specs.History.{operations}
+use Rattle.tmw_defs.specs.Outcomes.{Ends, end_state}
+use Rattle.tmw_defs.specs.Criteria.{EndsBy, LeadsBy}
+use Rattle.tmw_defs.specs.declared.criterion.Criterion.{Criterion}
+use Rattle.tmw_defs.specs.declared.criterion.Criterion.TheVariants.{Opacity, Strict}
 use Rattle.tmw_defs.specs.Strict.{AreHeld, HasStrictOrder, IsFinalStrict, IsStrict}
 
 -- A completion that leaves out the transaction with this index holds what one of the others holds.
@@ -64,6 +68,7 @@ record IsKept (s : State) (ts : List Txn) (order : List Placed) : Type 0 where
   pub kept : IsTrue (keeps_order order) → IsTrue (keeps_order stays)
   pub legal : IsTrue (is_legal s order) → IsTrue (is_legal s stays)
   pub held : IsTrue (list_all (λ p. p.held) stays)
+  pub ends : end_state s stays ≡ end_state s order
 
 kept_of : (s : State) (ts : List Txn) (order : List Placed) → PlacesEach ts order → IsTrue (list_all may_be order) → IsKept s ts order
 kept_of s ts [] none may = record {
@@ -75,6 +80,7 @@ kept_of s ts [] none may = record {
   kept = λ kept. refl;
   legal = λ legal. refl;
   held = refl;
+  ends = refl;
 }
 kept_of s ts (p ∷ order) (i, at, rest) may =
     let (here, more) = and_parts (may_be p) _ may in
@@ -94,6 +100,7 @@ kept_of s ts (p ∷ order) (i, at, rest) may =
             legal = λ legal. let (first, behind) = and_parts (reads_hold s (operations p.txn.text)) _ legal in
                 and_from (reads_hold s (operations p.txn.text)) _ first (others.legal behind);
             held = and_from p.held _ is others.held;
+            ends = others.ends;
           }
       | inr is ↦
           let others = kept_of s (remove ts i) order rest more in
@@ -109,11 +116,13 @@ kept_of s ts (p ∷ order) (i, at, rest) may =
                 let behind : IsTrue (is_legal (after s p) order) = (and_parts (reads_hold s (operations p.txn.text)) _ legal).1 in
                 others.legal (rw same at behind);
             held = others.held;
+            ends = rw same others.ends;
           }
     ]
 
-pub ordered-strictly : (s : State) (ts : List Txn) → HasOrder s ts → HasStrictOrder s ts
-ordered-strictly s ts (order, a) =
+-- what transactions lead to by opacity they lead to by strict serializability
+leads-strictly : (s r : State) (ts : List Txn) → LeadsBy Opacity s ts r → LeadsBy Strict s ts r
+leads-strictly s r ts (order, a, is) =
     let kept = kept_of s ts order a.each a.completed in (
       kept.stays,
       record {
@@ -127,7 +136,16 @@ ordered-strictly s ts (order, a) =
         };
         held = kept.held;
       },
+      kept.ends ∙ is,
     )
+
+-- An end state by opacity is one by each criterion.
+pub ends-by : (criterion : Criterion) (S : State → Type 0) (ts : List Txn) (r : State) → Ends S ts r → EndsBy criterion S ts r
+ends-by Opacity S ts r ends = ends
+ends-by Strict S ts r (s, is, leads) = (s, is, leads-strictly s r ts leads)
+
+pub ordered-strictly : (s : State) (ts : List Txn) → HasOrder s ts → HasStrictOrder s ts
+ordered-strictly s ts (order, a) = let (stays, explains, is) = leads-strictly s (end_state s order) ts (order, a, refl) in (stays, explains)
 
 pub final_strict-opaque : (registers : ℕ) (start : State) (h : List Event) → IsFinalOpaque registers start h → IsFinalStrict registers start h
 final_strict-opaque registers start h o = record { formed = o.formed; ordered = ordered-strictly start (transactions h) o.ordered }

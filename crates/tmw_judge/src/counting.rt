@@ -3,7 +3,6 @@ use crate::by_criterion::ByCriterion;
 use crate::monitors::feed_each;
 use std::alloc::AllocError;
 use tmw_counts::{Counter, Summary};
-use tmw_defs::Criterion;
 use tmw_events::{Event, Registers};
 use tmw_monitor::Monitor;
 
@@ -83,7 +82,7 @@ impl Counting for Uncounted {
     #[inline(always)]
     fn feed(monitors: &mut ByCriterion<Monitor>, event: Event) -> Result<(), AllocError> {
         if let ByCriterion::Opacity(monitor) = monitors {
-            monitor.feed_expecting(Criterion::Opacity, event)?;
+            monitor.feed(event)?;
             return Ok(());
         }
         // A copy that only this way needs, so that the event is mostly no value in memory.
@@ -121,7 +120,7 @@ impl Counting for StrictUncounted {
     #[inline(always)]
     fn feed(monitors: &mut ByCriterion<Monitor>, event: Event) -> Result<(), AllocError> {
         if let ByCriterion::Strict(monitor) = monitors {
-            monitor.feed_expecting(Criterion::Strict, event)?;
+            monitor.feed(event)?;
             return Ok(());
         }
         // A copy that only this way needs, so that the event is mostly no value in memory.

@@ -40,7 +40,9 @@ pub fn judge<S: Source>(alloc: Global, source: &mut S, options: Options) -> Resu
     } = options;
     match (summary, asked) {
         (true, _) => judge_by::<S, Counter>(alloc, source, bounds, asked, first),
-        (false, Asked::Strict) => judge_by::<S, StrictUncounted>(alloc, source, bounds, asked, first),
+        (false, Asked::Strict) => judge_by::<S, StrictUncounted>(
+            alloc, source, bounds, asked, first,
+        ),
         (false, _) => judge_by::<S, Uncounted>(alloc, source, bounds, asked, first),
     }
 }

@@ -1,16 +1,11 @@
 -- An event that is taken at once leaves the history fine: where it leads to no cut, and where the only transaction ends with it.
-use Rattle.std.proofs.Common.{◌≡◌, ◌⊎◌, ◌≤◌, ◌<◌, ◌+◌, ◌++◌, ◌∷◌, [], Bool, true, false, List, length, drop, position, slice_get, ℕ, None, Some, IsTrue, refl, sym, subst, ◌∙◌, inl, inr, arith}
+use Rattle.std.proofs.Common.{◌≡◌, ◌⊎◌, ◌≤◌, ◌<◌, ◌+◌, ◌++◌, ◌∷◌, [], Bool, true, false, List, length, drop, None, IsTrue, refl, sym, subst, ◌∙◌, inl, inr, arith}
 use Rattle.std.specs.List.{Contains}
-use Rattle.std.proofs.lemmas.Option.{slice_get_within}
 use Rattle.tmw_events.specs.declared.event.Event.{Event}
-use Rattle.tmw_events.specs.declared.event.Kind.TheVariants.{C}
-use Rattle.tmw_defs.specs.declared.criterion.Criterion.{Criterion}
-use Rattle.tmw_defs.specs.declared.criterion.Criterion.TheVariants.{Opacity}
 use Rattle.tmw_defs.specs.Criteria.{is_quiet_by}
 use Rattle.tmw_defs.specs.Cuts.{is_cut}
 use Rattle.tmw_defs.specs.History.{transactions}
-use Rattle.tmw_defs.specs.Opaque.{State, after_writes, reads_hold}
-use Rattle.tmw_defs.specs.Outcomes.{Ends}
+use Rattle.tmw_defs.specs.Opaque.{State}
 use Rattle.tmw_defs.specs.Verdict.{Rules}
 use Rattle.tmw_defs.proofs.WindowsProof as windows
 use Rattle.tmw_wellformed.specs.GoingOn.{TakesAs}
@@ -18,16 +13,9 @@ use Rattle.tmw_wellformed.specs.Notes.{Notes}
 use Rattle.tmw_wellformed.specs.declared.note.Note.{Note}
 use Rattle.tmw_cuts.specs.Members.{members}
 use Rattle.tmw_cuts.specs.Standing.{StandsFor, views_of}
-use Rattle.tmw_cuts.specs.Views.{View, is_open_for, next_view}
-use Rattle.tmw_cuts.specs.declared.states.States.{States}
-use Rattle.tmw_cuts.proofs.Pushes.{length-views_of}
 use Rattle.tmw_cuts.proofs.FirstMembers.{contains_here}
 use Rattle.tmw_search.specs.Ended.{EndsOf}
 use Rattle.tmw_search.proofs.ForcedEnds.{alone-end}
-use Rattle.tmw_search.proofs.OnlyOne.{alone-leads, first_contained, one_of}
-use Rattle.tmw_search.proofs.WindowViews.{shows-views_of}
-use Rattle.tmw_witness.proofs.Pushed.{turns-next}
-use Rattle.tmw_witness.proofs.Quiet.{ops-none}
 use Rattle.tmw_witness.specs.Witnessing.{Witnesses}
 use Rattle.tmw_monitor.specs.declared.open.Open.{Open}
 use Rattle.tmw_monitor.specs.declared.weighed.Weighed.TheVariants.{Outcome}
@@ -44,30 +32,6 @@ still_one h e note notes goes_on one =
       | inl same ↦ omega (arith, same, one)
       | inr more ↦ absurd (let begins = notes.begins.1 more in let bad : true ≡ false = sym begins ∙ goes_on in cc)
     ]
-
--- an end state of a history by opacity is one by its criterion
-pub ends_by : (rules : Rules) (old : Open) (events : List Event) (end : State) → rules.criterion ≡ Opacity
-    → Ends (Contains (members old.states)) (transactions events) end → EndsOf rules.criterion old.states events end
-ends_by rules old events end opacity ends = subst (λ (by : Criterion). EndsOf by old.states events end) (sym opacity) ends
-
--- the only transaction commits, and ends in what it leaves
-pub commit-ends : (criterion : Criterion) (states : States) (events : List Event) (e : Event) (p : ℕ) (x : View) (s : State) → e.kind ≡ C
-    → Some p ≡ position (is_open_for e.thread.number) (views_of events) → slice_get (views_of events) p ≡ Some x
-    → length (transactions events) ≡ 1 → slice_get (members states) 0 ≡ Some s → IsTrue (reads_hold s x.ops)
-    → EndsOf criterion states (events ++ e ∷ []) (after_writes s x.ops)
-commit-ends criterion states events e p x s commits found at one first reads =
-    let turns = turns-next events e p x found at in
-    let ys = views_of (events ++ e ∷ []) in
-    let only : length ys ≡ 1 = turns.same_length ∙ length-views_of events ∙ one in
-    let y = next_view e.kind x in
-    let here : slice_get ys 0 ≡ Some y = (let none : p ≡ 0 = omega (arith, only, slice_get_within ys p y turns.here) in rw none at turns.here) in
-    let ops : y.ops ≡ x.ops = rw commits (ops-none x.ops x.call C refl) in
-    rw (← ops) (
-      s,
-      first_contained (members states) s first,
-      alone-leads criterion ys y (transactions (events ++ e ∷ [])) s (shows-views_of (events ++ e ∷ [])) (one_of ys y only here)
-          (rw commits refl) (rw ops reads),
-    )
 
 -- the event leads to no cut, and is quiet or has left an end state
 pub open-fine : (rules : Rules) (h : List Event) (e : Event) (old new : Open) (keeps : Keeps rules h old) (begins : Bool)

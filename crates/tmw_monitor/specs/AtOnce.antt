@@ -2,11 +2,9 @@
 use Rattle.std.specs.Prelude.{◌≡◌, ℕ, List, [], ◌∷◌, ◌++◌, Option, None, position}
 use Rattle.tmw_events.specs.declared.event.Event.{Event}
 use Rattle.tmw_defs.specs.declared.criterion.Criterion.{Criterion}
-use Rattle.tmw_defs.specs.Opaque.{State}
 use Rattle.tmw_defs.specs.Verdict.{Rules}
 use Rattle.tmw_cuts.specs.Standing.{StandsFor, views_of}
 use Rattle.tmw_cuts.specs.Views.{is_open_for}
-use Rattle.tmw_witness.specs.Witnessing.{Witnesses}
 use Rattle.tmw_monitor.specs.declared.bounds.Bounds.{Bounds}
 use Rattle.tmw_monitor.specs.declared.open.Open.{Open}
 use Rattle.tmw_monitor.specs.Fitting.{Keeps, TellsWrong}
@@ -21,8 +19,3 @@ StaysFine criterion bounds event old new = (rules : Rules) (history : List Event
 abbrev pub IsOpenAt : Option ℕ → Event → Open → Type 0
 IsOpenAt place event kept = (events : List Event) → StandsFor kept.window events
     → place ≡ position (is_open_for event.thread.number) (views_of events)
-
--- The serial order that is kept, as it stands, is one with the event too.
-abbrev pub Explains : Event → Open → Type 0
-Explains event kept = (starts : List State) (events : List Event) → StandsFor kept.window events
-    → Witnesses starts (views_of events) kept.witness → Witnesses starts (views_of (events ++ event ∷ [])) kept.witness

@@ -10,7 +10,7 @@ use crate::at_once::take_at_once;
 use crate::bounds::Bounds;
 use crate::next::next_wrong;
 use crate::open::Open;
-use crate::so_far::is_so_far;
+use crate::so_far::{is_any_so_far, is_so_far};
 use std::alloc::{AllocError, Global};
 use tmw_cuts::{State, States, Window};
 use tmw_defs::{Criterion, Verdict};
@@ -78,10 +78,6 @@ impl Monitor {
         ensures criterion { IfOk result (λ monitor. criterion_of monitor ≡ criterion) }
     {
         let states = States::only(alloc, start)?;
-        let mut witness = Witness::new(start);
-        if criterion == Criterion::Strict {
-            witness.forget();
-        }
         Ok(Monitor {
             alloc,
             criterion,
@@ -92,13 +88,14 @@ impl Monitor {
                 states,
                 window: Window::open(registers),
                 tracker: Tracker::new(registers),
-                witness,
+                witness: Witness::new(start),
             },
         })
     }
 
     /// Takes the next event and returns the verdict on all events so far. A verdict that something is wrong is final,
     /// and from then on each call succeeds. After a failed allocation the event is not taken: feed it again.
+    #[inline(always)]
     pub fn feed(&mut self, event: Event) -> Result<Verdict, AllocError>
         requires room { fed_of self.old < 2 ^ 40 }
         ensures ok { OnOk result (FeedsOne event self.old self.new) }
@@ -111,34 +108,9 @@ impl Monitor {
         ensures keeps { OnOk result (HoldsWith event self.old self.new) }
         ensures keeps_err { OnErr result (HoldsStill self.old self.new) }
     {
-        match self.criterion {
-            Criterion::Opacity => self.feed_expecting(Criterion::Opacity, event),
-            Criterion::Strict => self.feed_expecting(Criterion::Strict, event),
-        }
-    }
-
-    /// Takes the next event as `feed` does, soonest where the criterion is the expected one. It is inlined into its callers,
-    /// which mostly know the criterion and the kind of their event.
-    #[inline(always)]
-    pub fn feed_expecting(
-        &mut self,
-        expected: Criterion,
-        event: Event,
-    ) -> Result<Verdict, AllocError>
-        requires room { fed_of self.old < 2 ^ 40 }
-        ensures ok { OnOk result (FeedsOne event self.old self.new) }
-        ensures verdict { IfOk result (λ verdict. verdict ≡ verdict_of self.new) }
-        ensures err { OnErr result (StaysFit self.old self.new) }
-        ensures stays { (IsOpen self.old → ⊥) → result ≡ Ok (verdict_of self.old) }
-        ensures criterion { criterion_of self.new ≡ criterion_of self.old }
-
-        // What is kept, whether the event was taken or not.
-        ensures keeps { OnOk result (HoldsWith event self.old self.new) }
-        ensures keeps_err { OnErr result (HoldsStill self.old self.new) }
-    {
-        // Only what is judged by the expected criterion has this verdict.
-        if is_so_far(expected, self.verdict)
-            && take_at_once(expected, &mut self.kept, self.bounds, event)
+        // Only what is judged by a criterion has its verdict.
+        if is_any_so_far(self.verdict)
+            && take_at_once(&mut self.kept, self.bounds, self.criterion, event)
         {
             self.count += 1;
             return Ok(self.verdict);

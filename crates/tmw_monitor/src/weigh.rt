@@ -41,28 +41,13 @@ pub fn weigh(
     if cut {
         return close(criterion, alloc, kept, cap);
     }
-    if has_order(criterion, &mut kept.witness, &kept.states, &kept.window) {
+    if kept.witness.finds(&kept.states, &kept.window) {
         return Ok(Weighed::Outcome);
     }
     if possible(criterion, alloc, &kept.states, &kept.window)? {
         Ok(Weighed::Outcome)
     } else {
         Ok(Weighed::NoOutcome)
-    }
-}
-
-/// Whether a serial order is kept, or is found where none is known, and is kept then. Serial orders are kept for opacity alone.
-fn has_order(criterion: Criterion, witness: &mut Witness, starts: &States, window: &Window) -> bool
-    ensures ends { IsTrue result → (events : List Event) → StandsFor window.now events
-        → Witnesses (members starts.now) (views_of events) witness.old
-        → (end : State) × EndsOf criterion starts.now events end }
-    ensures witness { (events : List Event) → StandsFor window.now events
-        → Witnesses (members starts.now) (views_of events) witness.old
-        → Witnesses (members starts.now) (views_of events) witness.new }
-{
-    match criterion {
-        Criterion::Opacity => witness.finds(starts, window),
-        Criterion::Strict => false,
     }
 }
 
@@ -83,39 +68,24 @@ fn close(
         → StandsFor kept.new.window events) }
 {
     // An outcome that is known is mostly the only one, and then nothing is searched.
-    let known = known_end(criterion, &kept.witness);
+    let known = kept.witness.known_end();
     if !replace_by_outcomes(criterion, alloc, &mut kept.states, &kept.window, cap, known)? {
         return Ok(Weighed::TooMany);
     }
     if kept.states.is_empty() {
         return Ok(Weighed::NoOutcome);
     }
-    begin_again(criterion, &mut kept.witness, &kept.states);
+    begin_again(&mut kept.witness, &kept.states);
     kept.window.clear();
     Ok(Weighed::Outcome)
 }
 
-/// The state in which the serial order ends, where one is kept and known.
-fn known_end(criterion: Criterion, witness: &Witness) -> Option<State>
-    ensures { IfSome result (λ end. (starts : List State) (events : List Event)
-        → Witnesses starts (views_of events) witness.now
-        → EndsBy criterion (Contains starts) (transactions events) end) }
-{
-    match criterion {
-        Criterion::Opacity => witness.known_end(),
-        Criterion::Strict => None,
-    }
-}
-
-/// Begins with a window without a transaction, from the first of these states. Serial orders are kept for opacity alone.
-fn begin_again(criterion: Criterion, witness: &mut Witness, starts: &States)
+/// Begins with a window without a transaction, from the first of these states.
+fn begin_again(witness: &mut Witness, starts: &States)
     ensures { Witnesses (members starts.now) [] witness.new }
 {
-    if criterion == Criterion::Opacity {
-        if let Some(start) = starts.get(0) {
-            witness.restart(&start);
-            return;
-        }
+    match starts.get(0) {
+        Some(start) => witness.restart(&start),
+        None => witness.forget(),
     }
-    witness.forget();
 }

@@ -15,7 +15,6 @@ pub mod LayerSteps
 mod LayersBy
 pub mod LayersProof
 pub mod Masks
-pub mod OnlyOne
 mod OrderRanks
 mod RankedOrders
 mod SameEnds

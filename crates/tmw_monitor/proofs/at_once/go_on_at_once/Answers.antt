@@ -1,15 +1,57 @@
--- The serial order explains the event, the only transaction commits, or the event is quiet.
-use Rattle.std.proofs.Common.{refl, sym, ◌∙◌}
+-- An event that the order which is kept explains leaves the history open and fine; where it ends the only transaction, the order leads to
+-- the only outcome.
+use Rattle.std.proofs.Common.{◌≡◌, ◌++◌, ◌∷◌, [], false, drop, refl, sym, ◌∙◌, inr, arith}
+use Rattle.std.specs.List.{Contains}
+use Rattle.tmw_defs.specs.History.{transactions}
+use Rattle.tmw_defs.specs.Outcomes.{Ends}
+use Rattle.tmw_wellformed.specs.Tracks.{Tracks}
+use Rattle.tmw_cuts.specs.Members.{members}
+use Rattle.tmw_cuts.specs.Standing.{views_of}
+use Rattle.tmw_cuts.proofs.FirstMembers.{contains_here}
+use Rattle.tmw_search.proofs.WindowViews.{shows-views_of}
+use Rattle.tmw_witness.specs.Witnessing.{rank_of, committed_of, state_of}
+use Rattle.tmw_witness.proofs.Path.{witness-ends}
+use Rattle.tmw_defs.proofs.Weaker.{ends-by}
+use Rattle.tmw_monitor.proofs.AtOnce.{open-fine, last-fine}
 use Rattle.tmw_monitor.proofs.at_once.go_on_at_once.Goals as goal
 
-pub explain_at_once-requires-clause-explained : goal.explain_at_once-requires-clause-explained
-explain_at_once-requires-clause-explained c = λ starts events stands.
-    c.if-explains_open.ensures.stands refl starts events stands (c.requires.open events stands)
+pub returns-then-go_on-clause-taken : goal.returns-then-go_on-clause-taken
+returns-then-go_on-clause-taken c took rules history by window states keeps =
+    let old = c.args.kept.now in
+    let w = old.witness in
+    let starts = members old.states in
+    let e = c.args.event in
+    let rest = drop keeps.cut history in
+    let all = rest ++ e ∷ [] in
+    let explained = c.if-not-explains_open.false in
+    let at = c.requires.open rest keeps.stands in
+    let witness = c.explains_open.ensures.stands explained starts rest keeps.stands at keeps.witness in
+    let ends : Ends (Contains starts) (transactions all) (state_of w w.top) =
+    witness-ends (Contains starts) (views_of all) (transactions all) (rank_of w) (committed_of w) (state_of w) w.top
+    (witness (c.explains_open.ensures.known explained)) (shows-views_of all) in
+    open-fine rules history e old _ keeps false (c.go_on.ensures.takes c.if-go_on.true rules.registers history keeps.tracks)
+    (λ begins. absurd (cc)) (inr (state_of w w.top, ends-by rules.criterion (Contains starts) (transactions all) (state_of w w.top) ends)) refl (c.push_at.ensures.stands rest keeps.stands (sym at)) witness
 
-pub returns-then-explains_open-clause-taken : goal.returns-then-explains_open-clause-taken
-returns-then-explains_open-clause-taken c = λ took rules history by.
-    c.explain_at_once.ensures.taken took rules history (sym c.in-Opacity.is ∙ by)
-
-pub returns-in-C-clause-taken : goal.returns-in-C-clause-taken
-returns-in-C-clause-taken c = λ took rules history by.
-    c.commit_alone.ensures.taken took rules history (sym c.in-Strict.is ∙ by)
+pub returns-clause-taken : goal.returns-clause-taken
+returns-clause-taken c took rules history by window states keeps =
+    let old = c.args.kept.now in
+    let w = old.witness in
+    let starts = members old.states in
+    let e = c.args.event in
+    let rest = drop keeps.cut history in
+    let all = rest ++ e ∷ [] in
+    let explained = c.if-not-explains_open.false in
+    let at = c.requires.open rest keeps.stands in
+    let witness = c.explains_open.ensures.stands explained starts rest keeps.stands at keeps.witness in
+    let ends : Ends (Contains starts) (transactions all) (state_of w w.top) =
+    witness-ends (Contains starts) (views_of all) (transactions all) (rank_of w) (committed_of w) (state_of w) w.top
+    (witness (c.explains_open.ensures.known explained)) (shows-views_of all) in
+    let only : members c.put_only.new.self ≡ state_of w w.top ∷ [] = rw (← c.restart_at_end-end.ensures.end) c.put_only.ensures in
+    let positive = c.args.bounds.some_states in
+    let same : c.go_on.new.self ≡ old.tracker = c.go_on.ensures.kept c.if-go_on.false in
+    let tracks : Tracks rules.registers history c.go_on.new.self = rw same keeps.tracks in
+    last-fine rules history e old _ keeps (state_of w w.top) (c.end_last.ensures.takes c.if-not-end_last.false rules.registers history tracks)
+    (omega (arith, positive, states)) (sym (c.count.ensures.stands rest keeps.stands) ∙ c.if-count-ne1.false)
+    (sym c.len.ensures ∙ c.if-len-ne1.false)
+    (ends-by rules.criterion (Contains starts) (transactions all) (state_of w w.top) ends) only c.clear.ensures.stands
+    (c.restart_at_end-end.ensures.witnesses (members c.put_only.new.self) (rw c.put_only.ensures (contains_here c.restart_at_end-end.result [])))

@@ -1,8 +1,18 @@
 -- No outcome is a violation, and else the set becomes that of the outcomes.
 use Rattle.std.proofs.Common.{◌≡◌, true, false, List, [], ◌∷◌, Option, Some, None, IfSome, refl, sym, subst, ◌∙◌, inr, arith}
 use Rattle.std.specs.List.{Contains}
+use Rattle.tmw_events.specs.declared.event.Event.{Event}
+use Rattle.tmw_defs.specs.History.{transactions}
+use Rattle.tmw_defs.specs.Outcomes.{Ends}
+use Rattle.tmw_defs.specs.declared.criterion.Criterion.{Criterion}
 use Rattle.tmw_defs.specs.Opaque.{State}
+use Rattle.tmw_defs.proofs.Weaker.{ends-by}
 use Rattle.tmw_cuts.specs.Members.{members}
+use Rattle.tmw_cuts.specs.declared.states.States.{States}
+use Rattle.tmw_cuts.specs.Standing.{views_of}
+use Rattle.tmw_search.specs.Ended.{EndsOf}
+use Rattle.tmw_witness.specs.Witnessing.{Witnesses}
+use Rattle.tmw_witness.specs.declared.witness.Witness.{Witness}
 use Rattle.tmw_monitor.proofs.weigh.close.Goals as goal
 
 first_of : (xs : List State) → (xs ≡ [] → ⊥) → (x : State) × Contains xs x
@@ -12,25 +22,33 @@ first_of (x ∷ xs) some = (x, (0, omega arith, refl))
 none_in : (x : State) → Contains [] x → ⊥
 none_in x (k, within, is) = absurd (omega arith)
 
-map_some : {X : Type 0} (o : Option X) (P Q : X → Type 0) → IfSome o P → ((x : X) → P x → Q x) → IfSome o Q
-map_some None P Q holds step = tt
-map_some (Some x) P Q holds step = step x holds
+-- an end that the serial order leads to is one by the criterion
+known_by : (criterion : Criterion) (states : States) (w : Witness) (found : Option State)
+    → IfSome found (λ end. (starts : List State) (events : List Event) → Witnesses starts (views_of events) w
+    → Ends (Contains starts) (transactions events) end)
+    → (events : List Event) → Witnesses (members states) (views_of events) w → IfSome found (EndsOf criterion states events)
+known_by criterion states w None leads events was = tt
+known_by criterion states w (Some end) leads events was =
+    ends-by criterion (Contains (members states)) (transactions events) end (leads (members states) events was)
 
 pub returns-then-not-branch-clause-ok : goal.returns-then-not-branch-clause-ok
 returns-then-not-branch-clause-ok c quiet events stands cut was =
-    let known = map_some c.known_end-known.result _ _ c.known_end-known.ensures (λ end leads. leads (members c.args.kept.now.states) events was) in
+    let old = c.args.kept.now in
+    let known = known_by c.args.criterion old.states old.witness c.known_end-known.result c.known_end-known.ensures.end events was in
     let found = rw c.if-not-branch.true at (c.in_ok-replace_by_outcomes.ensures.ok events stands known) in
     (cut, found.0)
 
 pub returns-then-is_empty-clause-ok : goal.returns-then-is_empty-clause-ok
 returns-then-is_empty-clause-ok c quiet events stands cut was =
-    let known = map_some c.known_end-known.result _ _ c.known_end-known.ensures (λ end leads. leads (members c.args.kept.now.states) events was) in
+    let old = c.args.kept.now in
+    let known = known_by c.args.criterion old.states old.witness c.known_end-known.result c.known_end-known.ensures.end events was in
     let found = rw c.if-not-branch.false at (c.in_ok-replace_by_outcomes.ensures.ok events stands known) in
     λ end is. none_in end (subst (λ (xs : List State). Contains xs end) (c.is_empty.ensures.0 c.if-is_empty.true) ((found.1 end).1 is))
 
 pub returns-clause-ok : goal.returns-clause-ok
 returns-clause-ok c quiet events stands cut was =
-    let known = map_some c.known_end-known.result _ _ c.known_end-known.ensures (λ end leads. leads (members c.args.kept.now.states) events was) in
+    let old = c.args.kept.now in
+    let known = known_by c.args.criterion old.states old.witness c.known_end-known.result c.known_end-known.ensures.end events was in
     let found = rw c.if-not-branch.false at (c.in_ok-replace_by_outcomes.ensures.ok events stands known) in
     let ends = members c.replace_by_outcomes.new.states in
     let (end, some) = first_of ends (λ empty. let bad : false ≡ true = sym c.if-is_empty.false ∙ c.is_empty.ensures.1 empty in absurd (cc)) in

@@ -1,23 +1,12 @@
 -- Nothing is wrong with no event, with the start state as its one outcome.
-use Rattle.std.proofs.Common.{◌≡◌, true, false, refl, sym, ap, ◌∙◌, []}
+use Rattle.std.proofs.Common.{refl, []}
 use Rattle.tmw_cuts.specs.Members.{members}
 use Rattle.tmw_cuts.proofs.FirstMembers.{contains_here}
-use Rattle.tmw_witness.specs.declared.witness.Witness.{Witness}
-use Rattle.tmw_witness.specs.Witnessing.{Witnesses}
-use Rattle.tmw_monitor.proofs.monitor.Monitor.for_criterion.Goals.{then-eq, else-eq}
 use Rattle.tmw_defs.proofs.VerdictProof.{so_far-fine}
 use Rattle.tmw_monitor.specs.Fitting.{rules_for}
 use Rattle.tmw_monitor.proofs.Fresh.{sums_up-one}
 use Rattle.tmw_monitor.proofs.OnlyOpen.{keeps_only_open}
 use Rattle.tmw_monitor.proofs.monitor.Monitor.for_criterion.Goals as goal
-
-witnessed : (c : goal.After-new) → Witnesses (members c.in_ok-states.states) [] c.if-eq.witness
-witnessed c =
-    elim c.if-eq.branch [
-      | then-eq w ↦ λ known. absurd (let k : true ≡ false = sym known ∙ ap (λ (v : Witness). v.known) w.witness-is ∙ w.forget.ensures in cc)
-      | else-eq w ↦ rw w.witness-is (c.new-witness.ensures.witnesses (members c.in_ok-states.states)
-          (rw c.in_ok-states.ensures (contains_here c.args.start [])))
-    ]
 
 pub returns-clause-fits : goal.returns-clause-fits
 returns-clause-fits c =
@@ -29,7 +18,7 @@ returns-clause-fits c =
       states = refl;
       counted = refl;
       judged = rw c.so_far.ensures (so_far-fine rules [] sums.judged);
-      keeps = λ is. record { cut = 0; sums_up = sums; stands = c.open.ensures.stands; tracks = c.new.ensures; witness = witnessed c };
+      keeps = λ is. record { cut = 0; sums_up = sums; stands = c.open.ensures.stands; tracks = c.new.ensures; witness = c.new-2.ensures.witnesses (members c.in_ok-states.states) (rw c.in_ok-states.ensures (contains_here c.args.start [])) };
       forgets = λ final. absurd (final c.so_far.ensures);
     }
 
