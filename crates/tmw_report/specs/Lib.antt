@@ -1,5 +1,7 @@
 pub mod CommandRun
 pub mod Lines
 pub mod Putting
+pub mod Refusal
+pub mod Refused
 pub mod Remark
 pub mod SummaryLine

@@ -9,4 +9,5 @@ returns-clause-right g c =
       told.1,
       answer-fed g.C.Counting.counts c.args.first g.C.Counting.counted c.args.bounds c.args.asked _ told.0 c.in_ok-judges.judges
           c.reports_of.result c.summary.result c.reports_of.ensures c.summary.ensures told.2,
+      told.3,
     )
