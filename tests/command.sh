@@ -229,9 +229,6 @@ for trace in "$top"/examples/*.trace; do
         count "show --criterion $criterion --trace < $(basename "$trace") | judge" "$shown" "$status"
     done
 done
-expect examples/stopped_writer.steps 4 '{"fault":"bad header"}' show
-expect examples/stopped_writer.steps 4 '{"fault":"bad header"}' judge --criterion both
-expect examples/stopped_writer.steps 4 '{"fault":"bad header"}' judge
 expect examples/stopped_writer.steps 0 "$(printf '%s\n' 'saw 0' cleared 'place 0' stopped 'not now' 'saw 0' cleared 'place 1' \
     filled 'published 1' 'not ready' 'not now' 'log 2 taken 0')" steps
 expect examples/dirty_read.trace 4 '{"fault":"bad header"}' steps

@@ -1,5 +1,5 @@
 -- Judging a trace, by `--first` or to its end: its first line is read, then its events are fed, and what was told is what was read.
-use Rattle.std.proofs.Common.{◌≡◌, ℕ, Bool, true, false, List, Ok, Err}
+use Rattle.std.proofs.Common.{ℕ, Bool, true, false, List, Ok, Err}
 use Rattle.tmw_lines.specs.Lines.{format_by, unread_bytes}
 use Rattle.tmw_lines.specs.Text.{front_of}
 use Rattle.tmw_lines.specs.declared.lines.Lines.{Lines}
@@ -9,7 +9,6 @@ use Rattle.tmw_streams.specs.Told.{Tells}
 use Rattle.tmw_trace.specs.declared.version.Version.{Version}
 use Rattle.tmw_defs.specs.declared.criterion.Asked.{Asked}
 use Rattle.tmw_monitor.specs.declared.bounds.Bounds.{Bounds}
-use Rattle.tmw_report.specs.declared.fault.Fault.{Fault}
 use Rattle.tmw_report.specs.Putting.{fault_of}
 use Rattle.tmw_report.specs.Refusal.{number_of, RefusesLine}
 use Rattle.tmw_report.specs.Refused.{RefusesHeld}

@@ -1,5 +1,5 @@
 -- Judging up to the first final verdict: the first line is read, then events are fed, and what was told is what was read.
-use Rattle.std.proofs.Common.{◌≡◌, ℕ, true, List, [], ◌∷◌, ◌++◌, Ok, Err, inl, inr, refl}
+use Rattle.std.proofs.Common.{ℕ, true, List, [], ◌∷◌, ◌++◌, Ok, Err, inl, inr, refl}
 use Rattle.tmw_lines.specs.ItemsRead.{AreReadFor, FailsBehind}
 use Rattle.tmw_lines.specs.Lines.{HasRead, format_by, unread_bytes}
 use Rattle.tmw_lines.specs.Text.{front_of}
@@ -15,7 +15,6 @@ use Rattle.tmw_trace.specs.declared.header.Header.{Header}
 use Rattle.tmw_trace.specs.declared.version.Version.{Version}
 use Rattle.tmw_defs.specs.declared.criterion.Asked.{Asked}
 use Rattle.tmw_monitor.specs.declared.bounds.Bounds.{Bounds}
-use Rattle.tmw_report.specs.declared.fault.Fault.{Fault}
 use Rattle.tmw_report.specs.Putting.{fault_of}
 use Rattle.tmw_report.specs.Refusal.{number_of, RefusesLine}
 use Rattle.tmw_report.specs.Refused.{RefusesHeld}

@@ -41,9 +41,23 @@ pub fn judge<S: Source, E: Sink>(
         (S.from.failures source.old) }
 {
     if options.summary {
-        judge_by::<S, E, Counter>(alloc, source, errors, options.bounds, options.asked, options.first)
+        judge_by::<S, E, Counter>(
+            alloc,
+            source,
+            errors,
+            options.bounds,
+            options.asked,
+            options.first,
+        )
     } else {
-        judge_by::<S, E, Uncounted>(alloc, source, errors, options.bounds, options.asked, options.first)
+        judge_by::<S, E, Uncounted>(
+            alloc,
+            source,
+            errors,
+            options.bounds,
+            options.asked,
+            options.first,
+        )
     }
 }
 
