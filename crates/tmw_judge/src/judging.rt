@@ -41,23 +41,9 @@ pub fn judge<S: Source, E: Sink>(
         (S.from.failures source.old) }
 {
     if options.summary {
-        judge_by::<S, E, Counter>(
-            alloc,
-            source,
-            errors,
-            options.bounds,
-            options.asked,
-            options.first,
-        )
+        judge_by::<S, E, Counter>(alloc, source, errors, options)
     } else {
-        judge_by::<S, E, Uncounted>(
-            alloc,
-            source,
-            errors,
-            options.bounds,
-            options.asked,
-            options.first,
-        )
+        judge_by::<S, E, Uncounted>(alloc, source, errors, options)
     }
 }
 
@@ -66,17 +52,16 @@ fn judge_by<S: Source, E: Sink, C: Counting>(
     alloc: Global,
     source: &mut S,
     errors: &mut E,
-    bounds: Bounds,
-    asked: Asked,
-    first: bool,
+    options: Options,
 ) -> Result<Answer, Fault>
     ensures right { (bytes : List ℕ) × Tells S.from source.old bytes source.new
-        × AnswersBy first C.counted bounds asked (S.from.ended source.new) bytes result
+        × AnswersBy options.first C.counted options.bounds options.asked (S.from.ended source.new)
+        bytes result
         × RemarksFault E.to bytes result errors.old errors.new }
     ensures failures { S.from.failures source.new ≡ failures_after_answer result
         (S.from.failures source.old) }
 {
-    let judges = feed_judges::<S, E, C>(alloc, source, errors, bounds, asked, first)?;
+    let judges = feed_judges::<S, E, C>(alloc, source, errors, options)?;
     Ok(Answer {
         reports: reports_of(&judges.monitors),
         summary: judges.counting.summary(),
@@ -89,22 +74,21 @@ fn feed_judges<S: Source, E: Sink, C: Counting>(
     alloc: Global,
     source: &mut S,
     errors: &mut E,
-    bounds: Bounds,
-    asked: Asked,
-    first: bool,
+    options: Options,
 ) -> Result<Judges<C>, Fault>
     ensures right { (bytes : List ℕ) × Tells S.from source.old bytes source.new
-        × AnswersFed first C.counts bounds asked (S.from.ended source.new) bytes result
+        × AnswersFed options.first C.counts options.bounds options.asked (S.from.ended source.new)
+        bytes result
         × RemarksFault E.to bytes result errors.old errors.new }
     ensures failures { S.from.failures source.new ≡ failures_after_answer result
         (S.from.failures source.old) }
 {
     let mut lines = TraceLines::new();
-    let mut judges = match begin(alloc, &mut lines, source, bounds, asked) {
+    let mut judges = match begin(alloc, &mut lines, source, options.bounds, options.asked) {
         Ok(judges) => judges,
         Err(fault) => return Err(refuse(errors, &lines, fault)),
     };
-    match feed_for(&mut lines, source, &mut judges, first) {
+    match feed_for(&mut lines, source, &mut judges, options.first) {
         Ok(()) => Ok(judges),
         Err(fault) => Err(refuse(errors, &lines, fault)),
     }
