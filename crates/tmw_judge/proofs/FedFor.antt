@@ -10,33 +10,33 @@ use Rattle.tmw_trace.specs.declared.version.Version.{Version}
 use Rattle.tmw_defs.specs.declared.criterion.Asked.{Asked}
 use Rattle.tmw_monitor.specs.declared.bounds.Bounds.{Bounds}
 use Rattle.tmw_report.specs.Putting.{fault_of}
-use Rattle.tmw_report.specs.Refusal.{number_of, RefusesLine}
-use Rattle.tmw_report.specs.Refused.{RefusesHeld}
+use Rattle.tmw_report.specs.Quote.{number_of, QuotesLine}
+use Rattle.tmw_report.specs.Quoting.{QuotesHeld}
 use Rattle.tmw_judge.specs.Counted.{CountsFor}
 use Rattle.tmw_judge.specs.Feeding.{ReadsBeginning}
 use Rattle.tmw_judge.specs.FeedingFirst.{AnswersFed, FeedsFor}
 use Rattle.tmw_judge.specs.declared.judges.Judges.{Judges}
 use Rattle.tmw_judge.proofs.FirstTaken.{first-done, first-fault, first-unbegun}
-use Rattle.tmw_judge.proofs.Taken.{answers-end, answers-fault, answers-first, first-refused}
+use Rattle.tmw_judge.proofs.Taken.{answers-end, answers-fault, answers-first, first-quoted}
 
 -- no trace was begun
 pub fed-unbegun : {S C E : Type 0} (Counts : CountsFor C) (From : FromSource S) (Errors : ToSink E) (Ended : Type 0) (a b : S)
     (old new : E) (lines : Lines Version) (bounds : Bounds) (asked : Asked) (told : TextFault) (first : Bool)
     → ReadsBeginning From Counts Ended a b lines bounds asked (Err told)
-    → RefusesHeld Errors (number_of (fault_of told)) (fault_of told) (format_by lines) (front_of (unread_bytes lines)) old new
+    → QuotesHeld Errors (number_of (fault_of told)) (fault_of told) (format_by lines) (front_of (unread_bytes lines)) old new
     → (bytes : List ℕ) × Tells From a bytes b × AnswersFed first Counts bounds asked Ended bytes (Err (fault_of told))
-    × RefusesLine Errors (number_of (fault_of told)) (fault_of told) bytes old new
+    × QuotesLine Errors (number_of (fault_of told)) (fault_of told) bytes old new
 fed-unbegun Counts From Errors Ended a b old new lines bounds asked told false reads held = (
   reads.bytes,
   reads.told,
   answers-first Counts Ended lines bounds asked reads.bytes told reads.is,
-  first-refused Counts Errors Ended lines bounds asked reads.bytes old new told reads.is held,
+  first-quoted Counts Errors Ended lines bounds asked reads.bytes old new told reads.is held,
 )
 fed-unbegun Counts From Errors Ended a b old new lines bounds asked told true reads held = (
   reads.bytes,
   reads.told,
   first-unbegun Counts Ended lines bounds asked reads.bytes told reads.is,
-  first-refused Counts Errors Ended lines bounds asked reads.bytes old new told reads.is held,
+  first-quoted Counts Errors Ended lines bounds asked reads.bytes old new told reads.is held,
 )
 
 module _ {S C : Type 0} (From : FromSource S) (Counts : CountsFor C) (First Ended : Type 0) (a b c : S)
@@ -52,9 +52,9 @@ module _ {S C : Type 0} (From : FromSource S) (Counts : CountsFor C) (First Ende
   -- and then came a fault
   pub fed-fault : {E : Type 0} (Errors : ToSink E) (old new : E) (Done : Type 0) (told : TextFault) (first : Bool)
       → FeedsFor {Done = Done} first From Counts Ended b c lines after judges fed (Err told)
-      → RefusesHeld Errors (number_of (fault_of told)) (fault_of told) (format_by after) (front_of (unread_bytes after)) old new
+      → QuotesHeld Errors (number_of (fault_of told)) (fault_of told) (format_by after) (front_of (unread_bytes after)) old new
       → (all : List ℕ) × Tells From a all c × AnswersFed first Counts bounds asked Ended all (Err (fault_of told))
-      × RefusesLine Errors (number_of (fault_of told)) (fault_of told) all old new
+      × QuotesLine Errors (number_of (fault_of told)) (fault_of told) all old new
   fed-fault Errors old new Done told false =
       answers-fault From Counts First Ended a b c lines after bounds asked judges fed begins Errors old new Done told
   fed-fault Errors old new Done told true =

@@ -16,9 +16,9 @@ use Rattle.tmw_trace.specs.declared.version.Version.{Version}
 use Rattle.tmw_defs.specs.declared.criterion.Asked.{Asked}
 use Rattle.tmw_monitor.specs.declared.bounds.Bounds.{Bounds}
 use Rattle.tmw_report.specs.Putting.{fault_of}
-use Rattle.tmw_report.specs.Refusal.{number_of, RefusesLine}
-use Rattle.tmw_report.specs.Refused.{RefusesHeld}
-use Rattle.tmw_report.proofs.Refusals.{refused-read}
+use Rattle.tmw_report.specs.Quote.{number_of, QuotesLine}
+use Rattle.tmw_report.specs.Quoting.{QuotesHeld}
+use Rattle.tmw_report.proofs.Quotes.{quoted-read}
 use Rattle.tmw_judge.specs.Feeding.{IsBeginning, ReadsBeginning}
 use Rattle.tmw_judge.specs.Answering.{AreOpen, AreOpenBefore, EndsSoonBehindOpen, HasFaultInTime}
 use Rattle.tmw_judge.specs.FeedingFirst.{AnswersFed, AreReadFirst, FeedsFirst}
@@ -135,9 +135,9 @@ module _ {S C : Type 0} (From : FromSource S) (Counts : CountsFor C) (First Ende
   -- and then came a fault
   pub first-fault : {E : Type 0} (Errors : ToSink E) (old new : E) (Done : Type 0) (told : TextFault)
       → FeedsFirst {Done = Done} From Counts Ended b c lines after judges fed (Err told)
-      → RefusesHeld Errors (number_of (fault_of told)) (fault_of told) (format_by after) (front_of (unread_bytes after)) old new
+      → QuotesHeld Errors (number_of (fault_of told)) (fault_of told) (format_by after) (front_of (unread_bytes after)) old new
       → (all : List ℕ) × Tells From a all c × AnswersFed true Counts bounds asked Ended all (Err (fault_of told))
-      × RefusesLine Errors (number_of (fault_of told)) (fault_of told) all old new
+      × QuotesLine Errors (number_of (fault_of told)) (fault_of told) all old new
   first-fault Errors old new Done told feeds held =
       let all = begins.bytes ++ feeds.bytes in
       let stop = feeds.fed begins.is.0 bounds asked [] begins.bytes begins.is.1 begins.is.2 (AreOpenBefore-none begins.is.0 bounds asked) in
@@ -145,5 +145,5 @@ module _ {S C : Type 0} (From : FromSource S) (Counts : CountsFor C) (First Ende
         all,
         Tells-more From a b c begins.bytes feeds.bytes begins.told feeds.told,
         (told, refl, fault-in-time Counts Done Ended after begins.is.0 bounds asked feeds.events all fed told stop),
-        refused-read Errors Ended after all old new begins.is.0 feeds.events Done told read held,
+        quoted-read Errors Ended after all old new begins.is.0 feeds.events Done told read held,
       )

@@ -20,9 +20,9 @@ use Rattle.tmw_monitor.specs.declared.bounds.Bounds.{Bounds}
 use Rattle.tmw_report.specs.declared.fault.Fault.{Fault}
 use Rattle.tmw_report.specs.Putting.{fault_of}
 use Rattle.tmw_report.specs.CommandRun.{failures_after_answer}
-use Rattle.tmw_report.specs.Refusal.{number_of, RefusesLine}
-use Rattle.tmw_report.specs.Refused.{RefusesHeld}
-use Rattle.tmw_report.proofs.Refusals.{refused-first, refused-read}
+use Rattle.tmw_report.specs.Quote.{number_of, QuotesLine}
+use Rattle.tmw_report.specs.Quoting.{QuotesHeld}
+use Rattle.tmw_report.proofs.Quotes.{quoted-first, quoted-read}
 use Rattle.tmw_judge.specs.Feeding.{IsBeginning, ReadsBeginning, AreFedAllRead, AreReadAndFed, FeedsEvents}
 use Rattle.tmw_judge.specs.Counted.{CountsFor}
 use Rattle.tmw_judge.specs.declared.judges.Judges.{Judges}
@@ -40,18 +40,18 @@ module _ {C : Type 0} (Counts : CountsFor C) where
   first-fault Ended lines bounds asked bytes TooLong is = text_fault-first trace_grammar Ended bytes TooLong is.0
 
   -- of the first line's fault is told as much
-  pub first-refused : {E : Type 0} (Errors : ToSink E) (Ended : Type 0) (lines : Lines Version) (bounds : Bounds) (asked : Asked)
+  pub first-quoted : {E : Type 0} (Errors : ToSink E) (Ended : Type 0) (lines : Lines Version) (bounds : Bounds) (asked : Asked)
       (bytes : List ℕ) (old new : E) (told : TextFault) → IsBeginning Counts Ended lines bounds asked bytes (Err told)
-      → RefusesHeld Errors (number_of (fault_of told)) (fault_of told) (format_by lines) (front_of (unread_bytes lines)) old new
-      → RefusesLine Errors (number_of (fault_of told)) (fault_of told) bytes old new
-  first-refused Errors Ended lines bounds asked bytes old new BadHeader is =
-      refused-first Errors Ended lines bytes old new BadHeader is.0 is.1
-  first-refused Errors Ended lines bounds asked bytes old new (BadLine number) is = absurd is.0
-  first-refused Errors Ended lines bounds asked bytes old new (Cut number) is =
-      refused-first Errors Ended lines bytes old new (Cut number) is.0 is.1
-  first-refused Errors Ended lines bounds asked bytes old new Memory is = λ held. held
-  first-refused Errors Ended lines bounds asked bytes old new Io is = λ held. held
-  first-refused Errors Ended lines bounds asked bytes old new TooLong is = absurd is.0
+      → QuotesHeld Errors (number_of (fault_of told)) (fault_of told) (format_by lines) (front_of (unread_bytes lines)) old new
+      → QuotesLine Errors (number_of (fault_of told)) (fault_of told) bytes old new
+  first-quoted Errors Ended lines bounds asked bytes old new BadHeader is =
+      quoted-first Errors Ended lines bytes old new BadHeader is.0 is.1
+  first-quoted Errors Ended lines bounds asked bytes old new (BadLine number) is = absurd is.0
+  first-quoted Errors Ended lines bounds asked bytes old new (Cut number) is =
+      quoted-first Errors Ended lines bytes old new (Cut number) is.0 is.1
+  first-quoted Errors Ended lines bounds asked bytes old new Memory is = λ held. held
+  first-quoted Errors Ended lines bounds asked bytes old new Io is = λ held. held
+  first-quoted Errors Ended lines bounds asked bytes old new TooLong is = absurd is.0
 
   -- what was read, whatever was fed of it
   read-of-fed : (Done : Type 0) (Ended : Type 0) (lines : Lines Version) (header : Header) (bounds : Bounds) (asked : Asked)
@@ -108,9 +108,9 @@ module _ {S C : Type 0} (From : FromSource S) (Counts : CountsFor C) (First Ende
   -- and then came a fault
   pub answers-fault : {E : Type 0} (Errors : ToSink E) (old new : E) (Done : Type 0) (told : TextFault)
       → FeedsEvents {Done = Done} From Counts Ended b c lines after judges fed (Err told)
-      → RefusesHeld Errors (number_of (fault_of told)) (fault_of told) (format_by after) (front_of (unread_bytes after)) old new
+      → QuotesHeld Errors (number_of (fault_of told)) (fault_of told) (format_by after) (front_of (unread_bytes after)) old new
       → (all : List ℕ) × Tells From a all c × AnswersFed false Counts bounds asked Ended all (Err (fault_of told))
-      × RefusesLine Errors (number_of (fault_of told)) (fault_of told) all old new
+      × QuotesLine Errors (number_of (fault_of told)) (fault_of told) all old new
   answers-fault Errors old new Done told feeds held =
       let all = begins.bytes ++ feeds.bytes in
       let stop = feeds.fed begins.is.0 bounds asked [] begins.bytes begins.is.1 begins.is.2 in
@@ -118,7 +118,7 @@ module _ {S C : Type 0} (From : FromSource S) (Counts : CountsFor C) (First Ende
         all,
         Tells-more From a b c begins.bytes feeds.bytes begins.told feeds.told,
         (told, refl, text_fault-read Done trace_grammar Ended after begins.is.0 feeds.events all told read),
-        refused-read Errors Ended after all old new begins.is.0 feeds.events Done told read held,
+        quoted-read Errors Ended after all old new begins.is.0 feeds.events Done told read held,
       )
 
 -- a failed read is counted, and no other fault is

@@ -18,7 +18,7 @@ use Rattle.tmw_counts.specs.declared.summary.Summary.{Summary}
 use Rattle.tmw_monitor.specs.declared.bounds.Bounds.{Bounds}
 use Rattle.tmw_report.specs.declared.fault.Fault.{Fault}
 use Rattle.tmw_report.specs.CommandRun.{AnswersTextFault}
-use Rattle.tmw_report.specs.Refusal.{RemarksTrace}
+use Rattle.tmw_report.specs.Quote.{RemarksTrace}
 use Rattle.tmw_report.specs.Remark.{IsRemarkedRun}
 use Rattle.tmw_report.specs.SummaryLine.{summary_text}
 use Rattle.tmw_judge.specs.declared.answer.Answer.{Answer}

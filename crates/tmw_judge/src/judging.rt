@@ -6,7 +6,7 @@ ghost use Rattle.tmw_judge.specs.Answering.{Answers, AnswersBy};
 ghost use Rattle.tmw_judge.specs.Feeding.{AreFedAllRead, ReadsBeginning};
 ghost use Rattle.tmw_judge.specs.FeedingFirst.{AnswersFed, FeedsFor};
 ghost use Rattle.tmw_report.specs.CommandRun.{failures_after_answer};
-ghost use Rattle.tmw_report.specs.Refusal.{RemarksFault};
+ghost use Rattle.tmw_report.specs.Quote.{RemarksFault};
 
 use crate::answer::Answer;
 use crate::counting::{Counting, Uncounted};
@@ -20,7 +20,7 @@ use tmw_counts::Counter;
 use tmw_defs::Asked;
 use tmw_lines::TextFault;
 use tmw_monitor::Bounds;
-use tmw_report::{Fault, refuse};
+use tmw_report::{Fault, quote_fault};
 use tmw_streams::{Sink, Source};
 use tmw_trace::TraceLines;
 
@@ -86,11 +86,11 @@ fn feed_judges<S: Source, E: Sink, C: Counting>(
     let mut lines = TraceLines::new();
     let mut judges = match begin(alloc, &mut lines, source, options.bounds, options.asked) {
         Ok(judges) => judges,
-        Err(fault) => return Err(refuse(errors, &lines, fault)),
+        Err(fault) => return Err(quote_fault(errors, &lines, fault)),
     };
     match feed_for(&mut lines, source, &mut judges, options.first) {
         Ok(()) => Ok(judges),
-        Err(fault) => Err(refuse(errors, &lines, fault)),
+        Err(fault) => Err(quote_fault(errors, &lines, fault)),
     }
 }
 

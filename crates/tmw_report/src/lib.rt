@@ -5,7 +5,7 @@
 mod answer;
 mod fault;
 mod fault_line;
-mod refusal;
+mod quote;
 mod remark;
 mod report_line;
 mod status;
@@ -14,7 +14,7 @@ mod summary_line;
 pub use answer::{answer_fault, fault_of};
 pub use fault::Fault;
 pub use fault_line::write_fault;
-pub use refusal::refuse;
+pub use quote::quote_fault;
 pub use remark::send_remark;
 pub use report_line::{report_by, report_strict, report_text};
 pub use status::{FAULT_STATUS, both_status, status_of};

@@ -7,7 +7,7 @@ use Rattle.tmw_trace.specs.Text.{trace_grammar, trace_text, AreEvents}
 use Rattle.tmw_trace.specs.declared.header.Header.{Header}
 use Rattle.tmw_events.specs.declared.event.Event.{Event}
 use Rattle.tmw_monitor.specs.Fitting.{rules_for}
-use Rattle.tmw_report.specs.Refusal.{RemarksFault}
+use Rattle.tmw_report.specs.Quote.{RemarksFault}
 use Rattle.tmw_report.specs.declared.fault.Fault.{Fault}
 use Rattle.tmw_report.specs.declared.fault.Fault.TheVariants.{Memory}
 use Rattle.tmw_streams.specs.Streams.{ToSink}

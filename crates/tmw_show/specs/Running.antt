@@ -10,7 +10,7 @@ use Rattle.tmw_monitor.specs.Fitting.{rules_for}
 use Rattle.tmw_report.specs.declared.fault.Fault.{Fault}
 use Rattle.tmw_report.specs.Lines.{report_by, verdict_status}
 use Rattle.tmw_report.specs.CommandRun.{AnswersTextFault}
-use Rattle.tmw_report.specs.Refusal.{RemarksFault}
+use Rattle.tmw_report.specs.Quote.{RemarksFault}
 use Rattle.tmw_report.specs.Remark.{IsRemarkedRun}
 use Rattle.tmw_streams.specs.Streams.{FromSource, ToSink}
 use Rattle.tmw_window.specs.Showing.{IsShowing}

@@ -3,7 +3,7 @@ ghost use Rattle.tmw_report.specs.declared.fault.Fault.TheVariants.{Memory};
 ghost use Rattle.tmw_show.specs.Explaining.{IsShownFor};
 ghost use Rattle.tmw_streams.specs.Told.{Tells};
 ghost use Rattle.tmw_report.specs.CommandRun.{failures_after_answer};
-ghost use Rattle.tmw_report.specs.Refusal.{RemarksFault};
+ghost use Rattle.tmw_report.specs.Quote.{RemarksFault};
 ghost use Rattle.tmw_show.specs.Running.{AnswersShow};
 
 use crate::command::options::ShowOptions;
@@ -11,7 +11,7 @@ use crate::command::shown::Shown;
 use std::alloc::Global;
 use tmw_events::Registers;
 use tmw_lines::give_items;
-use tmw_report::{Fault, refuse};
+use tmw_report::{Fault, quote_fault};
 use tmw_streams::{Sink, Source};
 use tmw_trace::TraceLines;
 use tmw_window::{LastWindow, Showing};
@@ -34,7 +34,7 @@ pub fn show_trace<S: Source, E: Sink>(
     let mut lines = TraceLines::new();
     let header = match lines.header(source) {
         Ok(header) => header,
-        Err(fault) => return Err(refuse(errors, &lines, fault)),
+        Err(fault) => return Err(quote_fault(errors, &lines, fault)),
     };
     let Ok(mut window) = LastWindow::new(
         alloc,
@@ -47,7 +47,7 @@ pub fn show_trace<S: Source, E: Sink>(
     };
     match give_items(&mut lines, source, &mut window) {
         Ok(()) => explained(alloc, options, header.registers, window.finish()),
-        Err(fault) => Err(refuse(errors, &lines, fault)),
+        Err(fault) => Err(quote_fault(errors, &lines, fault)),
     }
 }
 

@@ -7,7 +7,7 @@ use Rattle.tmw_trace.specs.Text.{trace_grammar}
 use Rattle.tmw_monitor.specs.Fitting.{rules_for}
 use Rattle.tmw_window.specs.Feeding.{TakeEvents, LackAnEvent}
 use Rattle.tmw_window.specs.declared.last_window.LastWindow.{LastWindow}
-use Rattle.tmw_report.proofs.Refusals.{refused-first, refused-read}
+use Rattle.tmw_report.proofs.Quotes.{quoted-first, quoted-read}
 use Rattle.tmw_show.proofs.Explained.{explained-answers, explained-remarks}
 use Rattle.tmw_show.proofs.GivenFaults.{given-read}
 use Rattle.tmw_show.proofs.command.reading.show_trace.Goals as goal
@@ -20,12 +20,12 @@ returns-in_default-clause-right g c =
 pub returns-in-Err-clause-right : goal.returns-in-Err-clause-right
 returns-in-Err-clause-right g c =
     let first = c.in-Err.ensures.fault in
-    rw c.refuse.ensures.fault (
+    rw c.quote_fault.ensures.fault (
       first.0,
       first.1,
       (c.in-Err.fault, refl, text_fault-first trace_grammar (g.S.Source.from.ended c.header.new.source) first.0 c.in-Err.fault first.2),
-      refused-first g.E.Sink.to (g.S.Source.from.ended c.header.new.source) c.header.new.self first.0 c.args.errors.now
-          c.refuse.new.errors c.in-Err.fault first.2 first.3 c.refuse.ensures.told,
+      quoted-first g.E.Sink.to (g.S.Source.from.ended c.header.new.source) c.header.new.self first.0 c.args.errors.now
+          c.quote_fault.new.errors c.in-Err.fault first.2 first.3 c.quote_fault.ensures.told,
     )
 
 pub returns-in-Ok-give_items-clause-right : goal.returns-in-Ok-give_items-clause-right
@@ -52,7 +52,7 @@ returns-in-Err-give_items-clause-right g c =
     let bytes = first.0 ++ all.bytes in
     let read = given-read (Unit {0}) LastWindow TakeEvents LackAnEvent Ended c.header.new.self c.give_items.new.lines
     c.in-Ok-new.window c.give_items.new.taker c.in-Ok.header first.0 all.bytes all.items first.2 c.in-Err-give_items.fault all.given in
-    rw c.refuse-in-Err-give_items.ensures.fault (
+    rw c.quote_fault-in-Err-give_items.ensures.fault (
       bytes,
       Tells-more g.S.Source.from c.args.source.now c.header.new.source c.give_items.new.source first.0 all.bytes first.1 all.told,
       (
@@ -60,6 +60,6 @@ returns-in-Err-give_items-clause-right g c =
         refl,
         text_fault-read (Unit {0}) trace_grammar Ended c.give_items.new.lines c.in-Ok.header all.items bytes c.in-Err-give_items.fault read,
       ),
-      refused-read g.E.Sink.to Ended c.give_items.new.lines bytes c.args.errors.now c.refuse-in-Err-give_items.new.errors c.in-Ok.header
-          all.items (Unit {0}) c.in-Err-give_items.fault read c.refuse-in-Err-give_items.ensures.told,
+      quoted-read g.E.Sink.to Ended c.give_items.new.lines bytes c.args.errors.now c.quote_fault-in-Err-give_items.new.errors c.in-Ok.header
+          all.items (Unit {0}) c.in-Err-give_items.fault read c.quote_fault-in-Err-give_items.ensures.told,
     )

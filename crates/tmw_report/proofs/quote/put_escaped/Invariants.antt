@@ -1,7 +1,7 @@
 use Rattle.std.proofs.Common.{◌≡◌, take}
-use Rattle.tmw_report.specs.Refusal.{escaped}
+use Rattle.tmw_report.specs.Quote.{escaped}
 use Rattle.tmw_streams.specs.Told.{Takes}
-use Rattle.tmw_report.proofs.refusal.put_escaped.Given as goal
+use Rattle.tmw_report.proofs.quote.put_escaped.Given as goal
 
 abbrev pub invariant-loop-byte : goal.invariant-loop-byte
 invariant-loop-byte g l =

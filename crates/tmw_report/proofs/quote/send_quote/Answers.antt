@@ -1,9 +1,9 @@
 -- The line was put, or a beginning of it.
 use Rattle.std.proofs.Common.{◌≡◌, ◌∙◌, ℕ, List, Some, sym, subst, append-nil}
 use Rattle.tmw_report.specs.Putting.{IsSent}
-use Rattle.tmw_report.specs.Refusal.{number_of}
-use Rattle.tmw_report.proofs.Refusals.{sent-put}
-use Rattle.tmw_report.proofs.refusal.send_refusal.Goals as goal
+use Rattle.tmw_report.specs.Quote.{number_of}
+use Rattle.tmw_report.proofs.Quotes.{sent-put}
+use Rattle.tmw_report.proofs.quote.send_quote.Goals as goal
 
 pub returns : goal.returns
 returns g c =

@@ -2,8 +2,8 @@ ghost use Rattle.std.specs.Prelude.{◌≡◌, ◌<◌, ◌++◌, option_map};
 ghost use Rattle.tmw_lines.specs.Lines.{format_by, unread_bytes};
 ghost use Rattle.tmw_lines.specs.Text.{front_of};
 ghost use Rattle.tmw_report.specs.Putting.{fault_of};
-ghost use Rattle.tmw_report.specs.Refusal.{escaped, escaped_byte, hex_digit, number_of, quote_end, quoted, refusal_text, wrong_of};
-ghost use Rattle.tmw_report.specs.Refused.{RefusesHeld, text_of};
+ghost use Rattle.tmw_report.specs.Quote.{escaped, escaped_byte, hex_digit, number_of, quote_end, quoted, quote_text, wrong_of};
+ghost use Rattle.tmw_report.specs.Quoting.{QuotesHeld, text_of};
 ghost use Rattle.tmw_streams.specs.Told.{Puts};
 ghost use Rattle.tmw_trace.specs.Text.{version_digit};
 
@@ -19,7 +19,7 @@ const MOST_QUOTED: usize = 80;
 
 /// A line of a trace that has a fault.
 #[derive(Drop)]
-pub(crate) struct Refusal<'a> {
+pub(crate) struct Quote<'a> {
     number: u64,
     fault: Fault,
     version: Version,
@@ -27,46 +27,46 @@ pub(crate) struct Refusal<'a> {
 }
 
 /// The texts of such lines.
-struct RefusalTexts;
+struct QuoteTexts;
 
-impl Texts<Refusal<'_>> for RefusalTexts {
+impl Texts<Quote<'_>> for QuoteTexts {
     ghost text = { text_of };
 
-    fn put_text<K: Sink>(sink: &mut K, refusal: &Refusal<'_>) -> Result<(), IoFault> {
-        let wrong = wrong_of(refusal.fault, refusal.version);
-        put_numbered(sink, b"error: line ", refusal.number, wrong)?;
-        put_quoted(sink, refusal.line)
+    fn put_text<K: Sink>(sink: &mut K, quote: &Quote<'_>) -> Result<(), IoFault> {
+        let wrong = wrong_of(quote.fault, quote.version);
+        put_numbered(sink, b"error: line ", quote.number, wrong)?;
+        put_quoted(sink, quote.line)
     }
 }
 
 /// Returns the fault that reports a fault which the reader of a trace has returned. It tells on the sink for errors which
 /// line has the fault, what is wrong with that line and how it begins, as far as the sink takes it; and nothing of a fault
 /// that is at no line. It takes no memory.
-pub fn refuse<E: Sink>(errors: &mut E, lines: &TraceLines, fault: TextFault) -> Fault
+pub fn quote_fault<E: Sink>(errors: &mut E, lines: &TraceLines, fault: TextFault) -> Fault
     ensures fault { result ≡ fault_of fault }
-    ensures told { RefusesHeld E.to (number_of (fault_of fault)) (fault_of fault) (format_by lines.now)
-        (front_of (unread_bytes lines.now)) errors.old errors.new }
+    ensures told { QuotesHeld E.to (number_of (fault_of fault)) (fault_of fault)
+        (format_by lines.now) (front_of (unread_bytes lines.now)) errors.old errors.new }
 {
     let fault = fault_of(fault);
-    send_refusal(errors, lines, fault);
+    send_quote(errors, lines, fault);
     fault
 }
 
 /// Tells on the sink for errors which line has the fault.
-fn send_refusal<E: Sink>(errors: &mut E, lines: &TraceLines, fault: Fault)
-    ensures { RefusesHeld E.to (number_of fault) fault (format_by lines.now)
+fn send_quote<E: Sink>(errors: &mut E, lines: &TraceLines, fault: Fault)
+    ensures { QuotesHeld E.to (number_of fault) fault (format_by lines.now)
         (front_of (unread_bytes lines.now)) errors.old errors.new }
 {
     let Some(number) = number_of(fault) else {
         return;
     };
-    let refusal = Refusal {
+    let quote = Quote {
         number,
         fault,
         version: lines.format(),
         line: lines.front(),
     };
-    let _sent = put_lines::<RefusalTexts, Refusal<'_>, E>(errors, &[refusal]);
+    let _sent = put_lines::<QuoteTexts, Quote<'_>, E>(errors, &[quote]);
 }
 
 /// The number of the line that the fault is at.

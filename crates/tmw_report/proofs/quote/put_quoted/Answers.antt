@@ -1,9 +1,9 @@
 -- The bytes came after the first quote, and the end after them.
 use Rattle.std.proofs.Common.{◌∙◌, codes, take, ◌++◌, ap}
 use Rattle.std.proofs.lemmas.List.{take_min}
-use Rattle.tmw_report.specs.Refusal.{escaped, quote_end}
+use Rattle.tmw_report.specs.Quote.{escaped, quote_end}
 use Rattle.tmw_streams.proofs.Putting.{Puts-more, Puts-front}
-use Rattle.tmw_report.proofs.refusal.put_quoted.Goals as goal
+use Rattle.tmw_report.proofs.quote.put_quoted.Goals as goal
 
 pub returns-in_err-put_escaped : goal.returns-in_err-put_escaped
 returns-in_err-put_escaped g c =

@@ -45,8 +45,8 @@ wrong_of (Cut number) version = codes " has no line feed: "
 wrong_of _ version = codes " is no event of version " ++ (version ∷ codes ": ")
 
 -- the whole line that is told
-abbrev pub refusal_text : ℕ → Fault → ℕ → List ℕ → List ℕ
-refusal_text number fault version text =
+abbrev pub quote_text : ℕ → Fault → ℕ → List ℕ → List ℕ
+quote_text number fault version text =
     ((codes "error: line " ++ decimal number) ++ wrong_of fault version) ++ quoted text
 
 -- the digit of the version, which a trace's header tells behind its first word
@@ -54,15 +54,15 @@ abbrev pub version_in : List ℕ → ℕ
 version_in bytes = get_or bytes 14 0
 
 -- The sink for errors is told of the line that has the fault, and of a fault at no line nothing.
-abbrev pub RefusesLine : {E : Type 0} → ToSink E → Option ℕ → Fault → List ℕ → E → E → Type 0
-RefusesLine Errors None fault bytes old new = new ≡ old
-RefusesLine Errors (Some number) fault bytes old new =
-    IsSent Errors old new (line (refusal_text number fault (version_in bytes) (line_at number bytes)))
+abbrev pub QuotesLine : {E : Type 0} → ToSink E → Option ℕ → Fault → List ℕ → E → E → Type 0
+QuotesLine Errors None fault bytes old new = new ≡ old
+QuotesLine Errors (Some number) fault bytes old new =
+    IsSent Errors old new (line (quote_text number fault (version_in bytes) (line_at number bytes)))
 
 -- What a command that reads a trace tells the sink for errors of these bytes: that a run shows nothing, or which line has the fault.
 abbrev pub RemarksTrace : {E Found : Type 0} → ToSink E → (Found → Bool) → List ℕ → Result Found Fault → E → E → Type 0
 RemarksTrace Errors shows_nothing bytes (Ok found) old new = Remarks Errors (shows_nothing found) old new
-RemarksTrace Errors shows_nothing bytes (Err fault) old new = RefusesLine Errors (number_of fault) fault bytes old new
+RemarksTrace Errors shows_nothing bytes (Err fault) old new = QuotesLine Errors (number_of fault) fault bytes old new
 
 -- Only which line has the fault.
 abbrev pub RemarksFault : {E Found : Type 0} → ToSink E → List ℕ → Result Found Fault → E → E → Type 0

@@ -18,8 +18,8 @@ use Rattle.tmw_trace.specs.TextNames.{trace_naming}
 use Rattle.tmw_trace.specs.declared.header.Header.{Header}
 use Rattle.tmw_trace.specs.declared.version.Version.{Version}
 use Rattle.tmw_report.specs.Putting.{IsSent, fault_of}
-use Rattle.tmw_report.specs.Refusal.{number_of, quoted, version_in, wrong_of, RefusesLine}
-use Rattle.tmw_report.specs.Refused.{RefusesHeld}
+use Rattle.tmw_report.specs.Quote.{number_of, quoted, version_in, wrong_of, QuotesLine}
+use Rattle.tmw_report.specs.Quoting.{QuotesHeld}
 use Rattle.tmw_report.specs.declared.fault.Fault.{Fault}
 
 pub sent-put : {E A X : Type 0} (Errors : ToSink E) (old new : E) (text : List ℕ) (result : Result A X)
@@ -44,23 +44,23 @@ version-told header events rest = refl
 told-same : {E : Type 0} (Errors : ToSink E) (number : ℕ) (fault : Fault) (version : Version) (held bytes : List ℕ) (old new : E)
     → wrong_of fault (version_digit version) ≡ wrong_of fault (version_in bytes)
     → take 4096 held ≡ take 4096 (line_at number bytes)
-    → RefusesHeld Errors (Some number) fault version held old new → RefusesLine Errors (Some number) fault bytes old new
+    → QuotesHeld Errors (Some number) fault version held old new → QuotesLine Errors (Some number) fault bytes old new
 told-same Errors number fault version held bytes old new wrong same told =
     rw (← wrong, ← quoted-held held (line_at number bytes) same) told
 
 module _ {E : Type 0} (Errors : ToSink E) (Ended : Type 0) (lines : Lines Version) (bytes : List ℕ) (old new : E) where
   -- of a fault of the first line
-  pub refused-first : (told : TextFault) → HasFirstLineFault trace_grammar Ended bytes told → HoldsFront (unread_bytes lines) bytes
-      → RefusesHeld Errors (number_of (fault_of told)) (fault_of told) (format_by lines) (front_of (unread_bytes lines)) old new
-      → RefusesLine Errors (number_of (fault_of told)) (fault_of told) bytes old new
-  refused-first BadHeader has holds = told-same Errors 1 (fault_of BadHeader) (format_by lines) _ bytes old new refl holds
-  refused-first (BadLine number) has holds = absurd has
-  refused-first (Cut number) has holds =
+  pub quoted-first : (told : TextFault) → HasFirstLineFault trace_grammar Ended bytes told → HoldsFront (unread_bytes lines) bytes
+      → QuotesHeld Errors (number_of (fault_of told)) (fault_of told) (format_by lines) (front_of (unread_bytes lines)) old new
+      → QuotesLine Errors (number_of (fault_of told)) (fault_of told) bytes old new
+  quoted-first BadHeader has holds = told-same Errors 1 (fault_of BadHeader) (format_by lines) _ bytes old new refl holds
+  quoted-first (BadLine number) has holds = absurd has
+  quoted-first (Cut number) has holds =
       told-same Errors number (fault_of (Cut number)) (format_by lines) _ bytes old new refl
       (holds ∙ ap (λ n. take 4096 (line_at n bytes)) (sym has.1))
-  refused-first Memory has holds = λ told. told
-  refused-first Io has holds = λ told. told
-  refused-first TooLong has holds = λ told. told
+  quoted-first Memory has holds = λ told. told
+  quoted-first Io has holds = λ told. told
+  quoted-first TooLong has holds = λ told. told
 
   module _ (header : Header) (events : List Event) where
     behind : (number : ℕ) (told : TextFault) (f : FailsHolding trace_grammar Ended lines header events bytes told)
@@ -74,26 +74,26 @@ module _ {E : Type 0} (Errors : ToSink E) (Ended : Type 0) (lines : Lines Versio
     version told f = ap version_digit f.format ∙ version-told header events f.fails.rest ∙ ap version_in (sym f.fails.text)
 
     -- of a fault behind the lines of a header and of events
-    refused-behind : (told : TextFault) → FailsHolding trace_grammar Ended lines header events bytes told
-        → RefusesHeld Errors (number_of (fault_of told)) (fault_of told) (format_by lines) (front_of (unread_bytes lines)) old new
-        → RefusesLine Errors (number_of (fault_of told)) (fault_of told) bytes old new
-    refused-behind BadHeader f = absurd f.fails.line
-    refused-behind (BadLine number) f =
+    quoted-behind : (told : TextFault) → FailsHolding trace_grammar Ended lines header events bytes told
+        → QuotesHeld Errors (number_of (fault_of told)) (fault_of told) (format_by lines) (front_of (unread_bytes lines)) old new
+        → QuotesLine Errors (number_of (fault_of told)) (fault_of told) bytes old new
+    quoted-behind BadHeader f = absurd f.fails.line
+    quoted-behind (BadLine number) f =
         told-same Errors number (fault_of (BadLine number)) (format_by lines) _ bytes old new
         (ap (wrong_of (fault_of (BadLine number))) (version (BadLine number) f)) (behind number (BadLine number) f f.fails.line.1)
-    refused-behind (Cut number) f =
+    quoted-behind (Cut number) f =
         told-same Errors number (fault_of (Cut number)) (format_by lines) _ bytes old new refl
         (behind number (Cut number) f f.fails.line.1)
-    refused-behind Memory f = absurd f.fails.line
-    refused-behind Io f = λ told. told
-    refused-behind TooLong f = λ told. told
+    quoted-behind Memory f = absurd f.fails.line
+    quoted-behind Io f = λ told. told
+    quoted-behind TooLong f = λ told. told
 
-    pub refused-read : (Done : Type 0) (told : TextFault) → AreReadFor {Done = Done} trace_grammar Ended lines header events bytes (Err told)
-        → RefusesHeld Errors (number_of (fault_of told)) (fault_of told) (format_by lines) (front_of (unread_bytes lines)) old new
-        → RefusesLine Errors (number_of (fault_of told)) (fault_of told) bytes old new
-    refused-read Done BadHeader f = refused-behind BadHeader f
-    refused-read Done (BadLine number) f = refused-behind (BadLine number) f
-    refused-read Done (Cut number) f = refused-behind (Cut number) f
-    refused-read Done Memory f = λ told. told
-    refused-read Done Io f = refused-behind Io f
-    refused-read Done TooLong f = refused-behind TooLong f
+    pub quoted-read : (Done : Type 0) (told : TextFault) → AreReadFor {Done = Done} trace_grammar Ended lines header events bytes (Err told)
+        → QuotesHeld Errors (number_of (fault_of told)) (fault_of told) (format_by lines) (front_of (unread_bytes lines)) old new
+        → QuotesLine Errors (number_of (fault_of told)) (fault_of told) bytes old new
+    quoted-read Done BadHeader f = quoted-behind BadHeader f
+    quoted-read Done (BadLine number) f = quoted-behind (BadLine number) f
+    quoted-read Done (Cut number) f = quoted-behind (Cut number) f
+    quoted-read Done Memory f = λ told. told
+    quoted-read Done Io f = quoted-behind Io f
+    quoted-read Done TooLong f = quoted-behind TooLong f
