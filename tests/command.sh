@@ -229,9 +229,6 @@ for trace in "$top"/examples/*.trace; do
         count "show --criterion $criterion --trace < $(basename "$trace") | judge" "$shown" "$status"
     done
 done
-expect examples/stopped_writer.steps 4 '{"fault":"bad header"}' show
-expect examples/stopped_writer.steps 4 '{"fault":"bad header"}' judge --criterion both
-expect examples/stopped_writer.steps 4 '{"fault":"bad header"}' judge
 expect examples/stopped_writer.steps 0 "$(printf '%s\n' 'saw 0' cleared 'place 0' stopped 'not now' 'saw 0' cleared 'place 1' \
     filled 'published 1' 'not ready' 'not now' 'log 2 taken 0')" steps
 expect examples/dirty_read.trace 4 '{"fault":"bad header"}' steps
@@ -341,6 +338,11 @@ expect_usage "error: unexpected argument '--summary' found" show --summary
 expect_usage "error: unexpected argument 'further' found" judge further
 expect_usage "error: unexpected argument '--window' found" steps --window 3
 expect_usage 'error: a word of the command line is not UTF-8' judge $'\xff'
+# a file's name among the words: standard error ends with how the file is read
+for command in judge show steps; do
+    run "$command" examples/dirty_read.trace </dev/null
+    count "$command FILE" "4 $command reads standard input: tmwatch $command < FILE" "$status $(tail -n 1 "$folder/errors")"
+done
 
 expect_hostile '[' '[' '' '{"fault":"json"}'
 expect_hostile '{"registers":1,"scripts":[[]],"order":[]}' ' ' x '{"fault":"json"}'

@@ -54,20 +54,34 @@ opaque() {
 
 serial=$'0 W 0 1\n0 K\n0 T\n0 C\n1 R 0\n1 V 1\n1 T\n1 C'
 
+# A fault of a long line, and what `judge` says of it on standard error: what is wrong, and the line's first 80 bytes.
+long_fault() {
+    printf '4 {"fault":%s}' "$1"
+    [ "$command" != judge ] || printf '\nerror: line %s: "%s"...' "$2" "$3"
+}
+
 long_lines() {
-    local bytes=${BYTES:-1000000000}
+    local bytes=${BYTES:-1000000000} zeros command
+    zeros=$(copies 80 0)
     for command in judge steps; do
         local header='opacity-trace 1 1'
         [ "$command" = judge ] || header='ring-steps 1 4 2 100'
-        row "$command: a header of $bytes bytes" $little '4 {"fault":"bad header"}' $command < <(copies "$bytes" 0 && echo)
-        row "$command: the same, cut" $little '4 {"fault":"cut","line":1}' $command < <(copies "$bytes" 0)
-        row "$command: a line of $bytes bytes" $little '4 {"fault":"bad line","line":2}' $command \
+        row "$command: a header of $bytes bytes" $little "$(long_fault '"bad header"' '1 is no header of a trace' "$zeros")" $command \
+            < <(copies "$bytes" 0 && echo)
+        row "$command: the same, cut" $little "$(long_fault '"cut","line":1' '1 has no line feed' "$zeros")" $command \
+            < <(copies "$bytes" 0)
+        row "$command: a line of $bytes bytes" $little \
+            "$(long_fault '"bad line","line":2' '2 is no event of version 1' "$zeros")" $command \
             < <(echo "$header" && copies "$bytes" 0 && echo)
-        row "$command: the same, cut" $little '4 {"fault":"cut","line":2}' $command < <(echo "$header" && copies "$bytes" 0)
+        row "$command: the same, cut" $little "$(long_fault '"cut","line":2' '2 has no line feed' "$zeros")" $command \
+            < <(echo "$header" && copies "$bytes" 0)
     done
-    row "judge: 1,000 events, and an answer of $bytes digits" $little '4 {"fault":"bad line","line":1002}' judge \
+    command=judge
+    row "judge: 1,000 events, and an answer of $bytes digits" $little \
+        "$(long_fault '"bad line","line":1002' '1002 is no event of version 1' "0 V $(copies 76 1)")" judge \
         < <(repeated 1000 "$serial" && printf '0 V ' && copies "$bytes" 1 && echo)
-    row "judge: a violated run, and a line of $bytes spaces" $little '4 {"fault":"bad line","line":10}' judge \
+    row "judge: a violated run, and a line of $bytes spaces" $little \
+        "$(long_fault '"bad line","line":10' '10 is no event of version 1' "$(copies 80 ' ')")" judge \
         < <(cat "$top/examples/dirty_read.trace" && copies "$bytes" ' ' && echo)
 }
 
@@ -246,7 +260,7 @@ streams_of() {
     streams_row 'no standard input' '<&-' '4 {"fault":"io"}' "$@"
     streams_row 'a directory as standard input' '</' '4 {"fault":"io"}' "$@"
     streams_row 'standard input that is for writing' "0>'$folder/written'" '4 {"fault":"io"}' "$@"
-    streams_row 'an empty standard input' '</dev/null' "4 {\"fault\":\"$empty\"}" "$@"
+    streams_row 'an empty standard input' '</dev/null' "4 $empty" "$@"
     streams_row 'all closed' '<&- >&- 2>&-' '4 ' "$@"
 }
 
@@ -263,11 +277,12 @@ left_by_reader() {
 
 streams() {
     echo '{"registers":1,"scripts":[[["W 0 5","T"]]],"order":[0,0]}' >"$folder/workload"
-    streams_of "$top/examples/dirty_read.trace" 'bad header' judge
-    streams_of "$top/examples/dirty_read.trace" 'bad header' show
-    streams_of "$top/examples/stopped_writer.steps" 'bad header' steps
-    streams_of "$folder/workload" json drive --trace
-    streams_of "$folder/workload" json bench --trace
+    local headless='{"fault":"bad header"}'
+    streams_of "$top/examples/dirty_read.trace" "$headless"$'\nerror: line 1 is no header of a trace: ""' judge
+    streams_of "$top/examples/dirty_read.trace" "$headless"$'\nerror: line 1 is no header of a trace: ""' show
+    streams_of "$top/examples/stopped_writer.steps" "$headless" steps
+    streams_of "$folder/workload" '{"fault":"json"}' drive --trace
+    streams_of "$folder/workload" '{"fault":"json"}' bench --trace
     local help
     help=$("$program" --help)
     streams_row 'no standard input' '<&-' "0 $help" --help

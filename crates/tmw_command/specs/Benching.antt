@@ -7,7 +7,7 @@ use Rattle.tmw_bench.specs.declared.fault.BenchFault.TheVariants.{Memory as Lack
 use Rattle.tmw_bench.specs.declared.settings.Settings.{Settings}
 use Rattle.tmw_events.specs.declared.registers.Registers.{Registers}
 use Rattle.tmw_defs.specs.declared.criterion.Criterion.TheVariants.{Opacity}
-use Rattle.tmw_report.specs.Remark.{IsRemarkedRun}
+use Rattle.tmw_report.specs.Remark.{IsRemarkedRun, RemarksRun}
 use Rattle.tmw_show.specs.Explaining.{IsNeededOf}
 use Rattle.tmw_streams.specs.Streams.{FromSource, ToSink}
 use Rattle.tmw_report.specs.declared.fault.Fault.{Fault}
@@ -80,7 +80,7 @@ AnswersHunt memory options = AnswersBy (IsHuntedFrom memory options) memory.regi
 abbrev pub BenchesBytes : {S K E : Type 0} → FromSource S → ToSink K → ToSink E → MemoryIs → BenchOptions → S → S → K → K → E → E → ℕ → Type 0
 BenchesBytes From To Errors memory options source source_after sink sink_after errors errors_after status =
     MatchBool (asks_for_log options)
-    (IsRemarkedRun From To Errors (AnswersBench memory options.settings) (bench_text options) bench_status bench_shows_nothing
+    (IsRemarkedRun From To (AnswersBench memory options.settings) (bench_text options) bench_status (RemarksRun Errors bench_shows_nothing)
     source source_after sink sink_after errors errors_after status)
-    (IsRemarkedRun From To Errors (AnswersHunt memory options) (hunt_text options) hunt_status hunt_shows_nothing
+    (IsRemarkedRun From To (AnswersHunt memory options) (hunt_text options) hunt_status (RemarksRun Errors hunt_shows_nothing)
     source source_after sink sink_after errors errors_after status)

@@ -48,11 +48,11 @@ Silently Does old new status = Does old.source new.source old.sink new.sink stat
 abbrev pub Aloud : {S K E : Type 0} → (S → S → K → K → E → E → ℕ → Type 0) → Streams S K E → Streams S K E → ℕ → Type 0
 Aloud Does old new status = Does old.source new.source old.sink new.sink old.errors new.errors status
 
--- What the order's command does. Only `judge --summary` and `bench` may send something to the sink for errors: what a bench tells of
--- how far it has come goes elsewhere, and is in no clause.
+-- What the order's command does. Only `judge`, `show` and `bench` may send something to the sink for errors: what a bench tells of how
+-- far it has come goes elsewhere, and is in no clause.
 abbrev pub RunsOrder : {S K E : Type 0} → FromSource S → ToSink K → ToSink E → MemoriesAre → Order → Streams S K E → Streams S K E → ℕ → Type 0
 RunsOrder From To Errors memories (Judge options) = Aloud (JudgesWith From To Errors options)
-RunsOrder From To Errors memories (Show options) = Silently (ShowsBytes From To options)
+RunsOrder From To Errors memories (Show options) = Aloud (ShowsBytes From To Errors options)
 RunsOrder From To Errors memories (Drive memory written bounds) = Silently (DrivesBytes From To (memories memory) written bounds)
 RunsOrder From To Errors memories (Bench memory options) = Aloud (BenchesBytes From To Errors (memories memory) options)
 RunsOrder From To Errors memories Steps = Silently (RunsSteps From To)

@@ -105,7 +105,7 @@ fn run_order<S: Source, K: Sink, E: Sink, R: AllocGlobal + Threads + Wait + Sync
     let alloc = rt.alloc();
     match order {
         Order::Judge(options) => run_judge_with(alloc, source, sink, errors, options),
-        Order::Show(options) => run_show(alloc, source, sink, options),
+        Order::Show(options) => run_show(alloc, source, sink, errors, options),
         Order::Drive {
             memory,
             written,

@@ -1,28 +1,43 @@
 -- Judging a trace, by `--first` or to its end: its first line is read, then its events are fed, and what was told is what was read.
-use Rattle.std.proofs.Common.{◌≡◌, ℕ, Bool, true, false, List, Ok, Err}
+use Rattle.std.proofs.Common.{ℕ, Bool, true, false, List, Ok, Err}
+use Rattle.tmw_lines.specs.Lines.{format_by, unread_bytes}
+use Rattle.tmw_lines.specs.Text.{front_of}
 use Rattle.tmw_lines.specs.declared.lines.Lines.{Lines}
 use Rattle.tmw_lines.specs.declared.text_fault.TextFault.{TextFault}
-use Rattle.tmw_streams.specs.Streams.{FromSource}
+use Rattle.tmw_streams.specs.Streams.{FromSource, ToSink}
 use Rattle.tmw_streams.specs.Told.{Tells}
 use Rattle.tmw_trace.specs.declared.version.Version.{Version}
 use Rattle.tmw_defs.specs.declared.criterion.Asked.{Asked}
 use Rattle.tmw_monitor.specs.declared.bounds.Bounds.{Bounds}
-use Rattle.tmw_report.specs.declared.fault.Fault.{Fault}
 use Rattle.tmw_report.specs.Putting.{fault_of}
+use Rattle.tmw_report.specs.Quote.{number_of, QuotesLine}
+use Rattle.tmw_report.specs.Quoting.{QuotesHeld}
 use Rattle.tmw_judge.specs.Counted.{CountsFor}
 use Rattle.tmw_judge.specs.Feeding.{ReadsBeginning}
 use Rattle.tmw_judge.specs.FeedingFirst.{AnswersFed, FeedsFor}
 use Rattle.tmw_judge.specs.declared.judges.Judges.{Judges}
 use Rattle.tmw_judge.proofs.FirstTaken.{first-done, first-fault, first-unbegun}
-use Rattle.tmw_judge.proofs.Taken.{answers-end, answers-fault, answers-first}
+use Rattle.tmw_judge.proofs.Taken.{answers-end, answers-fault, answers-first, first-quoted}
 
 -- no trace was begun
-pub fed-unbegun : {S C : Type 0} (Counts : CountsFor C) (From : FromSource S) (Ended : Type 0) (a b : S) (lines : Lines Version)
-    (bounds : Bounds) (asked : Asked) (told : TextFault) (fault : Fault) (first : Bool)
-    → ReadsBeginning From Counts Ended a b lines bounds asked (Err told) → fault ≡ fault_of told
-    → (bytes : List ℕ) × Tells From a bytes b × AnswersFed first Counts bounds asked Ended bytes (Err fault)
-fed-unbegun Counts From Ended a b lines bounds asked told fault false = answers-first Counts From Ended a b lines bounds asked told fault
-fed-unbegun Counts From Ended a b lines bounds asked told fault true = first-unbegun Counts From Ended a b lines bounds asked told fault
+pub fed-unbegun : {S C E : Type 0} (Counts : CountsFor C) (From : FromSource S) (Errors : ToSink E) (Ended : Type 0) (a b : S)
+    (old new : E) (lines : Lines Version) (bounds : Bounds) (asked : Asked) (told : TextFault) (first : Bool)
+    → ReadsBeginning From Counts Ended a b lines bounds asked (Err told)
+    → QuotesHeld Errors (number_of (fault_of told)) (fault_of told) (format_by lines) (front_of (unread_bytes lines)) old new
+    → (bytes : List ℕ) × Tells From a bytes b × AnswersFed first Counts bounds asked Ended bytes (Err (fault_of told))
+    × QuotesLine Errors (number_of (fault_of told)) (fault_of told) bytes old new
+fed-unbegun Counts From Errors Ended a b old new lines bounds asked told false reads held = (
+  reads.bytes,
+  reads.told,
+  answers-first Counts Ended lines bounds asked reads.bytes told reads.is,
+  first-quoted Counts Errors Ended lines bounds asked reads.bytes old new told reads.is held,
+)
+fed-unbegun Counts From Errors Ended a b old new lines bounds asked told true reads held = (
+  reads.bytes,
+  reads.told,
+  first-unbegun Counts Ended lines bounds asked reads.bytes told reads.is,
+  first-quoted Counts Errors Ended lines bounds asked reads.bytes old new told reads.is held,
+)
 
 module _ {S C : Type 0} (From : FromSource S) (Counts : CountsFor C) (First Ended : Type 0) (a b c : S)
     (lines after : Lines Version) (bounds : Bounds) (asked : Asked) (judges fed : Judges C)
@@ -35,8 +50,12 @@ module _ {S C : Type 0} (From : FromSource S) (Counts : CountsFor C) (First Ende
   fed-done done true = first-done From Counts First Ended a b c lines after bounds asked judges fed begins done
 
   -- and then came a fault
-  pub fed-fault : (Done : Type 0) (told : TextFault) (fault : Fault) (first : Bool)
-      → FeedsFor {Done = Done} first From Counts Ended b c lines after judges fed (Err told) → fault ≡ fault_of told
-      → (all : List ℕ) × Tells From a all c × AnswersFed first Counts bounds asked Ended all (Err fault)
-  fed-fault Done told fault false = answers-fault From Counts First Ended a b c lines after bounds asked judges fed begins Done told fault
-  fed-fault Done told fault true = first-fault From Counts First Ended a b c lines after bounds asked judges fed begins Done told fault
+  pub fed-fault : {E : Type 0} (Errors : ToSink E) (old new : E) (Done : Type 0) (told : TextFault) (first : Bool)
+      → FeedsFor {Done = Done} first From Counts Ended b c lines after judges fed (Err told)
+      → QuotesHeld Errors (number_of (fault_of told)) (fault_of told) (format_by after) (front_of (unread_bytes after)) old new
+      → (all : List ℕ) × Tells From a all c × AnswersFed first Counts bounds asked Ended all (Err (fault_of told))
+      × QuotesLine Errors (number_of (fault_of told)) (fault_of told) all old new
+  fed-fault Errors old new Done told false =
+      answers-fault From Counts First Ended a b c lines after bounds asked judges fed begins Errors old new Done told
+  fed-fault Errors old new Done told true =
+      first-fault From Counts First Ended a b c lines after bounds asked judges fed begins Errors old new Done told

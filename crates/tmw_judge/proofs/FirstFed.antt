@@ -1,11 +1,11 @@
 -- Reading on to the event at which all verdicts are final.
 use Rattle.std.proofs.Common.{◌≡◌, ◌<◌, ◌^◌, ℕ, Ok, Err, true, false, List, [], ◌∷◌, ◌++◌, inl, inr, sym, ◌∙◌, append_assoc, append-nil, length-append, arith}
 use Rattle.tmw_lines.specs.Lines.{IsReading, HasRead, GivesItem, GivesEnd, FailsAtLine}
-use Rattle.tmw_lines.specs.ItemsRead.{FailsBehind}
+use Rattle.tmw_lines.specs.ItemsRead.{FailsHolding}
 use Rattle.tmw_lines.specs.declared.lines.Lines.{Lines}
 use Rattle.tmw_lines.specs.declared.text_fault.TextFault.{TextFault}
 use Rattle.tmw_lines.specs.declared.text_fault.TextFault.TheVariants.{BadHeader, BadLine, Cut, Memory, Io, TooLong}
-use Rattle.tmw_lines.proofs.LinesRead.{fails-behind}
+use Rattle.tmw_lines.proofs.LinesRead.{fails-holding}
 use Rattle.tmw_streams.specs.Streams.{FromSource}
 use Rattle.tmw_streams.specs.Told.{Tells}
 use Rattle.tmw_streams.proofs.ToldBytes.{Tells-none, Tells-more}
@@ -151,35 +151,35 @@ module _ {S C : Type 0} (From : FromSource S) (Counts : CountsFor C) (a : S) (li
             };
       }
 
-      fails-now : (Ended : Type 0) (bytes : List ℕ) (fault : TextFault) → FailsAtLine trace_grammar Ended now bytes fault
+      fails-now : (Ended : Type 0) (next : Lines Version) (bytes : List ℕ) (fault : TextFault)
+          → FailsAtLine trace_grammar Ended now next bytes fault
           → (header : Header) (given : List Event) (earlier : List ℕ) → HasRead trace_grammar lines header given earlier
-          → FailsBehind trace_grammar Ended header (given ++ h.events) (earlier ++ (h.bytes ++ bytes)) fault
-      fails-now Ended bytes fault fails header given earlier r =
-          let read = h.read header given earlier r in
-          rw (← append_assoc earlier h.bytes bytes) (fails-behind trace_grammar Ended now bytes fault (fails read.reading) header
-          (given ++ h.events) (earlier ++ h.bytes) read)
+          → FailsHolding trace_grammar Ended next header (given ++ h.events) (earlier ++ (h.bytes ++ bytes)) fault
+      fails-now Ended next bytes fault fails header given earlier r =
+          rw (← append_assoc earlier h.bytes bytes) (fails-holding trace_grammar Ended now next bytes fault fails header
+          (given ++ h.events) (earlier ++ h.bytes) (h.read header given earlier r))
 
       -- how a fault of the line behind the events fed answers
       fault-now : (Done : Type 0) (Ended : Type 0) (next : Lines Version) (bytes : List ℕ) (fault : TextFault)
-          → FailsAtLine trace_grammar Ended now bytes fault
+          → FailsAtLine trace_grammar Ended now next bytes fault
           → (header : Header) (bounds : Bounds) (asked : Asked) (given : List Event) (earlier : List ℕ)
           → HasRead trace_grammar lines header given earlier → AreJudged Counts header bounds asked given judges
           → AreReadFirst {Done = Done} Counts Ended next header bounds asked (given ++ h.events) (earlier ++ (h.bytes ++ bytes)) fed (Err fault)
       fault-now Done Ended next bytes BadHeader fails header bounds asked given earlier r was =
-          (fails-now Ended bytes BadHeader fails header given earlier r, open_now header bounds asked given was)
+          (fails-now Ended next bytes BadHeader fails header given earlier r, open_now header bounds asked given was)
       fault-now Done Ended next bytes (BadLine number) fails header bounds asked given earlier r was =
-          (fails-now Ended bytes (BadLine number) fails header given earlier r, open_now header bounds asked given was)
+          (fails-now Ended next bytes (BadLine number) fails header given earlier r, open_now header bounds asked given was)
       fault-now Done Ended next bytes (Cut number) fails header bounds asked given earlier r was =
-          (fails-now Ended bytes (Cut number) fails header given earlier r, open_now header bounds asked given was)
-      fault-now Done Ended next bytes Memory fails header bounds asked given earlier r was = absurd (fails (h.read header given earlier r).reading)
+          (fails-now Ended next bytes (Cut number) fails header given earlier r, open_now header bounds asked given was)
+      fault-now Done Ended next bytes Memory fails header bounds asked given earlier r was = absurd (fails (h.read header given earlier r).reading).0
       fault-now Done Ended next bytes Io fails header bounds asked given earlier r was =
-          (fails-now Ended bytes Io fails header given earlier r, open_now header bounds asked given was)
+          (fails-now Ended next bytes Io fails header given earlier r, open_now header bounds asked given was)
       fault-now Done Ended next bytes TooLong fails header bounds asked given earlier r was =
-          (fails-now Ended bytes TooLong fails header given earlier r, open_now header bounds asked given was)
+          (fails-now Ended next bytes TooLong fails header given earlier r, open_now header bounds asked given was)
 
       -- a fault was read
       pub feeds-fault : (Done : Type 0) (Ended : Type 0) (c : S) (next : Lines Version) (bytes : List ℕ) (fault : TextFault)
-          → Tells From b bytes c → FailsAtLine trace_grammar Ended now bytes fault
+          → Tells From b bytes c → FailsAtLine trace_grammar Ended now next bytes fault
           → FeedsFirst {Done = Done} From Counts Ended a c lines next judges fed (Err fault)
       feeds-fault Done Ended c next bytes fault told fails = record {
         bytes = h.bytes ++ bytes;

@@ -1,11 +1,12 @@
 -- Judging up to the first final verdict: the first line is read, then events are fed, and what was told is what was read.
-use Rattle.std.proofs.Common.{◌≡◌, ℕ, true, List, [], ◌∷◌, ◌++◌, Ok, Err, inl, inr}
-use Rattle.tmw_lines.specs.ItemsRead.{FailsBehind}
-use Rattle.tmw_lines.specs.Lines.{HasRead, unread_bytes}
+use Rattle.std.proofs.Common.{ℕ, true, List, [], ◌∷◌, ◌++◌, Ok, Err, inl, inr, refl}
+use Rattle.tmw_lines.specs.ItemsRead.{AreReadFor, FailsBehind}
+use Rattle.tmw_lines.specs.Lines.{HasRead, format_by, unread_bytes}
+use Rattle.tmw_lines.specs.Text.{front_of}
 use Rattle.tmw_lines.specs.declared.lines.Lines.{Lines}
 use Rattle.tmw_lines.specs.declared.text_fault.TextFault.{TextFault}
 use Rattle.tmw_lines.specs.declared.text_fault.TextFault.TheVariants.{BadHeader, BadLine, Cut, Memory, Io, TooLong}
-use Rattle.tmw_streams.specs.Streams.{FromSource}
+use Rattle.tmw_streams.specs.Streams.{FromSource, ToSink}
 use Rattle.tmw_streams.specs.Told.{Tells}
 use Rattle.tmw_streams.proofs.ToldBytes.{Tells-more}
 use Rattle.tmw_events.specs.declared.event.Event.{Event}
@@ -14,8 +15,10 @@ use Rattle.tmw_trace.specs.declared.header.Header.{Header}
 use Rattle.tmw_trace.specs.declared.version.Version.{Version}
 use Rattle.tmw_defs.specs.declared.criterion.Asked.{Asked}
 use Rattle.tmw_monitor.specs.declared.bounds.Bounds.{Bounds}
-use Rattle.tmw_report.specs.declared.fault.Fault.{Fault}
 use Rattle.tmw_report.specs.Putting.{fault_of}
+use Rattle.tmw_report.specs.Quote.{number_of, QuotesLine}
+use Rattle.tmw_report.specs.Quoting.{QuotesHeld}
+use Rattle.tmw_report.proofs.Quotes.{quoted-read}
 use Rattle.tmw_judge.specs.Feeding.{IsBeginning, ReadsBeginning}
 use Rattle.tmw_judge.specs.Answering.{AreOpen, AreOpenBefore, EndsSoonBehindOpen, HasFaultInTime}
 use Rattle.tmw_judge.specs.FeedingFirst.{AnswersFed, AreReadFirst, FeedsFirst}
@@ -44,13 +47,13 @@ module _ {C : Type 0} (Counts : CountsFor C) where
   -- the fault of the first line, or want of memory behind it, comes before any verdict
   first-in-time : (Ended : Type 0) (lines : Lines Version) (bounds : Bounds) (asked : Asked) (bytes : List ℕ) (fault : TextFault)
       → IsBeginning Counts Ended lines bounds asked bytes (Err fault) → HasFaultInTime bounds asked Ended bytes fault
-  first-in-time Ended lines bounds asked bytes BadHeader is = inl is
-  first-in-time Ended lines bounds asked bytes (BadLine number) is = inl is
-  first-in-time Ended lines bounds asked bytes (Cut number) is = inl is
+  first-in-time Ended lines bounds asked bytes BadHeader is = inl is.0
+  first-in-time Ended lines bounds asked bytes (BadLine number) is = inl is.0
+  first-in-time Ended lines bounds asked bytes (Cut number) is = inl is.0
   first-in-time Ended lines bounds asked bytes Memory is =
       soon-open lines is.0 bounds asked [] bytes is.1 (AreOpenBefore-none is.0 bounds asked)
-  first-in-time Ended lines bounds asked bytes Io is = inl is
-  first-in-time Ended lines bounds asked bytes TooLong is = inl is
+  first-in-time Ended lines bounds asked bytes Io is = inl is.0
+  first-in-time Ended lines bounds asked bytes TooLong is = inl is.0
 
   behind-in-time : (Ended : Type 0) (header : Header) (bounds : Bounds) (asked : Asked) (history : List Event) (bytes : List ℕ)
       (fault : TextFault) → FailsBehind trace_grammar Ended header history bytes fault → AreOpen header bounds asked history
@@ -72,25 +75,34 @@ module _ {C : Type 0} (Counts : CountsFor C) where
       → AreReadFirst {Done = Done} Counts Ended lines header bounds asked history bytes judges (Err fault)
       → HasFaultInTime bounds asked Ended bytes fault
   fault-in-time Done Ended lines header bounds asked history bytes judges BadHeader is =
-      behind-in-time Ended header bounds asked history bytes BadHeader is.0 is.1
+      behind-in-time Ended header bounds asked history bytes BadHeader is.0.fails is.1
   fault-in-time Done Ended lines header bounds asked history bytes judges (BadLine number) is =
-      behind-in-time Ended header bounds asked history bytes (BadLine number) is.0 is.1
+      behind-in-time Ended header bounds asked history bytes (BadLine number) is.0.fails is.1
   fault-in-time Done Ended lines header bounds asked history bytes judges (Cut number) is =
-      behind-in-time Ended header bounds asked history bytes (Cut number) is.0 is.1
+      behind-in-time Ended header bounds asked history bytes (Cut number) is.0.fails is.1
   fault-in-time Done Ended lines header bounds asked history bytes judges Memory is =
       soon-open lines header bounds asked (history ++ is.0.last ∷ []) bytes is.0.read is.1
   fault-in-time Done Ended lines header bounds asked history bytes judges Io is =
-      behind-in-time Ended header bounds asked history bytes Io is.0 is.1
+      behind-in-time Ended header bounds asked history bytes Io is.0.fails is.1
   fault-in-time Done Ended lines header bounds asked history bytes judges TooLong is =
-      behind-in-time Ended header bounds asked history bytes TooLong is.0 is.1
+      behind-in-time Ended header bounds asked history bytes TooLong is.0.fails is.1
+
+  read-of-first : (Done : Type 0) (Ended : Type 0) (lines : Lines Version) (header : Header) (bounds : Bounds) (asked : Asked)
+      (history : List Event) (bytes : List ℕ) (judges : Judges C) (fault : TextFault)
+      → AreReadFirst {Done = Done} Counts Ended lines header bounds asked history bytes judges (Err fault)
+      → AreReadFor {Done = Done} trace_grammar Ended lines header history bytes (Err fault)
+  read-of-first Done Ended lines header bounds asked history bytes judges BadHeader is = is.0
+  read-of-first Done Ended lines header bounds asked history bytes judges (BadLine number) is = is.0
+  read-of-first Done Ended lines header bounds asked history bytes judges (Cut number) is = is.0
+  read-of-first Done Ended lines header bounds asked history bytes judges Memory is = is.0
+  read-of-first Done Ended lines header bounds asked history bytes judges Io is = is.0
+  read-of-first Done Ended lines header bounds asked history bytes judges TooLong is = is.0
 
   -- no trace was begun
-  pub first-unbegun : {S : Type 0} (From : FromSource S) (Ended : Type 0) (a b : S)
-      (lines : Lines Version) (bounds : Bounds) (asked : Asked) (told : TextFault) (fault : Fault)
-      → ReadsBeginning From Counts Ended a b lines bounds asked (Err told) → fault ≡ fault_of told
-      → (bytes : List ℕ) × Tells From a bytes b × AnswersFed true Counts bounds asked Ended bytes (Err fault)
-  first-unbegun From Ended a b lines bounds asked told fault reads is =
-      (reads.bytes, reads.told, (told, is, first-in-time Ended lines bounds asked reads.bytes told reads.is))
+  pub first-unbegun : (Ended : Type 0) (lines : Lines Version) (bounds : Bounds) (asked : Asked) (bytes : List ℕ) (told : TextFault)
+      → IsBeginning Counts Ended lines bounds asked bytes (Err told)
+      → AnswersFed true Counts bounds asked Ended bytes (Err (fault_of told))
+  first-unbegun Ended lines bounds asked bytes told is = (told, refl, first-in-time Ended lines bounds asked bytes told is)
 
 module _ {S C : Type 0} (From : FromSource S) (Counts : CountsFor C) (First Ended : Type 0) (a b c : S)
     (lines after : Lines Version) (bounds : Bounds) (asked : Asked) (judges fed : Judges C)
@@ -121,16 +133,17 @@ module _ {S C : Type 0} (From : FromSource S) (Counts : CountsFor C) (First Ende
   )
 
   -- and then came a fault
-  pub first-fault : (Done : Type 0) (told : TextFault) (fault : Fault)
-      → FeedsFirst {Done = Done} From Counts Ended b c lines after judges fed (Err told) → fault ≡ fault_of told
-      → (all : List ℕ) × Tells From a all c × AnswersFed true Counts bounds asked Ended all (Err fault)
-  first-fault Done told fault feeds is = (
-    begins.bytes ++ feeds.bytes,
-    Tells-more From a b c begins.bytes feeds.bytes begins.told feeds.told,
-    (
-      told,
-      is,
-      fault-in-time Counts Done Ended after begins.is.0 bounds asked feeds.events (begins.bytes ++ feeds.bytes) fed told
-          (feeds.fed begins.is.0 bounds asked [] begins.bytes begins.is.1 begins.is.2 (AreOpenBefore-none begins.is.0 bounds asked)),
-    ),
-  )
+  pub first-fault : {E : Type 0} (Errors : ToSink E) (old new : E) (Done : Type 0) (told : TextFault)
+      → FeedsFirst {Done = Done} From Counts Ended b c lines after judges fed (Err told)
+      → QuotesHeld Errors (number_of (fault_of told)) (fault_of told) (format_by after) (front_of (unread_bytes after)) old new
+      → (all : List ℕ) × Tells From a all c × AnswersFed true Counts bounds asked Ended all (Err (fault_of told))
+      × QuotesLine Errors (number_of (fault_of told)) (fault_of told) all old new
+  first-fault Errors old new Done told feeds held =
+      let all = begins.bytes ++ feeds.bytes in
+      let stop = feeds.fed begins.is.0 bounds asked [] begins.bytes begins.is.1 begins.is.2 (AreOpenBefore-none begins.is.0 bounds asked) in
+      let read = read-of-first Counts Done Ended after begins.is.0 bounds asked feeds.events all fed told stop in (
+        all,
+        Tells-more From a b c begins.bytes feeds.bytes begins.told feeds.told,
+        (told, refl, fault-in-time Counts Done Ended after begins.is.0 bounds asked feeds.events all fed told stop),
+        quoted-read Errors Ended after all old new begins.is.0 feeds.events Done told read held,
+      )

@@ -6,7 +6,9 @@ use Rattle.tmw_lines.specs.declared.lines.Lines.{Lines}
 use Rattle.tmw_lines.specs.declared.text_fault.TextFault.{TextFault}
 use Rattle.tmw_lines.specs.declared.text_fault.TextFault.TheVariants.{BadHeader, BadLine, Cut, Memory, Io, TooLong}
 use Rattle.tmw_lines.proofs.TextsRead.{soon-behind, text_fault-first, text_fault-read}
-use Rattle.tmw_streams.specs.Streams.{FromSource}
+use Rattle.tmw_lines.specs.Lines.{format_by, unread_bytes}
+use Rattle.tmw_lines.specs.Text.{front_of}
+use Rattle.tmw_streams.specs.Streams.{FromSource, ToSink}
 use Rattle.tmw_streams.specs.Told.{Tells}
 use Rattle.tmw_streams.proofs.ToldBytes.{Tells-more}
 use Rattle.tmw_events.specs.declared.event.Event.{Event}
@@ -18,6 +20,9 @@ use Rattle.tmw_monitor.specs.declared.bounds.Bounds.{Bounds}
 use Rattle.tmw_report.specs.declared.fault.Fault.{Fault}
 use Rattle.tmw_report.specs.Putting.{fault_of}
 use Rattle.tmw_report.specs.CommandRun.{failures_after_answer}
+use Rattle.tmw_report.specs.Quote.{number_of, QuotesLine}
+use Rattle.tmw_report.specs.Quoting.{QuotesHeld}
+use Rattle.tmw_report.proofs.Quotes.{quoted-first, quoted-read}
 use Rattle.tmw_judge.specs.Feeding.{IsBeginning, ReadsBeginning, AreFedAllRead, AreReadAndFed, FeedsEvents}
 use Rattle.tmw_judge.specs.Counted.{CountsFor}
 use Rattle.tmw_judge.specs.declared.judges.Judges.{Judges}
@@ -27,12 +32,26 @@ module _ {C : Type 0} (Counts : CountsFor C) where
   -- the fault of the first line, or want of memory behind it, is the text's
   first-fault : (Ended : Type 0) (lines : Lines Version) (bounds : Bounds) (asked : Asked) (bytes : List ℕ) (fault : TextFault)
       → IsBeginning Counts Ended lines bounds asked bytes (Err fault) → HasTextFault trace_grammar Ended bytes fault
-  first-fault Ended lines bounds asked bytes BadHeader is = text_fault-first trace_grammar Ended bytes BadHeader is
-  first-fault Ended lines bounds asked bytes (BadLine number) is = text_fault-first trace_grammar Ended bytes (BadLine number) is
-  first-fault Ended lines bounds asked bytes (Cut number) is = text_fault-first trace_grammar Ended bytes (Cut number) is
+  first-fault Ended lines bounds asked bytes BadHeader is = text_fault-first trace_grammar Ended bytes BadHeader is.0
+  first-fault Ended lines bounds asked bytes (BadLine number) is = text_fault-first trace_grammar Ended bytes (BadLine number) is.0
+  first-fault Ended lines bounds asked bytes (Cut number) is = text_fault-first trace_grammar Ended bytes (Cut number) is.0
   first-fault Ended lines bounds asked bytes Memory is = soon-behind trace_grammar lines is.0 [] bytes is.1
-  first-fault Ended lines bounds asked bytes Io is = text_fault-first trace_grammar Ended bytes Io is
-  first-fault Ended lines bounds asked bytes TooLong is = text_fault-first trace_grammar Ended bytes TooLong is
+  first-fault Ended lines bounds asked bytes Io is = text_fault-first trace_grammar Ended bytes Io is.0
+  first-fault Ended lines bounds asked bytes TooLong is = text_fault-first trace_grammar Ended bytes TooLong is.0
+
+  -- of the first line's fault is told as much
+  pub first-quoted : {E : Type 0} (Errors : ToSink E) (Ended : Type 0) (lines : Lines Version) (bounds : Bounds) (asked : Asked)
+      (bytes : List ℕ) (old new : E) (told : TextFault) → IsBeginning Counts Ended lines bounds asked bytes (Err told)
+      → QuotesHeld Errors (number_of (fault_of told)) (fault_of told) (format_by lines) (front_of (unread_bytes lines)) old new
+      → QuotesLine Errors (number_of (fault_of told)) (fault_of told) bytes old new
+  first-quoted Errors Ended lines bounds asked bytes old new BadHeader is =
+      quoted-first Errors Ended lines bytes old new BadHeader is.0 is.1
+  first-quoted Errors Ended lines bounds asked bytes old new (BadLine number) is = absurd is.0
+  first-quoted Errors Ended lines bounds asked bytes old new (Cut number) is =
+      quoted-first Errors Ended lines bytes old new (Cut number) is.0 is.1
+  first-quoted Errors Ended lines bounds asked bytes old new Memory is = λ held. held
+  first-quoted Errors Ended lines bounds asked bytes old new Io is = λ held. held
+  first-quoted Errors Ended lines bounds asked bytes old new TooLong is = absurd is.0
 
   -- what was read, whatever was fed of it
   read-of-fed : (Done : Type 0) (Ended : Type 0) (lines : Lines Version) (header : Header) (bounds : Bounds) (asked : Asked)
@@ -47,12 +66,10 @@ module _ {C : Type 0} (Counts : CountsFor C) where
   read-of-fed Done Ended lines header bounds asked history bytes judges TooLong is = is.0
 
   -- no trace was begun
-  pub answers-first : {S : Type 0} (From : FromSource S) (Ended : Type 0) (a b : S)
-      (lines : Lines Version) (bounds : Bounds) (asked : Asked) (told : TextFault) (fault : Fault)
-      → ReadsBeginning From Counts Ended a b lines bounds asked (Err told) → fault ≡ fault_of told
-      → (bytes : List ℕ) × Tells From a bytes b × AnswersFed false Counts bounds asked Ended bytes (Err fault)
-  answers-first From Ended a b lines bounds asked told fault reads is =
-      (reads.bytes, reads.told, (told, is, first-fault Ended lines bounds asked reads.bytes told reads.is))
+  pub answers-first : (Ended : Type 0) (lines : Lines Version) (bounds : Bounds) (asked : Asked) (bytes : List ℕ) (told : TextFault)
+      → IsBeginning Counts Ended lines bounds asked bytes (Err told)
+      → AnswersFed false Counts bounds asked Ended bytes (Err (fault_of told))
+  answers-first Ended lines bounds asked bytes told is = (told, refl, first-fault Ended lines bounds asked bytes told is)
 
   -- a trace was begun
   pub begun-fed : {S : Type 0} (From : FromSource S) (Ended : Type 0) (a b : S)
@@ -89,19 +106,19 @@ module _ {S C : Type 0} (From : FromSource S) (Counts : CountsFor C) (First Ende
       )
 
   -- and then came a fault
-  pub answers-fault : (Done : Type 0) (told : TextFault) (fault : Fault)
-      → FeedsEvents {Done = Done} From Counts Ended b c lines after judges fed (Err told) → fault ≡ fault_of told
-      → (all : List ℕ) × Tells From a all c × AnswersFed false Counts bounds asked Ended all (Err fault)
-  answers-fault Done told fault feeds is =
-      let stop = feeds.fed begins.is.0 bounds asked [] begins.bytes begins.is.1 begins.is.2 in (
-        begins.bytes ++ feeds.bytes,
+  pub answers-fault : {E : Type 0} (Errors : ToSink E) (old new : E) (Done : Type 0) (told : TextFault)
+      → FeedsEvents {Done = Done} From Counts Ended b c lines after judges fed (Err told)
+      → QuotesHeld Errors (number_of (fault_of told)) (fault_of told) (format_by after) (front_of (unread_bytes after)) old new
+      → (all : List ℕ) × Tells From a all c × AnswersFed false Counts bounds asked Ended all (Err (fault_of told))
+      × QuotesLine Errors (number_of (fault_of told)) (fault_of told) all old new
+  answers-fault Errors old new Done told feeds held =
+      let all = begins.bytes ++ feeds.bytes in
+      let stop = feeds.fed begins.is.0 bounds asked [] begins.bytes begins.is.1 begins.is.2 in
+      let read = read-of-fed Counts Done Ended after begins.is.0 bounds asked feeds.events all fed told stop in (
+        all,
         Tells-more From a b c begins.bytes feeds.bytes begins.told feeds.told,
-        (
-          told,
-          is,
-          text_fault-read Done trace_grammar Ended after begins.is.0 feeds.events (begins.bytes ++ feeds.bytes) told
-              (read-of-fed Counts Done Ended after begins.is.0 bounds asked feeds.events (begins.bytes ++ feeds.bytes) fed told stop),
-        ),
+        (told, refl, text_fault-read Done trace_grammar Ended after begins.is.0 feeds.events all told read),
+        quoted-read Errors Ended after all old new begins.is.0 feeds.events Done told read held,
       )
 
 -- a failed read is counted, and no other fault is

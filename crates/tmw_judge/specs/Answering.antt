@@ -18,6 +18,7 @@ use Rattle.tmw_counts.specs.declared.summary.Summary.{Summary}
 use Rattle.tmw_monitor.specs.declared.bounds.Bounds.{Bounds}
 use Rattle.tmw_report.specs.declared.fault.Fault.{Fault}
 use Rattle.tmw_report.specs.CommandRun.{AnswersTextFault}
+use Rattle.tmw_report.specs.Quote.{RemarksTrace}
 use Rattle.tmw_report.specs.Remark.{IsRemarkedRun}
 use Rattle.tmw_report.specs.SummaryLine.{summary_text}
 use Rattle.tmw_judge.specs.declared.answer.Answer.{Answer}
@@ -132,6 +133,7 @@ none_overlapped (Some summary) = summary.none_overlapped
 abbrev pub shows_nothing : Answer → Bool
 shows_nothing answer = all_open (told_verdicts answer.reports) && none_overlapped answer.summary
 
--- What a run of `judge` does. The sink for errors is told where the run shows nothing.
+-- What a run of `judge` does. The sink for errors is told where the run shows nothing, and which line has a fault.
 abbrev pub JudgesWith : {S K E : Type 0} → FromSource S → ToSink K → ToSink E → Options → S → S → K → K → E → E → ℕ → Type 0
-JudgesWith From To Errors options = IsRemarkedRun From To Errors (Answers options) judged_lines judged_status shows_nothing
+JudgesWith From To Errors options =
+    IsRemarkedRun From To (Answers options) judged_lines judged_status (RemarksTrace Errors shows_nothing)

@@ -1,7 +1,8 @@
 -- What is read where the events of a trace are fed to its judges as their lines are read, and what the judges have taken of it.
 use Rattle.std.specs.Prelude.{◌≡◌, ◌⊎◌, ℕ, Result, Ok, Err, List, [], ◌∷◌, ◌++◌, length}
-use Rattle.tmw_lines.specs.ItemsRead.{EndsBehind, FailsBehind, StopsBehind}
-use Rattle.tmw_lines.specs.Lines.{HasRead}
+use Rattle.tmw_lines.specs.ItemsRead.{EndsBehind, FailsHolding, StopsBehind}
+use Rattle.tmw_lines.specs.Lines.{HasRead, unread_bytes}
+use Rattle.tmw_lines.specs.Text.{HoldsFront}
 use Rattle.tmw_lines.specs.TextFault.{HasFirstLineFault}
 use Rattle.tmw_lines.specs.declared.lines.Lines.{Lines}
 use Rattle.tmw_lines.specs.declared.text_fault.TextFault.{TextFault}
@@ -62,7 +63,8 @@ abbrev pub IsBeginning : {C : Type 0} → CountsFor C → Type 0 → Lines Versi
 IsBeginning Counts Ended lines bounds asked bytes (Ok judges) =
     (header : Header) × HasRead trace_grammar lines header [] bytes × AreJudged Counts header bounds asked [] judges
 IsBeginning Counts Ended lines bounds asked bytes (Err Memory) = (header : Header) × HasRead trace_grammar lines header [] bytes
-IsBeginning Counts Ended lines bounds asked bytes (Err fault) = HasFirstLineFault trace_grammar Ended bytes fault
+IsBeginning Counts Ended lines bounds asked bytes (Err fault) =
+    HasFirstLineFault trace_grammar Ended bytes fault × HoldsFront (unread_bytes lines) bytes
 
 -- What the source told is what was read so.
 pub record ReadsBeginning {S C : Type 0} (From : FromSource S) (Counts : CountsFor C) (Ended : Type 0) (old new : S)
@@ -90,7 +92,7 @@ AreReadAndFed Counts Ended lines header bounds asked history bytes judges (Ok do
 AreReadAndFed Counts Ended lines header bounds asked history bytes judges (Err Memory) =
     (stop : StopsBehind trace_grammar lines header history bytes) × LackEvent header bounds asked history stop.last judges.monitors
 AreReadAndFed Counts Ended lines header bounds asked history bytes judges (Err fault) =
-    FailsBehind trace_grammar Ended header history bytes fault × AreJudged Counts header bounds asked history judges
+    FailsHolding trace_grammar Ended lines header history bytes fault × AreJudged Counts header bounds asked history judges
 
 -- What the source told makes, behind whatever had been read and fed before, lines of events that were fed.
 pub record FeedsEvents {S C Done : Type 0} (From : FromSource S) (Counts : CountsFor C) (Ended : Type 0) (old new : S)

@@ -1,6 +1,6 @@
 -- What is read where the events of a trace are fed to its judges up to the one at which all verdicts are final.
 use Rattle.std.specs.Prelude.{◌≡◌, ◌⊎◌, ◌++◌, ℕ, Bool, true, false, Result, Ok, Err, List, [], ◌∷◌}
-use Rattle.tmw_lines.specs.ItemsRead.{EndsBehind, FailsBehind, StopsBehind}
+use Rattle.tmw_lines.specs.ItemsRead.{EndsBehind, FailsHolding, StopsBehind}
 use Rattle.tmw_lines.specs.Lines.{HasRead}
 use Rattle.tmw_lines.specs.declared.lines.Lines.{Lines}
 use Rattle.tmw_lines.specs.declared.text_fault.TextFault.{TextFault}
@@ -45,7 +45,7 @@ AreReadFirst Counts Ended lines header bounds asked history bytes judges (Ok don
 AreReadFirst Counts Ended lines header bounds asked history bytes judges (Err Memory) =
     (stop : StopsBehind trace_grammar lines header history bytes) × AreOpenBefore header bounds asked (history ++ stop.last ∷ [])
 AreReadFirst Counts Ended lines header bounds asked history bytes judges (Err fault) =
-    FailsBehind trace_grammar Ended header history bytes fault × AreOpen header bounds asked history
+    FailsHolding trace_grammar Ended lines header history bytes fault × AreOpen header bounds asked history
 
 -- What the source told makes, behind whatever had been read and fed before, lines of events that were fed.
 pub record FeedsFirst {S C Done : Type 0} (From : FromSource S) (Counts : CountsFor C) (Ended : Type 0) (old new : S)

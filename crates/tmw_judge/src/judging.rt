@@ -6,6 +6,7 @@ ghost use Rattle.tmw_judge.specs.Answering.{Answers, AnswersBy};
 ghost use Rattle.tmw_judge.specs.Feeding.{AreFedAllRead, ReadsBeginning};
 ghost use Rattle.tmw_judge.specs.FeedingFirst.{AnswersFed, FeedsFor};
 ghost use Rattle.tmw_report.specs.CommandRun.{failures_after_answer};
+ghost use Rattle.tmw_report.specs.Quote.{RemarksFault};
 
 use crate::answer::Answer;
 use crate::counting::{Counting, StrictUncounted, Uncounted};
@@ -19,75 +20,79 @@ use tmw_counts::Counter;
 use tmw_defs::Asked;
 use tmw_lines::TextFault;
 use tmw_monitor::Bounds;
-use tmw_report::{Fault, fault_of};
-use tmw_streams::Source;
+use tmw_report::{Fault, quote_fault};
+use tmw_streams::{Sink, Source};
 use tmw_trace::TraceLines;
 
 /// Reads a trace up to the source's end, or by `first` up to the event at which all verdicts are final, and judges each
 /// event as its line is read, by each requested criterion. No event is kept, so the memory depends on the transactions
-/// since the last cut and not on the trace's length. After a failed allocation nothing more is read.
-pub fn judge<S: Source>(alloc: Global, source: &mut S, options: Options) -> Result<Answer, Fault>
+/// since the last cut and not on the trace's length. After a failed allocation nothing more is read. The sink for errors
+/// is told which line has a fault.
+pub fn judge<S: Source, E: Sink>(
+    alloc: Global,
+    source: &mut S,
+    errors: &mut E,
+    options: Options,
+) -> Result<Answer, Fault>
     ensures right { (bytes : List ℕ) × Tells S.from source.old bytes source.new
-        × Answers options (S.from.ended source.new) bytes result }
+        × Answers options (S.from.ended source.new) bytes result
+        × RemarksFault E.to bytes result errors.old errors.new }
     ensures failures { S.from.failures source.new ≡ failures_after_answer result
         (S.from.failures source.old) }
 {
-    let Options {
-        bounds,
-        asked,
-        first,
-        summary,
-    } = options;
-    match (summary, asked) {
-        (true, _) => judge_by::<S, Counter>(alloc, source, bounds, asked, first),
-        (false, Asked::Strict) => judge_by::<S, StrictUncounted>(
-            alloc, source, bounds, asked, first,
-        ),
-        (false, _) => judge_by::<S, Uncounted>(alloc, source, bounds, asked, first),
+    match (options.summary, options.asked) {
+        (true, _) => judge_by::<S, E, Counter>(alloc, source, errors, options),
+        (false, Asked::Strict) => {
+            judge_by::<S, E, StrictUncounted>(alloc, source, errors, options)
+        }
+        (false, _) => judge_by::<S, E, Uncounted>(alloc, source, errors, options),
     }
 }
 
 /// Judges a trace, and counts by `C` the events of the longest part that a verdict covers.
-fn judge_by<S: Source, C: Counting>(
+fn judge_by<S: Source, E: Sink, C: Counting>(
     alloc: Global,
     source: &mut S,
-    bounds: Bounds,
-    asked: Asked,
-    first: bool,
+    errors: &mut E,
+    options: Options,
 ) -> Result<Answer, Fault>
     ensures right { (bytes : List ℕ) × Tells S.from source.old bytes source.new
-        × AnswersBy first C.counted bounds asked (S.from.ended source.new) bytes result }
+        × AnswersBy options.first C.counted options.bounds options.asked (S.from.ended source.new)
+        bytes result
+        × RemarksFault E.to bytes result errors.old errors.new }
     ensures failures { S.from.failures source.new ≡ failures_after_answer result
         (S.from.failures source.old) }
 {
-    let judges = feed_judges::<S, C>(alloc, source, bounds, asked, first)?;
+    let judges = feed_judges::<S, E, C>(alloc, source, errors, options)?;
     Ok(Answer {
         reports: reports_of(&judges.monitors),
         summary: judges.counting.summary(),
     })
 }
 
-/// Reads a trace, and feeds its events to the judges that are made for it.
-fn feed_judges<S: Source, C: Counting>(
+/// Reads a trace, and feeds its events to the judges that are made for it. The sink for errors is told which line has a
+/// fault.
+fn feed_judges<S: Source, E: Sink, C: Counting>(
     alloc: Global,
     source: &mut S,
-    bounds: Bounds,
-    asked: Asked,
-    first: bool,
+    errors: &mut E,
+    options: Options,
 ) -> Result<Judges<C>, Fault>
     ensures right { (bytes : List ℕ) × Tells S.from source.old bytes source.new
-        × AnswersFed first C.counts bounds asked (S.from.ended source.new) bytes result }
+        × AnswersFed options.first C.counts options.bounds options.asked (S.from.ended source.new)
+        bytes result
+        × RemarksFault E.to bytes result errors.old errors.new }
     ensures failures { S.from.failures source.new ≡ failures_after_answer result
         (S.from.failures source.old) }
 {
     let mut lines = TraceLines::new();
-    let mut judges = match begin(alloc, &mut lines, source, bounds, asked) {
+    let mut judges = match begin(alloc, &mut lines, source, options.bounds, options.asked) {
         Ok(judges) => judges,
-        Err(fault) => return Err(fault_of(fault)),
+        Err(fault) => return Err(quote_fault(errors, &lines, fault)),
     };
-    match feed_for(&mut lines, source, &mut judges, first) {
+    match feed_for(&mut lines, source, &mut judges, options.first) {
         Ok(()) => Ok(judges),
-        Err(fault) => Err(fault_of(fault)),
+        Err(fault) => Err(quote_fault(errors, &lines, fault)),
     }
 }
 

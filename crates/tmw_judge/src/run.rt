@@ -37,8 +37,8 @@ pub fn run_judge<S: Source, K: Sink>(
 /// Judges a trace as `run_judge` does, with these options. With `first` it ends at the event at which each requested verdict
 /// is final: the reports count the events up to that one, at most 4,096 bytes are read behind it, and none of these is
 /// parsed. With `summary` a line of counts follows the reports: of the events up to the one that the verdict names, before
-/// it if that event is malformed, or all; of two verdicts the longer part is counted. If the counts show that no two
-/// transactions overlapped and nothing is wrong, the sink for errors is told.
+/// it if that event is malformed, or all; of two verdicts the longer part is counted. The sink for errors is told which
+/// line has a fault; and if the counts show that no two transactions overlapped and nothing is wrong.
 pub fn run_judge_with<S: Source, K: Sink, E: Sink>(
     alloc: Global,
     source: &mut S,
@@ -49,7 +49,7 @@ pub fn run_judge_with<S: Source, K: Sink, E: Sink>(
     ensures { JudgesWith S.from K.to E.to options
         source.old source.new sink.old sink.new errors.old errors.new result }
 {
-    match judge(alloc, source, options) {
+    match judge(alloc, source, errors, options) {
         Ok(answer) => write_answer(alloc, sink, errors, answer),
         Err(fault) => answer_fault(sink, fault),
     }

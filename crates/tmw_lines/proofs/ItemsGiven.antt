@@ -8,7 +8,7 @@ use Rattle.tmw_lines.specs.Lines.{IsReading, HasRead, GivesItem, GivesEnd, Fails
 use Rattle.tmw_lines.specs.declared.lines.Lines.{Lines}
 use Rattle.tmw_lines.specs.declared.text_fault.TextFault.{TextFault}
 use Rattle.tmw_lines.specs.declared.text_fault.TextFault.TheVariants.{BadHeader, BadLine, Cut, Memory, Io, TooLong}
-use Rattle.tmw_lines.proofs.LinesRead.{fails-behind}
+use Rattle.tmw_lines.proofs.LinesRead.{fails-holding}
 use Rattle.tmw_streams.specs.Streams.{FromSource}
 use Rattle.tmw_streams.specs.Told.{Tells}
 use Rattle.tmw_streams.proofs.ToldBytes.{Tells-none, Tells-more}
@@ -148,28 +148,27 @@ module _ {F H E S T : Type 0} (grammar : Grammar F H E) (From : FromSource S)
       );
     }
 
-    fault-behind : (Ended : Type 0) (bytes : List ℕ) (fault : TextFault) → FailsAtLine grammar Ended now bytes fault
-        → ReadsToFault grammar Ended lines h.items (h.bytes ++ bytes) fault
-    fault-behind Ended bytes fault fails = λ header given earlier r.
-        let read = h.read header given earlier r in
-        rw (← append_assoc earlier h.bytes bytes) (fails-behind grammar Ended now bytes fault (fails read.reading) header
-        (given ++ h.items) (earlier ++ h.bytes) read)
+    fault-behind : (Ended : Type 0) (next : Lines F) (bytes : List ℕ) (fault : TextFault)
+        → FailsAtLine grammar Ended now next bytes fault → ReadsToFault grammar Ended lines next h.items (h.bytes ++ bytes) fault
+    fault-behind Ended next bytes fault fails = λ header given earlier r.
+        rw (← append_assoc earlier h.bytes bytes) (fails-holding grammar Ended now next bytes fault fails header
+        (given ++ h.items) (earlier ++ h.bytes) (h.read header given earlier r))
 
     -- how a fault of the line behind the items taken answers
     given-fault : (Done : Type 0) (Ended : Type 0) (Lacks : T → E → T → Type 0) (next : Lines F) (bytes : List ℕ)
-        (fault : TextFault) → HasBegunToRead grammar lines → FailsAtLine grammar Ended now bytes fault
+        (fault : TextFault) → HasBegunToRead grammar lines → FailsAtLine grammar Ended now next bytes fault
         → AreGiven {Done = Done} grammar Ended Takes Lacks lines next before between h.items (h.bytes ++ bytes) (Err fault)
-    given-fault Done Ended Lacks next bytes BadHeader begun fails = (fault-behind Ended bytes BadHeader fails, h.taken)
-    given-fault Done Ended Lacks next bytes (BadLine number) begun fails = (fault-behind Ended bytes (BadLine number) fails, h.taken)
-    given-fault Done Ended Lacks next bytes (Cut number) begun fails = (fault-behind Ended bytes (Cut number) fails, h.taken)
-    given-fault Done Ended Lacks next bytes Memory begun fails = absurd (fails (reads_on begun))
-    given-fault Done Ended Lacks next bytes Io begun fails = (fault-behind Ended bytes Io fails, h.taken)
-    given-fault Done Ended Lacks next bytes TooLong begun fails = (fault-behind Ended bytes TooLong fails, h.taken)
+    given-fault Done Ended Lacks next bytes BadHeader begun fails = (fault-behind Ended next bytes BadHeader fails, h.taken)
+    given-fault Done Ended Lacks next bytes (BadLine number) begun fails = (fault-behind Ended next bytes (BadLine number) fails, h.taken)
+    given-fault Done Ended Lacks next bytes (Cut number) begun fails = (fault-behind Ended next bytes (Cut number) fails, h.taken)
+    given-fault Done Ended Lacks next bytes Memory begun fails = absurd (fails (reads_on begun)).0
+    given-fault Done Ended Lacks next bytes Io begun fails = (fault-behind Ended next bytes Io fails, h.taken)
+    given-fault Done Ended Lacks next bytes TooLong begun fails = (fault-behind Ended next bytes TooLong fails, h.taken)
 
     -- a fault was read
     pub gives-fault : (Done : Type 0) (Ended : Type 0) (Lacks : T → E → T → Type 0) (c : S) (next : Lines F) (bytes : List ℕ)
         (fault : TextFault) → HasBegunToRead grammar lines → Tells From b bytes c
-        → FailsAtLine grammar Ended now bytes fault
+        → FailsAtLine grammar Ended now next bytes fault
         → GivesAll {Done = Done} grammar From Ended Takes Lacks a c lines next before between (Err fault)
     gives-fault Done Ended Lacks c next bytes fault begun told fails = record {
       bytes = h.bytes ++ bytes;

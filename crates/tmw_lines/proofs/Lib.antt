@@ -1,5 +1,6 @@
 mod GivenLines
 mod FirstLines
+pub mod Fronts
 mod HeldBytes
 pub mod HeldLines
 mod HeldGiven

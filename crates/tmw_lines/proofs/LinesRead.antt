@@ -5,9 +5,9 @@ use Rattle.std.proofs.lemmas.List.{append-nil}
 use Rattle.std.proofs.lemmas.List.Elements.{All-push}
 use Rattle.tmw_lines.specs.Grammar.{Grammar, items_text, lines_text, AreLines}
 use Rattle.tmw_lines.specs.Held.{bytes_of}
-use Rattle.tmw_lines.specs.ItemsRead.{FailsBehind}
+use Rattle.tmw_lines.specs.ItemsRead.{FailsBehind, FailsHolding}
 use Rattle.tmw_lines.specs.LineRead.{IsItemLine, HasLineFault}
-use Rattle.tmw_lines.specs.Lines.{HasRead, IsNew, IsReading, IsOver, HasFailed}
+use Rattle.tmw_lines.specs.Lines.{HasRead, IsNew, IsReading, IsOver, HasFailed, FailsAtLine}
 use Rattle.tmw_lines.specs.Text.{line}
 use Rattle.tmw_lines.specs.TextFault.{HasTextFault, HasBegun}
 use Rattle.tmw_lines.specs.declared.held.Held.{Held}
@@ -90,7 +90,7 @@ module _ {F H E : Type 0} (grammar : Grammar F H E) where
   }
 
   -- a fault of the line behind what was read
-  pub fails-behind : (Ended : Type 0) (lines : Lines F) (bytes : List ℕ) (fault : TextFault)
+  fails-behind : (Ended : Type 0) (lines : Lines F) (bytes : List ℕ) (fault : TextFault)
       → HasLineFault grammar Ended lines.format lines.count (bytes_of lines.held ++ bytes) fault
       → (header : H) (items : List E) (before : List ℕ) → HasRead grammar lines header items before
       → FailsBehind grammar Ended header items (before ++ bytes) fault
@@ -100,6 +100,19 @@ module _ {F H E : Type 0} (grammar : Grammar F H E) where
     text = read-more lines header items before bytes r;
     line = rw (r.format, r.counted) at h;
   }
+
+  -- and how its line begins is held
+  pub fails-holding : (Ended : Type 0) (lines next : Lines F) (bytes : List ℕ) (fault : TextFault)
+      → FailsAtLine grammar Ended lines next bytes fault
+      → (header : H) (items : List E) (before : List ℕ) → HasRead grammar lines header items before
+      → FailsHolding grammar Ended next header items (before ++ bytes) fault
+  unfolding fails-behind
+  fails-holding Ended lines next bytes fault fails header items before r =
+      let at = fails r.reading in record {
+        fails = fails-behind Ended lines bytes fault at.0 header items before r;
+        holds = at.1;
+        format = at.2 ∙ r.format;
+      }
 
   -- what stands before it has begun, whatever follows
   begun-behind : (Ended : Type 0) (header : H) (items : List E) (bytes : List ℕ) (fault : TextFault)

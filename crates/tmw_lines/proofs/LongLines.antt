@@ -2,7 +2,7 @@
 use Rattle.std.proofs.Common.{◌≡◌, ℕ, ◌<◌, ◌≤◌, Option, List, [], ◌∷◌, ◌++◌, length, take, drop, sym, ap, ◌∙◌, ◌==◌, ◌+◌, append_assoc, append-nil, length-append, take-append-drop, refl, arith}
 use Rattle.std.specs.List.{position_or_len}
 use Rattle.std.proofs.lemmas.List.{take_all}
-use Rattle.tmw_lines.specs.LongLine.{HasFeed, HoldsFeed, Skips}
+use Rattle.tmw_lines.specs.LongLine.{HasFeed, Skips}
 use Rattle.tmw_lines.specs.Parts.{IsFree}
 use Rattle.tmw_lines.specs.TextFault.{BeginsWithBad}
 use Rattle.tmw_lines.specs.declared.long_line.LineEnd.TheVariants.{Feed, End, Failed}
@@ -42,38 +42,41 @@ module _ {S : Type 0} (From : FromSource S) (a : S) where
   }
 
   pub Skips-feed : (Ended : Type 0) (b c : S) (bytes : List ℕ) → HasSkipped From a b → Tells From b bytes c
-      → position_or_len (λ byte. byte == 10) bytes < length bytes → Skips From Ended a c bytes Feed
-  Skips-feed Ended b c bytes before told within = record {
-    bytes = before.bytes ++ bytes;
-    told = Tells-more From a b c before.bytes bytes before.told told;
-    is = record { gone = before.bytes; split = refl; free = before.free; feed = has-feed bytes within };
-  }
+      → position_or_len (λ byte. byte == 10) bytes < length bytes → Skips From Ended a c Feed
+  Skips-feed Ended b c bytes before told within =
+      let feed = has-feed bytes within in record {
+        bytes = before.bytes ++ bytes;
+        told = Tells-more From a b c before.bytes bytes before.told told;
+        is = record {
+          front = before.bytes ++ feed.front;
+          rest = feed.rest;
+          split = ap (λ xs. before.bytes ++ xs) feed.split ∙ sym (append_assoc before.bytes feed.front (10 ∷ feed.rest));
+          free = free-append 10 before.bytes feed.front before.free feed.free;
+        };
+      }
 
-  pub Skips-end : (Ended : Type 0) (b c : S) → HasSkipped From a b → Tells From b [] c → Ended
-      → Skips From Ended a c [] End
+  pub Skips-end : (Ended : Type 0) (b c : S) → HasSkipped From a b → Tells From b [] c → Ended → Skips From Ended a c End
   Skips-end Ended b c before told ended = record {
     bytes = before.bytes ++ [];
     told = Tells-more From a b c before.bytes [] before.told told;
-    is = (ended, rw append-nil before.free, refl);
+    is = (ended, rw append-nil before.free);
   }
 
   pub Skips-failed : (Ended : Type 0) (b c : S) → HasSkipped From a b → Tells From b [] c → (Ended → ⊥)
-      → Skips From Ended a c [] Failed
+      → Skips From Ended a c Failed
   Skips-failed Ended b c before told no_end = record {
     bytes = before.bytes ++ [];
     told = Tells-more From a b c before.bytes [] before.told told;
-    is = (no_end, rw append-nil before.free, refl);
+    is = (no_end, rw append-nil before.free);
   }
 
 -- held bytes without a line feed and the rest of their line are a line too long to be good
-pub long-bad : (IsBad : List ℕ → Type 0) (held bytes left : List ℕ) → ((text : List ℕ) → 4096 ≤ length text → IsBad text)
-    → length held ≡ 4096 → IsFree 10 held → HoldsFeed bytes left → BeginsWithBad IsBad (held ++ bytes)
-long-bad IsBad held bytes left bad long free s =
-    let rest = s.gone ++ s.feed.front in
-    record {
-      text = held ++ rest;
-      rest = s.feed.rest;
-      split = ap (λ xs. held ++ xs) (s.split ∙ ap (λ xs. s.gone ++ xs) s.feed.split) ∙ simp append_assoc;
-      unbroken = free-append 10 held rest free (free-append 10 s.gone s.feed.front s.free s.feed.free);
-      bad = bad (held ++ rest) (simp length-append (omega (arith, long)));
-    }
+pub long-bad : (IsBad : List ℕ → Type 0) (held bytes : List ℕ) → ((text : List ℕ) → 4096 ≤ length text → IsBad text)
+    → length held ≡ 4096 → IsFree 10 held → HasFeed bytes → BeginsWithBad IsBad (held ++ bytes)
+long-bad IsBad held bytes bad long free s = record {
+  text = held ++ s.front;
+  rest = s.rest;
+  split = ap (λ xs. held ++ xs) s.split ∙ simp append_assoc;
+  unbroken = free-append 10 held s.front free s.free;
+  bad = bad (held ++ s.front) (simp length-append (omega (arith, long)));
+}

@@ -1,5 +1,5 @@
 -- One line of an item: held whole, or longer than can be held.
-use Rattle.std.proofs.Common.{◌≡◌, ℕ, ◌+◌, ◌<◌, ◌≤◌, ◌^◌, Option, Some, None, IfSome, IfNone, Err, List, [], ◌∷◌, ◌++◌, length, take, drop, refl, sym, ap, ◌∙◌, append-nil, length-append, Ok, arith}
+use Rattle.std.proofs.Common.{◌≡◌, ℕ, ◌+◌, ◌<◌, ◌≤◌, ◌^◌, Some, None, Err, List, [], ◌∷◌, ◌++◌, length, take, drop, refl, sym, ap, ◌∙◌, append-nil, length-append, Ok, arith}
 use Rattle.std.proofs.lemmas.List.{nil_from_length}
 use Rattle.tmw_lines.specs.Grammar.{Grammar, IsNoItem}
 use Rattle.tmw_lines.specs.LineRead.{IsItemLine, ReadsLine}
@@ -8,6 +8,7 @@ use Rattle.tmw_lines.specs.LongLine.{Skips}
 use Rattle.tmw_lines.specs.Parts.{IsFree}
 use Rattle.tmw_lines.specs.declared.long_line.LineEnd.TheVariants.{Feed, End, Failed}
 use Rattle.tmw_lines.specs.declared.text_fault.TextFault.TheVariants.{BadLine, Cut, Io, TooLong}
+use Rattle.tmw_lines.proofs.Fronts.{holds-long, holds-same}
 use Rattle.tmw_lines.proofs.HeldLines.{line-split, bytes-joined}
 use Rattle.tmw_lines.proofs.LongLines.{long-bad}
 use Rattle.tmw_lines.proofs.Splits.{free-append}
@@ -16,26 +17,23 @@ use Rattle.tmw_streams.specs.Told.{Tells, Reads}
 use Rattle.tmw_streams.proofs.ToldBytes.{Tells-none, Tells-more}
 
 pub take_item-some : {F H E : Type 0} (grammar : Grammar F H E) (format : F) (bytes left : List ℕ) (count : ℕ)
-    (found : Option E) → drop count bytes ≡ 10 ∷ drop (count + 1) bytes → left ≡ drop (count + 1) bytes
-    → IfSome found (λ item. take count bytes ≡ grammar.item_text item) → IfSome found (grammar.FitsItem format)
-    → IfSome found (λ item. IsItemLine grammar format item bytes left)
-take_item-some grammar format bytes left count None feed is text fits = tt
-take_item-some grammar format bytes left count (Some item) feed is text fits = record {
+    (item : E) → drop count bytes ≡ 10 ∷ drop (count + 1) bytes → left ≡ drop (count + 1) bytes
+    → take count bytes ≡ grammar.item_text item → grammar.FitsItem format item → IsItemLine grammar format item bytes left
+take_item-some grammar format bytes left count item feed is text fits = record {
   split = rw is (line-split bytes (grammar.item_text item) count feed text);
   fits = fits;
 }
 
-pub take_item-none : {F H E : Type 0} (grammar : Grammar F H E) (format : F) (bytes : List ℕ) (count : ℕ) (found : Option E)
+pub take_item-none : {F H E : Type 0} (grammar : Grammar F H E) (format : F) (bytes : List ℕ) (count : ℕ)
     → IsFree 10 (take count bytes) → drop count bytes ≡ 10 ∷ drop (count + 1) bytes
-    → IfNone found (IsNoItem grammar format (take count bytes)) → IfNone found (IsBadLine grammar format bytes)
-take_item-none grammar format bytes count None free feed bad = record {
+    → IsNoItem grammar format (take count bytes) → IsBadLine grammar format bytes
+take_item-none grammar format bytes count free feed bad = record {
   text = take count bytes;
   rest = drop (count + 1) bytes;
   split = line-split bytes (take count bytes) count feed refl;
   unbroken = free;
   bad = bad;
 }
-take_item-none grammar format bytes count (Some item) free feed bad = tt
 
 -- a line that is held whole, or that ends before its line feed
 module _ {F H E S : Type 0} (grammar : Grammar F H E) (From : FromSource S)
@@ -45,86 +43,94 @@ module _ {F H E S : Type 0} (grammar : Grammar F H E) (From : FromSource S)
       → ReadsLine grammar From Ended a b format count before left (Ok (Some item))
   next-item item given = record { bytes = r.bytes; told = r.told; is = (few, rw r.is at given) }
 
-  pub next-bad : IsBadLine grammar format held
+  pub next-bad : IsBadLine grammar format held → left ≡ held
       → ReadsLine grammar From Ended a b format count before left (Err (BadLine (count + 2)))
-  next-bad bad = record { bytes = r.bytes; told = r.told; is = (few, refl, rw r.is at bad) }
+  next-bad bad kept = record { bytes = r.bytes; told = r.told; is = ((few, refl, rw r.is at bad), holds-same left _ (kept ∙ r.is)) }
 
   pub next-end : Ended → length held ≡ 0 → ReadsLine grammar From Ended a b format count before left (Ok None)
   next-end ended none = record { bytes = r.bytes; told = r.told; is = (ended, sym r.is ∙ nil_from_length held none) }
 
   pub next-cut : Ended → 0 < length held → IsFree 10 held
-      → ReadsLine grammar From Ended a b format count before left (Err (Cut (count + 2)))
+      → ReadsLine grammar From Ended a b format count before held (Err (Cut (count + 2)))
   next-cut ended some free = record {
     bytes = r.bytes;
     told = r.told;
-    is = (few, refl, ended, rw r.is at free, λ empty. absurd (omega (arith, some, ap length (r.is ∙ empty))));
+    is = (
+      (few, refl, ended, rw r.is at free, λ empty. absurd (omega (arith, some, ap length (r.is ∙ empty)))),
+      holds-same held _ r.is,
+    );
   }
 
-  pub next-failed : (Ended → ⊥) → IsFree 10 held → ReadsLine grammar From Ended a b format count before left (Err Io)
+  pub next-failed : (Ended → ⊥) → IsFree 10 held → ReadsLine grammar From Ended a b format count before held (Err Io)
   next-failed no_end free = record {
     bytes = r.bytes;
     told = r.told;
-    is = (no_end, rw r.is at free, λ last. absurd (omega (arith, few, last)));
+    is = ((no_end, rw r.is at free, λ last. absurd (omega (arith, few, last))), holds-same held _ r.is);
   }
 
 -- a line longer than can be held
 module _ {F H E S : Type 0} (grammar : Grammar F H E) (From : FromSource S)
-    (Ended : Type 0) (a b c : S) (format : F) (count : ℕ) (before held left : List ℕ) where
-  pub long-feed : ((text : List ℕ) → 4096 ≤ length text → IsNoItem grammar format text) → Reads From a b before held
-      → length held ≡ 4096 → IsFree 10 held → Skips From Ended b c left Feed → count < 2 ^ 40
-      → ReadsLine grammar From Ended a c format count before left (Err (BadLine (count + 2)))
-  long-feed long_item r long free s few = record {
+    (Ended : Type 0) (a b c : S) (format : F) (count : ℕ) (before held : List ℕ) (few : count < 2 ^ 40)
+    (r : Reads From a b before held) (long : length held ≡ 4096) (free : IsFree 10 held) where
+  pub long-feed : ((text : List ℕ) → 4096 ≤ length text → IsNoItem grammar format text) → Skips From Ended b c Feed
+      → ReadsLine grammar From Ended a c format count before held (Err (BadLine (count + 2)))
+  long-feed long_item s = record {
     bytes = r.bytes ++ s.bytes;
     told = Tells-more From a b c r.bytes s.bytes r.told s.told;
     is = rw (bytes-joined From a b before held r s.bytes) (
-      few,
-      refl,
-      long-bad (IsNoItem grammar format) held s.bytes left long_item long free s.is,
+      (few, refl, long-bad (IsNoItem grammar format) held s.bytes long_item long free s.is),
+      holds-long held s.bytes long free,
     );
   }
 
-  pub long-end : Reads From a b before held → length held ≡ 4096 → IsFree 10 held
-      → Skips From Ended b c left End → count < 2 ^ 40 → ReadsLine grammar From Ended a c format count before left (Err (Cut (count + 2)))
-  long-end r long free s few = record {
+  pub long-end : Skips From Ended b c End → ReadsLine grammar From Ended a c format count before held (Err (Cut (count + 2)))
+  long-end s = record {
     bytes = r.bytes ++ s.bytes;
     told = Tells-more From a b c r.bytes s.bytes r.told s.told;
     is = rw (bytes-joined From a b before held r s.bytes) (
-      few,
-      refl,
-      s.is.0,
-      free-append 10 held s.bytes free s.is.1,
-      λ empty. absurd (omega (arith, long, ap length empty, length-append held s.bytes)),
+      (
+        few,
+        refl,
+        s.is.0,
+        free-append 10 held s.bytes free s.is.1,
+        λ empty. absurd (omega (arith, long, ap length empty, length-append held s.bytes)),
+      ),
+      holds-long held s.bytes long free,
     );
   }
 
-  pub long-failed : Reads From a b before held → IsFree 10 held → Skips From Ended b c left Failed
-      → count < 2 ^ 40 → ReadsLine grammar From Ended a c format count before left (Err Io)
-  long-failed r free s few = record {
+  pub long-failed : Skips From Ended b c Failed → ReadsLine grammar From Ended a c format count before held (Err Io)
+  long-failed s = record {
     bytes = r.bytes ++ s.bytes;
     told = Tells-more From a b c r.bytes s.bytes r.told s.told;
     is = rw (bytes-joined From a b before held r s.bytes) (
-      s.is.0,
-      free-append 10 held s.bytes free s.is.1,
-      λ last. absurd (omega (arith, last)),
+      (s.is.0, free-append 10 held s.bytes free s.is.1, λ last. absurd (omega (arith, few, last))),
+      holds-long held s.bytes long free,
     );
   }
 
 -- what follows the greatest number of items' lines
 module _ {F H E S : Type 0} (grammar : Grammar F H E) (From : FromSource S)
     (Ended : Type 0) (a : S) (format : F) (before left : List ℕ) where
-  pub past-held : 0 < length before → ReadsLine grammar From Ended a a format (2 ^ 40) before left (Err TooLong)
+  pub past-held : 0 < length before → ReadsLine grammar From Ended a a format (2 ^ 40) before before (Err TooLong)
   past-held some = record {
     bytes = [];
     told = Tells-none From a;
-    is = (refl, λ empty. absurd (omega (arith, some, ap length (sym (append-nil before) ∙ empty))));
+    is = (
+      (refl, λ empty. absurd (omega (arith, some, ap length (sym (append-nil before) ∙ empty)))),
+      holds-same before _ (sym (append-nil before)),
+    );
   }
 
-  pub past-read : (b : S) (bytes : List ℕ) → Tells From a bytes b → 0 < length bytes
+  pub past-read : (b : S) (bytes : List ℕ) → Tells From a bytes b → 0 < length bytes → left ≡ before ++ bytes
       → ReadsLine grammar From Ended a b format (2 ^ 40) before left (Err TooLong)
-  past-read b bytes told some = record {
+  past-read b bytes told some is = record {
     bytes = bytes;
     told = told;
-    is = (refl, λ empty. absurd (omega (arith, some, ap length empty, length-append before bytes)));
+    is = (
+      (refl, λ empty. absurd (omega (arith, some, ap length empty, length-append before bytes))),
+      holds-same left _ is,
+    );
   }
 
   pub past-end : (b : S) (bytes : List ℕ) → length before ≡ 0 → Tells From a bytes b → length bytes ≡ 0 → Ended
@@ -135,8 +141,11 @@ module _ {F H E S : Type 0} (grammar : Grammar F H E) (From : FromSource S)
     is = (ended, nil_from_length (before ++ bytes) (omega (arith, none, nothing, length-append before bytes)));
   }
 
-  pub past-failed : (b : S) → length before ≡ 0 → Tells From a [] b → (Ended → ⊥)
+  pub past-failed : (b : S) → length before ≡ 0 → Tells From a [] b → (Ended → ⊥) → left ≡ before
       → ReadsLine grammar From Ended a b format (2 ^ 40) before left (Err Io)
-  past-failed b none told no_end =
-      let empty : before ++ [] ≡ [] = append-nil before ∙ nil_from_length before none in
-      record { bytes = []; told = told; is = (no_end, rw empty refl, λ last. empty) }
+  past-failed b none told no_end is =
+      let empty : before ++ [] ≡ [] = append-nil before ∙ nil_from_length before none in record {
+        bytes = [];
+        told = told;
+        is = ((no_end, rw empty refl, λ last. empty), holds-same left _ (is ∙ sym (append-nil before)));
+      }

@@ -41,13 +41,13 @@ soon-behind grammar lines header items bytes read = record {
 pub text_fault-read : (Done : Type 0) {F H E : Type 0} (grammar : Grammar F H E) (Ended : Type 0) (lines : Lines F) (header : H) (items : List E)
     (bytes : List ℕ) (fault : TextFault) → AreReadFor {Done = Done} grammar Ended lines header items bytes (Err fault)
     → HasTextFault grammar Ended bytes fault
-text_fault-read Done grammar Ended lines header items bytes BadHeader f = text_fault-behind grammar Ended header items bytes BadHeader f
+text_fault-read Done grammar Ended lines header items bytes BadHeader f = text_fault-behind grammar Ended header items bytes BadHeader f.fails
 text_fault-read Done grammar Ended lines header items bytes (BadLine number) f =
-    text_fault-behind grammar Ended header items bytes (BadLine number) f
-text_fault-read Done grammar Ended lines header items bytes (Cut number) f = text_fault-behind grammar Ended header items bytes (Cut number) f
+    text_fault-behind grammar Ended header items bytes (BadLine number) f.fails
+text_fault-read Done grammar Ended lines header items bytes (Cut number) f = text_fault-behind grammar Ended header items bytes (Cut number) f.fails
 text_fault-read Done grammar Ended lines header items bytes Memory f = soon-behind grammar lines header (items ++ f.last ∷ []) bytes f.read
-text_fault-read Done grammar Ended lines header items bytes Io f = text_fault-behind grammar Ended header items bytes Io f
-text_fault-read Done grammar Ended lines header items bytes TooLong f = text_fault-behind grammar Ended header items bytes TooLong f
+text_fault-read Done grammar Ended lines header items bytes Io f = text_fault-behind grammar Ended header items bytes Io f.fails
+text_fault-read Done grammar Ended lines header items bytes TooLong f = text_fault-behind grammar Ended header items bytes TooLong f.fails
 
 -- a whole text: the header was read, and then the items of all other lines
 module _ {F H E S : Type 0} (grammar : Grammar F H E) (From : FromSource S)

@@ -1,7 +1,7 @@
 -- What is read where lines are read on to the text's end, and what a taker was given of it.
 use Rattle.std.specs.Prelude.{◌≡◌, ℕ, Option, Result, Ok, Err, List, [], ◌∷◌, ◌++◌}
 use Rattle.tmw_lines.specs.Grammar.{Grammar}
-use Rattle.tmw_lines.specs.ItemsRead.{EndsBehind, FailsBehind}
+use Rattle.tmw_lines.specs.ItemsRead.{EndsBehind, FailsHolding}
 use Rattle.tmw_lines.specs.Lines.{HasRead}
 use Rattle.tmw_lines.specs.declared.lines.Lines.{Lines}
 use Rattle.tmw_lines.specs.declared.text_fault.TextFault.{TextFault}
@@ -14,10 +14,11 @@ abbrev pub ReadsToEnd : {F H E : Type 0} → Grammar F H E → Type 0 → Lines 
 ReadsToEnd grammar Ended lines items bytes = (header : _) (given : List _) (before : List ℕ)
     → HasRead grammar lines header given before → EndsBehind grammar Ended header (given ++ items) (before ++ bytes)
 
--- whatever had been read before, behind it and these items' lines comes the line that has the fault
-abbrev pub ReadsToFault : {F H E : Type 0} → Grammar F H E → Type 0 → Lines F → List E → List ℕ → TextFault → Type 0
-ReadsToFault grammar Ended lines items bytes fault = (header : _) (given : List _) (before : List ℕ)
-    → HasRead grammar lines header given before → FailsBehind grammar Ended header (given ++ items) (before ++ bytes) fault
+-- whatever had been read before, behind it and these items' lines comes the line that has the fault, and the reader holds how
+-- that line begins
+abbrev pub ReadsToFault : {F H E : Type 0} → Grammar F H E → Type 0 → Lines F → Lines F → List E → List ℕ → TextFault → Type 0
+ReadsToFault grammar Ended old new items bytes fault = (header : _) (given : List _) (before : List ℕ)
+    → HasRead grammar old header given before → FailsHolding grammar Ended new header (given ++ items) (before ++ bytes) fault
 
 -- whatever had been read before, these items' lines were read and one line more, whose item was lacked
 pub record LacksBehind {F H E T : Type 0} (grammar : Grammar F H E) (Takes : T → List E → T → Type 0)
@@ -38,7 +39,7 @@ AreGiven grammar Ended Takes Lacks old new before after items bytes (Ok done) =
 AreGiven grammar Ended Takes Lacks old new before after items bytes (Err Memory) =
     LacksBehind grammar Takes Lacks old new before after items bytes
 AreGiven grammar Ended Takes Lacks old new before after items bytes (Err fault) =
-    ReadsToFault grammar Ended old items bytes fault × Takes before items after
+    ReadsToFault grammar Ended old new items bytes fault × Takes before items after
 
 -- what the source told makes, behind whatever the reader had read before, lines whose items the taker was given
 pub record GivesAll {F H E S T Done : Type 0} (grammar : Grammar F H E) (From : FromSource S) (Ended : Type 0) (Takes : T → List E → T → Type 0) (Lacks : T → E → T → Type 0)

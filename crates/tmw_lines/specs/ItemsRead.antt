@@ -2,7 +2,8 @@
 use Rattle.std.specs.Prelude.{◌≡◌, ℕ, Option, Result, Ok, Err, List, [], ◌∷◌, ◌++◌, length}
 use Rattle.tmw_lines.specs.Grammar.{Grammar, lines_text, AreLines}
 use Rattle.tmw_lines.specs.LineRead.{HasLineFault}
-use Rattle.tmw_lines.specs.Lines.{HasRead}
+use Rattle.tmw_lines.specs.Lines.{HasRead, format_by, unread_bytes}
+use Rattle.tmw_lines.specs.Text.{HoldsFront}
 use Rattle.tmw_lines.specs.declared.lines.Lines.{Lines}
 use Rattle.tmw_lines.specs.declared.text_fault.TextFault.{TextFault}
 use Rattle.tmw_lines.specs.declared.text_fault.TextFault.TheVariants.{Memory}
@@ -31,6 +32,13 @@ pub record FailsBehind {F H E : Type 0} (grammar : Grammar F H E) (Ended : Type 
   pub text : bytes ≡ lines_text grammar header items ++ rest
   pub line : HasLineFault grammar Ended (grammar.format_of header) (length items) rest fault
 
+-- and the reader holds how that line begins
+pub record FailsHolding {F H E : Type 0} (grammar : Grammar F H E) (Ended : Type 0) (lines : Lines F) (header : H)
+    (items : List E) (bytes : List ℕ) (fault : TextFault) : Type 0 where
+  pub fails : FailsBehind grammar Ended header items bytes fault
+  pub holds : HoldsFront (unread_bytes lines) fails.rest
+  pub format : format_by lines ≡ grammar.format_of header
+
 -- the reader has read the lines of a header and these items, and of one item more; of what follows it holds all that was read,
 -- at most 4,096 bytes
 pub record StopsBehind {F H E : Type 0} (grammar : Grammar F H E) (lines : Lines F) (header : H) (items : List E)
@@ -43,7 +51,7 @@ pub record StopsBehind {F H E : Type 0} (grammar : Grammar F H E) (lines : Lines
 abbrev pub AreReadFor : {F H E Done : Type 0} → Grammar F H E → Type 0 → Lines F → H → List E → List ℕ → Result Done TextFault → Type 0
 AreReadFor grammar Ended lines header items bytes (Ok done) = EndsBehind grammar Ended header items bytes
 AreReadFor grammar Ended lines header items bytes (Err Memory) = StopsBehind grammar lines header items bytes
-AreReadFor grammar Ended lines header items bytes (Err fault) = FailsBehind grammar Ended header items bytes fault
+AreReadFor grammar Ended lines header items bytes (Err fault) = FailsHolding grammar Ended lines header items bytes fault
 
 -- what the source told makes, behind whatever the reader had read before, lines whose items came behind the items held
 pub record ReadsItems {F H E S Done : Type 0} (grammar : Grammar F H E) (From : FromSource S) (Ended : Type 0) (old new : S) (lines lines_after : Lines F) (held held_after : List E)

@@ -1,7 +1,7 @@
 -- What one line of a text gives: a header, an item, the end, or a fault.
 use Rattle.std.specs.Prelude.{◌≡◌, ◌≢◌, ℕ, ◌+◌, ◌<◌, ◌^◌, Option, Some, None, Result, Ok, Err, List, [], ◌++◌}
 use Rattle.tmw_lines.specs.Grammar.{Grammar}
-use Rattle.tmw_lines.specs.Text.{line}
+use Rattle.tmw_lines.specs.Text.{line, HoldsFront}
 use Rattle.tmw_lines.specs.TextFault.{IsUnbroken, IsBadLine, HasFirstLineFault}
 use Rattle.tmw_lines.specs.declared.text_fault.TextFault.{TextFault}
 use Rattle.tmw_lines.specs.declared.text_fault.TextFault.TheVariants.{BadHeader, BadLine, Cut, Memory, Io, TooLong}
@@ -31,7 +31,8 @@ abbrev pub IsLineRead : {F H E : Type 0} → Grammar F H E → Type 0 → F → 
 IsLineRead grammar Ended format count bytes left (Ok (Some item)) =
     (count < 2 ^ 40) × IsItemLine grammar format item bytes left
 IsLineRead grammar Ended format count bytes left (Ok None) = Ended × (bytes ≡ [])
-IsLineRead grammar Ended format count bytes left (Err fault) = HasLineFault grammar Ended format count bytes fault
+IsLineRead grammar Ended format count bytes left (Err fault) =
+    HasLineFault grammar Ended format count bytes fault × HoldsFront left bytes
 
 -- what the source told makes, behind the bytes held before, a line that was read
 pub record ReadsLine {F H E S : Type 0} (grammar : Grammar F H E) (From : FromSource S) (Ended : Type 0) (old new : S) (format : F) (count : ℕ) (before left : List ℕ)
@@ -44,7 +45,7 @@ pub record ReadsLine {F H E S : Type 0} (grammar : Grammar F H E) (From : FromSo
 abbrev pub IsHeaderRead : {F H E : Type 0} → Grammar F H E → Type 0 → List ℕ → List ℕ → Result H TextFault → Type 0
 IsHeaderRead grammar Ended bytes left (Ok header) =
     (bytes ≡ line (grammar.header_text header) ++ left) × grammar.FitsHeader header
-IsHeaderRead grammar Ended bytes left (Err fault) = HasFirstLineFault grammar Ended bytes fault
+IsHeaderRead grammar Ended bytes left (Err fault) = HasFirstLineFault grammar Ended bytes fault × HoldsFront left bytes
 
 -- what the source told makes, behind the bytes held before, a header's line that was read
 pub record ReadsHeader {F H E S : Type 0} (grammar : Grammar F H E) (From : FromSource S) (Ended : Type 0) (old new : S) (before left : List ℕ)

@@ -3,6 +3,7 @@ use Rattle.std.specs.Prelude.{◌≡◌, ℕ, ◌≤◌, List, [], ◌∷◌, �
 use Rattle.tmw_lines.specs.Grammar.{Grammar, lines_text, AreLines}
 use Rattle.tmw_lines.specs.Held.{bytes_of}
 use Rattle.tmw_lines.specs.LineRead.{HasLineFault}
+use Rattle.tmw_lines.specs.Text.{HoldsFront}
 use Rattle.tmw_lines.specs.TextFault.{HasTextFault}
 use Rattle.tmw_lines.specs.declared.lines.Lines.{Lines}
 use Rattle.tmw_lines.specs.declared.lines.State.{State}
@@ -69,9 +70,11 @@ GivesEnd grammar Ended old bytes = (header : _) (items : List _) (before : List 
     → HasRead grammar old header items before → Ended × (before ++ bytes ≡ lines_text grammar header items)
 
 -- where it had given its header, and answered no fault and not the end, the line behind those given has this fault, whatever is behind that line
-abbrev pub FailsAtLine : {F H E : Type 0} → Grammar F H E → Type 0 → Lines F → List ℕ → TextFault → Type 0
-FailsAtLine grammar Ended old bytes fault =
+-- and it holds how that line begins
+abbrev pub FailsAtLine : {F H E : Type 0} → Grammar F H E → Type 0 → Lines F → Lines F → List ℕ → TextFault → Type 0
+FailsAtLine grammar Ended old new bytes fault =
     IsReading old → HasLineFault grammar Ended (format_by old) (items_given old) (unread_bytes old ++ bytes) fault
+    × HoldsFront (unread_bytes new) (unread_bytes old ++ bytes) × (format_by new ≡ format_by old)
 
 -- whatever it had read before, all bytes told have this fault
 abbrev pub GivesFault : {F H E : Type 0} → Grammar F H E → Type 0 → Lines F → List ℕ → TextFault → Type 0

@@ -1,5 +1,5 @@
 -- The rest of a line that is longer than can be held.
-use Rattle.std.specs.Prelude.{◌≡◌, ℕ, Option, List, [], ◌∷◌, ◌++◌}
+use Rattle.std.specs.Prelude.{◌≡◌, ℕ, List, ◌∷◌, ◌++◌}
 use Rattle.tmw_lines.specs.Parts.{IsFree}
 use Rattle.tmw_streams.specs.Streams.{FromSource}
 use Rattle.tmw_streams.specs.Told.{Tells, one_more}
@@ -13,25 +13,17 @@ pub record HasFeed (bytes : List ℕ) : Type 0 where
   pub split : bytes ≡ front ++ 10 ∷ rest
   pub free : IsFree 10 front
 
--- the last of these bytes are held, the first line feed among them; none of the others is one
-pub record HoldsFeed (bytes held : List ℕ) : Type 0 where
-  pub gone : List ℕ
-  pub split : bytes ≡ gone ++ held
-  pub free : IsFree 10 gone
-  pub feed : HasFeed held
-
--- the bytes of the line's rest, and perhaps some after it, and those of them that are held; `Ended` says that the source has
-abbrev pub IsLineRest : LineEnd → Type 0 → List ℕ → List ℕ → Type 0
-IsLineRest Feed Ended bytes held = HoldsFeed bytes held
-IsLineRest End Ended bytes held = Ended × IsFree 10 bytes × (held ≡ [])
-IsLineRest Failed Ended bytes held = (Ended → ⊥) × IsFree 10 bytes × (held ≡ [])
+-- the bytes of the line's rest, and perhaps some after it; `Ended` says that the source has
+abbrev pub IsLineRest : LineEnd → Type 0 → List ℕ → Type 0
+IsLineRest Feed Ended bytes = HasFeed bytes
+IsLineRest End Ended bytes = Ended × IsFree 10 bytes
+IsLineRest Failed Ended bytes = (Ended → ⊥) × IsFree 10 bytes
 
 -- what the source told is the line's rest
-pub record Skips {S : Type 0} (From : FromSource S) (Ended : Type 0) (old new : S)
-    (held : List ℕ) (end : LineEnd) : Type 0 where
+pub record Skips {S : Type 0} (From : FromSource S) (Ended : Type 0) (old new : S) (end : LineEnd) : Type 0 where
   pub bytes : List ℕ
   pub told : Tells From old bytes new
-  pub is : IsLineRest end Ended bytes held
+  pub is : IsLineRest end Ended bytes
 
 -- a source's count of failures after this end
 abbrev pub line_end_failures : LineEnd → ℕ → ℕ

@@ -30,7 +30,7 @@ pub fn first_line<F: LineFormat, S: Source>(
         Piece::End if held.bytes().is_empty() => Err(TextFault::BadHeader),
         Piece::End => Err(TextFault::Cut(1)),
         Piece::Failed => Err(TextFault::Io),
-        Piece::Long => match skip_line(held, source) {
+        Piece::Long => match skip_line(source) {
             LineEnd::Feed => Err(TextFault::BadHeader),
             LineEnd::End => Err(TextFault::Cut(1)),
             LineEnd::Failed => Err(TextFault::Io),
@@ -38,7 +38,7 @@ pub fn first_line<F: LineFormat, S: Source>(
     }
 }
 
-/// Takes the line of so many bytes, with its line feed: its header, where it has one.
+/// Takes the line of so many bytes, with its line feed: its header, where it has one. Any other line stays held.
 fn take_header<F: LineFormat>(held: &mut Held, count: usize) -> Option<F::Header>
     requires free { IsUnbroken (take count (bytes_of held.old)) }
     requires feed { drop count (bytes_of held.old) ≡ 10 ∷ drop (count + 1) (bytes_of held.old) }
@@ -46,8 +46,11 @@ fn take_header<F: LineFormat>(held: &mut Held, count: usize) -> Option<F::Header
         (λ header. bytes_of held.old ≡ line (F.grammar.header_text header) ++ bytes_of held.new) }
     ensures fits { IfSome result F.grammar.FitsHeader }
     ensures none { IfNone result (HasBadHeader F.grammar (bytes_of held.old)) }
+    ensures kept { IfNone result (bytes_of held.new ≡ bytes_of held.old) }
 {
-    let found = F::header_of(&held.bytes()[..count]);
+    let Some(header) = F::header_of(&held.bytes()[..count]) else {
+        return None;
+    };
     held.consume(count + 1);
-    found
+    Some(header)
 }

@@ -8,6 +8,7 @@ use crate::given_lines::give_lines;
 use crate::held::Held;
 use crate::line_format::LineFormat;
 use crate::next_line::next_line;
+use crate::splitting::length_before;
 use crate::taker::Taker;
 use crate::text_fault::TextFault;
 use std::alloc::AllocError;
@@ -40,7 +41,8 @@ pub struct Lines<F> {
 
 impl<F: LineFormat> Lines<F> {
     ghost use Rattle.tmw_lines.specs.Given.{GivesItems, LacksLast};
-    ghost use Rattle.tmw_lines.specs.Lines.{IsNew, IsReading, IsOver, HasFailed, HasRead, items_given, unread, GivesItem, GivesEnd, FailsAtLine, GivesFault};
+    ghost use Rattle.tmw_lines.specs.Text.{HoldsFront, front_of};
+    ghost use Rattle.tmw_lines.specs.Lines.{IsNew, IsReading, IsOver, HasFailed, HasRead, format_by, items_given, unread, unread_bytes, GivesItem, GivesEnd, FailsAtLine, GivesFault};
 
     /// Makes a reader that has read nothing.
     pub const fn new() -> Lines<F>
@@ -62,7 +64,8 @@ impl<F: LineFormat> Lines<F> {
             × HasRead F.grammar self.new header [] bytes) }
         ensures fault { IfErr result (λ fault. (bytes : List ℕ)
             × Tells S.from source.old bytes source.new
-            × HasFirstLineFault F.grammar (S.from.ended source.new) bytes fault) }
+            × HasFirstLineFault F.grammar (S.from.ended source.new) bytes fault
+            × HoldsFront (unread_bytes self.new) bytes) }
         ensures stays { IfErr result (HasFailed self.new) }
         ensures well { OnOk result (S.from.failures source.new ≡ S.from.failures source.old) }
         ensures failed { IfErr result
@@ -126,7 +129,7 @@ impl<F: LineFormat> Lines<F> {
             × GivesFault F.grammar (S.from.ended source.new) self.old bytes fault) }
         ensures at_line { IfErr result (λ fault. (bytes : List ℕ)
             × Tells S.from source.old bytes source.new
-            × FailsAtLine F.grammar (S.from.ended source.new) self.old bytes fault) }
+            × FailsAtLine F.grammar (S.from.ended source.new) self.old self.new bytes fault) }
         ensures falls { IfOk result (λ found. OnSome found
             (S.from.left source.new + unread self.new < S.from.left source.old + unread self.old)) }
         ensures well { OnOk result (S.from.failures source.new ≡ S.from.failures source.old) }
@@ -162,5 +165,21 @@ impl<F: LineFormat> Lines<F> {
                 Err(fault)
             }
         }
+    }
+
+    /// Returns the format by which items are read.
+    pub const fn format(&self) -> F
+        ensures { result ≡ format_by self.now }
+    {
+        self.format
+    }
+
+    /// Returns the bytes held up to the first line feed, or all. After a fault of a line they are how that line begins:
+    /// all of it, or its first 4,096 bytes.
+    pub fn front(&self) -> &[u8]
+        ensures { result.now ≡ front_of (unread_bytes self.now) }
+    {
+        let bytes = self.held.bytes();
+        &bytes[..length_before(bytes, b'\n')]
     }
 }

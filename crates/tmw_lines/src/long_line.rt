@@ -1,5 +1,4 @@
 ghost use Rattle.std.specs.Prelude.{◌≡◌};
-ghost use Rattle.tmw_lines.specs.Held.{bytes_of};
 ghost use Rattle.tmw_lines.specs.LongLine.{Skips, line_end_failures};
 
 use crate::held::Held;
@@ -17,22 +16,21 @@ pub enum LineEnd {
     Failed,
 }
 
-/// Reads on to the end of a line that is longer than can be held. What is held belongs to the line, and is dropped.
-/// If its line feed comes, the bytes read last are held, and the line feed is among them; else none is held.
-pub fn skip_line<S: Source>(held: &mut Held, source: &mut S) -> LineEnd
-    ensures skips { Skips S.from (S.from.ended source.new) source.old source.new (bytes_of held.new)
-        result }
+/// Reads on to the end of a line that is longer than can be held, and drops what is read.
+pub fn skip_line<S: Source>(source: &mut S) -> LineEnd
+    ensures skips { Skips S.from (S.from.ended source.new) source.old source.new result }
     ensures failures { S.from.failures source.new ≡ line_end_failures result
         (S.from.failures source.old) }
 {
+    let mut rest = Held::new();
     'parts: loop {
-        held.clear();
-        match held.read(source) {
+        rest.clear();
+        match rest.read(source) {
             Err(_) => return LineEnd::Failed,
             Ok(0) => return LineEnd::End,
             Ok(_) => {}
         }
-        let bytes = held.bytes();
+        let bytes = rest.bytes();
         if length_before(bytes, b'\n') < bytes.len() {
             return LineEnd::Feed;
         }

@@ -42,7 +42,7 @@ pub fn next_line<F: LineFormat, S: Source>(
         Piece::End if held.bytes().is_empty() => Ok(None),
         Piece::End => Err(TextFault::Cut(count + 2)),
         Piece::Failed => Err(TextFault::Io),
-        Piece::Long => match skip_line(held, source) {
+        Piece::Long => match skip_line(source) {
             LineEnd::Feed => Err(TextFault::BadLine(count + 2)),
             LineEnd::End => Err(TextFault::Cut(count + 2)),
             LineEnd::Failed => Err(TextFault::Io),
@@ -74,16 +74,19 @@ fn past_last<F: LineFormat, S: Source>(
     }
 }
 
-/// Takes the line of so many bytes, with its line feed: its item, where it has one.
+/// Takes the line of so many bytes, with its line feed: its item, where it has one. Any other line stays held.
 fn take_item<F: LineFormat>(held: &mut Held, count: usize, format: F) -> Option<F::Item>
     requires free { IsUnbroken (take count (bytes_of held.old)) }
     requires feed { drop count (bytes_of held.old) ≡ 10 ∷ drop (count + 1) (bytes_of held.old) }
     ensures some { IfSome result
         (λ item. IsItemLine F.grammar format item (bytes_of held.old) (bytes_of held.new)) }
     ensures none { IfNone result (IsBadLine F.grammar format (bytes_of held.old)) }
-    ensures less { length (bytes_of held.new) < length (bytes_of held.old) }
+    ensures kept { IfNone result (bytes_of held.new ≡ bytes_of held.old) }
+    ensures less { OnSome result (length (bytes_of held.new) < length (bytes_of held.old)) }
 {
-    let found = format.item_of(&held.bytes()[..count]);
+    let Some(item) = format.item_of(&held.bytes()[..count]) else {
+        return None;
+    };
     held.consume(count + 1);
-    found
+    Some(item)
 }

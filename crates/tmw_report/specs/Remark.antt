@@ -14,13 +14,14 @@ Remarks Errors true old new = IsSent Errors old new nothing_shown
 Remarks Errors false old new = new ≡ old
 
 -- An answer tells that its run shows nothing. A fault does not.
-abbrev pub is_remarkable : {Found : Type 0} → (Found → Bool) → Result Found Fault → Bool
-is_remarkable shows_nothing (Ok found) = shows_nothing found
-is_remarkable shows_nothing (Err fault) = false
+abbrev pub RemarksRun : {E Found : Type 0} → ToSink E → (Found → Bool) → List ℕ → Result Found Fault → E → E → Type 0
+RemarksRun Errors shows_nothing bytes (Ok found) old new = Remarks Errors (shows_nothing found) old new
+RemarksRun Errors shows_nothing bytes (Err fault) old new = new ≡ old
 
--- A run of a command that tells beside its answer whether the run shows nothing.
-pub record IsRemarkedRun {S K E Found : Type 0} (From : FromSource S) (To : ToSink K) (Errors : ToSink E)
-    (IsRight : Type 0 → List ℕ → Result Found Fault → Type 0) (text : Found → List ℕ) (exit : Found → ℕ) (shows_nothing : Found → Bool)
+-- A run of a command that may also tell the sink for errors something of the bytes and their answer.
+pub record IsRemarkedRun {S K E Found : Type 0} (From : FromSource S) (To : ToSink K)
+    (IsRight : Type 0 → List ℕ → Result Found Fault → Type 0) (text : Found → List ℕ) (exit : Found → ℕ)
+    (IsRemarked : List ℕ → Result Found Fault → E → E → Type 0)
     (source source_after : S) (sink sink_after : K) (errors errors_after : E) (status : ℕ) : Type 0 where
   pub run : IsCommandRun From To IsRight text exit source source_after sink sink_after status
-  pub remarked : Remarks Errors (is_remarkable shows_nothing run.answer) errors errors_after
+  pub remarked : IsRemarked run.bytes run.answer errors errors_after

@@ -1,6 +1,6 @@
 ghost use Rattle.std.specs.Prelude.{◌++◌, decimal};
 ghost use Rattle.tmw_streams.specs.Told.{Puts};
-ghost use Rattle.tmw_report.specs.Lines.{fault_line, line_end};
+ghost use Rattle.tmw_report.specs.Lines.{fault_line};
 
 use crate::fault::Fault;
 use tmw_streams::{IoFault, Sink, put_all, put_with_number};
@@ -12,8 +12,10 @@ pub fn write_fault<K: Sink>(sink: &mut K, fault: &Fault) -> Result<(), IoFault>
 {
     match *fault {
         Fault::BadHeader => put_all(sink, b"{\"fault\":\"bad header\"}\n"),
-        Fault::BadLine(line) => put_numbered(sink, b"{\"fault\":\"bad line\",\"line\":", line),
-        Fault::Cut(line) => put_numbered(sink, b"{\"fault\":\"cut\",\"line\":", line),
+        Fault::BadLine(line) => {
+            put_numbered(sink, b"{\"fault\":\"bad line\",\"line\":", line, b"}\n")
+        }
+        Fault::Cut(line) => put_numbered(sink, b"{\"fault\":\"cut\",\"line\":", line, b"}\n"),
         Fault::TooLong => put_all(sink, b"{\"fault\":\"too long\"}\n"),
         Fault::Memory => put_all(sink, b"{\"fault\":\"memory\"}\n"),
         Fault::Io => put_all(sink, b"{\"fault\":\"io\"}\n"),
@@ -28,10 +30,15 @@ pub fn write_fault<K: Sink>(sink: &mut K, fault: &Fault) -> Result<(), IoFault>
     }
 }
 
-/// Writes a text, a number, and the end of an object's line.
-fn put_numbered<K: Sink>(sink: &mut K, before: &[u8], number: u64) -> Result<(), IoFault>
-    ensures { Puts K.to sink.old ((before.now ++ decimal number) ++ line_end) sink.new result }
+/// Writes a text, a number, and another text.
+pub(crate) fn put_numbered<K: Sink>(
+    sink: &mut K,
+    before: &[u8],
+    number: u64,
+    after: &[u8],
+) -> Result<(), IoFault>
+    ensures { Puts K.to sink.old ((before.now ++ decimal number) ++ after.now) sink.new result }
 {
     put_with_number(sink, before, number)?;
-    put_all(sink, b"}\n")
+    put_all(sink, after)
 }

@@ -1,9 +1,11 @@
-//! What the program writes: the line that reports a verdict, the line of a fault, and the exit status that goes with each.
+//! What the program writes: the line that reports a verdict, the line of a fault, and the exit status that goes with each;
+//! and what standard error is told.
 #![tactic(auto)]
 
 mod answer;
 mod fault;
 mod fault_line;
+mod quote;
 mod remark;
 mod report_line;
 mod status;
@@ -12,6 +14,7 @@ mod summary_line;
 pub use answer::{answer_fault, fault_of};
 pub use fault::Fault;
 pub use fault_line::write_fault;
+pub use quote::quote_fault;
 pub use remark::send_remark;
 pub use report_line::{report_by, report_strict, report_text};
 pub use status::{FAULT_STATUS, both_status, status_of};

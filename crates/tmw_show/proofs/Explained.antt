@@ -7,8 +7,10 @@ use Rattle.tmw_trace.specs.Text.{trace_grammar, trace_text, AreEvents}
 use Rattle.tmw_trace.specs.declared.header.Header.{Header}
 use Rattle.tmw_events.specs.declared.event.Event.{Event}
 use Rattle.tmw_monitor.specs.Fitting.{rules_for}
+use Rattle.tmw_report.specs.Quote.{RemarksFault}
 use Rattle.tmw_report.specs.declared.fault.Fault.{Fault}
 use Rattle.tmw_report.specs.declared.fault.Fault.TheVariants.{Memory}
+use Rattle.tmw_streams.specs.Streams.{ToSink}
 use Rattle.tmw_window.specs.Showing.{IsShowing}
 use Rattle.tmw_window.specs.declared.showing.Showing.{Showing}
 use Rattle.tmw_show.specs.Explaining.{IsShownFor}
@@ -43,3 +45,9 @@ explained-answers options Ended bytes header history showing (Ok shown) ended ar
 )
 explained-answers options Ended bytes header history showing (Err fault) ended are text tells none is =
     rw is (WantsMemory, refl, trace-soon header history bytes are text)
+
+-- nothing is told of it
+pub explained-remarks : {E : Type 0} (Errors : ToSink E) (bytes : List ℕ) (result : Result Shown Fault) (errors : E)
+    → IfErr result (λ fault. fault ≡ Memory) → RemarksFault Errors bytes result errors errors
+explained-remarks Errors bytes (Ok shown) errors is = refl
+explained-remarks Errors bytes (Err fault) errors is = rw is refl

@@ -9,7 +9,9 @@ use Rattle.tmw_cuts.specs.Members.{members}
 use Rattle.tmw_monitor.specs.Fitting.{rules_for}
 use Rattle.tmw_report.specs.declared.fault.Fault.{Fault}
 use Rattle.tmw_report.specs.Lines.{report_by, verdict_status}
-use Rattle.tmw_report.specs.CommandRun.{AnswersTextFault, IsCommandRun}
+use Rattle.tmw_report.specs.CommandRun.{AnswersTextFault}
+use Rattle.tmw_report.specs.Quote.{RemarksFault}
+use Rattle.tmw_report.specs.Remark.{IsRemarkedRun}
 use Rattle.tmw_streams.specs.Streams.{FromSource, ToSink}
 use Rattle.tmw_window.specs.Showing.{IsShowing}
 use Rattle.tmw_part.specs.Kept.{kept_of}
@@ -62,6 +64,8 @@ shown_text criterion Page shown = page_text criterion shown
 abbrev pub shown_status : Shown → ℕ
 shown_status shown = verdict_status shown.showing.verdict
 
--- What a run of `show` does: an answer to the bytes that its source tells in it, and the answer's text to its sink.
-abbrev pub ShowsBytes : {S K : Type 0} → FromSource S → ToSink K → ShowOptions → S → S → K → K → ℕ → Type 0
-ShowsBytes From To options = IsCommandRun From To (AnswersShow options) (shown_text options.criterion options.form) shown_status
+-- What a run of `show` does: an answer to the bytes that its source tells in it, and the answer's text to its sink. The sink for
+-- errors is told which line has a fault.
+abbrev pub ShowsBytes : {S K E : Type 0} → FromSource S → ToSink K → ToSink E → ShowOptions → S → S → K → K → E → E → ℕ → Type 0
+ShowsBytes From To Errors options =
+    IsRemarkedRun From To (AnswersShow options) (shown_text options.criterion options.form) shown_status (RemarksFault Errors)

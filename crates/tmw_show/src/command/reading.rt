@@ -3,6 +3,7 @@ ghost use Rattle.tmw_report.specs.declared.fault.Fault.TheVariants.{Memory};
 ghost use Rattle.tmw_show.specs.Explaining.{IsShownFor};
 ghost use Rattle.tmw_streams.specs.Told.{Tells};
 ghost use Rattle.tmw_report.specs.CommandRun.{failures_after_answer};
+ghost use Rattle.tmw_report.specs.Quote.{RemarksFault};
 ghost use Rattle.tmw_show.specs.Running.{AnswersShow};
 
 use crate::command::options::ShowOptions;
@@ -10,27 +11,30 @@ use crate::command::shown::Shown;
 use std::alloc::Global;
 use tmw_events::Registers;
 use tmw_lines::give_items;
-use tmw_report::{Fault, fault_of};
-use tmw_streams::Source;
+use tmw_report::{Fault, quote_fault};
+use tmw_streams::{Sink, Source};
 use tmw_trace::TraceLines;
 use tmw_window::{LastWindow, Showing};
 
 /// Reads a trace up to the source's end, and judges each event as its line is read, as these options say. No event
-/// before the last window is kept. After a failed allocation nothing more is read.
-pub fn show_trace<S: Source>(
+/// before the last window is kept. After a failed allocation nothing more is read. The sink for errors is told which line
+/// has a fault.
+pub fn show_trace<S: Source, E: Sink>(
     alloc: Global,
     source: &mut S,
+    errors: &mut E,
     options: ShowOptions,
 ) -> Result<Shown, Fault>
     ensures right { (bytes : List ℕ) × Tells S.from source.old bytes source.new
-        × AnswersShow options (S.from.ended source.new) bytes result }
+        × AnswersShow options (S.from.ended source.new) bytes result
+        × RemarksFault E.to bytes result errors.old errors.new }
     ensures failures { S.from.failures source.new ≡ failures_after_answer result
         (S.from.failures source.old) }
 {
     let mut lines = TraceLines::new();
     let header = match lines.header(source) {
         Ok(header) => header,
-        Err(fault) => return Err(fault_of(fault)),
+        Err(fault) => return Err(quote_fault(errors, &lines, fault)),
     };
     let Ok(mut window) = LastWindow::new(
         alloc,
@@ -43,7 +47,7 @@ pub fn show_trace<S: Source>(
     };
     match give_items(&mut lines, source, &mut window) {
         Ok(()) => explained(alloc, options, header.registers, window.finish()),
-        Err(fault) => Err(fault_of(fault)),
+        Err(fault) => Err(quote_fault(errors, &lines, fault)),
     }
 }
 

@@ -6,7 +6,7 @@ pub returns-in-Judge : goal.returns-in-Judge
 returns-in-Judge g c = rw c.in-Judge.is c.run_judge_with.ensures
 
 pub returns-in-Show : goal.returns-in-Show
-returns-in-Show g c = rw c.in-Show.is (c.run_show.ensures, refl)
+returns-in-Show g c = rw c.in-Show.is c.run_show.ensures
 
 pub returns-in-Drive : goal.returns-in-Drive
 returns-in-Drive g c = rw c.in-Drive.is (rw c.pick.ensures at c.run_drive.ensures, refl)

@@ -1,21 +1,26 @@
 -- A trace is begun, and its events are fed.
+use Rattle.std.proofs.Common.{refl}
 use Rattle.tmw_judge.proofs.FedFor.{fed-unbegun, fed-done, fed-fault}
 use Rattle.tmw_judge.proofs.judging.feed_judges.Goals as goal
 
 pub returns-in-Err-clause-right : goal.returns-in-Err-clause-right
 returns-in-Err-clause-right g c =
-    fed-unbegun g.C.Counting.counts g.S.Source.from (g.S.Source.from.ended c.begin.new.source) c.args.source.now c.begin.new.source
-    c.begin.new.lines c.args.bounds c.args.asked c.in-Err.fault c.fault_of.result c.args.first c.in-Err.ensures.begins c.fault_of.ensures
+    rw c.quote_fault.ensures.fault (fed-unbegun g.C.Counting.counts g.S.Source.from g.E.Sink.to (g.S.Source.from.ended c.begin.new.source)
+    c.args.source.now c.begin.new.source c.args.errors.now c.quote_fault.new.errors c.begin.new.lines c.args.options.bounds c.args.options.asked
+    c.in-Err.fault c.args.options.first c.in-Err.ensures.begins c.quote_fault.ensures.told)
 
 pub returns-in-Ok-feed_for-clause-right : goal.returns-in-Ok-feed_for-clause-right
 returns-in-Ok-feed_for-clause-right g c =
+    let done =
     fed-done g.S.Source.from g.C.Counting.counts (g.S.Source.from.ended c.begin.new.source) (g.S.Source.from.ended c.feed_for.new.source)
-    c.args.source.now c.begin.new.source c.feed_for.new.source c.begin.new.lines c.feed_for.new.lines c.args.bounds c.args.asked
-    c.in-Ok.judges c.feed_for.new.judges c.in-Ok.ensures.begins tt c.args.first c.in-Ok-feed_for.ensures.feeds
+    c.args.source.now c.begin.new.source c.feed_for.new.source c.begin.new.lines c.feed_for.new.lines c.args.options.bounds c.args.options.asked
+    c.in-Ok.judges c.feed_for.new.judges c.in-Ok.ensures.begins tt c.args.options.first c.in-Ok-feed_for.ensures.feeds in
+    (done.0, done.1, done.2, refl)
 
 pub returns-in-Err-feed_for-clause-right : goal.returns-in-Err-feed_for-clause-right
 returns-in-Err-feed_for-clause-right g c =
-    fed-fault g.S.Source.from g.C.Counting.counts (g.S.Source.from.ended c.begin.new.source) (g.S.Source.from.ended c.feed_for.new.source)
-    c.args.source.now c.begin.new.source c.feed_for.new.source c.begin.new.lines c.feed_for.new.lines c.args.bounds c.args.asked
-    c.in-Ok.judges c.feed_for.new.judges c.in-Ok.ensures.begins _ c.in-Err-feed_for.fault c.fault_of-in-Err-feed_for.result c.args.first
-    c.in-Err-feed_for.ensures.feeds c.fault_of-in-Err-feed_for.ensures
+    rw c.quote_fault-in-Err-feed_for.ensures.fault (fed-fault g.S.Source.from g.C.Counting.counts (g.S.Source.from.ended c.begin.new.source)
+    (g.S.Source.from.ended c.feed_for.new.source) c.args.source.now c.begin.new.source c.feed_for.new.source c.begin.new.lines
+    c.feed_for.new.lines c.args.options.bounds c.args.options.asked c.in-Ok.judges c.feed_for.new.judges c.in-Ok.ensures.begins g.E.Sink.to
+    c.args.errors.now c.quote_fault-in-Err-feed_for.new.errors _ c.in-Err-feed_for.fault c.args.options.first c.in-Err-feed_for.ensures.feeds
+    c.quote_fault-in-Err-feed_for.ensures.told)

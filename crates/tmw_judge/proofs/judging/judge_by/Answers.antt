@@ -7,6 +7,7 @@ returns-clause-right g c =
     let told = c.in_ok-judges.ensures.right in (
       told.0,
       told.1,
-      answer-fed g.C.Counting.counts c.args.first g.C.Counting.counted c.args.bounds c.args.asked _ told.0 c.in_ok-judges.judges
+      answer-fed g.C.Counting.counts c.args.options.first g.C.Counting.counted c.args.options.bounds c.args.options.asked _ told.0 c.in_ok-judges.judges
           c.reports_of.result c.summary.result c.reports_of.ensures c.summary.ensures told.2,
+      told.3,
     )

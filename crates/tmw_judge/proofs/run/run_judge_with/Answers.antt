@@ -11,7 +11,7 @@ returns-in-Ok g c =
     elim c.write_answer.ensures [
       | inl done ↦ record {
         run = record { bytes = told.0; answer = Ok c.in-Ok.answer; told = told.1; right = told.2; failures = c.in-Ok.ensures.failures; put = done.0 };
-        remarked = done.1;
+        remarked = rw told.3 at done.1;
       }
       | inr done ↦ record {
         run = record {
@@ -26,7 +26,7 @@ returns-in-Ok g c =
           failures = c.in-Ok.ensures.failures;
           put = done.0;
         };
-        remarked = done.1;
+        remarked = rw told.3 at done.1;
       }
     ]
 
@@ -41,5 +41,5 @@ returns-in-Err g c =
         failures = c.in-Err.ensures.failures;
         put = c.answer_fault.ensures;
       };
-      remarked = refl;
+      remarked = told.3;
     }

@@ -8,21 +8,19 @@ pub returns-in-Feed-clause-reads : goal.returns-in-Feed-clause-reads
 returns-in-Feed-clause-reads g c =
     long_first-feed g.F.LineFormat.grammar g.S.Source.from (g.S.Source.from.ended c.skip_line.new.source)
     c.args.source.now c.next_piece.new.source c.skip_line.new.source (bytes_of c.args.held.now) (bytes_of c.next_piece.new.held)
-    (bytes_of c.skip_line.new.held) g.met.F.LineFormat.long_header c.next_piece.ensures.reads c.in-Long.ensures.piece.0
-    c.in-Long.ensures.piece.1 c.in-Feed.ensures.skips
+    c.next_piece.ensures.reads c.in-Long.ensures.piece.0 c.in-Long.ensures.piece.1 g.met.F.LineFormat.long_header c.in-Feed.ensures.skips
 
 pub returns-in-End-skip_line-clause-reads : goal.returns-in-End-skip_line-clause-reads
 returns-in-End-skip_line-clause-reads g c =
     long_first-end g.F.LineFormat.grammar g.S.Source.from (g.S.Source.from.ended c.skip_line.new.source)
     c.args.source.now c.next_piece.new.source c.skip_line.new.source (bytes_of c.args.held.now) (bytes_of c.next_piece.new.held)
-    (bytes_of c.skip_line.new.held) c.next_piece.ensures.reads c.in-Long.ensures.piece.0 c.in-Long.ensures.piece.1
-    c.in-End-skip_line.ensures.skips
+    c.next_piece.ensures.reads c.in-Long.ensures.piece.0 c.in-Long.ensures.piece.1 c.in-End-skip_line.ensures.skips
 
 pub returns-in-Failed-skip_line-clause-reads : goal.returns-in-Failed-skip_line-clause-reads
 returns-in-Failed-skip_line-clause-reads g c =
     long_first-failed g.F.LineFormat.grammar g.S.Source.from (g.S.Source.from.ended c.skip_line.new.source)
     c.args.source.now c.next_piece.new.source c.skip_line.new.source (bytes_of c.args.held.now) (bytes_of c.next_piece.new.held)
-    (bytes_of c.skip_line.new.held) c.next_piece.ensures.reads c.in-Long.ensures.piece.1 c.in-Failed-skip_line.ensures.skips
+    c.next_piece.ensures.reads c.in-Long.ensures.piece.0 c.in-Long.ensures.piece.1 c.in-Failed-skip_line.ensures.skips
 
 pub returns-in-Some-clause-reads : goal.returns-in-Some-clause-reads
 returns-in-Some-clause-reads g c =
@@ -34,7 +32,7 @@ pub returns-in-None-clause-reads : goal.returns-in-None-clause-reads
 returns-in-None-clause-reads g c =
     first-bad g.F.LineFormat.grammar g.S.Source.from (g.S.Source.from.ended c.next_piece.new.source)
     c.args.source.now c.next_piece.new.source (bytes_of c.args.held.now) (bytes_of c.next_piece.new.held)
-    (bytes_of c.take_header.new.held) c.next_piece.ensures.reads c.in-None.ensures.none
+    (bytes_of c.take_header.new.held) c.next_piece.ensures.reads c.in-None.ensures.none c.in-None.ensures.kept
 
 pub returns-in-End-clause-reads : goal.returns-in-End-clause-reads
 returns-in-End-clause-reads g c =

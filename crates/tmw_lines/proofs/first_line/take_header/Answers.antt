@@ -4,12 +4,11 @@ use Rattle.tmw_lines.proofs.first_line.take_header.Goals as goal
 
 pub returns-clause-some : goal.returns-clause-some
 returns-clause-some g c =
-    let found = rw c.bytes.ensures.value at c.header_of-found.ensures.some in
+    let found = rw c.bytes.ensures.value at c.in-Some.ensures.some in
     take_header-some g.F.LineFormat.grammar (bytes_of c.args.held.now) (bytes_of c.consume.new.self) c.args.count
-    c.header_of-found.result c.requires.feed c.consume.ensures found
+    c.in-Some.header c.requires.feed c.consume.ensures found
 
-pub returns-clause-none : goal.returns-clause-none
-returns-clause-none g c =
-    let found = rw c.bytes.ensures.value at c.header_of-found.ensures.none in
-    take_header-none g.F.LineFormat.grammar (bytes_of c.args.held.now) c.args.count c.header_of-found.result c.requires.free
-    c.requires.feed found
+pub returns-in_default-clause-none : goal.returns-in_default-clause-none
+returns-in_default-clause-none g c =
+    let found = rw c.bytes.ensures.value at c.in_default.ensures.none in
+    take_header-none g.F.LineFormat.grammar (bytes_of c.args.held.now) c.args.count c.requires.free c.requires.feed found

@@ -12,8 +12,8 @@ returns-then-length_before-bytes-clause-skips g c =
     let at = rw same at c.length_before.ensures in
     let within : position_or_len (λ byte. byte == 10) more.0 < length more.0 =
     omega (arith, at, ap length same, c.if-length_before-bytes.true) in
-    rw held (Skips-feed g.S.Source.from c.args.source.now (g.S.Source.from.ended c.read.new.source)
-    c.parts.source c.read.new.source more.0 c.parts.invariant.0 more.1 within)
+    Skips-feed g.S.Source.from c.args.source.now (g.S.Source.from.ended c.read.new.source)
+    c.parts.source c.read.new.source more.0 c.parts.invariant.0 more.1 within
 
 pub parts-preserved : goal.parts-preserved
 parts-preserved g c =

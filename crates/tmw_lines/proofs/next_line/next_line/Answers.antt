@@ -9,24 +9,24 @@ returns-in-Feed-clause-reads g c =
     let few : c.args.count < 2 ^ 40 = omega arith in
     long-feed g.F.LineFormat.grammar g.S.Source.from (g.S.Source.from.ended c.skip_line.new.source)
     c.args.source.now c.next_piece.new.source c.skip_line.new.source c.args.format c.args.count (bytes_of c.args.held.now)
-    (bytes_of c.next_piece.new.held) (bytes_of c.skip_line.new.held) (g.met.F.LineFormat.long_item c.args.format)
-    c.next_piece.ensures.reads c.in-Long.ensures.piece.0 c.in-Long.ensures.piece.1 c.in-Feed.ensures.skips few
+    (bytes_of c.next_piece.new.held) few c.next_piece.ensures.reads c.in-Long.ensures.piece.0 c.in-Long.ensures.piece.1
+    (g.met.F.LineFormat.long_item c.args.format) c.in-Feed.ensures.skips
 
 pub returns-in-End-skip_line-clause-reads : goal.returns-in-End-skip_line-clause-reads
 returns-in-End-skip_line-clause-reads g c =
     let few : c.args.count < 2 ^ 40 = omega arith in
     long-end g.F.LineFormat.grammar g.S.Source.from (g.S.Source.from.ended c.skip_line.new.source)
     c.args.source.now c.next_piece.new.source c.skip_line.new.source c.args.format c.args.count (bytes_of c.args.held.now)
-    (bytes_of c.next_piece.new.held) (bytes_of c.skip_line.new.held) c.next_piece.ensures.reads c.in-Long.ensures.piece.0
-    c.in-Long.ensures.piece.1 c.in-End-skip_line.ensures.skips few
+    (bytes_of c.next_piece.new.held) few c.next_piece.ensures.reads c.in-Long.ensures.piece.0 c.in-Long.ensures.piece.1
+    c.in-End-skip_line.ensures.skips
 
 pub returns-in-Failed-skip_line-clause-reads : goal.returns-in-Failed-skip_line-clause-reads
 returns-in-Failed-skip_line-clause-reads g c =
     let few : c.args.count < 2 ^ 40 = omega arith in
     long-failed g.F.LineFormat.grammar g.S.Source.from (g.S.Source.from.ended c.skip_line.new.source)
     c.args.source.now c.next_piece.new.source c.skip_line.new.source c.args.format c.args.count (bytes_of c.args.held.now)
-    (bytes_of c.next_piece.new.held) (bytes_of c.skip_line.new.held) c.next_piece.ensures.reads c.in-Long.ensures.piece.1
-    c.in-Failed-skip_line.ensures.skips few
+    (bytes_of c.next_piece.new.held) few c.next_piece.ensures.reads c.in-Long.ensures.piece.0 c.in-Long.ensures.piece.1
+    c.in-Failed-skip_line.ensures.skips
 
 pub returns-in-Some-clause-reads : goal.returns-in-Some-clause-reads
 returns-in-Some-clause-reads g c =
@@ -40,7 +40,7 @@ returns-in-None-clause-reads g c =
     let few : c.args.count < 2 ^ 40 = omega arith in
     next-bad g.F.LineFormat.grammar g.S.Source.from (g.S.Source.from.ended c.next_piece.new.source)
     c.args.source.now c.next_piece.new.source c.args.format c.args.count (bytes_of c.args.held.now)
-    (bytes_of c.next_piece.new.held) (bytes_of c.take_item.new.held) few c.next_piece.ensures.reads c.in-None.ensures.none
+    (bytes_of c.next_piece.new.held) (bytes_of c.take_item.new.held) few c.next_piece.ensures.reads c.in-None.ensures.none c.in-None.ensures.kept
 
 pub returns-in-End-clause-reads : goal.returns-in-End-clause-reads
 returns-in-End-clause-reads g c =

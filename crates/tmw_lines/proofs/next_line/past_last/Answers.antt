@@ -22,7 +22,7 @@ returns-in-Err-clause-reads g c =
     let none = sym (ap length c.bytes.ensures.value) ∙ eqb-true (length c.bytes.result.now) 0 (sym c.if-not-is_empty.ensures) in
     past-failed g.F.LineFormat.grammar g.S.Source.from (g.S.Source.from.ended c.read.new.source)
     c.args.source.now c.args.format (bytes_of c.args.held.now) (bytes_of c.read.new.self) c.read.new.source none
-    c.in-Err.ensures.kept.1 c.in-Err.ensures.no_end
+    c.in-Err.ensures.kept.1 c.in-Err.ensures.no_end c.in-Err.ensures.kept.0
 
 pub returns-in-Ok-eq0-clause-reads : goal.returns-in-Ok-eq0-clause-reads
 returns-in-Ok-eq0-clause-reads g c =
@@ -37,4 +37,4 @@ returns-in-Ok-clause-reads g c =
     let more = c.in-Ok.ensures.more in
     past-read g.F.LineFormat.grammar g.S.Source.from (g.S.Source.from.ended c.read.new.source)
     c.args.source.now c.args.format (bytes_of c.args.held.now) (bytes_of c.read.new.self) c.read.new.source more.0
-    more.1 (omega (arith, more.3))
+    more.1 (omega (arith, more.3)) more.2

@@ -1,17 +1,16 @@
--- The line's end came after the text and its number.
+-- The second text came after the first and its number.
 use Rattle.std.proofs.Common.{◌++◌, decimal}
-use Rattle.tmw_report.specs.Lines.{line_end}
 use Rattle.tmw_streams.proofs.Putting.{Puts-more, Puts-front}
 use Rattle.tmw_report.proofs.fault_line.put_numbered.Goals as goal
 
 pub returns-in_err-put_with_number : goal.returns-in_err-put_with_number
 returns-in_err-put_with_number g c =
     Puts-front g.K.Sink.to c.args.sink.now c.put_with_number.new.sink (c.args.before.now ++ decimal c.args.number)
-    line_end c.from_residual.result
+    c.args.after.now c.from_residual.result
     c.from_residual.ensures.0 c.in_err-put_with_number.ensures
 
 pub returns : goal.returns
 returns g c =
     Puts-more g.K.Sink.to c.args.sink.now c.put_with_number.new.sink (c.args.before.now ++ decimal c.args.number)
-    line_end c.put_all.new.sink c.put_all.result
+    c.args.after.now c.put_all.new.sink c.put_all.result
     c.in_ok-put_with_number.ensures c.put_all.ensures

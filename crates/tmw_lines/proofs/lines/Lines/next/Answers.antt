@@ -16,11 +16,11 @@ returns-in-Err-clause-fault g c =
       line.bytes,
       line.told,
       text_fault-line g.F.LineFormat.grammar (g.S.Source.from.ended c.next_line.new.source) c.args.self.now line.bytes
-          c.in-Err.fault line.is,
+          c.in-Err.fault line.is.0,
     )
 
 pub returns-in-Err-clause-at_line : goal.returns-in-Err-clause-at_line
-returns-in-Err-clause-at_line g c = let line = c.in-Err.ensures.reads in (line.bytes, line.told, λ reading. line.is)
+returns-in-Err-clause-at_line g c = let line = c.in-Err.ensures.reads in (line.bytes, line.told, λ reading. (line.is.0, line.is.1, refl))
 
 pub returns-in-Ok-Some-clause-over_again : goal.returns-in-Ok-Some-clause-over_again
 returns-in-Ok-Some-clause-over_again g c = λ over. absurd (IsReading-over c.args.self.now (search) over)

@@ -15,13 +15,33 @@ pub returns-in-Ok : goal.returns-in-Ok
 returns-in-Ok g c =
     let told = c.in-Ok.ensures.right in
     elim c.answer_shown.ensures [
-      | inl put ↦ record { bytes = told.0; answer = Ok c.in-Ok.shown; told = told.1; right = told.2; failures = c.in-Ok.ensures.failures; put = put }
+      | inl put ↦ record {
+        run = record { bytes = told.0; answer = Ok c.in-Ok.shown; told = told.1; right = told.2; failures = c.in-Ok.ensures.failures; put = put };
+        remarked = told.3;
+      }
       | inr put ↦ record {
-        bytes = told.0;
-        answer = Err Memory;
-        told = told.1;
-        right = (WantsMemory, refl, trace-soon told.2.1.header told.2.1.history told.0 told.2.1.are_events told.2.1.text);
-        failures = c.in-Ok.ensures.failures;
-        put = put;
+        run = record {
+          bytes = told.0;
+          answer = Err Memory;
+          told = told.1;
+          right = (WantsMemory, refl, trace-soon told.2.1.header told.2.1.history told.0 told.2.1.are_events told.2.1.text);
+          failures = c.in-Ok.ensures.failures;
+          put = put;
+        };
+        remarked = told.3;
       }
     ]
+
+pub returns-in-Err : goal.returns-in-Err
+returns-in-Err g c =
+    let told = c.in-Err.ensures.right in record {
+      run = record {
+        bytes = told.0;
+        answer = Err c.in-Err.fault;
+        told = told.1;
+        right = told.2;
+        failures = c.in-Err.ensures.failures;
+        put = c.answer_fault.ensures;
+      };
+      remarked = told.3;
+    }

@@ -1,0 +1,9 @@
+use Rattle.std.proofs.Common.{◌≡◌, take}
+use Rattle.tmw_report.specs.Quote.{escaped}
+use Rattle.tmw_streams.specs.Told.{Takes}
+use Rattle.tmw_report.proofs.quote.put_escaped.Given as goal
+
+abbrev pub invariant-loop-byte : goal.invariant-loop-byte
+invariant-loop-byte g l =
+    Takes g.K.Sink.to l.fn.sink (escaped (take l.byte-index l.bytes)) l.sink
+    × (g.K.Sink.to.failures l.sink ≡ g.K.Sink.to.failures l.fn.sink)

@@ -1,0 +1,151 @@
+ghost use Rattle.std.specs.Prelude.{◌≡◌, ◌<◌, ◌++◌, option_map};
+ghost use Rattle.tmw_lines.specs.Lines.{format_by, unread_bytes};
+ghost use Rattle.tmw_lines.specs.Text.{front_of};
+ghost use Rattle.tmw_report.specs.Putting.{fault_of};
+ghost use Rattle.tmw_report.specs.Quote.{escaped, escaped_byte, hex_digit, number_of, quote_end, quoted, quote_text, wrong_of};
+ghost use Rattle.tmw_report.specs.Quoting.{QuotesHeld, text_of};
+ghost use Rattle.tmw_streams.specs.Told.{Puts};
+ghost use Rattle.tmw_trace.specs.Text.{version_digit};
+
+use crate::answer::fault_of;
+use crate::fault::Fault;
+use crate::fault_line::put_numbered;
+use tmw_lines::TextFault;
+use tmw_streams::{IoFault, Sink, Texts, put_all, put_lines};
+use tmw_trace::{TraceLines, Version};
+
+/// The most bytes of a line that are quoted.
+const MOST_QUOTED: usize = 80;
+
+/// A line of a trace that has a fault.
+#[derive(Drop)]
+pub(crate) struct Quote<'a> {
+    number: u64,
+    fault: Fault,
+    version: Version,
+    line: &'a [u8],
+}
+
+/// The texts of such lines.
+struct QuoteTexts;
+
+impl Texts<Quote<'_>> for QuoteTexts {
+    ghost text = { text_of };
+
+    fn put_text<K: Sink>(sink: &mut K, quote: &Quote<'_>) -> Result<(), IoFault> {
+        let wrong = wrong_of(quote.fault, quote.version);
+        put_numbered(sink, b"error: line ", quote.number, wrong)?;
+        put_quoted(sink, quote.line)
+    }
+}
+
+/// Returns the fault that reports a fault which the reader of a trace has returned. It tells on the sink for errors which
+/// line has the fault, what is wrong with that line and how it begins, as far as the sink takes it; and nothing of a fault
+/// that is at no line. It takes no memory.
+pub fn quote_fault<E: Sink>(errors: &mut E, lines: &TraceLines, fault: TextFault) -> Fault
+    ensures fault { result ≡ fault_of fault }
+    ensures told { QuotesHeld E.to (number_of (fault_of fault)) (fault_of fault)
+        (format_by lines.now) (front_of (unread_bytes lines.now)) errors.old errors.new }
+{
+    let fault = fault_of(fault);
+    send_quote(errors, lines, fault);
+    fault
+}
+
+/// Tells on the sink for errors which line has the fault.
+fn send_quote<E: Sink>(errors: &mut E, lines: &TraceLines, fault: Fault)
+    ensures { QuotesHeld E.to (number_of fault) fault (format_by lines.now)
+        (front_of (unread_bytes lines.now)) errors.old errors.new }
+{
+    let Some(number) = number_of(fault) else {
+        return;
+    };
+    let quote = Quote {
+        number,
+        fault,
+        version: lines.format(),
+        line: lines.front(),
+    };
+    let _sent = put_lines::<QuoteTexts, Quote<'_>, E>(errors, &[quote]);
+}
+
+/// The number of the line that the fault is at.
+fn number_of(fault: Fault) -> Option<u64>
+    ensures { result ≡ number_of fault }
+{
+    match fault {
+        Fault::BadHeader => Some(1),
+        Fault::BadLine(number) | Fault::Cut(number) => Some(number),
+        _ => None,
+    }
+}
+
+/// What is wrong with that line.
+fn wrong_of(fault: Fault, version: Version) -> &'static [u8]
+    ensures { result.now ≡ wrong_of fault (version_digit version) }
+{
+    match (fault, version) {
+        (Fault::BadHeader, _) => b" is no header of a trace: ",
+        (Fault::Cut(_), _) => b" has no line feed: ",
+        (_, Version::One) => b" is no event of version 1: ",
+        (_, Version::Two) => b" is no event of version 2: ",
+    }
+}
+
+/// Writes the line's first bytes in quotes.
+fn put_quoted<K: Sink>(sink: &mut K, line: &[u8]) -> Result<(), IoFault>
+    ensures { Puts K.to sink.old (quoted line.now) sink.new result }
+{
+    put_all(sink, b"\"")?;
+    put_escaped(sink, &line[..MOST_QUOTED.min(line.len())])?;
+    put_all(sink, quote_end(line))
+}
+
+/// The end of a quoted line.
+fn quote_end(line: &[u8]) -> &'static [u8]
+    ensures { result.now ≡ quote_end line.now }
+{
+    if line.len() > MOST_QUOTED {
+        b"\"..."
+    } else {
+        b"\""
+    }
+}
+
+/// Writes each of the bytes as it is quoted.
+fn put_escaped<K: Sink>(sink: &mut K, bytes: &[u8]) -> Result<(), IoFault>
+    ensures { Puts K.to sink.old (escaped bytes.now) sink.new result }
+{
+    for byte in bytes {
+        put_escaped_byte(sink, *byte)?;
+    }
+    Ok(())
+}
+
+/// Writes the byte as it is quoted.
+fn put_escaped_byte<K: Sink>(sink: &mut K, byte: u8) -> Result<(), IoFault>
+    ensures { Puts K.to sink.old (escaped_byte byte) sink.new result }
+{
+    if byte == b'"' || byte == b'\\' {
+        return put_all(sink, &[b'\\', byte]);
+    }
+    if byte >= b' ' && byte <= b'~' {
+        return put_all(sink, &[byte]);
+    }
+    put_all(
+        sink,
+        &[b'\\', b'x', hex_digit(byte / 16), hex_digit(byte % 16)],
+    )
+}
+
+/// The digit of base sixteen.
+fn hex_digit(number: u8) -> u8
+    requires { number < 16 }
+    ensures { result ≡ hex_digit number }
+{
+    if number < 10 {
+        b'0' + number
+    } else {
+        b'a' - 10 + number
+    }
+}
