@@ -7,15 +7,15 @@ use Rattle.tmw_defs.proofs.Weaker.{ends-by}
 use Rattle.tmw_cuts.specs.Members.{members}
 use Rattle.tmw_monitor.proofs.weigh.weigh.Goals as goal
 
-pub returns-then-finds-clause-ok : goal.returns-then-finds-clause-ok
-returns-then-finds-clause-ok c quiet events stands uncut was =
-    let found = c.finds.ensures.ends c.if-finds.true events stands was in
+pub returns-then-has_order-clause-ok : goal.returns-then-has_order-clause-ok
+returns-then-has_order-clause-ok c quiet events stands uncut was =
+    let found = c.has_order.ensures.ends c.if-has_order.true events stands was in
     inl (record {
       uncut = sym uncut ∙ c.if-cut.false;
       ends = inr (found.0, ends-by c.args.criterion (Contains (members c.args.kept.now.states)) (transactions events) found.0 found.1);
       states = refl;
       stands = stands;
-      witness = c.finds.ensures.stays events stands was;
+      witness = c.has_order.ensures.stays events stands was;
     })
 
 pub returns-else-branch-clause-ok : goal.returns-else-branch-clause-ok
