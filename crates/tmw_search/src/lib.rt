@@ -5,6 +5,7 @@ mod alone;
 mod aside;
 mod blind;
 mod choices;
+mod dead_end;
 mod depth_first;
 mod end_states;
 mod ends;
