@@ -1,15 +1,13 @@
 -- What operations write, need and leave where others follow them.
-use Rattle.std.proofs.Common.{◌≡◌, ◌==◌, ◌&&◌, ◌||◌, ◌+◌, ◌-◌, ◌%◌, ◌^◌, ◌<◌, min, ℕ, zero, suc, Bool, true, false, not, List, [], ◌∷◌, ◌++◌, Option, Some, refl, sym, ap, ◌∙◌, inl, inr, arith, bit_and, w8}
-use Rattle.std.specs.Prelude.{if◌then◌else◌}
+use Rattle.std.proofs.Common.{◌≡◌, ◌==◌, ◌&&◌, ◌||◌, ◌^◌, ◌<◌, ℕ, Bool, true, false, not, List, [], ◌∷◌, ◌++◌, refl, sym, ◌∙◌, inl, inr, bit_and, w8}
 use Rattle.std.specs.Int.{bit_at, bit_not}
-use Rattle.std.proofs.lemmas.Bool.{cases_Bool, cases_lt, eqb-true}
-use Rattle.std.proofs.lemmas.Nat.Bits.{bit_at_above, bit_at_and, bit_at_not, bit_at-lt}
+use Rattle.std.proofs.lemmas.Bool.{cases_Bool, eqb-true}
 use Rattle.tmw_events.specs.declared.ix.Ix.{Ix}
 use Rattle.tmw_defs.specs.declared.op.Op.{Op}
 use Rattle.tmw_defs.specs.declared.op.Op.TheVariants.{Read, Write, Add}
 use Rattle.tmw_cuts.specs.Registers.{IsMaskOf}
-use Rattle.tmw_cuts.specs.Written.{writes, needs, writes_blindly, left_by}
-use Rattle.tmw_cuts.proofs.Chosen.{with_bit, with_new, has_bit-with_bit}
+use Rattle.tmw_cuts.specs.Written.{writes, needs, writes_blindly}
+use Rattle.tmw_cuts.proofs.Chosen.{with_bit, with_new, has_bit-with_bit, bits-without}
 
 or_after : (a b c : Bool) → b ≡ c → (a || b) ≡ (a || c)
 or_after true b c same = refl
@@ -137,33 +135,7 @@ blind-is (Add q e w ∷ ops) k = add (q.number == k) _ _ _ (blind-is ops k)
     add true b c d same = refl
     add false b c d same = same
 
-both_bits : (l n : ℕ) → l < 2 → n < 2 → (min l (1 - n) == 1) ≡ ((l == 1) && not (n == 1))
-both_bits zero n l_bit n_bit = let none : min 0 (1 - n) ≡ 0 = omega arith in rw none refl
-both_bits (suc zero) zero l_bit n_bit = refl
-both_bits (suc zero) (suc zero) l_bit n_bit = refl
-both_bits (suc zero) (suc (suc n)) l_bit n_bit = absurd (omega (arith, n_bit))
-both_bits (suc (suc l)) n l_bit n_bit = absurd (omega (arith, l_bit))
-
 pub blind-mask : (left needed : ℕ) (ops : List Op) → left < 2 ^ 8 → needed < 2 ^ 8 → IsMaskOf (λ k. writes k ops) left
     → IsMaskOf (λ k. needs k ops) needed → IsMaskOf (λ k. writes_blindly k ops) (bit_and left (bit_not w8 needed))
-blind-mask left needed ops left_fits needed_fits written is k = bits k ∙ sym (blind-is ops k ∙ rw (← written k, ← is k) refl)
-  where
-    bits : (k : ℕ) → (bit_at (bit_and left (bit_not w8 needed)) k == 1) ≡ ((bit_at left k == 1) && not (bit_at needed k == 1))
-    bits k =
-        elim (cases_lt k 8) [
-          | inl below ↦
-              let both : bit_at (bit_and left (bit_not w8 needed)) k ≡ min (bit_at left k) (1 - bit_at needed k) =
-              bit_at_and left (bit_not w8 needed) k ∙ ap (min (bit_at left k)) (bit_at_not w8 needed k needed_fits below) in
-              rw both (both_bits (bit_at left k) (bit_at needed k) (bit_at-lt left k) (bit_at-lt needed k))
-          | inr above ↦
-              let none : bit_at left k ≡ 0 = bit_at_above left 8 k left_fits above in
-              let neither : bit_at (bit_and left (bit_not w8 needed)) k ≡ 0 =
-              bit_at_and left (bit_not w8 needed) k ∙ omega (arith, none) in
-              rw (none, neither) refl
-        ]
-
-pub left_by-append : (r : ℕ) (value : Option ℕ) (one two : List Op) → left_by r value (one ++ two) ≡ left_by r (left_by r value one) two
-left_by-append r value [] two = refl
-left_by-append r value (Read q v ∷ one) two = left_by-append r value one two
-left_by-append r value (Write q v ∷ one) two = left_by-append r (if q.number == r then Some v else value) one two
-left_by-append r value (Add q d v ∷ one) two = left_by-append r (if q.number == r then Some ((v + d) % 2 ^ 64) else value) one two
+blind-mask left needed ops left_fits needed_fits written is k =
+    bits-without left needed left_fits needed_fits k ∙ sym (blind-is ops k ∙ rw (← written k, ← is k) refl)

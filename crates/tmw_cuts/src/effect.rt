@@ -1,12 +1,12 @@
-ghost use Rattle.std.specs.Prelude.{◌≡◌, ◌==◌, ◌<◌, ◌++◌, [], ◌∷◌, List, None, slice_index};
+ghost use Rattle.std.specs.Prelude.{◌≡◌, ◌==◌, ◌<◌, ◌++◌, [], ◌∷◌, List, IsFalse, length, slice_index};
 ghost use Rattle.std.specs.Int.{bit_at};
 ghost use Rattle.std.specs.List.{list_all};
 ghost use Rattle.tmw_defs.specs.declared.op.Op.{Op};
 ghost use Rattle.tmw_defs.specs.declared.op.Op.TheVariants.{Read, Write, Add};
-ghost use Rattle.tmw_defs.specs.Opaque.{reads_hold, after_writes};
-ghost use Rattle.tmw_cuts.specs.Registers.{IsMaskOf, chosen, have, put};
+ghost use Rattle.tmw_defs.specs.Opaque.{State, reads_hold, after_writes};
+ghost use Rattle.tmw_cuts.specs.Registers.{IsMaskOf, AgreeOutside, chosen, have, put};
 ghost use Rattle.tmw_cuts.specs.Replaying.{Replays};
-ghost use Rattle.tmw_cuts.specs.Written.{is_write, writes, writes_blindly, left_by};
+ghost use Rattle.tmw_cuts.specs.Written.{is_write, writes, writes_blindly};
 
 use crate::states::State;
 use tmw_defs::Op;
@@ -39,7 +39,7 @@ fn has_register(mask: u8, register: usize) -> bool
 }
 
 impl Effect {
-    ghost use Rattle.tmw_cuts.specs.Effects.{IsEffectOf, tells, leaves_none};
+    ghost use Rattle.tmw_cuts.specs.Effects.{IsEffectOf, leaves_none};
 
     /// Makes the effect of no operation.
     pub fn new() -> Effect
@@ -113,16 +113,16 @@ impl Effect {
         }
     }
 
-    /// Whether each register that is needed has the needed value in the state. It asks each register, since no processor foresees
-    /// which are needed.
+    /// Whether each of these registers has the needed value in the state. It asks each register, since no processor foresees which
+    /// they are.
     #[inline(always)]
-    fn is_met(&self, state: &State) -> bool
-        ensures { result ≡ have (chosen self.now.needed) self.now.needs state.now }
+    fn is_met(&self, registers: u8, state: &State) -> bool
+        ensures { result ≡ have (chosen registers) self.now.needs state.now }
     {
         let mut met = true;
         for register in 0..8 {
             let same = state[register] == self.needs[register];
-            met &= same | !has_register(self.needed, register);
+            met &= same | !has_register(registers, register);
         }
         met
     }
@@ -146,7 +146,16 @@ impl Effect {
     pub fn fits(&self, state: &State) -> bool
         ensures { (ops : List Op) → IsEffectOf self.now ops → result ≡ reads_hold state.now ops }
     {
-        self.agrees && self.is_met(state)
+        self.agrees && self.is_met(self.needed, state)
+    }
+
+    /// Tells whether each register that is needed has the needed value, but for those of the mask. If not, no state that
+    /// agrees with this one outside the mask fits.
+    pub fn fits_outside(&self, state: &State, mask: u8) -> bool
+        ensures { IsFalse result → (ops : List Op) → IsEffectOf self.now ops → (s : State)
+            → length s ≡ 8 → AgreeOutside mask state.now s → IsFalse (reads_hold s ops) }
+    {
+        self.agrees && self.is_met(self.needed & !mask, state)
     }
 
     /// Returns what the registers hold after the operations, if each of them was answered what the registers held
@@ -178,17 +187,6 @@ impl Effect {
         }
     }
 
-    /// Tells whether a register that is needed has the needed value in the one state and not in the other.
-    pub fn reads_one(&self, has: &State, has_not: &State) -> bool
-        ensures { result ≡ tells self.now has.now has_not.now }
-    {
-        (0..8).any(|register: usize| {
-            has_register(self.needed, register)
-                && has[register] == self.needs[register]
-                && has_not[register] != self.needs[register]
-        })
-    }
-
     /// Tells whether no register is written or added to.
     pub fn only_reads(&self) -> bool
         ensures { result ≡ leaves_none self.now }
@@ -216,17 +214,5 @@ impl Effect {
             → IsMaskOf (λ r. writes_blindly r ops) result }
     {
         self.left & !self.needed
-    }
-
-    /// Returns what the operations leave in the register, if they write or add to it.
-    pub fn left_in(&self, register: usize) -> Option<u64>
-        requires { register < 8 }
-        ensures { (ops : List Op) → IsEffectOf self.now ops → result ≡ left_by register None ops }
-    {
-        if has_register(self.left, register) {
-            Some(self.leaves[register])
-        } else {
-            None
-        }
     }
 }

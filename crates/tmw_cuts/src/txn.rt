@@ -1,12 +1,12 @@
-ghost use Rattle.std.specs.Prelude.{◌≡◌, ◌<◌, ◌++◌, None, IsTrue, length};
+ghost use Rattle.std.specs.Prelude.{◌≡◌, ◌<◌, ◌++◌, IsTrue, IsFalse, length};
 ghost use Rattle.std.specs.List.{list_all};
 ghost use Rattle.tmw_events.specs.declared.event.Kind.TheVariants.{V};
 ghost use Rattle.tmw_defs.specs.History.{is_over};
 ghost use Rattle.tmw_defs.specs.Opaque.{State, reads_hold, after_writes};
-ghost use Rattle.tmw_cuts.specs.Effects.{IsEffectOf, IsEffectOf-prop, tells, leaves_none};
-ghost use Rattle.tmw_cuts.specs.Registers.{IsMaskOf};
+ghost use Rattle.tmw_cuts.specs.Effects.{IsEffectOf, IsEffectOf-prop, leaves_none};
+ghost use Rattle.tmw_cuts.specs.Registers.{IsMaskOf, AgreeOutside};
 ghost use Rattle.tmw_cuts.specs.Replaying.{Replays};
-ghost use Rattle.tmw_cuts.specs.Written.{is_write, writes, writes_blindly, left_by};
+ghost use Rattle.tmw_cuts.specs.Written.{is_write, writes, writes_blindly};
 
 use crate::effect::Effect;
 use crate::kinds::{operation, status_after};
@@ -87,6 +87,15 @@ impl Txn {
         self.effect.fits(state)
     }
 
+    /// Tells whether each register has the value that its operations need, but for those of the mask. If not, no state
+    /// that agrees with this one outside the mask answers them so.
+    pub fn fits_outside(&self, state: &State, mask: u8) -> bool
+        ensures { IsFalse result → (s : State) → length s ≡ 8 → AgreeOutside mask state.now s
+            → IsFalse (reads_hold s self.now.ops.items) }
+    {
+        self.effect.fits_outside(state, mask)
+    }
+
     /// Returns what the registers hold after its operations, if each of them was answered what the registers held
     /// then.
     #[inline(always)]
@@ -109,14 +118,6 @@ impl Txn {
             Some(Kind::N(register, _)) => self.effect.value_after(state, register) == value,
             _ => true,
         }
-    }
-
-    /// Tells whether its operations need a value of a register that the register has in the one state and not in the
-    /// other. The result counts only for operations that some state answers as they were answered.
-    pub fn reads_one(&self, has: &State, has_not: &State) -> bool
-        ensures { result ≡ tells (effect_of self.now) has.now has_not.now }
-    {
-        self.effect.reads_one(has, has_not)
     }
 
     /// Tells whether its operations write nothing.
@@ -148,14 +149,6 @@ impl Txn {
         ensures { IsMaskOf (λ r. writes_blindly r self.now.ops.items) result }
     {
         self.effect.blind()
-    }
-
-    /// Returns what its operations leave in the register, if they write or add to it.
-    pub fn left_in(&self, register: usize) -> Option<u64>
-        requires { register < 8 }
-        ensures { result ≡ left_by register None self.now.ops.items }
-    {
-        self.effect.left_in(register)
     }
 
     /// Makes a transaction that shows the same.

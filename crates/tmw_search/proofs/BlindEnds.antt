@@ -9,7 +9,8 @@ use Rattle.std.proofs.lemmas.List.Elements.{Contains-get_or}
 use Rattle.std.proofs.lemmas.List.Folds.{list_all-map}
 use Rattle.std.proofs.lemmas.Option.{slice_get_within}
 use Rattle.tmw_search.specs.BlindTransactions.{is_blind}
-use Rattle.tmw_search.specs.Choices.{ShowsReach, IsReach, EndsFrom, AgreeOutside}
+use Rattle.tmw_search.specs.Choices.{ShowsReach, IsReach, EndsFrom}
+use Rattle.tmw_cuts.specs.Registers.{AgreeOutside}
 use Rattle.tmw_cuts.specs.Written.{writes}
 use Rattle.tmw_search.specs.ForcedTransactions.{is_committed, is_writer}
 use Rattle.tmw_search.specs.LastWrites.{LeaveLasts, AreWritten, AllWritten, NoneFrom, nothing}

@@ -136,7 +136,7 @@ length-writes s (Read q v ∷ ops) = length-writes s ops
 length-writes s (Write q v ∷ ops) = length-writes (slice_set s q.number v) ops ∙ length-set s q.number v
 length-writes s (Add q d v ∷ ops) = length-writes (slice_set s q.number ((v + d) % 2 ^ 64)) ops ∙ length-set s q.number ((v + d) % 2 ^ 64)
 
-length-after : (s : State) (p : Placed) → length (after s p) ≡ length s
+pub length-after : (s : State) (p : Placed) → length (after s p) ≡ length s
 length-after s p =
     elim (cases_Bool p.held) [ inl is ↦ rw is (length-writes s (operations p.txn.text)) | inr other ↦ rw other refl ]
 

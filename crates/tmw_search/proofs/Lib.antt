@@ -2,6 +2,7 @@ mod BlindEnds
 mod BlindProof
 mod Choosing
 mod Completions
+mod DeadEnd
 mod DepthFirst
 pub mod ForcedEnds
 mod ForcedProof

@@ -56,7 +56,3 @@ pub record EndsFrom (lasts : List Last) (register : ℕ) (reach : List ℕ) (sta
 abbrev pub AddsEnds : List Last → ℕ → ℕ → List ℕ → State → Bool → List State → List State → Type 0
 AddsEnds lasts upto register reach start done old new = IsReach lasts reach → NoneFrom lasts upto
     → Adds done old new (EndsFrom lasts register reach start)
-
--- The two hold the same in each register that isn't one of the mask's.
-abbrev pub AgreeOutside : ℕ → State → State → Type 0
-AgreeOutside mask one other = (r : ℕ) → r < 8 → bit_at mask r ≡ 0 → slice_index one r ≡ slice_index other r

@@ -1,5 +1,5 @@
 -- What a search adds that places one transaction after another: the states in which all of them can end.
-use Rattle.std.specs.Prelude.{◌≡◌, ◌↔◌, ◌+◌, ◌-◌, ◌*◌, ◌%◌, ◌^◌, ◌<◌, ℕ, zero, suc, Bool, List, [], length, slice_get, Some, IsTrue, bit_or}
+use Rattle.std.specs.Prelude.{◌≡◌, ◌↔◌, ◌+◌, ◌-◌, ◌*◌, ◌%◌, ◌^◌, ◌<◌, ℕ, zero, suc, Bool, true, List, [], length, slice_get, Some, IsTrue, bit_or}
 use Rattle.std.specs.Int.{bit_at}
 use Rattle.std.specs.List.{Contains}
 use Rattle.tmw_defs.specs.declared.criterion.Criterion.{Criterion}
@@ -8,6 +8,7 @@ use Rattle.tmw_defs.specs.History.{Txn}
 use Rattle.tmw_defs.specs.Opaque.{State, may_hold}
 use Rattle.tmw_defs.specs.Outcomes.{Only}
 use Rattle.tmw_cuts.specs.Views.{View}
+use Rattle.tmw_cuts.specs.Written.{writes}
 use Rattle.tmw_search.specs.BlindEnds.{Adds}
 use Rattle.tmw_search.specs.Layers.{InLayerBy, IsStep, reads_asked}
 use Rattle.tmw_search.specs.Nexts.{is_next, end_at}
@@ -64,6 +65,15 @@ pub record LeadsOn (criterion : Criterion) (xs : List View) (s : State) (mask le
 abbrev pub IsOnward : List View → State → ℕ → ℕ → ℕ → ℕ → Type 0
 IsOnward xs s mask left above fewer = (criterion : Criterion) (ts : List Txn) → IsBegun criterion xs mask left s ts
     → LeadsOn criterion xs s mask left above fewer ts
+
+-- The mask has each register that one of those may still write that are not placed.
+abbrev pub HasWritten : List View → ℕ → ℕ → Type 0
+HasWritten xs mask registers = (place r : ℕ) (x : View) → slice_get xs place ≡ Some x → bit_at mask place ≡ 0
+    → IsTrue (may_hold x.status true) → IsTrue (writes r x.ops) → bit_at registers r ≡ 1
+
+-- No steps lead on from here to an end, where all are placed.
+abbrev pub IsDeadEnd : Criterion → List View → ℕ → State → Type 0
+IsDeadEnd criterion xs mask s = (ts : List Txn) (n : ℕ) (end : State) → ShowsTransactions xs ts → GoesTo criterion ts n mask s end → ⊥
 
 -- Whatever transactions the list shows: end states of theirs were found, and all of them where it is done.
 abbrev pub AreSearched : Criterion → List View → List State → Bool → List State → Type 0

@@ -1,10 +1,10 @@
 ghost use Rattle.std.specs.Prelude.{◌≡◌, ◌≤◌, ◌<◌, ℕ, IfOk, IsTrue, length, map};
 ghost use Rattle.std.specs.Int.{bit_at};
 ghost use Rattle.std.specs.List.{list_all};
+ghost use Rattle.tmw_cuts.specs.Registers.{AgreeOutside};
 ghost use Rattle.tmw_cuts.specs.Views.{view};
 ghost use Rattle.tmw_search.specs.BlindEnds.{shows_blind, AreBlindEnds};
 ghost use Rattle.tmw_search.specs.LastWrites.{AreWritten, AllWritten};
-ghost use Rattle.tmw_search.specs.Choices.{AgreeOutside};
 
 use crate::choices::add_ends;
 use crate::end_states::EndStates;

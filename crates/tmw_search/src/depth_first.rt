@@ -5,6 +5,7 @@ ghost use Rattle.tmw_cuts.specs.Views.{view};
 ghost use Rattle.tmw_search.specs.DepthFirst.{AddsRest, AddsAt, AddsWay, AreSearched};
 
 use crate::aside::set_aside;
+use crate::dead_end::is_dead_end;
 use crate::idle::{idle_of, place_idle};
 use crate::nexts::{end_of, is_next, may_hold};
 use crate::progress::Progress;
@@ -15,6 +16,9 @@ use tmw_defs::Criterion;
 
 /// How many times a search may choose the next transaction.
 const FUEL: u32 = 1024;
+
+/// With no more than so many left, to try each order is faster than to look for a dead end.
+const FEW: usize = 3;
 
 /// A search for end states.
 #[derive(Drop)]
@@ -117,6 +121,9 @@ fn add_rest(
     if placed.left == 0 {
         search.ends.insert(*state)?;
         return Ok(search.ends.len() <= search.cap);
+    }
+    if placed.left > FEW && is_dead_end(criterion, items, placed.mask, state) {
+        return Ok(true);
     }
     if search.fuel == 0 {
         return Ok(false);

@@ -4,6 +4,7 @@
 mod aside;
 mod blind;
 mod choices;
+mod dead_end;
 mod depth_first;
 mod end_states;
 mod ends;

@@ -4,7 +4,7 @@ use Rattle.std.specs.Int.{trailing_zeros, w8}
 use Rattle.tmw_cuts.specs.Views.{view}
 use Rattle.tmw_cuts.proofs.Bits.{shift_is}
 use Rattle.tmw_search.proofs.BlindProof.{bit_small}
-use Rattle.tmw_search.proofs.DepthFirst.{way-next, at-some, at-both, rest-onward, rest-none, tried-none, tried-next, tried-some, tried-all, lowest-left}
+use Rattle.tmw_search.proofs.DepthFirst.{adds-none, way-next, at-some, at-both, rest-onward, rest-none, tried-none, tried-next, tried-some, tried-all, lowest-left}
 use Rattle.tmw_search.proofs.LayerSteps.{slice_get_some}
 use Rattle.tmw_search.proofs.Masks.{pow_some}
 use Rattle.tmw_search.proofs.WindowLayers.{if_ok}
@@ -44,6 +44,14 @@ add_rest-returns-then-placed-eq0 t c =
     rest-onward c.args.criterion xs c.args.state.now c.args.progress.mask c.args.progress.left placed.mask placed.left _ _ _
     c.place_idle-placed.ensures.onward
     (rest-none c.args.criterion xs placed.mask placed.left c.args.state.now _ _ _ c.if-placed-eq0.true c.in_ok-insert.ensures.ok)
+
+pub add_rest-returns-then-is_dead_end : goal.add_rest-returns-then-is_dead_end
+add_rest-returns-then-is_dead_end t c =
+    let xs = map view c.args.items.now in
+    let placed = c.place_idle-placed.result in
+    rest-onward c.args.criterion xs c.args.state.now c.args.progress.mask c.args.progress.left placed.mask placed.left _ _ _
+    c.place_idle-placed.ensures.onward
+    (λ ts b. adds-none _ _ (λ e goes. c.is_dead_end.ensures c.if-is_dead_end.true ts placed.left e b.shows goes))
 
 pub add_rest-loop-rest-init : goal.add_rest-loop-rest-init
 add_rest-loop-rest-init t c =

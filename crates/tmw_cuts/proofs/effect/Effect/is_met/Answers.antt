@@ -11,7 +11,7 @@ pub loop-register-preserved : goal.loop-register-preserved
 loop-register-preserved c =
     let needs : length c.args.self.now.needs ≡ 8 = search rules in
     let i = c.loop-register.register in
-    let mask = c.args.self.now.needed in
+    let mask = c.args.registers in
     let low = c.loop-register-test.true in
     let has : c.has_register.result ≡ get_or (chosen mask) i false = c.has_register.ensures ∙ sym (get_or-chosen mask i false low) in
     rw has (have-turn (chosen mask) c.args.self.now.needs c.args.state.now i (length-chosen mask) needs c.told-state low c.loop-register.met)
@@ -20,6 +20,6 @@ loop-register-preserved c =
 pub returns : goal.returns
 returns c =
     let i = c.loop-register.register in
-    let mask = c.args.self.now.needed in
+    let mask = c.args.registers in
     let over : length (chosen mask) ≤ i = omega (arith, length-chosen mask, c.loop-register-test.false) in
     sym (and-true c.loop-register.met) ∙ (rw (drop_all i (chosen mask) over) at c.loop-register.invariant)

@@ -5,5 +5,5 @@ use Rattle.tmw_cuts.proofs.effect.Effect.is_met.Given as goal
 
 abbrev pub invariant-loop-register : goal.invariant-loop-register
 invariant-loop-register l =
-    (l.met && have (drop l.register (chosen l.self.needed)) (drop l.register l.self.needs) (drop l.register l.state))
-    ≡ have (chosen l.self.needed) l.self.needs l.state
+    (l.met && have (drop l.register (chosen l.registers)) (drop l.register l.self.needs) (drop l.register l.state))
+    ≡ have (chosen l.registers) l.self.needs l.state
