@@ -1,5 +1,5 @@
 -- The ends of all of a window's transactions, where they are blind: those of the orders that ranks tell.
-use Rattle.std.proofs.Common.{◌≡◌, ◌&&◌, ◌⊎◌, ◌+◌, ◌*◌, ◌-◌, ◌^◌, ◌<◌, ◌≤◌, ℕ, zero, suc, Bool, true, false, List, [], ◌∷◌, length, map, Option, Some, None, IsTrue, nat_lt, w8, refl, sym, ap, subst, ◌∙◌, inl, inr, arith}
+use Rattle.std.proofs.Common.{◌≡◌, ◌⊎◌, ◌+◌, ◌*◌, ◌-◌, ◌^◌, ◌<◌, ◌≤◌, ℕ, zero, suc, Bool, true, false, List, [], ◌∷◌, length, map, Option, Some, None, IsTrue, nat_lt, w8, refl, sym, ap, subst, ◌∙◌, inl, inr, arith}
 use Rattle.std.specs.Int.{bit_at}
 use Rattle.std.specs.List.{Contains, list_all}
 use Rattle.std.specs.Prelude.{slice_get, slice_index, slice_index_or, get_or, if◌then◌else◌}
@@ -9,25 +9,22 @@ use Rattle.std.proofs.lemmas.List.Elements.{Contains-get_or}
 use Rattle.std.proofs.lemmas.List.Folds.{list_all-map}
 use Rattle.std.proofs.lemmas.Option.{slice_get_within}
 use Rattle.tmw_search.specs.BlindTransactions.{is_blind}
-use Rattle.tmw_search.specs.Choices.{ShowsReach, IsReach, EndsFrom}
-use Rattle.tmw_cuts.specs.Registers.{AgreeOutside}
-use Rattle.tmw_cuts.specs.Written.{writes}
-use Rattle.tmw_search.specs.ForcedTransactions.{is_committed, is_writer}
-use Rattle.tmw_search.specs.LastWrites.{LeaveLasts, AreWritten, AllWritten, NoneFrom, nothing}
+use Rattle.tmw_search.specs.Choices.{ShowsReach, IsReach, EndsFrom, AgreeUnwritten}
+use Rattle.tmw_search.specs.ForcedTransactions.{is_committed}
+use Rattle.tmw_search.specs.LastWrites.{TellsOf, LeaveLasts, IsWriter, nothing}
 use Rattle.tmw_search.specs.declared.lasts.Last.{Last}
 use Rattle.tmw_defs.specs.declared.criterion.Criterion.{Criterion}
 use Rattle.tmw_defs.specs.declared.criterion.Criterion.TheVariants.{Opacity, Strict}
 use Rattle.tmw_defs.specs.declared.status.Status.{Status}
 use Rattle.tmw_defs.specs.declared.status.Status.TheVariants.{Live, Pending, Committed, Aborted}
 use Rattle.tmw_defs.specs.Criteria.{EndsBy}
-use Rattle.tmw_defs.specs.History.{Txn, is_over, is_ended, status_of, operations, transactions}
+use Rattle.tmw_defs.specs.History.{Txn, is_over, is_ended, status_of, transactions}
 use Rattle.tmw_defs.specs.Opaque.{State, precedes}
 use Rattle.tmw_defs.specs.Outcomes.{Ends}
-use Rattle.tmw_search.proofs.BlindProof.{blind_at, blind-written, blind-kept}
+use Rattle.tmw_search.proofs.BlindProof.{left_of, or_kept, blind-left}
 use Rattle.tmw_search.proofs.Choosing.{or-left}
-use Rattle.tmw_search.proofs.Forcing.{mask-bit}
 use Rattle.tmw_search.proofs.LayerSteps.{slice_get_some}
-use Rattle.tmw_search.proofs.LayersProof.{layer-last, same_place, bit_cases}
+use Rattle.tmw_search.proofs.LayersProof.{layer-last, same_place}
 use Rattle.tmw_search.proofs.OrderRanks.{AreLast, ranked_of}
 use Rattle.tmw_search.proofs.RankedOrders.{ranked-end}
 use Rattle.tmw_cuts.specs.declared.states.States.{States}
@@ -57,43 +54,42 @@ bit_is : (b : Bool) → bit b ≡ 1 → b ≡ true
 bit_is true one = refl
 bit_is false one = absurd (omega (arith, one))
 
-bit_not : (b : Bool) → (bit b ≡ 1 → ⊥) → b ≡ false
-bit_not true none = absurd (none refl)
-bit_not false none = refl
+tells_wrote : (o : Option ℕ) (last : Last) (i x : ℕ) → TellsOf last.writers last.values i o → bit_at last.writers i ≡ 1
+    → or_kept o x ≡ slice_index last.values i
+tells_wrote None last i x none one = absurd (omega (arith, none, one))
+tells_wrote (Some v) last i x tells one = sym tells.1
 
--- whether a transaction writes a register
-written_as : (xs : List View) (ts : List Txn) (lasts : List Last) (reach : List ℕ) → IsRead xs ts lasts reach → (i r : ℕ) (t : Txn)
-    → slice_get ts i ≡ Some t → r < 8 → bit_at (get_or lasts i nothing).registers r ≡ bit (is_writer r t)
-written_as xs ts lasts reach k i r t at within =
+tells_kept : (o : Option ℕ) (last : Last) (i x : ℕ) → TellsOf last.writers last.values i o → (bit_at last.writers i ≡ 1 → ⊥)
+    → or_kept o x ≡ x
+tells_kept None last i x none other = refl
+tells_kept (Some v) last i x tells other = absurd (other tells.0)
+
+tells-at : (xs : List View) (ts : List Txn) (lasts : List Last) (reach : List ℕ) → IsRead xs ts lasts reach → (i r : ℕ) (t : Txn)
+    → slice_get ts i ≡ Some t → r < 8
+    → TellsOf (get_or lasts r nothing).writers (get_or lasts r nothing).values i (left_of r t)
+tells-at xs ts lasts reach k i r t at within =
     let x = slice_get_some xs i (omega (arith, k.shows.same_length, slice_get_within ts i t at)) in
     let one = k.shows.each i x.0 t x.1 at in
-    let (ended, writes_all) = and_parts (is_ended t.text) _ (blind_at ts i t k.blind at) in
-    let left = k.leave.each i x.0 x.1 (rw one.ops writes_all) in
-    mask-bit (λ q. is_committed x.0.status && writes q x.0.ops) (get_or lasts i nothing).registers r left.0 ∙ rw (one.status, one.ops) refl
+    rw (one.status, one.ops) at ((k.leave r within).each i x.0 x.1)
+
+writer-within : (xs : List View) (ts : List Txn) (lasts : List Last) (reach : List ℕ) → IsRead xs ts lasts reach → (i r : ℕ) → r < 8
+    → IsWriter lasts r i → i < length ts
+writer-within xs ts lasts reach k i r within writer =
+    elim (cases_lt i (length ts)) [
+      | inl is ↦ is
+      | inr past ↦ absurd (omega (arith, writer, (k.leave r within).none i (omega (arith, past, k.shows.same_length))))
+    ]
 
 are-last : (xs : List View) (ts : List Txn) (lasts : List Last) (reach : List ℕ) → IsRead xs ts lasts reach → AreLast ts lasts
 are-last xs ts lasts reach k = record {
   few = omega (arith, k.few, k.shows.same_length);
   wrote = λ i r t s at within size writer.
-      let x = slice_get_some xs i (omega (arith, k.shows.same_length, slice_get_within ts i t at)) in
-      let one = k.shows.each i x.0 t x.1 at in
-      let (ended, writes_all) = and_parts (is_ended t.text) _ (blind_at ts i t k.blind at) in
-      let left = k.leave.each i x.0 x.1 (rw one.ops writes_all) in
-      let is : is_writer r t ≡ true = bit_is (is_writer r t) (sym (written_as xs ts lasts reach k i r t at within) ∙ writer) in
-      let committed = (and_parts (is_committed (status_of t.text)) (writes r (operations t.text)) is).0 in
-      let values = left.1 (rw one.status committed) in
-      blind-written s t r (omega (arith, size, within)) within is
-      ∙ sym (ap (λ (v : State). slice_index v r) (rw one.ops at values));
+      blind-left s t r (omega (arith, size, within))
+      ∙ tells_wrote (left_of r t) (get_or lasts r nothing) i (slice_index s r) (tells-at xs ts lasts reach k i r t at within) writer;
   kept = λ i r t s at within size other.
-      let is : is_writer r t ≡ false = bit_not (is_writer r t) (λ one. other (written_as xs ts lasts reach k i r t at within ∙ one)) in
-      blind-kept s t r (omega (arith, size, within)) is;
-  within = λ i r within writer.
-      elim (cases_lt i (length ts)) [
-        | inl is ↦ is
-        | inr past ↦
-            let none : (get_or lasts i nothing).registers ≡ 0 = k.leave.none i (omega (arith, past, k.shows.same_length)) in
-            absurd (omega (arith, writer, ap (λ (m : ℕ). bit_at m r) none, bit_at-zero r))
-      ];
+      blind-left s t r (omega (arith, size, within))
+      ∙ tells_kept (left_of r t) (get_or lasts r nothing) i (slice_index s r) (tells-at xs ts lasts reach k i r t at within) other;
+  within = λ i r within writer. writer-within xs ts lasts reach k i r within writer;
 }
 
 -- two of which the one precedes the other
@@ -166,14 +162,8 @@ first-of o t is = rw is refl
 -- whoever comes before whom may do so
 pub is-reach : (xs : List View) (ts : List Txn) (lasts : List Last) (reach : List ℕ) → IsRead xs ts lasts reach → IsReach lasts reach
 is-reach xs ts lasts reach k =
-    let few = are-last xs ts lasts reach k in
     record {
-      self = λ r i within_i writer. elim (cases_lt i (length ts)) [
-        | inl is ↦ own-bit xs ts lasts reach k i is
-        | inr past ↦
-            let none : (get_or lasts i nothing).registers ≡ 0 = k.leave.none i (omega (arith, past, k.shows.same_length)) in
-            absurd (omega (arith, writer, ap (λ (m : ℕ). bit_at m r) none, bit_at-zero r))
-      ];
+      self = λ r i within within_i writer. own-bit xs ts lasts reach k i (writer-within xs ts lasts reach k i r within writer);
       closed = λ i j l within_i within_j within_l has_j has_l. elim (reach_bit xs ts lasts reach k i j within_i within_j has_j) [
         | inl same ↦ rw same has_l
         | inr p ↦ elim (reach_bit xs ts lasts reach k j l within_j within_l has_l) [
@@ -326,26 +316,21 @@ starts-next lasts reach starts k mid new a b = record {
 }
 
 -- a start that differs from another only where they write has no end of its own
-same-ends : (lasts : List Last) (reach : List ℕ) (written : ℕ) (one other e : State) → AreWritten lasts written → AgreeOutside written one other
+same-ends : (lasts : List Last) (reach : List ℕ) (one other e : State) → AgreeUnwritten lasts one other
     → EndsFrom lasts 0 reach other e → EndsFrom lasts 0 reach one e
-same-ends lasts reach written one other e are agree x = record {
+same-ends lasts reach one other e agree x = record {
   rank = x.rank;
   ranking = x.ranking;
   size = x.size;
   settled = λ r below. absurd (omega (arith, below));
-  rest = λ r above within. elim (x.rest r above within) [
-    | inr l ↦ inr l
-    | inl (none, is) ↦ elim (bit_cases written r) [
-      | inl out ↦ inl (none, is ∙ sym (agree r within out))
-      | inr one_bit ↦ let (i, within_i, writes) = are r one_bit in absurd (none i within_i writes)
-    ]
-  ];
+  rest = λ r above within. elim (x.rest r above within)
+      [ inr l ↦ inr l | inl (none, is) ↦ inl (none, is ∙ sym (agree r within (λ (i, few, one). none i few one))) ];
 }
 
-pub starts-same : (lasts : List Last) (reach : List ℕ) (starts : List State) (written i k : ℕ) (now : List State) → i < k → AreWritten lasts written
-    → AgreeOutside written (slice_index_or starts i []) (slice_index_or starts k []) → Adds true [] now (StartsEnd lasts reach starts k)
+pub starts-same : (lasts : List Last) (reach : List ℕ) (starts : List State) (i k : ℕ) (now : List State) → i < k
+    → AgreeUnwritten lasts (slice_index_or starts i []) (slice_index_or starts k []) → Adds true [] now (StartsEnd lasts reach starts k)
     → Adds true [] now (StartsEnd lasts reach starts (k + 1))
-starts-same lasts reach starts written i k now before are agree a = record {
+starts-same lasts reach starts i k now before agree a = record {
   only = λ e has. elim (a.only e has) [ inl old ↦ inl old | inr (j, below, x) ↦ inr (j, omega (arith, below), x) ];
   kept = a.kept;
   all = λ is e (j, below, x). elim (same_place j k) [
@@ -354,16 +339,11 @@ starts-same lasts reach starts written i k now before are agree a = record {
         a.all refl e (
           i,
           before,
-          same-ends lasts reach written (slice_index_or starts i []) (slice_index_or starts k []) e are agree
+          same-ends lasts reach (slice_index_or starts i []) (slice_index_or starts k []) e agree
               (subst (λ (n : ℕ). EndsFrom lasts 0 reach (slice_index_or starts n []) e) same x),
         )
   ];
 }
-
--- no register behind the mask's last is written
-pub none_from : (lasts : List Last) (written upto : ℕ) → AllWritten lasts written
-    → ((r : ℕ) → upto ≤ r → r < 8 → bit_at written r ≡ 0) → NoneFrom lasts upto
-none_from lasts written upto all none r i above few within writes = absurd (omega (arith, none r above few, all i r within writes))
 
 -- what stands at a place doesn't come from the default
 same_read : (xs : List State) (i : ℕ) (d e : State) → i < length xs → slice_index_or xs i d ≡ slice_index_or xs i e

@@ -1,21 +1,21 @@
 -- Blind transactions read nothing, so that any order of them is legal, and each leaves in its registers what it writes there last.
-use Rattle.std.proofs.Common.{◌≡◌, ◌+◌, ◌-◌, ◌^◌, ◌<◌, ◌≤◌, ℕ, true, false, List, [], ◌∷◌, length, Some, IsTrue, refl, sym, ap, ◌∙◌, inl, inr, arith}
+use Rattle.std.proofs.Common.{◌≡◌, ◌==◌, ◌+◌, ◌-◌, ◌%◌, ◌^◌, ◌<◌, ◌≤◌, ℕ, List, [], ◌∷◌, length, Option, Some, None, IsTrue, refl, ap, ◌∙◌, inl, inr, arith}
 use Rattle.std.specs.Int.{bit_at}
 use Rattle.std.specs.List.{list_all}
-use Rattle.std.specs.Prelude.{slice_get, slice_set, slice_index}
+use Rattle.std.specs.Prelude.{slice_get, slice_set, slice_index, if◌then◌else◌}
 use Rattle.std.proofs.lemmas.Bool.{and_parts, cases_Bool, cases_lt}
 use Rattle.std.proofs.lemmas.Nat.Bits.{bit_at_above}
 use Rattle.tmw_defs.specs.declared.criterion.Criterion.TheVariants.{Opacity}
 use Rattle.tmw_defs.specs.declared.op.Op.{Op}
 use Rattle.tmw_defs.specs.declared.op.Op.TheVariants.{Read, Write, Add}
-use Rattle.tmw_cuts.specs.Written.{is_write, writes}
+use Rattle.tmw_cuts.specs.Written.{is_write, left_by}
 use Rattle.tmw_search.specs.BlindTransactions.{is_blind, blind_after, Reaches}
-use Rattle.tmw_search.specs.ForcedTransactions.{is_committed, is_writer}
+use Rattle.tmw_search.specs.ForcedTransactions.{is_committed}
 use Rattle.tmw_defs.specs.History.{Txn, is_ended, status_of, operations}
 use Rattle.tmw_search.specs.Layers.{LeavesNone, IsStep}
-use Rattle.tmw_defs.specs.Opaque.{State, zeros, Placed, may_be, reads_hold, after, after_writes}
-use Rattle.tmw_search.proofs.ForcedProof.{after-final, final-kept, final-any, length-writes}
-use Rattle.tmw_search.proofs.LayersProof.{layer-step, list_all_at}
+use Rattle.tmw_defs.specs.Opaque.{State, Placed, may_be, reads_hold, after}
+use Rattle.tmw_search.proofs.ForcedProof.{final, after-final, length-writes}
+use Rattle.tmw_search.proofs.LayersProof.{layer-step, list_all_at, same_place}
 use Rattle.tmw_search.proofs.Masks.{bit_at-less_same}
 use Rattle.tmw_cuts.proofs.Bits.{bit_at-more_other}
 use Rattle.tmw_search.proofs.Completions.{held_is, may-committed}
@@ -60,6 +60,13 @@ less_of above place one =
       other = λ i apart. ap (λ (m : ℕ). bit_at m i) whole ∙ bit_at-more_other (above - 2 ^ place) place i new apart;
     }
 
+pub less_has : (above place mask i : ℕ) → IsLess above place mask → bit_at mask i ≡ 1 → bit_at above i ≡ 1
+less_has above place mask i less is =
+    elim (same_place i place) [
+      | inl same ↦ absurd (omega (arith, is, ap (bit_at mask) same, less.new))
+      | inr apart ↦ less.other i apart ∙ is
+    ]
+
 pub last-taken : (S : State → Type 0) (ts : List Txn) (above place : ℕ) (t : Txn) (r : State) → IsTrue (list_all is_blind ts)
     → LeavesNone above ts → slice_get ts place ≡ Some t → bit_at above place ≡ 1 → Reaches S ts (above - 2 ^ place) r
     → Reaches S ts above (blind_after r t)
@@ -79,21 +86,29 @@ last-taken S ts above place t r blind closed at one (k, l) =
     } in
     (k + 1, layer-step S ts k (above - 2 ^ place) above r (blind_after r t) l step)
 
--- what a register holds after one
-pub blind-written : (s : State) (t : Txn) (r : ℕ) → r < length s → r < 8 → is_writer r t ≡ true
-    → slice_index (blind_after s t) r ≡ slice_index (after_writes zeros (operations t.text)) r
-blind-written s t r within few is =
-    let ops = operations t.text in
-    let (committed, some) = and_parts (is_committed (status_of t.text)) (writes r ops) is in
-    rw committed (after-final s ops r within ∙ final-any r (slice_index s r) (slice_index zeros r) ops some
-    ∙ sym (after-final zeros ops r few))
+-- what a transaction leaves in the register, if it has committed and writes it
+abbrev pub left_of : ℕ → Txn → Option ℕ
+left_of r t = if is_committed (status_of t.text) then left_by r None (operations t.text) else None
 
-pub blind-kept : (s : State) (t : Txn) (r : ℕ) → r < length s → is_writer r t ≡ false → slice_index (blind_after s t) r ≡ slice_index s r
-blind-kept s t r within other =
-    elim (cases_Bool (is_committed (status_of t.text))) [
-      | inl is ↦ rw is (after-final s (operations t.text) r within ∙ final-kept r (slice_index s r) (operations t.text) (rw is at other))
-      | inr not ↦ rw not refl
-    ]
+abbrev pub or_kept : Option ℕ → ℕ → ℕ
+or_kept None x = x
+or_kept (Some v) x = v
+
+final-left : (r x : ℕ) (o : Option ℕ) (ops : List Op) → final r (or_kept o x) ops ≡ or_kept (left_by r o ops) x
+final-left r x o [] = refl
+final-left r x o (Read q v ∷ ops) = final-left r x o ops
+final-left r x o (Write q v ∷ ops) =
+    elim (cases_Bool (q.number == r)) [ inl is ↦ rw is (final-left r x (Some v) ops) | inr other ↦ rw other (final-left r x o ops) ]
+final-left r x o (Add q d v ∷ ops) =
+    elim (cases_Bool (q.number == r))
+    [ inl is ↦ rw is (final-left r x (Some ((v + d) % 2 ^ 64)) ops) | inr other ↦ rw other (final-left r x o ops) ]
+
+-- what a register holds after one
+pub blind-left : (s : State) (t : Txn) (r : ℕ) → r < length s → slice_index (blind_after s t) r ≡ or_kept (left_of r t) (slice_index s r)
+blind-left s t r within =
+    let ops = operations t.text in
+    elim (cases_Bool (is_committed (status_of t.text)))
+    [ inl is ↦ rw is (after-final s ops r within ∙ final-left r (slice_index s r) None ops) | inr not ↦ rw not refl ]
 
 pub length-blind : (s : State) (t : Txn) → length (blind_after s t) ≡ length s
 length-blind s t =

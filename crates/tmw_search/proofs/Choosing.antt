@@ -1,19 +1,18 @@
 -- Each writer of a register that comes before no other of them may be its last: what that makes of the ends of the registers from it on.
-use Rattle.std.proofs.Common.{◌≡◌, ◌==◌, ◌&&◌, ◌⊎◌, ◌+◌, ◌-◌, ◌^◌, ◌<◌, ◌≤◌, ℕ, Bool, true, false, not, List, length, bit_or, refl, sym, ap, subst, ◌∙◌, inl, inr, arith}
-use Rattle.std.specs.Int.{bit_at}
+use Rattle.std.proofs.Common.{◌≡◌, ◌==◌, ◌&&◌, ◌⊎◌, ◌+◌, ◌-◌, ◌^◌, ◌<◌, ◌≤◌, ℕ, Bool, true, false, not, List, length, map, bit_and, bit_or, w8, refl, sym, ap, subst, ◌∙◌, inl, inr, arith}
+use Rattle.std.specs.Int.{bit_at, bit_not}
 use Rattle.std.specs.List.{Contains}
-use Rattle.std.specs.Prelude.{slice_index, slice_set, if◌then◌else◌}
+use Rattle.std.specs.Prelude.{◌↔◌, slice_index, slice_set, get_or, if◌then◌else◌}
 use Rattle.std.proofs.lemmas.Bool.{eq-eqb, ne_eqb, cases_lt}
-use Rattle.std.proofs.lemmas.List.{get_or-set_same, get_or-set_other, ext_get_or}
-use Rattle.std.proofs.lemmas.Nat.Bits.{bit_at-lt, bit_at-zero, bit_at_or, same_from_bits_below}
+use Rattle.std.proofs.lemmas.List.{get_or-set_same, get_or-set_other, get_or-map, ext_get_or, length-set, set-set}
+use Rattle.std.proofs.lemmas.Nat.Bits.{bit_at-lt, bit_at-zero, bit_at_and, bit_at_not, bit_at_or}
 use Rattle.tmw_defs.specs.Opaque.{State}
 use Rattle.tmw_cuts.specs.Members.{AddsMember}
 use Rattle.tmw_search.specs.BlindEnds.{Adds}
-use Rattle.tmw_search.specs.Choices.{Joins, IsReach, IsLastAt, EndsAt, EndsFrom}
-use Rattle.tmw_search.specs.LastWrites.{IsWriter, NoneFrom, value_at, AreWriters}
+use Rattle.tmw_search.specs.Choices.{Joins, IsReach, IsLastAt, EndsAt, EndsFrom, LeftByOne}
+use Rattle.tmw_search.specs.LastWrites.{IsWriter, HasPlace, NoneFrom, nothing, writers_at, value_at, ComeBefore}
 use Rattle.tmw_search.specs.declared.lasts.Last.{Last}
-use Rattle.tmw_search.specs.declared.reach.Writers.{Writers}
-use Rattle.tmw_search.proofs.BlindProof.{less_of}
+use Rattle.tmw_search.proofs.BlindProof.{less_of, less_has}
 use Rattle.tmw_search.proofs.LayersProof.{same_place, bit_cases}
 use Rattle.tmw_search.proofs.RankedOrders.{most_rank, rank-most}
 
@@ -61,8 +60,8 @@ joins-each place before reach next each = record {
 }
 
 -- those that come before the last of a register's writers, or are it
-abbrev pub behind_of : Writers → ℕ
-behind_of found = bit_or found.writers found.before
+abbrev pub behind_of : List Last → ℕ → ℕ → ℕ
+behind_of lasts r before = bit_or (writers_at lasts r) before
 
 -- they are those that come before a writer, or are one
 record IsBehind (lasts : List Last) (r : ℕ) (reach : List ℕ) (i : ℕ) : Type 0 where
@@ -71,24 +70,26 @@ record IsBehind (lasts : List Last) (r : ℕ) (reach : List ℕ) (i : ℕ) : Typ
   writes : IsWriter lasts r writer
   has : bit_at (slice_index reach writer) i ≡ 1
 
-behind_bit : (lasts : List Last) (r : ℕ) (reach : List ℕ) (found : Writers) → IsReach lasts reach → AreWriters lasts r reach found → (i : ℕ)
-    → i < 8 → bit_at (behind_of found) i ≡ 1 → IsBehind lasts r reach i
-behind_bit lasts r reach found ir aw i within one =
-    elim (or_either found.writers found.before i one) [
-      | inl is ↦
-          let writes : IsWriter lasts r i = sym (aw.each i within) ∙ is in
-          record { writer = i; within = within; writes = writes; has = ir.self r i within writes }
-      | inr before ↦
-          let (j, within_j, writes, has, apart) = aw.only i within before in
+-- those that come before another writer of the register
+abbrev pub AreBefore : List Last → ℕ → List ℕ → ℕ → Type 0
+AreBefore lasts r reach before = ComeBefore reach (writers_at lasts r) before
+
+behind_bit : (lasts : List Last) (r : ℕ) (reach : List ℕ) (before : ℕ) → r < 8 → IsReach lasts reach → AreBefore lasts r reach before
+    → (i : ℕ) → i < 8 → bit_at (behind_of lasts r before) i ≡ 1 → IsBehind lasts r reach i
+behind_bit lasts r reach before few ir aw i within one =
+    elim (or_either (writers_at lasts r) before i one) [
+      | inl writes ↦ record { writer = i; within = within; writes = writes; has = ir.self r i few within writes }
+      | inr is ↦
+          let (j, within_j, writes, has, apart) = aw.only i within is in
           record { writer = j; within = within_j; writes = writes; has = has }
     ]
 
-behind-bit : (lasts : List Last) (r : ℕ) (reach : List ℕ) (found : Writers) → AreWriters lasts r reach found → (i : ℕ) → i < 8
-    → IsBehind lasts r reach i → bit_at (behind_of found) i ≡ 1
-behind-bit lasts r reach found aw i within b =
+behind-bit : (lasts : List Last) (r : ℕ) (reach : List ℕ) (before : ℕ) → AreBefore lasts r reach before → (i : ℕ) → i < 8
+    → IsBehind lasts r reach i → bit_at (behind_of lasts r before) i ≡ 1
+behind-bit lasts r reach before aw i within b =
     elim (same_place i b.writer) [
-      | inl same ↦ or-left found.writers found.before i (aw.each i within ∙ subst (λ (j : ℕ). IsWriter lasts r j) (sym same) b.writes)
-      | inr apart ↦ or-right found.writers found.before i (aw.all i b.writer within b.within b.writes b.has apart)
+      | inl same ↦ or-left (writers_at lasts r) before i (subst (λ (j : ℕ). IsWriter lasts r j) (sym same) b.writes)
+      | inr apart ↦ or-right (writers_at lasts r) before i (aw.all i b.writer within b.within b.writes b.has apart)
     ]
 
 -- the ranks where those come first
@@ -126,16 +127,16 @@ first_or rank behind place i =
     ]
 
 -- a writer that comes before no other of them
-pub record MayBeLast (lasts : List Last) (r : ℕ) (found : Writers) (place : ℕ) : Type 0 where
+pub record MayBeLast (lasts : List Last) (r : ℕ) (before place : ℕ) : Type 0 where
   pub within : place < 8
   pub writer : IsWriter lasts r place
-  pub free : bit_at found.before place ≡ 0
+  pub free : bit_at before place ≡ 0
 
 -- the order of the masks, where the other writers come before that one
-pub next-reach : (lasts : List Last) (r : ℕ) (reach next : List ℕ) (found : Writers) (place : ℕ) → IsReach lasts reach
-    → AreWriters lasts r reach found → MayBeLast lasts r found place → Joins place (behind_of found) reach next → IsReach lasts next
-next-reach lasts r reach next found place ir aw m j =
-    let behind = behind_of found in
+pub next-reach : (lasts : List Last) (r : ℕ) (reach next : List ℕ) (before place : ℕ) → r < 8 → IsReach lasts reach
+    → AreBefore lasts r reach before → MayBeLast lasts r before place → Joins place (behind_of lasts r before) reach next → IsReach lasts next
+next-reach lasts r reach next before place few ir aw m j =
+    let behind = behind_of lasts r before in
     let rank = ir.rank in
     let ranked = ir.ranked in
     let top = most_rank rank 8 in
@@ -148,9 +149,9 @@ next-reach lasts r reach next found place ir aw m j =
     let down : (i k : ℕ) → i < 8 → k < 8 → bit_at (slice_index reach k) i ≡ 1 → ComesFirst rank behind place k
     → (bit_at behind i ≡ 1) × (i ≡ place → ⊥) =
     λ i k within_i within_k has f.
-    let b = behind_bit lasts r reach found ir aw k within_k f.one in
+    let b = behind_bit lasts r reach before few ir aw k within_k f.one in
     let too : bit_at (slice_index reach b.writer) i ≡ 1 = ir.closed i k b.writer within_i within_k b.within has b.has in (
-      behind-bit lasts r reach found aw i within_i (record { writer = b.writer; within = b.within; writes = b.writes; has = too }),
+      behind-bit lasts r reach before aw i within_i (record { writer = b.writer; within = b.within; writes = b.writes; has = too }),
       λ same.
           let up : bit_at (slice_index reach b.writer) place ≡ 1 = rw (← same) too in
           let is : b.writer ≡ place = alone b.writer b.within b.writes up in
@@ -160,7 +161,7 @@ next-reach lasts r reach next found place ir aw m j =
           f.apart (ranked.apart k place within_k m.within equal),
     ) in
     record {
-      self = λ q i within writes. j.keeps i i within (ir.self q i within writes);
+      self = λ q i within_q within writes. j.keeps i i within (ir.self q i within_q within writes);
       closed = λ i l k within_i within_l within_k has_l has_k. elim (j.only l k within_k has_k) [
         | inl old_k ↦ elim (j.only i l within_l has_l) [
           | inl old_l ↦ j.keeps i k within_k (ir.closed i l k within_i within_l within_k old_l old_k)
@@ -168,9 +169,9 @@ next-reach lasts r reach next found place ir aw m j =
         ]
         | inr (here_k, one_k) ↦ elim (j.only i l within_l has_l) [
           | inl old_l ↦
-              let b = behind_bit lasts r reach found ir aw l within_l one_k in
+              let b = behind_bit lasts r reach before few ir aw l within_l one_k in
               let too : bit_at (slice_index reach b.writer) i ≡ 1 = ir.closed i l b.writer within_i within_l b.within old_l b.has in
-              j.adds i k within_k here_k (behind-bit lasts r reach found aw i within_i
+              j.adds i k within_k here_k (behind-bit lasts r reach before aw i within_i
               (record { writer = b.writer; within = b.within; writes = b.writes; has = too }))
           | inr (here_l, one_l) ↦ j.adds i k within_k here_k one_l
         ]
@@ -231,14 +232,14 @@ set-other : (s : State) (r q v : ℕ) → (q ≡ r → ⊥) → slice_index (sli
 set-other s r q v apart = get_or-set_other s r q v 0 apart
 
 -- it comes before no other
-pub last-free : (lasts : List Last) (r : ℕ) (reach : List ℕ) (start end : State) (found : Writers) (place : ℕ) → AreWriters lasts r reach found
-    → EndsWith lasts r reach start place end → MayBeLast lasts r found place
-last-free lasts r reach start end found place aw w =
+pub last-free : (lasts : List Last) (r : ℕ) (reach : List ℕ) (start end : State) (before place : ℕ) → AreBefore lasts r reach before
+    → EndsWith lasts r reach start place end → MayBeLast lasts r before place
+last-free lasts r reach start end before place aw w =
     let l = w.last in
     record {
       within = l.within;
       writer = l.writer;
-      free = elim (bit_cases found.before place) [
+      free = elim (bit_cases before place) [
         | inl none ↦ none
         | inr one ↦
             let (j, within, writes, has, apart) = aw.only place l.within one in
@@ -249,10 +250,10 @@ last-free lasts r reach start end found place aw w =
     }
 
 -- and it is an end of the registers behind, with what it leaves in this one
-pub last-chosen : (lasts : List Last) (r : ℕ) (reach next : List ℕ) (start end : State) (found : Writers) (place : ℕ) → length start ≡ 8 → r < 8
-    → IsReach lasts reach → AreWriters lasts r reach found → Joins place (behind_of found) reach next → EndsWith lasts r reach start place end
+pub last-chosen : (lasts : List Last) (r : ℕ) (reach next : List ℕ) (start end : State) (before place : ℕ) → length start ≡ 8 → r < 8
+    → IsReach lasts reach → AreBefore lasts r reach before → Joins place (behind_of lasts r before) reach next → EndsWith lasts r reach start place end
     → EndsFrom lasts (r + 1) next (slice_set start r (value_at lasts r place)) end
-last-chosen lasts r reach next start end found place size within ir aw j w =
+last-chosen lasts r reach next start end before place size within ir aw j w =
     let x = w.ends in
     let l = w.last in
     record {
@@ -262,7 +263,7 @@ last-chosen lasts r reach next start end found place size within ir aw j w =
         kept = λ i k within_i within_k has. elim (j.only i k within_k has) [
           | inl old ↦ x.ranking.kept i k within_i within_k old
           | inr (here, one) ↦
-              let b = behind_bit lasts r reach found ir aw i within_i one in
+              let b = behind_bit lasts r reach before within ir aw i within_i one in
               omega (
                 arith,
                 x.ranking.kept i b.writer within_i b.within b.has,
@@ -283,10 +284,10 @@ last-chosen lasts r reach next start end found place size within ir aw j w =
     }
 
 -- an end of those is one of this register and those behind
-pub chosen-ends : (lasts : List Last) (r : ℕ) (reach next : List ℕ) (start end : State) (found : Writers) (place : ℕ) → length start ≡ 8 → r < 8
-    → IsReach lasts reach → AreWriters lasts r reach found → MayBeLast lasts r found place → Joins place (behind_of found) reach next
+pub chosen-ends : (lasts : List Last) (r : ℕ) (reach next : List ℕ) (start end : State) (before place : ℕ) → length start ≡ 8 → r < 8
+    → IsReach lasts reach → AreBefore lasts r reach before → MayBeLast lasts r before place → Joins place (behind_of lasts r before) reach next
     → EndsFrom lasts (r + 1) next (slice_set start r (value_at lasts r place)) end → EndsFrom lasts r reach start end
-chosen-ends lasts r reach next start end found place size within ir aw m j x =
+chosen-ends lasts r reach next start end before place size within ir aw m j x =
     let v = value_at lasts r place in
     record {
       rank = x.rank;
@@ -303,8 +304,8 @@ chosen-ends lasts r reach next start end found place size within ir aw m j x =
                 ∙ ap (λ (k : ℕ). value_at lasts k place) (sym same);
             last = λ i within_i writes.
                 let writes_r : IsWriter lasts r i = subst (λ (k : ℕ). IsWriter lasts k i) same writes in
-                let one : bit_at (behind_of found) i ≡ 1 = or-left found.writers found.before i (aw.each i within_i ∙ writes_r) in
-                x.ranking.kept i place within_i m.within (j.adds i place m.within (ir.self r place m.within m.writer) one);
+                let one : bit_at (behind_of lasts r before) i ≡ 1 = or-left (writers_at lasts r) before i writes_r in
+                x.ranking.kept i place within_i m.within (j.adds i place m.within (ir.self r place within m.within m.writer) one);
           },
         )
         | inr apart ↦
@@ -314,19 +315,6 @@ chosen-ends lasts r reach next start end found place size within ir aw m j x =
     }
 
 -- a register that none writes
-pub none-writes : (lasts : List Last) (r : ℕ) (reach : List ℕ) (found : Writers) → AreWriters lasts r reach found → found.writers ≡ 0
-    → (i : ℕ) → i < 8 → IsWriter lasts r i → ⊥
-none-writes lasts r reach found aw none i within writes =
-    absurd (omega (arith, aw.each i within, writes, ap (λ (m : ℕ). bit_at m i) none, bit_at-zero i))
-
-pub none_writes : (lasts : List Last) (r : ℕ) (reach : List ℕ) (found : Writers) → AreWriters lasts r reach found
-    → ((i : ℕ) → i < 8 → IsWriter lasts r i → ⊥) → found.writers ≡ 0
-none_writes lasts r reach found aw none = same_from_bits_below 8 found.writers 0 aw.fits (omega arith) (λ i within.
-    elim (bit_cases found.writers i) [
-      | inl zero_bit ↦ zero_bit ∙ sym (bit_at-zero i)
-      | inr one ↦ absurd (none i within (sym (aw.each i within) ∙ one))
-    ])
-
 skip-to : (lasts : List Last) (r : ℕ) (reach : List ℕ) (start end : State) → ((i : ℕ) → i < 8 → IsWriter lasts r i → ⊥)
     → EndsFrom lasts (r + 1) reach start end → EndsFrom lasts r reach start end
 skip-to lasts r reach start end none x = record {
@@ -365,126 +353,221 @@ adds-as done old new P Q to from a = record {
   all = λ is e q. a.all is e (from e q);
 }
 
-pub adds-skipped : (lasts : List Last) (r : ℕ) (reach : List ℕ) (found : Writers) (start : State) (done : Bool) (old new : List State) → r < 8
-    → AreWriters lasts r reach found → found.writers ≡ 0 → Adds done old new (EndsFrom lasts (r + 1) reach start)
+pub adds-skipped : (lasts : List Last) (r : ℕ) (reach : List ℕ) (start : State) (done : Bool) (old new : List State) → r < 8
+    → (HasPlace (writers_at lasts r) → ⊥) → Adds done old new (EndsFrom lasts (r + 1) reach start)
     → Adds done old new (EndsFrom lasts r reach start)
-adds-skipped lasts r reach found start done old new within aw zero_mask a =
-    let none = none-writes lasts r reach found aw zero_mask in
+adds-skipped lasts r reach start done old new within nobody a =
+    let none : (i : ℕ) → i < 8 → IsWriter lasts r i → ⊥ = λ i few writes. nobody (i, few, writes) in
     adds-as done old new (EndsFrom lasts (r + 1) reach start) (EndsFrom lasts r reach start)
     (λ e. skip-to lasts r reach start e none) (λ e. skip_from lasts r reach start e within none) a
 
 -- no register is left that any writes
+settled-end : (lasts : List Last) (upto r : ℕ) (reach : List ℕ) (start : State) → r ≡ upto → length start ≡ 8 → IsReach lasts reach
+    → NoneFrom lasts upto → EndsFrom lasts r reach start start
+settled-end lasts upto r reach start is size ir none = record {
+  rank = ir.rank;
+  ranking = ir.ranked;
+  size = size;
+  settled = λ q below. refl;
+  rest = λ q above few. inl (λ i within writes. none q i (omega (arith, above, is)) few within writes, refl);
+}
+
+settled_end : (lasts : List Last) (upto r : ℕ) (reach : List ℕ) (start e : State) → r ≡ upto → length start ≡ 8 → NoneFrom lasts upto
+    → EndsFrom lasts r reach start e → e ≡ start
+settled_end lasts upto r reach start e is size none x = ext_get_or 0 e start (x.size ∙ sym size) (λ q within.
+    elim (cases_lt q r) [
+      | inl below ↦ x.settled q below
+      | inr above ↦
+          let few : q < 8 = omega (arith, within, x.size) in
+          elim (x.rest q above few) [
+            | inl (nobody, same) ↦ same
+            | inr (place, l) ↦ absurd (none q place (omega (arith, above, is)) few l.within l.writer)
+          ]
+    ])
+
 pub adds-settled : (lasts : List Last) (upto r : ℕ) (reach : List ℕ) (start : State) (done : Bool) (old new : List State) → r ≡ upto
     → length start ≡ 8 → IsReach lasts reach → NoneFrom lasts upto → AddsMember old new start → Adds done old new (EndsFrom lasts r reach start)
 adds-settled lasts upto r reach start done old new is size ir none adds = record {
   only = λ e has. elim ((adds e).0 has) [
     | inr was ↦ inl was
-    | inl same ↦ inr (record {
-      rank = ir.rank;
-      ranking = ir.ranked;
-      size = ap length same ∙ size;
-      settled = λ q below. ap (λ (s : State). slice_index s q) same;
-      rest = λ q above few. inl (λ i within writes. none q i (omega (arith, above, is)) few within writes, ap (λ (s : State). slice_index s q) same);
-    })
+    | inl same ↦ inr (subst (EndsFrom lasts r reach start) (sym same) (settled-end lasts upto r reach start is size ir none))
   ];
   kept = λ e has. (adds e).1 (inr has);
-  all = λ all e x. (adds e).1 (inl (ext_get_or 0 e start (x.size ∙ sym size) (λ q within.
-      elim (cases_lt q r) [
-        | inl below ↦ x.settled q below
-        | inr above ↦
-            let few : q < 8 = omega (arith, within, x.size) in
-            elim (x.rest q above few) [
-              | inl (nobody, same) ↦ same
-              | inr (place, l) ↦ absurd (none q place (omega (arith, above, is)) few l.within l.writer)
-            ]
-      ])));
+  all = λ all e x. (adds e).1 (inl (settled_end lasts upto r reach start e is size none x));
 }
 
--- what has been added where each writer but those left was taken for the last
-pub record Tried (lasts : List Last) (r : ℕ) (reach : List ℕ) (start : State) (left : ℕ) (old now : List State) : Type 0 where
+-- the mask has those that may be the last
+abbrev pub AreFree : List Last → ℕ → ℕ → ℕ → Type 0
+AreFree lasts r before free = (i : ℕ) → i < 8 → bit_at free i ≡ 1 ↔ MayBeLast lasts r before i
+
+pub are-free : (lasts : List Last) (r before : ℕ) → before < 2 ^ 8 → AreFree lasts r before (bit_and (writers_at lasts r) (bit_not w8 before))
+are-free lasts r before fits i within =
+    let writers = writers_at lasts r in
+    let both = bit_at_and writers (bit_not w8 before) i in
+    let not = bit_at_not w8 before i fits within in (
+      λ one. record {
+        within = within;
+        writer = omega (arith, one, both, bit_at-lt writers i);
+        free = omega (arith, one, both, not, bit_at-lt before i);
+      },
+      λ m. omega (arith, both, not, m.writer, m.free),
+    )
+
+-- what has been added where those of the mask but those left leave their values, one after another, in a state
+pub record AddsValues (last : Last) (r mask : ℕ) (start chosen : State) (left : ℕ) (old now : List State) : Type 0 where
+  pub adds : Adds false old now (LeftByOne last r mask start)
+  pub all : (i : ℕ) → i < 8 → bit_at mask i ≡ 1 → bit_at left i ≡ 0 → Contains now (slice_set start r (slice_index last.values i))
+  pub among : (i : ℕ) → bit_at left i ≡ 1 → bit_at mask i ≡ 1
+  pub others : (v : ℕ) → slice_set chosen r v ≡ slice_set start r v
+
+pub values-none : (last : Last) (r mask : ℕ) (start : State) (old : List State) → AddsValues last r mask start start mask old old
+values-none last r mask start old = record {
+  adds = record { only = λ e has. inl has; kept = λ e has. has; all = λ is. absurd (cc) };
+  all = λ i within one out. absurd (omega (arith, one, out));
+  among = λ i one. one;
+  others = λ v. refl;
+}
+
+pub values-next : (last : Last) (r mask : ℕ) (start chosen : State) (place left : ℕ) (old mid new : List State) → place < 8
+    → bit_at left place ≡ 1 → AddsValues last r mask start chosen left old mid
+    → AddsMember mid new (slice_set chosen r (slice_index last.values place))
+    → AddsValues last r mask start (slice_set chosen r (slice_index last.values place)) (left - 2 ^ place) old new
+values-next last r mask start chosen place left old mid new within one a adds =
+    let less = less_of left place one in
+    let value = slice_index last.values place in
+    let is : slice_set chosen r value ≡ slice_set start r value = a.others value in
+    record {
+      adds = record {
+        only = λ e has. elim ((adds e).0 has) [
+          | inl same ↦ inr (place, within, a.among place one, same ∙ is)
+          | inr was ↦ a.adds.only e was
+        ];
+        kept = λ e has. (adds e).1 (inr (a.adds.kept e has));
+        all = λ is. absurd (cc);
+      };
+      all = λ i within_i chosen_i out. elim (same_place i place) [
+        | inl same ↦ (adds _).1 (inl (ap (λ (k : ℕ). slice_set start r (slice_index last.values k)) same ∙ sym is))
+        | inr apart ↦ (adds _).1 (inr (a.all i within_i chosen_i (less.other i apart ∙ out)))
+      ];
+      among = λ i is_one. a.among i (less_has left place (left - 2 ^ place) i less is_one);
+      others = λ v. set-set chosen r value v ∙ a.others v;
+    }
+
+pub values-all : (last : Last) (r mask : ℕ) (start chosen : State) (left : ℕ) (old new : List State) → left ≡ 0
+    → AddsValues last r mask start chosen left old new → Adds true old new (LeftByOne last r mask start)
+values-all last r mask start chosen left old new none a = record {
+  only = a.adds.only;
+  kept = a.adds.kept;
+  all = λ is e (place, within, one, same).
+      subst (Contains new) (sym same) (a.all place within one (ap (λ (m : ℕ). bit_at m place) none ∙ bit_at-zero place));
+}
+
+-- of the last register that any writes
+joined_all : (reach : List ℕ) (place before : ℕ) → length reach ≡ 8 → Joins place before reach (map (joined place before) reach)
+joined_all reach place before size =
+    joins-each place before reach (map (joined place before) reach) (λ k within. get_or-map (joined place before) reach k 0 0 (omega (arith, within, size)))
+
+pub adds-last : (lasts : List Last) (upto r : ℕ) (reach : List ℕ) (before free : ℕ) (start : State) (done : Bool) (old new : List State)
+    → r + 1 ≡ upto → r < 8 → length start ≡ 8 → length reach ≡ 8 → IsReach lasts reach → NoneFrom lasts upto → AreBefore lasts r reach before
+    → AreFree lasts r before free → HasPlace (writers_at lasts r) → Adds true old new (LeftByOne (get_or lasts r nothing) r free start)
+    → Adds done old new (EndsFrom lasts r reach start)
+adds-last lasts upto r reach before free start done old new is within size eight ir none aw af some a =
+    let behind = behind_of lasts r before in
+    let of : (e : State) → LeftByOne (get_or lasts r nothing) r free start e → EndsFrom lasts r reach start e =
+    λ e (place, few, one, same).
+    let m = (af place few).0 one in
+    let chosen = slice_set start r (value_at lasts r place) in
+    let j = joined_all reach place behind eight in
+    let next = next-reach lasts r reach (map (joined place behind) reach) before place within ir aw m j in
+    let settled = settled-end lasts upto (r + 1) (map (joined place behind) reach) chosen is (length-set start r (value_at lasts r place) ∙ size) next none in
+    chosen-ends lasts r reach (map (joined place behind) reach) start e before place size within ir aw m j
+    (subst (EndsFrom lasts (r + 1) (map (joined place behind) reach) chosen) (sym same) settled) in
+    record {
+      only = λ e has. elim (a.only e has) [ inl was ↦ inl was | inr x ↦ inr (of e x) ];
+      kept = a.kept;
+      all = λ all e x. elim (x.rest r (omega arith) within) [
+        | inl (nobody, same) ↦ (let (i, few, writes) = some in absurd (nobody i few writes))
+        | inr (place, l) ↦
+            let w : EndsWith lasts r reach start place e = record { ends = x; last = l } in
+            let m = last-free lasts r reach start e before place aw w in
+            let j = joined_all reach place behind eight in
+            let chosen = slice_set start r (value_at lasts r place) in
+            a.all refl e (
+              place,
+              l.within,
+              (af place l.within).1 m,
+              settled_end lasts upto (r + 1) (map (joined place behind) reach) chosen e is
+                  (length-set start r (value_at lasts r place) ∙ size) none
+                  (last-chosen lasts r reach (map (joined place behind) reach) start e before place size within ir aw j w),
+            )
+      ];
+    }
+
+-- what has been added where each of them but those left was taken for the last
+pub record Tried (lasts : List Last) (r : ℕ) (reach : List ℕ) (before : ℕ) (start : State) (left : ℕ) (old now : List State) : Type 0 where
   pub only : (e : State) → Contains now e → Contains old e ⊎ EndsFrom lasts r reach start e
   pub kept : (e : State) → Contains old e → Contains now e
   pub all : (i : ℕ) (e : State) → bit_at left i ≡ 0 → EndsWith lasts r reach start i e → Contains now e
-  pub among : (i : ℕ) → i < 8 → bit_at left i ≡ 1 → IsWriter lasts r i
+  pub among : (i : ℕ) → i < 8 → bit_at left i ≡ 1 → MayBeLast lasts r before i
 
-pub tried-none : (lasts : List Last) (r : ℕ) (reach : List ℕ) (start : State) (found : Writers) (old : List State) → AreWriters lasts r reach found
-    → Tried lasts r reach start found.writers old old
-tried-none lasts r reach start found old aw = record {
+pub tried-none : (lasts : List Last) (r : ℕ) (reach : List ℕ) (before free : ℕ) (start : State) (old : List State) → AreBefore lasts r reach before
+    → AreFree lasts r before free → Tried lasts r reach before start free old old
+tried-none lasts r reach before free start old aw af = record {
   only = λ e has. inl has;
   kept = λ e has. has;
-  all = λ i e out w. absurd (omega (arith, out, aw.each i w.last.within, w.last.writer));
-  among = λ i within one. sym (aw.each i within) ∙ one;
+  all = λ i e out w.
+      let m = last-free lasts r reach start e before i aw w in
+      absurd (omega (arith, out, (af i m.within).1 m));
+  among = λ i within. (af i within).0;
 }
 
 -- one more is taken, and all that it makes is added
-pub tried-next : (lasts : List Last) (r : ℕ) (reach next : List ℕ) (start : State) (found : Writers) (place left : ℕ) (old mid new : List State)
-    → length start ≡ 8 → r < 8 → IsReach lasts reach → AreWriters lasts r reach found → MayBeLast lasts r found place
-    → Joins place (behind_of found) reach next → bit_at left place ≡ 1 → Tried lasts r reach start left old mid
+pub tried-next : (lasts : List Last) (r : ℕ) (reach next : List ℕ) (start : State) (before place left : ℕ) (old mid new : List State)
+    → length start ≡ 8 → r < 8 → IsReach lasts reach → AreBefore lasts r reach before → MayBeLast lasts r before place
+    → Joins place (behind_of lasts r before) reach next → bit_at left place ≡ 1 → Tried lasts r reach before start left old mid
     → Adds true mid new (EndsFrom lasts (r + 1) next (slice_set start r (value_at lasts r place)))
-    → Tried lasts r reach start (left - 2 ^ place) old new
-tried-next lasts r reach next start found place left old mid new size within ir aw m j one t a =
+    → Tried lasts r reach before start (left - 2 ^ place) old new
+tried-next lasts r reach next start before place left old mid new size within ir aw m j one t a =
     let less = less_of left place one in
     record {
       only = λ e has. elim (a.only e has) [
         | inl was ↦ t.only e was
-        | inr x ↦ inr (chosen-ends lasts r reach next start e found place size within ir aw m j x)
+        | inr x ↦ inr (chosen-ends lasts r reach next start e before place size within ir aw m j x)
       ];
       kept = λ e has. a.kept e (t.kept e has);
       all = λ i e out w. elim (same_place i place) [
         | inl same ↦
-            a.all refl e (last-chosen lasts r reach next start e found place size within ir aw j
+            a.all refl e (last-chosen lasts r reach next start e before place size within ir aw j
             (subst (λ (k : ℕ). EndsWith lasts r reach start k e) same w))
         | inr apart ↦ a.kept e (t.all i e (less.other i apart ∙ out) w)
       ];
-      among = λ i within_i is. t.among i within_i (elim (same_place i place) [
-        | inl same ↦ absurd (omega (arith, is, ap (bit_at (left - 2 ^ place)) same, less.new))
-        | inr apart ↦ less.other i apart ∙ is
-      ]);
-    }
-
--- one more is passed over, since it comes before another
-pub tried-past : (lasts : List Last) (r : ℕ) (reach : List ℕ) (start : State) (found : Writers) (place left : ℕ) (old now : List State)
-    → AreWriters lasts r reach found → (bit_at found.before place ≡ 0 → ⊥) → bit_at left place ≡ 1 → Tried lasts r reach start left old now
-    → Tried lasts r reach start (left - 2 ^ place) old now
-tried-past lasts r reach start found place left old now aw before one t =
-    let less = less_of left place one in
-    record {
-      only = t.only;
-      kept = t.kept;
-      all = λ i e out w. elim (same_place i place) [
-        | inl same ↦ absurd (before (subst (λ (k : ℕ). bit_at found.before k ≡ 0) same (last-free lasts r reach start e found i aw w).free))
-        | inr apart ↦ t.all i e (less.other i apart ∙ out) w
-      ];
-      among = λ i within_i is. t.among i within_i (elim (same_place i place) [
-        | inl same ↦ absurd (omega (arith, is, ap (bit_at (left - 2 ^ place)) same, less.new))
-        | inr apart ↦ less.other i apart ∙ is
-      ]);
+      among = λ i within_i is. t.among i within_i (less_has left place (left - 2 ^ place) i less is);
     }
 
 -- a search that stopped
-pub tried-stopped : (lasts : List Last) (r : ℕ) (reach next : List ℕ) (start : State) (found : Writers) (place left : ℕ) (done : Bool)
-    (old mid new : List State) → length start ≡ 8 → r < 8 → IsReach lasts reach → AreWriters lasts r reach found
-    → MayBeLast lasts r found place → Joins place (behind_of found) reach next → Tried lasts r reach start left old mid
+pub tried-stopped : (lasts : List Last) (r : ℕ) (reach next : List ℕ) (start : State) (before place left : ℕ) (done : Bool)
+    (old mid new : List State) → length start ≡ 8 → r < 8 → IsReach lasts reach → AreBefore lasts r reach before
+    → MayBeLast lasts r before place → Joins place (behind_of lasts r before) reach next → Tried lasts r reach before start left old mid
     → Adds done mid new (EndsFrom lasts (r + 1) next (slice_set start r (value_at lasts r place)))
     → Adds false old new (EndsFrom lasts r reach start)
-tried-stopped lasts r reach next start found place left done old mid new size within ir aw m j t a = record {
+tried-stopped lasts r reach next start before place left done old mid new size within ir aw m j t a = record {
   only = λ e has. elim (a.only e has) [
     | inl was ↦ t.only e was
-    | inr x ↦ inr (chosen-ends lasts r reach next start e found place size within ir aw m j x)
+    | inr x ↦ inr (chosen-ends lasts r reach next start e before place size within ir aw m j x)
   ];
   kept = λ e has. a.kept e (t.kept e has);
   all = λ is. absurd (cc);
 }
 
 -- all were taken
-pub tried-all : (lasts : List Last) (r : ℕ) (reach : List ℕ) (start : State) (found : Writers) (left : ℕ) (old now : List State) → r < 8
-    → AreWriters lasts r reach found → (found.writers ≡ 0 → ⊥) → left ≡ 0 → Tried lasts r reach start left old now
+pub tried-all : (lasts : List Last) (r : ℕ) (reach : List ℕ) (before : ℕ) (start : State) (left : ℕ) (old now : List State) → r < 8
+    → HasPlace (writers_at lasts r) → left ≡ 0 → Tried lasts r reach before start left old now
     → Adds true old now (EndsFrom lasts r reach start)
-tried-all lasts r reach start found left old now within aw some none t = record {
+tried-all lasts r reach before start left old now within some none t = record {
   only = t.only;
   kept = t.kept;
   all = λ is e x. elim (x.rest r (omega arith) within) [
-    | inl (nobody, same) ↦ absurd (some (none_writes lasts r reach found aw nobody))
+    | inl (nobody, same) ↦ (let (i, few, writes) = some in absurd (nobody i few writes))
     | inr (place, l) ↦ t.all place e (ap (λ (m : ℕ). bit_at m place) none ∙ bit_at-zero place) (record { ends = x; last = l })
   ];
 }

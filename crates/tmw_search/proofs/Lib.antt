@@ -10,6 +10,7 @@ mod Forcing
 pub mod FreeNext
 mod Gathering
 mod Holding
+mod LastFound
 mod LastOfOrder
 mod LayerLists
 pub mod LayerSteps
@@ -22,6 +23,6 @@ mod SameEnds
 mod Setting
 mod Sorting
 mod StrictSteps
-mod WritersFound
+mod BeforeFound
 mod WindowLayers
 pub mod WindowViews

@@ -2,7 +2,7 @@
 use Rattle.std.proofs.Common.{◌≡◌, ◌==◌, ◌⊎◌, ◌+◌, ◌^◌, ◌<◌, ◌≤◌, ℕ, zero, suc, true, false, List, length, Some, IsTrue, refl, sym, ap, subst, ◌∙◌, inl, inr, arith}
 use Rattle.std.specs.Int.{bit_at}
 use Rattle.std.specs.List.{list_all}
-use Rattle.std.specs.Prelude.{slice_get, slice_index, get_or, if◌then◌else◌}
+use Rattle.std.specs.Prelude.{slice_get, slice_index, if◌then◌else◌}
 use Rattle.std.proofs.lemmas.Bool.{eq-eqb, ne_eqb}
 use Rattle.std.proofs.lemmas.Nat.Bits.{bit_at-zero}
 use Rattle.tmw_defs.specs.declared.criterion.Criterion.TheVariants.{Opacity}
@@ -10,7 +10,7 @@ use Rattle.tmw_defs.specs.History.{Txn}
 use Rattle.tmw_defs.specs.Opaque.{State, precedes}
 use Rattle.tmw_search.specs.BlindTransactions.{is_blind, blind_after}
 use Rattle.tmw_search.specs.Layers.{InLayer}
-use Rattle.tmw_search.specs.LastWrites.{IsWriter, value_at, nothing}
+use Rattle.tmw_search.specs.LastWrites.{IsWriter, writers_at, value_at}
 use Rattle.tmw_search.specs.ShownTransactions.{NoneBeforeItself}
 use Rattle.tmw_search.specs.declared.lasts.Last.{Last}
 use Rattle.tmw_search.proofs.BlindProof.{blind_at, after-blind, length-blind}
@@ -68,7 +68,7 @@ more_bit mask place i new one =
 
 pub writes_or : (lasts : List Last) (r i : ℕ) → IsWriter lasts r i ⊎ (IsWriter lasts r i → ⊥)
 writes_or lasts r i =
-    elim (bit_cases (get_or lasts i nothing).registers r) [ inl none ↦ inr (λ one. absurd (omega (arith, none, one))) | inr one ↦ inl one ]
+    elim (bit_cases (writers_at lasts r) i) [ inl none ↦ inr (λ one. absurd (omega (arith, none, one))) | inr one ↦ inl one ]
 
 ranked-step : (S : State → Type 0) (ts : List Txn) (lasts : List Last) (k : ℕ) (end : State) → NoneBeforeItself ts → AreLast ts lasts
     → IsTrue (list_all is_blind ts) → (above : ℕ) → (e : IsStepped Opacity S ts k above end) → IsRanked S ts lasts k e.mask e.before

@@ -1,11 +1,11 @@
 -- Which of a register's writers is the last: the serial orders of blind transactions are told by ranks, and what an order leaves by
 -- the last writer of each register.
-use Rattle.std.specs.Prelude.{◌≡◌, ◌⊎◌, ◌*◌, ◌%◌, ◌^◌, ◌<◌, ◌≤◌, ℕ, Bool, List, length, slice_get, slice_index, Some, bit_or}
+use Rattle.std.specs.Prelude.{◌≡◌, ◌⊎◌, ◌*◌, ◌%◌, ◌^◌, ◌<◌, ◌≤◌, ℕ, Bool, List, length, slice_get, slice_index, slice_set, Some, bit_or}
 use Rattle.std.specs.Int.{bit_at}
 use Rattle.tmw_defs.specs.Opaque.{State}
 use Rattle.tmw_cuts.specs.Views.{View}
 use Rattle.tmw_search.specs.BlindEnds.{Adds}
-use Rattle.tmw_search.specs.LastWrites.{IsWriter, NoneFrom, value_at}
+use Rattle.tmw_search.specs.LastWrites.{IsWriter, HasPlace, NoneFrom, writers_at, value_at}
 use Rattle.tmw_search.specs.declared.lasts.Last.{Last}
 
 -- For each of these the mask of it and those that precede it.
@@ -27,7 +27,7 @@ pub record IsRanking (rank : ℕ → ℕ) (reach : List ℕ) : Type 0 where
 
 -- Each writer's mask has itself, whoever comes before one of a mask is in it, and some order has the masks' order.
 pub record IsReach (lasts : List Last) (reach : List ℕ) : Type 0 where
-  pub self : (r i : ℕ) → i < 8 → IsWriter lasts r i → bit_at (slice_index reach i) i ≡ 1
+  pub self : (r i : ℕ) → r < 8 → i < 8 → IsWriter lasts r i → bit_at (slice_index reach i) i ≡ 1
   pub closed : (i j k : ℕ) → i < 8 → j < 8 → k < 8 → bit_at (slice_index reach j) i ≡ 1 → bit_at (slice_index reach k) j ≡ 1
       → bit_at (slice_index reach k) i ≡ 1
   pub rank : ℕ → ℕ
@@ -56,3 +56,13 @@ pub record EndsFrom (lasts : List Last) (register : ℕ) (reach : List ℕ) (sta
 abbrev pub AddsEnds : List Last → ℕ → ℕ → List ℕ → State → Bool → List State → List State → Type 0
 AddsEnds lasts upto register reach start done old new = IsReach lasts reach → NoneFrom lasts upto
     → Adds done old new (EndsFrom lasts register reach start)
+
+-- The two hold the same in each register that none of them writes.
+abbrev pub AgreeUnwritten : List Last → State → State → Type 0
+AgreeUnwritten lasts one other = (r : ℕ) → r < 8 → (HasPlace (writers_at lasts r) → ⊥)
+    → slice_index one r ≡ slice_index other r
+
+-- The state with what one of the mask leaves in the register.
+abbrev pub LeftByOne : Last → ℕ → ℕ → State → State → Type 0
+LeftByOne last register mask end e = (place : ℕ) × (place < 8) × (bit_at mask place ≡ 1)
+    × (e ≡ slice_set end register (slice_index last.values place))

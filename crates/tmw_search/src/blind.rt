@@ -1,17 +1,17 @@
-ghost use Rattle.std.specs.Prelude.{◌≡◌, ◌≤◌, ◌<◌, ℕ, IfOk, IsTrue, length, map};
-ghost use Rattle.std.specs.Int.{bit_at};
+ghost use Rattle.std.specs.Prelude.{◌≡◌, ◌≤◌, IfOk, IsTrue, length, map};
 ghost use Rattle.std.specs.List.{list_all};
-ghost use Rattle.tmw_cuts.specs.Registers.{AgreeOutside};
 ghost use Rattle.tmw_cuts.specs.Views.{view};
 ghost use Rattle.tmw_search.specs.BlindEnds.{shows_blind, AreBlindEnds};
-ghost use Rattle.tmw_search.specs.LastWrites.{AreWritten, AllWritten};
+ghost use Rattle.tmw_search.specs.LastWrites.{NoneFrom};
+ghost use Rattle.tmw_search.specs.Choices.{AgreeUnwritten};
 
 use crate::choices::add_ends;
 use crate::end_states::EndStates;
+use crate::found::Found;
 use crate::lasts::{Last, lasts_of};
-use crate::reach::reach_of;
+use crate::reach::{has_place, reach_of};
 use std::alloc::{AllocError, Global};
-use tmw_cuts::{State, States, Txn};
+use tmw_cuts::{State, Txn};
 use tmw_defs::{Criterion, Status};
 
 /// Tells whether the transaction has ended and does nothing but write, and each serial order of the criterion has it.
@@ -33,36 +33,24 @@ pub fn are_blind(criterion: Criterion, items: &[Txn]) -> bool
     items.iter().all(|item| is_blind(criterion, item))
 }
 
-/// The registers that some of these write, as a mask.
-fn written_by_any(lasts: &[Last; 8]) -> u8
-    ensures only { AreWritten lasts.now result }
-    ensures all { AllWritten lasts.now result }
-{
-    let mut written = 0u8;
-    for last in lasts {
-        written |= last.registers;
-    }
-    written
-}
-
-/// Returns how many registers there are up to the mask's last.
-fn registers_upto(written: u8) -> usize
+/// Returns how many registers there are up to the last that any of them writes.
+fn registers_upto(lasts: &[Last; 8]) -> usize
     ensures few { result ≤ 8 }
-    ensures none { (r : ℕ) → result ≤ r → r < 8 → bit_at written r ≡ 0 }
+    ensures none { NoneFrom lasts.now result }
 {
     let mut upto = 8usize;
-    while upto > 0 && written >> (upto - 1) & 1 == 0 {
+    while upto > 0 && !has_place(lasts[upto - 1].writers) {
         upto -= 1;
     }
     upto
 }
 
-/// Whether the two states hold the same in each register that isn't one of the mask's.
-fn agree_outside(written: u8, one: &State, other: &State) -> bool
-    ensures { IsTrue result → AgreeOutside written one.now other.now }
+/// Whether the two states hold the same in each register that none of them writes.
+fn agree_outside(lasts: &[Last; 8], one: &State, other: &State) -> bool
+    ensures { IsTrue result → AgreeUnwritten lasts.now one.now other.now }
 {
     for register in 0..8usize {
-        if written >> register & 1 == 0 && one[register] != other[register] {
+        if !has_place(lasts[register].writers) && one[register] != other[register] {
             return false;
         }
     }
@@ -81,19 +69,18 @@ pub fn find_blind_ends(
 {
     let lasts = lasts_of(items);
     let reach = reach_of(items);
-    let written = written_by_any(&lasts);
-    let upto = registers_upto(written);
-    let mut ends = States::empty(alloc);
+    let upto = registers_upto(&lasts);
+    let mut found = Found::none(alloc);
     for (index, start) in starts.iter().enumerate() {
         // From a state that differs from the one before it only where they write, they end as from that one.
-        if index == 0 || !agree_outside(written, &starts[index - 1], start) {
-            if !add_ends(&lasts, upto, 0, &reach, start, &mut ends, cap as usize)? {
+        if index == 0 || !agree_outside(&lasts, &starts[index - 1], start) {
+            if !add_ends(&lasts, upto, 0, &reach, start, &mut found, cap as usize)? {
                 return Ok(EndStates::Many);
             }
         }
     }
-    if ends.len() > cap as usize {
+    if found.ends.len() > cap as usize {
         return Ok(EndStates::Many);
     }
-    Ok(EndStates::Few(ends))
+    Ok(EndStates::Few(found.ends))
 }

@@ -9,6 +9,7 @@ mod depth_first;
 mod end_states;
 mod ends;
 mod forced;
+mod found;
 mod idle;
 mod lasts;
 mod layers;

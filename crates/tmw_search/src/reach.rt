@@ -1,17 +1,10 @@
-ghost use Rattle.std.specs.Prelude.{◌<◌, ◌≤◌, length, map};
+ghost use Rattle.std.specs.Prelude.{◌≡◌, ◌↔◌, ◌<◌, ◌≤◌, length, map, IsTrue};
+ghost use Rattle.std.specs.Int.{bit_at};
 ghost use Rattle.tmw_cuts.specs.Views.{view};
-ghost use Rattle.tmw_search.specs.LastWrites.{AreWriters};
+ghost use Rattle.tmw_search.specs.LastWrites.{ComeBefore, HasPlace};
 ghost use Rattle.tmw_search.specs.Choices.{ShowsReach, Joins};
 
-use crate::lasts::Last;
 use tmw_cuts::Txn;
-
-/// Those that write a register, and those that come before one of them, as masks.
-#[derive(Clone, Copy)]
-pub struct Writers {
-    pub writers: u8,
-    pub before: u8,
-}
 
 /// Returns, for each of the transactions, it and those that precede it, as a mask.
 pub fn reach_of(items: &[Txn]) -> [u8; 8]
@@ -25,20 +18,36 @@ pub fn reach_of(items: &[Txn]) -> [u8; 8]
     reach
 }
 
-/// Finds the transactions that write the register, and those that come before one of them.
-pub fn writers_of(lasts: &[Last; 8], register: usize, reach: &[u8; 8]) -> Writers
-    requires { register < 8 }
-    ensures { AreWriters lasts.now register reach.now result }
+/// Tells whether the mask has a place.
+#[inline(always)]
+pub fn has_place(mask: u8) -> bool
+    ensures { IsTrue result ↔ HasPlace mask }
 {
-    let mut writers = 0u8;
+    mask != 0
+}
+
+/// Returns the lowest place of the mask.
+#[inline(always)]
+pub fn lowest(mask: u8) -> usize
+    requires { 0 < mask }
+    ensures within { result < 8 }
+    ensures among { bit_at mask result ≡ 1 }
+{
+    mask.trailing_zeros() as usize
+}
+
+/// Returns those that come before another of these, as a mask.
+pub fn before_of(reach: &[u8; 8], these: u8) -> u8
+    ensures { ComeBefore reach.now these result }
+{
     let mut before = 0u8;
-    for place in 0..8usize {
-        if lasts[place].registers >> register & 1 == 1 {
-            writers |= 1 << place;
-            before |= reach[place] & !(1 << place);
-        }
+    let mut left = these;
+    while left != 0 {
+        let place = lowest(left);
+        left -= 1 << place;
+        before |= reach[place] & !(1 << place);
     }
-    Writers { writers, before }
+    before
 }
 
 /// Returns who comes before whom, if these also come before the one at the place, and so before all that it comes

@@ -7,4 +7,4 @@ use Rattle.tmw_search.proofs.BlindEnds.{StartsEnd}
 use Rattle.tmw_search.proofs.blind.find_blind_ends.Given as goal
 
 abbrev pub invariant-loop-index : goal.invariant-loop-index
-invariant-loop-index l = IsReach l.lasts l.reach → NoneFrom l.lasts l.upto → Adds true [] (members l.ends) (StartsEnd l.lasts l.reach l.starts l.index)
+invariant-loop-index l = IsReach l.lasts l.reach → NoneFrom l.lasts l.upto → Adds true [] (members l.found.ends) (StartsEnd l.lasts l.reach l.starts l.index)

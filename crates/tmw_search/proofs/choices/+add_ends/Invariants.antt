@@ -9,7 +9,8 @@ abbrev pub decreases-add_ends : goal.decreases-add_ends
 decreases-add_ends l = l.upto - l.register
 
 abbrev pub invariant-loop-left : goal.invariant-loop-left
-invariant-loop-left l = IsReach l.lasts l.reach → NoneFrom l.lasts l.upto → Tried l.lasts l.register l.reach l.end l.left (members l.fn.ends) (members l.ends)
+invariant-loop-left l = IsReach l.lasts l.reach → NoneFrom l.lasts l.upto → Tried l.lasts l.register l.reach l.before l.end l.left
+    (members l.fn.found.ends) (members l.found.ends)
 
 abbrev pub decreases-loop-left : goal.decreases-loop-left
 decreases-loop-left l = l.left

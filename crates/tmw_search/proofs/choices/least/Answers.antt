@@ -1,6 +1,32 @@
-use Rattle.std.proofs.Common.{w8}
-use Rattle.std.proofs.lemmas.Nat.Bits.{bit_at-trailing_zeros}
+use Rattle.tmw_cuts.proofs.Bits.{shift_is}
+use Rattle.tmw_search.proofs.BlindProof.{less_of, less_has}
 use Rattle.tmw_search.proofs.choices.least.Goals as goal
 
-pub loop-place-init : goal.loop-place-init
-loop-place-init c = let z = bit_at-trailing_zeros w8 c.args.mask c.requires.some c.ranges.mask.fits in (z.0, z.1)
+pub loop-left-init : goal.loop-left-init
+loop-left-init c =
+    let first = c.lowest-least in
+    rw (shift_is first.result first.ensures.within) (
+      first.ensures.within,
+      first.ensures.among,
+      λ i is. less_has c.args.mask first.result _ i (less_of c.args.mask first.result first.ensures.among) is,
+    )
+
+pub loop-left-preserved-then-values-place : goal.loop-left-preserved-then-values-place
+loop-left-preserved-then-values-place c =
+    let next = c.lowest-place in
+    let (within, among, rest) = c.loop-left.invariant in
+    rw (shift_is next.result next.ensures.within) (
+      next.ensures.within,
+      rest next.result next.ensures.among,
+      λ i is. rest i (less_has c.loop-left.left next.result _ i (less_of c.loop-left.left next.result next.ensures.among) is),
+    )
+
+pub loop-left-preserved : goal.loop-left-preserved
+loop-left-preserved c =
+    let next = c.lowest-place in
+    let (within, among, rest) = c.loop-left.invariant in
+    rw (shift_is next.result next.ensures.within) (
+      within,
+      among,
+      λ i is. rest i (less_has c.loop-left.left next.result _ i (less_of c.loop-left.left next.result next.ensures.among) is),
+    )

@@ -1,0 +1,17 @@
+use Rattle.std.proofs.Common.{◌≡◌, rules, inl, inr, sym, ◌∙◌}
+use Rattle.std.proofs.lemmas.Option.{slice_get_within, get_or_from_slice_get}
+use Rattle.tmw_cuts.specs.Members.{members}
+use Rattle.tmw_search.proofs.found.Found.add.Goals as goal
+
+pub returns-then-eq : goal.returns-then-eq
+returns-then-eq c = λ s. (
+  λ has. inr has,
+  λ either. elim either [
+    | inr has ↦ has
+    | inl same ↦
+        let ends = members c.args.self.now.ends in
+        let is : c.in-Some.held ≡ c.args.end.now = search (c.if-eq.ensures, rules) in
+        let at = sym c.get.ensures ∙ c.in-Some.is in
+        (_, slice_get_within ends _ c.in-Some.held at, get_or_from_slice_get ends _ c.in-Some.held s at ∙ is ∙ sym same)
+  ],
+)

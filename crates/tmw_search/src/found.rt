@@ -1,0 +1,41 @@
+ghost use Rattle.std.specs.Prelude.{◌≡◌, [], OnOk};
+ghost use Rattle.tmw_cuts.specs.Members.{members, AddsMember};
+
+use std::alloc::{AllocError, Global};
+use tmw_cuts::{State, States};
+
+/// The ends that a search has found, each of them often.
+#[derive(Drop)]
+pub struct Found {
+    pub ends: States,
+    /// Where an end may stand, by the slot that it is added with: a guess, of which nothing is claimed.
+    guesses: [u8; 64],
+}
+
+impl Found {
+    /// Makes the set of no end.
+    pub fn none(alloc: Global) -> Found
+        ensures { members result.ends ≡ [] }
+    {
+        Found {
+            ends: States::empty(alloc),
+            guesses: [0; 64],
+        }
+    }
+
+    /// Adds the end, unless it is one of them. Is fastest if equal ends come with the same number, and others not.
+    #[inline(always)]
+    pub fn add(&mut self, end: &State, number: u64) -> Result<(), AllocError>
+        ensures { OnOk result (AddsMember (members self.old.ends) (members self.new.ends) end.now) }
+    {
+        let slot = (number % 64) as usize;
+        if let Some(held) = self.ends.get(self.guesses[slot] as usize) {
+            if held == *end {
+                return Ok(());
+            }
+        }
+        self.guesses[slot] = (self.ends.len() % 256) as u8;
+        self.ends.insert(*end)?;
+        Ok(())
+    }
+}
