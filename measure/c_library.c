@@ -46,7 +46,7 @@ static void appends(unsigned thread, unsigned count)
     }
 }
 
-/* The ring's words: tail, front on a line of the cache of its own, and two for each cell. */
+/* The ring's words: tail, front on a line of the cache of its own, and two for each cell, of which neighbours share no line. */
 enum { TAIL = 0, FRONT = 16, FIRST_CELL = 32 };
 static _Alignas(128) _Atomic uint64_t words[FIRST_CELL + 2 * CELLS];
 
@@ -57,7 +57,8 @@ static inline void step(uint64_t header, uint64_t value)
     if (tail > (UINT64_C(1) << 40) - THREADS || tail - front > CELLS - THREADS)
         abort();
     uint64_t place = atomic_fetch_add(&words[TAIL], 1);
-    _Atomic uint64_t *cell = &words[FIRST_CELL + 2 * (place & (CELLS - 1))];
+    uint64_t number = place & (CELLS - 1), crossed = number / 16 * 16 + number % 4 * 4 + number / 4 % 4;
+    _Atomic uint64_t *cell = &words[FIRST_CELL + 2 * crossed];
     cell[1] = value;
     cell[0] = (place + 1) << 10 | header;
 }

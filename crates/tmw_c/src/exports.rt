@@ -48,7 +48,6 @@ pub extern "C" fn tmwatch_close(
 /// Records the event of this letter.
 #[unsafe(no_mangle)]
 pub extern "C" fn tmwatch_record(
-    alloc: Global,
     recorder: &mut RecorderHandle,
     letter: u32,
     register: u64,
@@ -58,16 +57,16 @@ pub extern "C" fn tmwatch_record(
     ensures { Tells result (IsRecording letter register value (recorder_in recorder.old)
         (recorder_in recorder.new) place.old place.new) }
 {
-    record::record(alloc, recorder, letter, register, value, place).number()
+    record::record(recorder, letter, register, value, place).number()
 }
 
 /// Tells whether so many records find room.
 #[unsafe(no_mangle)]
-pub extern "C" fn tmwatch_room(alloc: Global, recorder: &mut RecorderHandle, records: u64) -> u32
+pub extern "C" fn tmwatch_room(recorder: &mut RecorderHandle, records: u64) -> u32
     ensures { Tells result (IsAsking records (recorder_in recorder.old)
         (recorder_in recorder.new)) }
 {
-    room::ask(alloc, recorder, records).number()
+    room::ask(recorder, records).number()
 }
 
 /// Judges up to `most` events.

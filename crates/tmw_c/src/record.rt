@@ -1,21 +1,22 @@
 //! Recording by a handle.
 ghost use Rattle.std.specs.Prelude.{IfOk, IfErr};
-ghost use Rattle.tmw_c.specs.Recording.{HasRecordedAsked, HasRefused, IsRecording, IsRecordingUntold};
+ghost use Rattle.tmw_c.specs.Recording.{HasRecordedAsked, HasRefused, IsRecording, IsRecordingUntold, IsSameEnd};
 ghost use Rattle.tmw_handles.specs.Held.{recorder_in};
 
 use crate::kinds::asked;
 use crate::status::Status;
-use std::alloc::Global;
 use tmw_handles::{HeldRecorder, RecorderHandle};
 use tmw_ring::Refused;
 
 /// Records the event that is asked for, and returns its place, or why not.
+#[inline(always)]
 fn record_held(
     held: &mut HeldRecorder,
     letter: u32,
     register: u64,
     value: u64,
 ) -> Result<u64, Status>
+    ensures same { IsSameEnd held.old held.new }
     ensures ok { IfOk result (λ place. HasRecordedAsked letter register value held.old place
         held.new) }
     ensures err { IfErr result (HasRefused letter register value held.old held.new) }
@@ -31,10 +32,9 @@ fn record_held(
     }
 }
 
-/// Records an event by what the handle holds, which it holds again afterwards. `place` changes only if the event was
-/// recorded.
+/// Records an event by what the handle holds. `place` changes only if the event was recorded.
+#[inline(always)]
 pub fn record(
-    alloc: Global,
     recorder: &mut RecorderHandle,
     letter: u32,
     register: u64,
@@ -44,12 +44,10 @@ pub fn record(
     ensures { IsRecording letter register value (recorder_in recorder.old)
         (recorder_in recorder.new) place.old place.new result }
 {
-    let Some(mut held) = recorder.take(alloc) else {
+    if !recorder.is_full() {
         return Status::NoHandle;
-    };
-    let answer = record_held(&mut held, letter, register, value);
-    *recorder = RecorderHandle::of(held);
-    match answer {
+    }
+    match record_held(recorder.slot.held_mut(), letter, register, value) {
         Ok(at) => {
             *place = at;
             Status::Done
@@ -58,9 +56,9 @@ pub fn record(
     }
 }
 
-/// Records an event by what the handle holds, which it holds again afterwards. The place is not told.
+/// Records an event by what the handle holds. The place is not told.
+#[inline(always)]
 pub fn record_untold(
-    alloc: Global,
     recorder: &mut RecorderHandle,
     letter: u32,
     register: u64,
@@ -70,5 +68,5 @@ pub fn record_untold(
         (recorder_in recorder.new) result }
 {
     let mut place = 0;
-    record(alloc, recorder, letter, register, value, &mut place)
+    record(recorder, letter, register, value, &mut place)
 }

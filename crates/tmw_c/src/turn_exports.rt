@@ -5,13 +5,11 @@ ghost use Rattle.tmw_handles.specs.Held.{recorder_in};
 
 use crate::turn::{Call, Turn};
 use crate::turning;
-use std::alloc::Global;
 use tmw_handles::RecorderHandle;
 
 /// Records the next call of the transaction that makes these calls. Its place in the log is counted from 0.
 #[unsafe(no_mangle)]
 pub extern "C" fn tmwatch_next(
-    alloc: Global,
     recorder: &mut RecorderHandle,
     calls: &[Call],
     turn: &mut Turn,
@@ -20,13 +18,12 @@ pub extern "C" fn tmwatch_next(
     ensures { Tells result (IsCalling calls.now (recorder_in recorder.old)
         (recorder_in recorder.new) turn.old turn.new place.old place.new) }
 {
-    turning::next(alloc, recorder, calls, turn, place).number()
+    turning::next(recorder, calls, turn, place).number()
 }
 
 /// Records the answer that the memory gave to the call that waits for it, if it fits, and turns to the next call.
 #[unsafe(no_mangle)]
 pub extern "C" fn tmwatch_answered(
-    alloc: Global,
     recorder: &mut RecorderHandle,
     calls: &[Call],
     turn: &mut Turn,
@@ -37,5 +34,5 @@ pub extern "C" fn tmwatch_answered(
     ensures { Tells result (IsAnswering calls.now letter value (recorder_in recorder.old)
         (recorder_in recorder.new) turn.old turn.new place.old place.new) }
 {
-    turning::answered(alloc, recorder, calls, turn, letter, value, place).number()
+    turning::answered(recorder, calls, turn, letter, value, place).number()
 }

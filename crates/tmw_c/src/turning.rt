@@ -1,12 +1,12 @@
 //! Carrying a transaction out by a handle, an event at a time.
 ghost use Rattle.std.specs.Prelude.{◌≡◌, ◌<◌, IfOk, IfErr, length};
+ghost use Rattle.tmw_c.specs.Recording.{IsSameEnd};
 ghost use Rattle.tmw_c.specs.Turning.{GoesOnBy, HasAnswered, HasCalled, HasNotAnswered, HasNotCalled, IsAnswering, IsCalling};
 ghost use Rattle.tmw_handles.specs.Held.{recorder_in};
 
 use crate::kinds::asked;
 use crate::status::Status;
 use crate::turn::{Call, Turn};
-use std::alloc::Global;
 use tmw_events::Kind;
 use tmw_handles::{HeldRecorder, RecorderHandle};
 use tmw_ring::Refused;
@@ -27,6 +27,7 @@ fn call_held(
     call: Call,
 ) -> Result<Recorded, Status>
     requires { turn.place < count }
+    ensures same { IsSameEnd held.old held.new }
     ensures ok { IfOk result (λ told. HasCalled count turn call told held.old held.new) }
     ensures err { IfErr result (HasNotCalled count turn call held.old held.new) }
 {
@@ -45,10 +46,8 @@ fn call_held(
     }
 }
 
-/// Records the call that is due by what the handle holds, which it holds again afterwards. `place` and the turn change
-/// only if the call was recorded.
+/// Records the call that is due by what the handle holds. `place` and the turn change only if the call was recorded.
 pub fn next(
-    alloc: Global,
     recorder: &mut RecorderHandle,
     calls: &[Call],
     turn: &mut Turn,
@@ -61,12 +60,10 @@ pub fn next(
         return Status::OutOfTurn;
     }
     let call = calls[turn.place];
-    let Some(mut held) = recorder.take(alloc) else {
+    if !recorder.is_full() {
         return Status::NoHandle;
-    };
-    let answer = call_held(&mut held, calls.len(), *turn, call);
-    *recorder = RecorderHandle::of(held);
-    match answer {
+    }
+    match call_held(recorder.slot.held_mut(), calls.len(), *turn, call) {
         Ok(told) => {
             *place = told.place;
             turn.phase = 1;
@@ -83,6 +80,7 @@ fn answer_held(
     letter: u32,
     value: u64,
 ) -> Result<Recorded, Status>
+    ensures same { IsSameEnd held.old held.new }
     ensures ok { IfOk result (λ told. HasAnswered call letter value told held.old held.new) }
     ensures err { IfErr result (HasNotAnswered call letter value held.old held.new) }
 {
@@ -127,10 +125,9 @@ fn after(count: usize, turn: Turn, answer: Kind) -> Turn
     }
 }
 
-/// Records the answer to the call that waits, by what the handle holds, which it holds again afterwards. `place` and the
-/// turn change only if it was recorded.
+/// Records the answer to the call that waits, by what the handle holds. `place` and the turn change only if it was
+/// recorded.
 pub fn answered(
-    alloc: Global,
     recorder: &mut RecorderHandle,
     calls: &[Call],
     turn: &mut Turn,
@@ -145,12 +142,10 @@ pub fn answered(
         return Status::OutOfTurn;
     }
     let call = calls[turn.place];
-    let Some(mut held) = recorder.take(alloc) else {
+    if !recorder.is_full() {
         return Status::NoHandle;
-    };
-    let answer = answer_held(&mut held, call, letter, value);
-    *recorder = RecorderHandle::of(held);
-    match answer {
+    }
+    match answer_held(recorder.slot.held_mut(), call, letter, value) {
         Ok(told) => {
             *place = told.place;
             *turn = after(calls.len(), *turn, told.kind);

@@ -12,7 +12,8 @@ use std::mem;
 #[repr(C)]
 #[derive(Drop)]
 pub struct RecorderHandle {
-    pub(crate) slot: RecorderSlot,
+    /// What is held, which is used in place.
+    pub slot: RecorderSlot,
     pub(crate) full: bool,
     // The held recorder's number: a close sees by it whether each is in its place, before it takes anything.
     pub(crate) number: u8,

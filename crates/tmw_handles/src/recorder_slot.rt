@@ -21,6 +21,9 @@ impl Model for RecorderSlot {
 }
 
 impl RecorderSlot {
+    ghost use Rattle.std.specs.Borrow.{sem};
+    ghost use Rattle.tmw_handles.specs.Lending.{lends_held};
+
     /// Makes a slot of a pointer at which nothing is held.
     fn empty_at(at: *mut u8, alloc: Global) -> RecorderSlot
         ensures { result.held ≡ None }
@@ -45,6 +48,15 @@ impl RecorderSlot {
         let RecorderSlot { at, alloc } = self;
         let at = at as *mut HeldRecorder;
         Parts { at, alloc }
+    }
+
+    /// Lends what is held, to be used in place.
+    pub fn held_mut(&mut self) -> &mut HeldRecorder
+        requires { IsSome self.old.held }
+        ensures* writes_back { sem 𝓛 (lends_held self.entry result) }
+        ensures value { self.old.held ≡ Some result.now }
+    {
+        unsafe { &mut *(self.at as *mut HeldRecorder) }
     }
 
     /// Makes a slot that holds nothing.

@@ -31,9 +31,9 @@ read_published core place sound real published =
     let small = real.headers (place % core.size.cells) empty_cell (has_cell core place sound) in
     let cell = cell_at core place in
     let header : header_at (words_of core) core.size.cells place ≡ packed_header published.event =
-    ap header_of (stamp_found core place) ∙ (stamped-parts cell.stamp cell.header small).1 ∙ published.shown.header in
+    ap header_of (stamp_found core place (has_cell core place sound)) ∙ (stamped-parts cell.stamp cell.header small).1 ∙ published.shown.header in
     let value : value_at (words_of core) core.size.cells place ≡ kind_value published.event.kind =
-    value_found core place ∙ published.shown.value in
+    value_found core place (has_cell core place sound) ∙ published.shown.value in
     record {
       header = header;
       value = value;

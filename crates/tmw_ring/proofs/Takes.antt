@@ -28,7 +28,7 @@ use Rattle.tmw_ring.specs.Parts.{Parts, key}
 use Rattle.tmw_ring.specs.Rule.{PartFits, IsReal, ReaderFits, Shown}
 use Rattle.tmw_ring.specs.Seats.{reader_in, IsWaitingReader}
 use Rattle.tmw_ring.specs.Takes.{phase_after, after_look, phase_with, after_read, next_event, after_free, peeking, reading, freeing, IsToldEvent, IsReadyReader, IsToldReader, ReaderMade, StampSeen, ValueRead, PlaceFreed}
-use Rattle.tmw_ring.specs.Words.{cell_words, apart, words_of, front_word, stamp_word, value_word}
+use Rattle.tmw_ring.specs.Words.{cell_words, standing, whole, apart, words_of, front_word, stamp_word, value_word}
 use Rattle.tmw_ring.specs.declared.part.Part.{Part}
 use Rattle.tmw_ring.specs.declared.part.Part.TheVariants.{Writes, Reads}
 use Rattle.tmw_ring.specs.declared.part.ReaderPart.{ReaderPart}
@@ -178,7 +178,7 @@ module _ {S : Type 0} where
       shown.real.headers (core.front % core.size.cells) empty_cell (has_cell core core.front shown.sound) in
       let parts = stamped-parts cell.stamp cell.header header_small in
       let is_found = ap (λ (words : List ℕ). slice_index words word) shown.words ∙ ap (slice_index (words_of core)) is_word
-      ∙ stamp_found core core.front in
+      ∙ stamp_found core core.front (has_cell core core.front shown.sound) in
       let is_stamp : cell.stamp ≡ stamp_of found = sym (ap stamp_of is_found ∙ parts.0) in
       let is_header : cell.header ≡ header_of found = sym (ap header_of is_found ∙ parts.1) in
       let test : Bool = stamp_of found == length part.taken + 1 in
@@ -223,7 +223,7 @@ module _ {S : Type 0} where
       ∙ ap (λ (n : ℕ). value_word core.size.cells n) (sym counted ∙ is_front) in
       let is_value : (cell_at core core.front).value ≡ found =
       sym (ap (λ (words : List ℕ). slice_index words word) shown.words ∙ ap (slice_index (words_of core)) is_word
-      ∙ value_found core core.front) in
+      ∙ value_found core core.front (has_cell core core.front shown.sound)) in
       let is_ready : core.reader ≡ Ready header = sym fits.phase ∙ ready in
       let is_told : Told header found ≡ phase_with part.phase found = ap (λ (phase : ReaderPhase). phase_with phase found) (sym ready) in
       let next : Core = with_reader core core.front (phase_with part.phase found) core.taken in
@@ -285,7 +285,7 @@ module _ {S : Type 0} where
         reader_moves size state shown seat front_word (front + 1) (core.front + 1) Waiting (core.taken ++ event ∷ [])
             (part.taken ++ next_event part.phase ∷ []) (freeing (next_event part.phase)) part seated makes sound
             (ap (λ (words : List ℕ). set words front_word (front + 1)) shown.words
-            ∙ ap (λ (n : ℕ). core.tail ∷ apart ((n + 1) ∷ apart (cell_words core.cells))) is_front)
+            ∙ ap (λ (n : ℕ). core.tail ∷ apart ((n + 1) ∷ apart (cell_words (standing core.cells 0 (whole (length core.cells)))))) is_front)
             same,
         record {
           seated = refl;

@@ -1,5 +1,6 @@
 -- What a ring's words tell of its state, and what a store to one of them leaves.
-use Rattle.std.proofs.Common.{◌≡◌, ◌+◌, ◌*◌, ◌%◌, ◌<◌, ℕ, zero, suc, List, [], ◌∷◌, length, get_or, set, replicate, refl, sym, ap, ◌∙◌, arith}
+use Rattle.std.proofs.Common.{◌≡◌, ◌+◌, ◌*◌, ◌%◌, ◌<◌, ◌≢◌, ℕ, zero, suc, List, [], ◌∷◌, length, get_or, set, replicate, refl, sym, ap, ap₂, ◌∙◌, subst, arith}
+use Rattle.std.proofs.lemmas.List.{get_or-set_same, get_or-set_other, length-set, length-replicate}
 use Rattle.std.proofs.Math.Nat.{mod-lt}
 use Rattle.std.specs.Prelude.{slice_index}
 use mathlib.Core.Option.{some, some-injective, some-ne-none}
@@ -12,21 +13,87 @@ use Rattle.tmw_ring_defs.specs.RingCells.{empty_cell, filled, published}
 use Rattle.tmw_ring_defs.specs.RingSteps.{with_cell, cell_at}
 use Rattle.tmw_ring_defs.specs.declared.ring_cell.RingCell.{RingCell}
 use Rattle.tmw_ring_defs.specs.declared.ring_size.RingSize.{RingSize}
-use Rattle.tmw_ring.specs.Words.{cell_words, apart, words_of, word_count, stamp_word, value_word}
+use Rattle.tmw_ring.specs.Words.{cell_words, crossed, whole, standing, apart, words_of, word_count, stamp_word, value_word}
 
 length-cell_words : (cells : List RingCell) → length (cell_words cells) ≡ 2 * length cells
 length-cell_words [] = refl
 length-cell_words (cell ∷ cells) = omega (arith, length-cell_words cells)
 
+length-standing : (cells : List RingCell) (from count : ℕ) → length (standing cells from count) ≡ count
+length-standing cells from zero = refl
+length-standing cells from (suc count) = omega (arith, length-standing cells (from + 1) count)
+
 pub length-words : (core : Core) → length (words_of core) ≡ word_count (length core.cells)
-length-words core = omega (arith, length-cell_words core.cells)
+length-words core =
+    let count : ℕ = whole (length core.cells) in
+    omega (arith, length-cell_words (standing core.cells 0 count), length-standing core.cells 0 count)
+
+-- Each cell stands within the table, and the cell that stands there is that cell.
+crossed-within : (cells cell : ℕ) → cell < cells → crossed cell < whole cells
+crossed-within cells cell low = omega (arith, low)
+
+crossed-crossed : (cell : ℕ) → crossed (crossed cell) ≡ cell
+crossed-crossed cell = omega arith
+
+apart-crossed : (one other : ℕ) → one ≢ other → crossed one ≢ crossed other
+apart-crossed one other apart same = apart (sym (crossed-crossed one) ∙ ap crossed same ∙ crossed-crossed other)
 
 -- Each place has its words in the table.
 pub stamp_word-within : (cells place : ℕ) → 0 < cells → stamp_word cells place < word_count cells
-stamp_word-within cells place any = omega (arith, mod-lt place any)
+stamp_word-within cells place any = omega (arith, crossed-within cells (place % cells) (mod-lt place any))
 
 pub value_word-within : (cells place : ℕ) → 0 < cells → value_word cells place < word_count cells
-value_word-within cells place any = omega (arith, mod-lt place any)
+value_word-within cells place any = omega (arith, crossed-within cells (place % cells) (mod-lt place any))
+
+-- which cell stands at a place
+stands : (cells : List RingCell) (from count at place : ℕ) → at < count → place ≡ from + at
+    → get_or (standing cells from count) at empty_cell ≡ get_or cells (crossed place) empty_cell
+stands cells from zero at place low is = absurd (omega (arith, low))
+stands cells from (suc count) zero place low is =
+    let same : from ≡ place = omega (arith, is) in ap (λ (n : ℕ). get_or cells (crossed n) empty_cell) same
+stands cells from (suc count) (suc at) place low is = stands cells (from + 1) count at place (omega (arith, low)) (omega (arith, is))
+
+-- A cell that stands before the places changes none.
+none_stands : (cells : List RingCell) (new : RingCell) (from count place : ℕ) → place < from
+    → standing (set cells (crossed place) new) from count ≡ standing cells from count
+none_stands cells new from zero place low = refl
+none_stands cells new from (suc count) place low =
+    let other = apart-crossed from place (λ same. absurd (omega (arith, low, same))) in
+    ap₂ (λ (c : RingCell) (l : List RingCell). c ∷ l) (get_or-set_other cells (crossed place) (crossed from) new empty_cell other)
+    (none_stands cells new (from + 1) count place (omega (arith, low)))
+
+-- A cell that changes does so where it stands.
+one_stands : (cells : List RingCell) (new : RingCell) (from count at place : ℕ) → at < count → place ≡ from + at → crossed place < length cells
+    → set (standing cells from count) at new ≡ standing (set cells (crossed place) new) from count
+one_stands cells new from zero at place low is there = absurd (omega (arith, low))
+one_stands cells new from (suc count) zero place low is there =
+    let same : place ≡ from = omega (arith, is) in
+    ap₂ (λ (c : RingCell) (l : List RingCell). c ∷ l)
+    (sym (get_or-set_same cells (crossed place) new empty_cell there)
+    ∙ ap (λ (n : ℕ). get_or (set cells (crossed place) new) (crossed n) empty_cell) same)
+    (sym (none_stands cells new (from + 1) count place (omega (arith, same))))
+one_stands cells new from (suc count) (suc at) place low is there =
+    let other = apart-crossed from place (λ same. absurd (omega (arith, is, same))) in
+    ap₂ (λ (c : RingCell) (l : List RingCell). c ∷ l) (sym (get_or-set_other cells (crossed place) (crossed from) new empty_cell other))
+    (one_stands cells new (from + 1) count at place (omega (arith, low)) (omega (arith, is)) there)
+
+-- all cells, as they stand
+abbrev table : List RingCell → List RingCell
+table cells = standing cells 0 (whole (length cells))
+
+in_table : (cells : List RingCell) (cell : ℕ) → cell < length cells → get_or (table cells) (crossed cell) empty_cell ≡ get_or cells cell empty_cell
+in_table cells cell there =
+    stands cells 0 (whole (length cells)) (crossed cell) (crossed cell) (crossed-within (length cells) cell there) (omega arith)
+    ∙ ap (λ (n : ℕ). get_or cells n empty_cell) (crossed-crossed cell)
+
+set_table : (cells : List RingCell) (cell : ℕ) (new : RingCell) → cell < length cells
+    → set (table cells) (crossed cell) new ≡ table (set cells cell new)
+set_table cells cell new there =
+    let back = crossed-crossed cell in
+    one_stands cells new 0 (whole (length cells)) (crossed cell) (crossed cell) (crossed-within (length cells) cell there) (omega arith)
+    (subst (λ (n : ℕ). n < length cells) (sym back) there)
+    ∙ ap (λ (n : ℕ). standing (set cells n new) 0 (whole (length cells))) back
+    ∙ ap (λ (n : ℕ). standing (set cells cell new) 0 (whole n)) (sym (length-set cells cell new))
 
 -- sixteen more
 abbrev more : ℕ → ℕ
@@ -44,19 +111,21 @@ second_at [] k = refl
 second_at (cell ∷ cells) zero = refl
 second_at (cell ∷ cells) (suc k) = let e : 2 * suc k ≡ suc (suc (2 * k)) = omega arith in rw e (second_at cells k)
 
-pub stamp_found : (core : Core) (place : ℕ)
+pub stamp_found : (core : Core) (place : ℕ) → place % core.size.cells < length core.cells
     → slice_index (words_of core) (stamp_word core.size.cells place) ≡ stamped (cell_at core place).stamp (cell_at core place).header
-stamp_found core place =
+stamp_found core place there =
     let k : ℕ = place % core.size.cells in
-    let e : 32 + 2 * k ≡ more (more (2 * k)) = omega arith in
-    ap (slice_index (words_of core)) e ∙ first_at core.cells k
+    let e : 32 + 2 * crossed k ≡ more (more (2 * crossed k)) = omega arith in
+    ap (slice_index (words_of core)) e ∙ first_at (table core.cells) (crossed k)
+    ∙ ap (λ (cell : RingCell). stamped cell.stamp cell.header) (in_table core.cells k there)
 
-pub value_found : (core : Core) (place : ℕ)
+pub value_found : (core : Core) (place : ℕ) → place % core.size.cells < length core.cells
     → slice_index (words_of core) (value_word core.size.cells place) ≡ (cell_at core place).value
-value_found core place =
+value_found core place there =
     let k : ℕ = place % core.size.cells in
-    let e : 33 + 2 * k ≡ more (more (suc (2 * k))) = omega arith in
-    ap (slice_index (words_of core)) e ∙ second_at core.cells k
+    let e : 33 + 2 * crossed k ≡ more (more (suc (2 * crossed k))) = omega arith in
+    ap (slice_index (words_of core)) e ∙ second_at (table core.cells) (crossed k)
+    ∙ ap (λ (cell : RingCell). cell.value) (in_table core.cells k there)
 
 -- what a store to the words of the cell with this index leaves
 first_set : (cells : List RingCell) (k stamp header : ℕ)
@@ -77,24 +146,30 @@ second_set (cell ∷ cells) (suc k) value =
     rw e (ap (λ (words : List ℕ). stamped cell.stamp cell.header ∷ cell.value ∷ words) (second_set cells k value))
 
 -- The words after a fill.
-pub filled_words : (core : Core) (place : ℕ) (kind : Kind)
+pub filled_words : (core : Core) (place : ℕ) (kind : Kind) → place % core.size.cells < length core.cells
     → set (words_of core) (value_word core.size.cells place) (kind_value kind)
     ≡ words_of (with_cell place (filled kind (cell_at core place)) core)
-filled_words core place kind =
+filled_words core place kind there =
     let k : ℕ = place % core.size.cells in
-    let e : 33 + 2 * k ≡ more (more (suc (2 * k))) = omega arith in
+    let e : 33 + 2 * crossed k ≡ more (more (suc (2 * crossed k))) = omega arith in
     ap (λ (i : ℕ). set (words_of core) i (kind_value kind)) e
-    ∙ ap (λ (words : List ℕ). core.tail ∷ apart (core.front ∷ apart words)) (second_set core.cells k (kind_value kind))
+    ∙ ap (λ (words : List ℕ). core.tail ∷ apart (core.front ∷ apart words))
+    (second_set (table core.cells) (crossed k) (kind_value kind)
+    ∙ ap (λ (cell : RingCell). cell_words (set (table core.cells) (crossed k) (filled kind cell))) (in_table core.cells k there)
+    ∙ ap cell_words (set_table core.cells k (filled kind (cell_at core place)) there))
 
 -- The words after a publish.
-pub published_words : (core : Core) (place : ℕ) (event : Event)
+pub published_words : (core : Core) (place : ℕ) (event : Event) → place % core.size.cells < length core.cells
     → set (words_of core) (stamp_word core.size.cells place) (joined place (packed_header event))
     ≡ words_of (with_cell place (published place event (cell_at core place)) core)
-published_words core place event =
+published_words core place event there =
     let k : ℕ = place % core.size.cells in
-    let e : 32 + 2 * k ≡ more (more (2 * k)) = omega arith in
+    let e : 32 + 2 * crossed k ≡ more (more (2 * crossed k)) = omega arith in
     ap (λ (i : ℕ). set (words_of core) i (joined place (packed_header event))) e
-    ∙ ap (λ (words : List ℕ). core.tail ∷ apart (core.front ∷ apart words)) (first_set core.cells k (place + 1) (packed_header event))
+    ∙ ap (λ (words : List ℕ). core.tail ∷ apart (core.front ∷ apart words))
+    (first_set (table core.cells) (crossed k) (place + 1) (packed_header event)
+    ∙ ap (λ (cell : RingCell). cell_words (set (table core.cells) (crossed k) (published place event cell))) (in_table core.cells k there)
+    ∙ ap cell_words (set_table core.cells k (published place event (cell_at core place)) there))
 
 cell_words-empty : (count : ℕ) → cell_words (replicate count empty_cell) ≡ replicate (2 * count) 0
 cell_words-empty zero = refl
@@ -102,11 +177,27 @@ cell_words-empty (suc count) =
     let e : 2 * suc count ≡ suc (suc (2 * count)) = omega arith in
     rw e (ap (λ (words : List ℕ). 0 ∷ 0 ∷ words) (cell_words-empty count))
 
+empty_at : (count at : ℕ) → get_or (replicate count empty_cell) at empty_cell ≡ empty_cell
+empty_at zero at = refl
+empty_at (suc count) zero = refl
+empty_at (suc count) (suc at) = empty_at count at
+
+standing-empty : (cells from count : ℕ) → standing (replicate cells empty_cell) from count ≡ replicate count empty_cell
+standing-empty cells from zero = refl
+standing-empty cells from (suc count) =
+    ap (λ (c : RingCell). c ∷ standing (replicate cells empty_cell) (from + 1) count) (empty_at cells (crossed from))
+    ∙ ap (λ (l : List RingCell). empty_cell ∷ l) (standing-empty cells (from + 1) count)
+
 -- All words of a new ring are 0.
 pub new_words : (size : RingSize) → replicate (word_count size.cells) 0 ≡ words_of (new_core size)
 new_words size =
-    let e : 32 + 2 * size.cells ≡ more (more (2 * size.cells)) = omega arith in
-    ap (λ (count : ℕ). replicate count 0) e ∙ ap (λ (words : List ℕ). 0 ∷ apart (0 ∷ apart words)) (sym (cell_words-empty size.cells))
+    let count : ℕ = whole size.cells in
+    let e : 32 + 2 * count ≡ more (more (2 * count)) = omega arith in
+    let many : size.cells ≡ length (replicate size.cells empty_cell) = sym (length-replicate size.cells empty_cell) in
+    ap (λ (n : ℕ). replicate n 0) e
+    ∙ ap (λ (words : List ℕ). 0 ∷ apart (0 ∷ apart words))
+    (sym (cell_words-empty count) ∙ ap cell_words (sym (standing-empty size.cells 0 count))
+    ∙ ap (λ (n : ℕ). cell_words (standing (replicate size.cells empty_cell) 0 (whole n))) many)
 
 -- a word that was read from the words themselves
 pub word_read : (words : List ℕ) (word found : ℕ) → get_elem? words word ≡ some found → slice_index words word ≡ found

@@ -121,7 +121,7 @@ module _ {S : Type 0} where
       ap (λ (words : List ℕ). set words word value) shown.words
       ∙ ap (λ (n : ℕ). set (words_of core) word n) is_value
       ∙ ap (λ (z : RingSize). set (words_of core) (value_word z.cells place) (kind_value kind)) (sym shown.sized)
-      ∙ filled_words core place kind in
+      ∙ filled_words core place kind (has_cell core place shown.sound) in
       let made = writer_made size state shown seat part next (filling part) seated makes in (
         Writes new ∷ [],
         keeps,
@@ -160,7 +160,7 @@ module _ {S : Type 0} where
       ∙ ap (λ (n : ℕ). set (words_of core) word (joined place n)) is_header
       ∙ ap (λ (z : RingSize). set (words_of core) (stamp_word z.cells place) (joined place (packed_header (event_of part.number kind))))
       (sym shown.sized)
-      ∙ published_words core place (event_of part.number kind) in
+      ∙ published_words core place (event_of part.number kind) (has_cell core place shown.sound) in
       let made = writer_made size state shown seat part next (publishing part) seated makes in (
         Writes new ∷ [],
         keeps,

@@ -1,5 +1,6 @@
 //! Where the words of a place's cell stand in a ring's table.
 ghost use Rattle.std.specs.Prelude.{◌≡◌, ◌<◌, ◌≤◌, ◌%◌};
+ghost use Rattle.tmw_ring.specs.Words as words;
 ghost use Rattle.tmw_ring.specs.Words.{stamp_word, value_word};
 
 use crate::table_words::FIRST_CELL;
@@ -24,6 +25,23 @@ fn cell_of(cells: u64, place: u64) -> u64
     place % cells
 }
 
+/// Returns where the cell of this number stands among the cells. Of sixteen, cells that follow one another stand on
+/// different lines of memory.
+fn crossed(cell: u64) -> u64
+    requires { cell < 4096 }
+    ensures { result ≡ words.crossed cell }
+{
+    cell / 16 * 16 + cell % 4 * 4 + cell / 4 % 4
+}
+
+/// Returns for how many cells a table with so many has room.
+pub(crate) fn whole(cells: u64) -> u64
+    requires { cells ≤ 4096 }
+    ensures { result ≡ words.whole cells }
+{
+    (cells + 15) / 16 * 16
+}
+
 /// Returns where the words of the place's cell stand, in a ring with so many cells. Each call that touches a cell
 /// does this once.
 pub(crate) fn words_at(cells: u64, place: u64) -> CellWords
@@ -33,7 +51,7 @@ pub(crate) fn words_at(cells: u64, place: u64) -> CellWords
     ensures stamp { result.stamp ≡ stamp_word cells place }
     ensures value { result.value ≡ value_word cells place }
 {
-    let stamp = FIRST_CELL + 2 * cell_of(cells, place) as usize;
+    let stamp = FIRST_CELL + 2 * crossed(cell_of(cells, place)) as usize;
     CellWords {
         place,
         stamp,

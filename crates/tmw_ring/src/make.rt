@@ -5,6 +5,7 @@ ghost use Rattle.tmw_ring.specs.Parts.{new_parts, new_reader};
 ghost use Rattle.tmw_ring.specs.Seats.{IsReader};
 ghost use Rattle.tmw_ring_defs.specs.Sizes.{IsNoRing};
 
+use crate::cell_words::whole;
 use crate::ends::{Reader, Ring, Writer};
 use crate::rule::RingSeat;
 use crate::seat_parts::SecondPart;
@@ -26,7 +27,7 @@ pub fn ring(
     ensures err { IfErr result (IsNoRing cells writers limit) }
 {
     let size = RingSize::new(cells, writers, limit)?;
-    let words = vec![in alloc; 0; FIRST_CELL + 2 * size.cells as usize]?;
+    let words = vec![in alloc; 0; FIRST_CELL + 2 * whole(size.cells) as usize]?;
     let (table, mut seat) = Table::of_words(alloc, words.as_slice(), &size)?;
     let ring = Ring { table, size };
     let writers = deal(alloc, &ring, &mut seat)?;

@@ -140,6 +140,7 @@ fn publish<C: Choice>(ring: &Ring, seat: &mut RingSeat, words: CellWords, header
 }
 
 /// The writer of this number records an event of the kind.
+#[inline(always)]
 fn record_as<C: Choice>(
     ring: &Ring,
     seat: &mut RingSeat,
@@ -163,16 +164,18 @@ fn record_as<C: Choice>(
         thread: number,
         kind,
     });
+    // Copied first, since after an atomic step it would be loaded again.
+    let size = ring.size;
     let front = see_front::<C>(ring, seat);
     let tail = see_tail::<C>(ring, seat, front);
-    if ring.size.is_spent(tail) {
+    if size.is_spent(tail) {
         return Err(Refused::Spent { tail });
     }
-    if ring.size.is_full(front, tail) {
+    if size.is_full(front, tail) {
         return Err(Refused::Full { front, tail });
     }
     let place = claim::<C>(ring, seat);
-    let words = words_at(ring.size.cells, place);
+    let words = words_at(size.cells, place);
     fill::<C>(ring, seat, words, value);
     publish::<C>(ring, seat, words, header);
     Ok(place)
@@ -181,6 +184,7 @@ fn record_as<C: Choice>(
 impl Ring {
     /// Records an event of the writer's thread and returns its place. It never waits. `Spent`: too few places are
     /// left up to the limit. `Full`: the ring may lack room for an event of each writer.
+    #[inline(always)]
     pub fn record(&self, writer: &mut Writer, kind: Kind) -> Result<u64, Refused>
         requires of_ring { WriterOf self.now writer.old }
         ensures still_of_ring { WriterOf self.now writer.new }

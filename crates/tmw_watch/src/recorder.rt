@@ -43,6 +43,7 @@ impl Recorder {
     /// call found there was no room for an event of each recorder. Once the watch has pumped more, the same event may
     /// be tried again. `Spent`: fewer places than there are recorders are left up to the limit of events, and no
     /// later call of this recorder is given a place.
+    #[inline(always)]
     pub fn record(&mut self, kind: Kind) -> Result<u64, Refused>
         ensures ring { recorder_ring self.new ≡ recorder_ring self.old }
         ensures number { (writer_of self.new).number ≡ (writer_of self.old).number }

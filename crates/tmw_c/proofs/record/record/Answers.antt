@@ -5,8 +5,8 @@ use Rattle.tmw_c.proofs.record.record.Goals as goal
 
 pub returns-in-Ok : goal.returns-in-Ok
 returns-in-Ok c = record {
-  before = c.in-Some.held.value;
-  after = c.record_held-answer.new.held;
+  before = c.held_mut.result.now;
+  after = c.record_held.new.held;
   held = search rules;
   holds = search rules;
   recorded = search rules;
@@ -14,7 +14,6 @@ returns-in-Ok c = record {
 
 pub returns-in-Err : goal.returns-in-Err
 returns-in-Err c =
-    let held : c.args.recorder.now.slot.held ≡ Some c.in-Some.held.value = search rules in
-    let holds : c.of.result.slot.held ≡ Some c.record_held-answer.new.held = search rules in
-    recording-refused c.args.letter c.args.register c.args.value c.args.place.now c.in-Some.held.value c.record_held-answer.new.held
-    c.args.recorder.now.slot.held c.of.result.slot.held held holds c.in-Err.status (search rules)
+    let held : c.args.recorder.now.slot.held ≡ Some c.held_mut.result.now = search rules in
+    recording-refused c.args.letter c.args.register c.args.value c.args.place.now c.held_mut.result.now c.record_held.new.held
+    c.args.recorder.now.slot.held _ held (search rules) c.in-Err.status (search rules)

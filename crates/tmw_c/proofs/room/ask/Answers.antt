@@ -4,8 +4,8 @@ use Rattle.tmw_c.proofs.room.ask.Goals as goal
 pub returns : goal.returns
 returns c =
     inr (record {
-      before = c.in-Some.held.value;
-      after = c.ask_held-answer.new.held;
+      before = c.held_mut.result.now;
+      after = c.ask_held.new.held;
       held = search rules;
       holds = search rules;
       finds = search rules;

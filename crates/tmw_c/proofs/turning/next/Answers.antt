@@ -13,8 +13,8 @@ returns-in-Ok c =
     let asked : Turn = record { place = c.args.turn.now.place; phase = 1 } in
     record {
       due = due;
-      before = c.in-Some.held.value;
-      after = c.call_held-answer.new.held;
+      before = c.held_mut.result.now;
+      after = c.call_held.new.held;
       holds = (search rules, search rules);
       call = get_or c.args.calls.now c.args.turn.now.place none;
       is = λ fallback. get_or_default c.args.calls.now c.args.turn.now.place fallback none due.low;
@@ -29,6 +29,6 @@ pub returns-in-Err : goal.returns-in-Err
 returns-in-Err c =
     let due : IsTurn 0 c.args.calls.now c.args.turn.now = record { low = search rules; is = search rules } in
     let none : Call = record { register = 0; value = 0; letter = 0 } in
-    not-called c.args.calls.now c.args.recorder.now.slot.held c.of.result.slot.held c.args.turn.now c.args.place.now due c.in-Some.held.value
-    c.call_held-answer.new.held (search rules, search rules) (get_or c.args.calls.now c.args.turn.now.place none)
+    not-called c.args.calls.now c.args.recorder.now.slot.held _ c.args.turn.now c.args.place.now due c.held_mut.result.now
+    c.call_held.new.held (search rules, search rules) (get_or c.args.calls.now c.args.turn.now.place none)
     (λ fallback. get_or_default c.args.calls.now c.args.turn.now.place fallback none due.low) c.in-Err.status (search rules)

@@ -1,4 +1,4 @@
-use Rattle.std.proofs.Common.{◌∙◌, List, ℕ, [], subst, sym}
+use Rattle.std.proofs.Common.{◌+◌, ◌*◌, ◌∙◌, List, ℕ, [], ap, replicate, subst, sym}
 use Rattle.atomic_table.specs.Table.{opening}
 use Rattle.tmw_ring.specs.Parts.{new_parts}
 use Rattle.tmw_ring.specs.Rule.{Shown}
@@ -8,5 +8,6 @@ use Rattle.tmw_ring.proofs.make.ring.Goals as goal
 pub of_words-requires : goal.of_words-requires
 of_words-requires c =
     let size = c.in_ok-size.size in
-    let zeros = c.as_slice.ensures.value ∙ c.in_ok-words.ensures.items_if_clones_equal (λ y same. same) in
+    let zeros = c.as_slice.ensures.value ∙ c.in_ok-words.ensures.items_if_clones_equal (λ y same. same)
+    ∙ ap (λ (n : ℕ). replicate (32 + 2 * n) 0) c.whole.ensures in
     subst (λ (words : List ℕ). Shown size (opening words [] (new_parts size))) (sym zeros) (starts size)
