@@ -225,6 +225,24 @@ for fault in SPIN MUTEX READ; do
     done
 done
 
+# On a terminal, and there alone, a line says twice a second how far all legs are. Each is cleared, also before other words.
+on_terminal() {
+    script -qec "'$folder/$1' ${*:2} >'$folder/printed'" /dev/null </dev/null | tr -d '\r\n' | sed 's/\x1b\[K/|\n/g'
+}
+shows_progress() {
+    on_terminal norec "$@" >"$folder/shown"
+    awk 'NR > 1 { is_wrong = is_wrong || !/^[0-9]+ rounds, [0-9]+ events, [0-9]+ unasked aborts[|]$/ || $1 < rounds || $3 <= events
+                  rounds = $1; events = $3; shown++ }
+         END { exit is_wrong || shown < 3 || shown > 6 }' "$folder/shown"
+}
+if has script 'progress on a terminal'; then
+    ends 'progress on a terminal' 0 shows_progress --seconds 3
+    ends 'progress on a terminal, in rounds' 0 shows_progress --schedule rounds --seconds 3
+    ends 'no progress by --quiet' 1 sh -c 'grep . "$1"' sh <(on_terminal norec --quiet --seconds 1)
+    ends 'progress of a memory that never returns' 0 grep -qx 'no event for 1 seconds.*' <(on_terminal stuck_SPIN --patience 1)
+fi
+ends 'no progress on no terminal' 1 sh -c '"$1" --seconds 1 2>&1 >/dev/null | grep .' sh "$folder/norec"
+
 # Runs that can't show much: the words, and what they lack.
 lacking() {
     local words
