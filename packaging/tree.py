@@ -39,8 +39,8 @@ class Tree:
             for name in names:
                 self.add_file(f"{path}{at[len(folder) :]}/{name}", f"{at}/{name}")
 
-    def unlink(self, pages):
-        """Replaces each link of these pages that leads to no file here by its text."""
+    def adapt(self, pages):
+        """Fits these pages to what is installed: a link that leads to no file here becomes its text, and the program is on the PATH."""
         there = {at for path in self.files for at in (path, *parents(path))}
         for page in [path for path in self.files if path.startswith(f"{pages}/") and path.endswith(".md")]:
 
@@ -49,7 +49,7 @@ class Tree:
                 return link[0] if "://" in link[2] or to in there else link[1]
 
             mode, data = self.files[page]
-            self.files[page] = (mode, LINK.sub(keep, data.decode()).encode())
+            self.files[page] = (mode, LINK.sub(keep, data.decode().replace("./tmwatch ", "tmwatch ")).encode())
 
     def size(self):
         """Returns how many KiB the files take."""
