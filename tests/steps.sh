@@ -86,6 +86,9 @@ for name in norec_READS tl2_LOCKED versions_AGAIN; do
     ends "$name: the same trace" 0 cmp "$folder/one" "$folder/two"
     ends "$name: what stands beside its trace" 0 diff <(sed -n '/^{/p' "$folder/told") <(sed 's/"events":[0-9]*/&/' "$folder/one.run")
 done
+paused versions_O0 tests/c/bench_versions.c AGAIN -O0
+ends 'without optimization, again' 1 "$folder/versions_O0" "${words[@]}" --trace "$folder/two"
+ends 'without optimization: the same trace' 0 cmp "$folder/one" "$folder/two"
 if [ ${#flags[@]} -eq 0 ] && has gdb 'a stop before the round'; then
     printf '%s\n' 'set pagination off' 'set breakpoint pending on' 'set disable-randomization off' 'break tmwatch_break' \
         "run ${words[*]} --trace $folder/two" 'print this_thread->bench->round' 'break commit' continue 'next' 'delete' continue \
