@@ -106,7 +106,7 @@ mistake 'the last register is never used' 's/draw(&a->draws, plan->registers)/dr
 mistake 'no round is mixed' 's/draw(draws, 100) < b->plan->mixes/draw(draws, 100) > 100/' draws
 mistake 'written values may be those of the start' 's/while (is_start(a->bench->plan, value))/while (false)/' start
 mistake 'by permits, the most rounds are told' \
-    's/begun < rounds ? b->workers/begun > rounds || rounds == UINT64_MAX ? b->workers/' plans
+    's/begun < rounds ? begun/begun > rounds || rounds == UINT64_MAX ? begun/' plans
 mistake 'a wrong start is not told' 's/counts.transactions == 1)/counts.transactions == 0)/' plans
 mistake 'the time is in minutes' 's/began) \/ SECOND >=/began) \/ SECOND \/ 60 >=/' seconds
 mistake 'seconds alone run 100000 rounds' 's/plan->rounds = UINT64_MAX;/;/' seconds
