@@ -46,6 +46,11 @@ printf '%s\n' '#!/bin/sh' 'echo tmwatch 0.0.9, by opacity' >"$folder/other/bin/t
 ends 'a program of another version' 1 env BUILT="$folder/other" "$top/package" "$folder/none"
 has_told 'a program of another version: what is told' "is not of version $version: tmwatch 0.0.9, by opacity"
 
+# The archive of files in a package.
+data_of() {
+    ar p "$folder/once/$1_${version}_amd64.deb" data.tar.gz
+}
+
 # A root of its own, whose only package is the C library of this machine: the others depend on it.
 root=$folder/root prefix=$folder/prefix
 mkdir -p "$root" "$prefix"
@@ -61,14 +66,18 @@ if has dpkg 'dpkg -i' && has "${dpkg[0]}" 'dpkg -i'; then
         -f '${Package} ${Version} ${Architecture} ${db:Status-Abbrev}\n' "${packages[@]}"
     tells 'dpkg --verify' '' 0 "${dpkg[@]}" --verify "${packages[@]}"
 else
-    for deb in "$folder"/once/*.deb; do
-        ends "dpkg-deb -x ${deb##*/}" 0 dpkg-deb -x "$deb" "$root"
+    for package in "${packages[@]}"; do
+        data_of "$package" | tar -xzf - -C "$root"
     done
 fi
+if has dpkg-deb 'what dpkg-deb says'; then
+    ends 'dpkg-deb reads each' 0 sh -c 'for deb; do dpkg-deb -I "$deb" && dpkg-deb -c "$deb" || exit; done' sh "$folder"/once/*.deb
+    tells 'the library that headers need' "libtmwatch0 (= $version)" 0 dpkg-deb -f "$folder/once/libtmwatch-dev_${version}_amd64.deb" Depends
+fi
 library=$root/usr/lib/x86_64-linux-gnu pages=$root/usr/share/doc/tmwatch
-# What each package has, but for its own pages.
+# What a package has, but for pages.
 held() {
-    dpkg-deb -c "$folder/once/$1_${version}_amd64.deb" | awk '!/\/$/ { print $6 }' | grep -v /share/doc/ | sed 's|^\./||' | LC_ALL=C sort
+    data_of "$1" | tar -tzf - | grep -v '/$\|/share/doc/' | sed 's|^\./||' | LC_ALL=C sort
 }
 tells 'the shared library alone' "usr/lib/x86_64-linux-gnu/libtmwatch.so.0
 usr/lib/x86_64-linux-gnu/libtmwatch.so.$version
