@@ -104,7 +104,7 @@ struct session {
     void *tx[MOST_THREADS];
     uint64_t written[MOST_THREADS];
     uint64_t start[MOST_REGISTERS]; /* what the registers hold */
-    uint64_t began;                 /* microseconds */
+    uint64_t began, shown;          /* when the session began, and when its progress was last shown: microseconds */
     bool is_late;                   /* the time is up, or an interrupt has come */
     tmwatch_benched all;            /* of all legs before this one */
 };

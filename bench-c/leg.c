@@ -61,7 +61,7 @@ static void rest(const struct bench *b)
 
 /* How the judge waits: since when, how far the rounds and the judge were at its last look, and how long nothing has come. */
 struct waiting {
-    uint64_t looked, moved, idle, shown;
+    uint64_t looked, moved, idle;
 };
 
 /* A look at the time counts for no more than this, so that what stops the whole process, as a debugger, isn't taken for a wait. */
@@ -78,14 +78,14 @@ static bool is_idle(struct bench *b, struct waiting *w, uint64_t judged)
 }
 
 /* Shows how far all legs are. */
-static void show_progress(struct bench *b, struct waiting *w)
+static void show_progress(struct bench *b, uint64_t now)
 {
     const tmwatch_benched *all = &b->session->all;
     tmwatch_counts counts;
     tmwatch_told told;
-    if (!b->plan->progress || w->looked - w->shown < SHOWN_EACH)
+    if (!b->plan->progress || now - b->session->shown < SHOWN_EACH)
         return;
-    w->shown = w->looked;
+    b->session->shown = now;
     if (tmwatch_summary(&b->watch, &counts) != TMWATCH_DONE || tmwatch_report(&b->watch, &told) != TMWATCH_DONE)
         return;
     uint64_t rounds = all->rounds + (by_permits(b) || b->round == 0 ? 0 : b->round - 1);
@@ -112,7 +112,7 @@ static void look_for_end(struct bench *b, uint64_t leg_began, uint64_t now)
 static void judge(struct bench *b, unsigned threads)
 {
     uint64_t began = microseconds_of(CLOCK_MONOTONIC);
-    struct waiting w = {began, 0, 0, began};
+    struct waiting w = {began, 0, 0};
     while (b->ended < threads && !b->is_stuck) {
         uint64_t judged = judge_some(b);
         if (judged == 0)
@@ -120,7 +120,7 @@ static void judge(struct bench *b, unsigned threads)
         if (by_steps(b))
             watch_steps(b);
         b->is_stuck = is_idle(b, &w, judged);
-        show_progress(b, &w);
+        show_progress(b, w.looked);
         look_for_end(b, began, w.looked);
     }
     while (judge_some(b) > 0)
@@ -208,6 +208,8 @@ static void count_threads(struct bench *b, tmwatch_benched *out)
 static void tell_places(struct bench *b)
 {
     static const char *const places[] = {"none", "begin", "read", "write", "add", "commit", "abort", "run"};
+    if (b->plan->progress)
+        fputs("\r\033[K", b->plan->progress);
     fprintf(stderr, "no event for %llu seconds\n", (unsigned long long)b->plan->patience);
     for (unsigned i = 0; i < b->plan->threads; i++) {
         unsigned inside = b->workers[i].inside, place = inside % 256;

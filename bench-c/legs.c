@@ -188,7 +188,7 @@ uint32_t tmwatch_bench(const tmwatch_memory *memory, const tmwatch_plan *plan, t
     memset(&session, 0, sizeof session);
     session.memory = memory;
     session.plan = plan;
-    session.began = microseconds_of(CLOCK_MONOTONIC);
+    session.began = session.shown = microseconds_of(CLOCK_MONOTONIC);
     memcpy(session.start, plan->start, sizeof session.start);
     status = run_legs(&session);
     if (plan->progress)

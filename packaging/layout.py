@@ -38,9 +38,9 @@ PACKAGES = {
 }
 # What the archives of the bench are made from, in bench-c.
 ARCHIVES = {"libtmwatch_bench.a": ("tmwatch_bench", "waits"), "libtmwatch_steps.a": ("accesses", "wide")}
-PACKAGE = """prefix=${{pcfiledir}}/../..
+PACKAGE = """prefix={prefix}
 includedir=${{prefix}}/include
-libdir=${{prefix}}/lib
+libdir=${{prefix}}/{libraries}
 
 Name: {name}
 Description: {what}
@@ -54,6 +54,12 @@ def read_version():
     """Returns the version that the program prints, by its specification."""
     with open(f"{TOP}/crates/tmw_command/specs/Version.antt", encoding="utf-8") as it:
         return re.search(r'"tmwatch ([0-9.]*), ', it.read())[1]
+
+
+def describe(name, prefix="${pcfiledir}/../..", libraries="lib"):
+    """Returns a package for pkg-config: by default one that finds its prefix from where it stands itself."""
+    what, needs = PACKAGES[name]
+    return PACKAGE.format(name=name, what=what, needs=needs, version=read_version(), prefix=prefix, libraries=libraries)
 
 
 def put(one, to):
@@ -93,9 +99,9 @@ def lay_out(archive, to, call):
         shutil.copyfile(archive, f"{room}/lib/libtmwatch.a")
         link_shared(room, call)
         build_bench(room, call)
-        for name, (what, needs) in PACKAGES.items():
+        for name in PACKAGES:
             with open(f"{room}/lib/pkgconfig/{name}.pc", "w", encoding="utf-8") as it:
-                it.write(PACKAGE.format(name=name, what=what, version=read_version(), needs=needs))
+                it.write(describe(name))
         for at, _, files in os.walk(f"{room}/lib"):
             for name in files:
                 put(f"{at}/{name}", f"{to}{at[len(room) :]}/{name}")

@@ -1,15 +1,15 @@
 #!/usr/bin/env python3
-"""Follows each link between the files of the repository that its pages have, also to a heading. Links into the network are not followed.
+"""Follows each link between files that the pages of a folder have, also to a heading. Links into the network are not followed.
 
-    tests/links.py
+    tests/links.py [FOLDER]
 
-A page is a *.md, unless it was built. Each link that leads nowhere is told. Exit status: 0 all lead somewhere, 1 one does not.
+The folder is the repository's, if none is named. A page is a *.md, unless it was built. Each link that leads nowhere is told. Exit status: 0 all lead somewhere, 1 one does not.
 """
 import os
 import re
 import sys
 
-TOP = os.path.dirname(os.path.dirname(os.path.realpath(__file__)))
+TOP = sys.argv[1] if len(sys.argv) > 1 else os.path.dirname(os.path.dirname(os.path.realpath(__file__)))
 BUILT = {'.git', 'out', 'built', 'target'}
 LINK = re.compile(r'\]\(([^)\s]+)\)')
 

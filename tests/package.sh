@@ -29,14 +29,13 @@ tells() {
     ends "$name" 0 diff <(printf '%s' "${text:+$text$'\n'}") "$folder/told"
 }
 
-name=tmwatch_${version}_amd64
+name=tmwatch_${version}_amd64 packages=(libtmwatch-dev libtmwatch0 tmwatch)
 
 # The packages, twice: in folders of other names, by other settings of the user.
 ends 'the packages' 0 "$top/package" "$folder/once"
 ends 'the packages again' 0 env TZ=Asia/Tokyo LC_ALL=C sh -c 'umask 077 && cd / && "$@"' sh "$top/package" "$folder/twice/deep"
-for kind in deb tar.gz; do
-    ends "$name.$kind: the same bytes" 0 cmp "$folder/once/$name.$kind" "$folder/twice/deep/$name.$kind"
-done
+ends 'the same bytes' 0 diff -r "$folder/once" "$folder/twice/deep"
+tells 'what there is' "$(printf "%s_${version}_amd64.deb\n" "${packages[@]}")"$'\n'"$name.tar.gz" 0 ls "$folder/once"
 ends 'the packages of another time' 0 env SOURCE_DATE_EPOCH=1000000000 "$top/package" "$folder/early"
 tar --utc --full-time -tvzf "$folder/early/$name.tar.gz" >"$folder/listed"
 tells 'that time alone' '2001-09-09 01:46:40 root/root' 0 awk '!seen[$4 $5 $2]++ { print $4, $5, $2 }' "$folder/listed"
@@ -47,7 +46,12 @@ printf '%s\n' '#!/bin/sh' 'echo tmwatch 0.0.9, by opacity' >"$folder/other/bin/t
 ends 'a program of another version' 1 env BUILT="$folder/other" "$top/package" "$folder/none"
 has_told 'a program of another version: what is told' "is not of version $version: tmwatch 0.0.9, by opacity"
 
-# A root of its own, whose only package is the C library of this machine: tmwatch depends on it.
+# The archive of files in a package.
+data_of() {
+    ar p "$folder/once/$1_${version}_amd64.deb" data.tar.gz
+}
+
+# A root of its own, whose only package is the C library of this machine: the others depend on it.
 root=$folder/root prefix=$folder/prefix
 mkdir -p "$root" "$prefix"
 ends 'tar' 0 tar -xzf "$folder/once/$name.tar.gz" --strip-components=2 -C "$prefix"
@@ -57,16 +61,44 @@ dpkg=("${as_root[@]}" dpkg "--root=$root" --force-not-root --force-script-chroot
 if has dpkg 'dpkg -i' && has "${dpkg[0]}" 'dpkg -i'; then
     mkdir -p "$root/var/lib/dpkg/info" "$root/var/lib/dpkg/updates"
     dpkg-query --status libc6:amd64 >"$root/var/lib/dpkg/status"
-    ends 'dpkg -i' 0 "${dpkg[@]}" -i "$folder/once/$name.deb"
-    tells 'what is installed' "tmwatch $version amd64 ii " 0 \
-        dpkg-query "--admindir=$root/var/lib/dpkg" -W -f '${Package} ${Version} ${Architecture} ${db:Status-Abbrev}\n' tmwatch
-    tells 'dpkg --verify' '' 0 "${dpkg[@]}" --verify tmwatch
-    ends 'tar and dpkg install the same' 0 diff -r --no-dereference "$root/usr" "$prefix"
+    ends 'dpkg -i' 0 "${dpkg[@]}" -i "$folder"/once/*.deb
+    tells 'what is installed' "$(printf "%s $version amd64 ii \n" "${packages[@]}")" 0 dpkg-query "--admindir=$root/var/lib/dpkg" -W \
+        -f '${Package} ${Version} ${Architecture} ${db:Status-Abbrev}\n' "${packages[@]}"
+    tells 'dpkg --verify' '' 0 "${dpkg[@]}" --verify "${packages[@]}"
 else
-    tar -xzf "$folder/once/$name.tar.gz" -C "$root"
+    for package in "${packages[@]}"; do
+        data_of "$package" | tar -xzf - -C "$root"
+    done
 fi
+if has dpkg-deb 'what dpkg-deb says'; then
+    ends 'dpkg-deb reads each' 0 sh -c 'for deb; do dpkg-deb -I "$deb" && dpkg-deb -c "$deb" || exit; done' sh "$folder"/once/*.deb
+    tells 'the library that headers need' "libtmwatch0 (= $version)" 0 dpkg-deb -f "$folder/once/libtmwatch-dev_${version}_amd64.deb" Depends
+fi
+library=$root/usr/lib/x86_64-linux-gnu pages=$root/usr/share/doc/tmwatch
+# What a package has, but for pages.
+held() {
+    data_of "$1" | tar -tzf - | grep -v '/$\|/share/doc/' | sed 's|^\./||' | LC_ALL=C sort
+}
+tells 'the shared library alone' "usr/lib/x86_64-linux-gnu/libtmwatch.so.0
+usr/lib/x86_64-linux-gnu/libtmwatch.so.$version
+usr/share/lintian/overrides/libtmwatch0" 0 held libtmwatch0
+tells 'what programs in C are built from' "$(printf 'usr/include/%s\n' tmwatch.h tmwatch_bench.h tmwatch_bench.hpp tmwatch_permits.h)
+$(printf 'usr/lib/x86_64-linux-gnu/%s\n' libtmwatch.a libtmwatch.so libtmwatch_bench.a libtmwatch_steps.a)
+$(printf 'usr/lib/x86_64-linux-gnu/pkgconfig/%s.pc\n' tmwatch tmwatch_bench tmwatch_steps)
+usr/share/man/man3/libtmwatch.3.gz" 0 held libtmwatch-dev
+# The archive has the same files, in Debian's folders for one processor or in lib.
+for part in bin include share/man share/bash-completion share/zsh share/fish share/doc/tmwatch/{docs,examples,bindings,README.md}; do
+    ends "tar and dpkg install the same $part" 0 diff -r --no-dereference "$root/usr/$part" "$prefix/$part"
+done
+ends 'tar and dpkg install the same libraries' 0 diff -r --no-dereference -x pkgconfig "$library" "$prefix/lib"
 tells 'nobody else may write there' '' 0 find "$root/usr" ! -type l -perm /022
-installed=$root/usr/bin/tmwatch examples=$root/usr/share/doc/tmwatch/examples library=$root/usr/lib
+ends 'links of the pages' 0 python3 "$top/tests/links.py" "$pages"
+ends 'links of the README' 0 grep -q '](docs/C-BENCH.md)' "$pages/README.md"
+installed=$root/usr/bin/tmwatch examples=$pages/examples
+# The README's first example, where it is installed.
+sed -n '/^    \$ /,/^$/s/^    \(\$ \)\?//p' "$pages/README.md" | sed -n 1,2p >"$folder/example"
+tells 'the first example of the README' "$(sed -n 2p "$folder/example")" 1 env PATH="$root/usr/bin:$PATH" sh -c 'cd "$1" && eval "$2"' sh "$pages" \
+    "$(sed -n 1p "$folder/example")"
 
 # The program.
 ends 'the program that was built' 0 cmp "$program" "$installed"
@@ -98,19 +130,24 @@ compile() {
 
 # What pkg-config says of a package in the root, or in the prefix.
 in_root() {
-    PKG_CONFIG_SYSROOT_DIR=$root PKG_CONFIG_LIBDIR=$library/pkgconfig pkg-config "$@"
+    PKG_CONFIG_SYSROOT_DIR=$root PKG_CONFIG_ALLOW_SYSTEM_CFLAGS=1 PKG_CONFIG_ALLOW_SYSTEM_LIBS=1 PKG_CONFIG_LIBDIR=$library/pkgconfig \
+        pkg-config "$@"
 }
 in_prefix() {
     PKG_CONFIG_LIBDIR=$prefix/lib/pkgconfig pkg-config "$@"
 }
 rounds=${ROUNDS:-500}
+tells 'no package for pkg-config leads out of its folder' '' 1 grep -F .. "$library/pkgconfig" -r
 if has pkg-config 'programs in C'; then
+    tells 'what a program in C needs, installed' '-ltmwatch_bench -pthread -ltmwatch' 0 env "PKG_CONFIG_LIBDIR=$library/pkgconfig" \
+        sh -c 'echo $(pkg-config --cflags --libs tmwatch_bench)'
     for at in in_root in_prefix; do
         tells "pkg-config, $at" "$version"$'\n'"$version"$'\n'"$version" 0 "$at" --modversion tmwatch tmwatch_bench tmwatch_steps
         read -r -a cflags < <("$at" --cflags tmwatch)
         read -r -a libs < <("$at" --libs tmwatch)
         read -r -a bench < <("$at" --libs tmwatch_bench)
-        folder_of=$("$at" --variable=libdir tmwatch)
+        folder_of=$library
+        [ "$at" = in_root ] || folder_of=$("$at" --variable=libdir tmwatch)
         compile "an audited bank, $at, shared" audit.c 1 "${cflags[@]}" "${libs[@]}"
         ends "an audited bank, $at, shared" 0 env LD_LIBRARY_PATH="$folder_of" "$folder/program" "$rounds"
         ends "a broken audited bank, $at, shared" 1 env LD_LIBRARY_PATH="$folder_of" "$folder/program" "$rounds" broken
@@ -268,12 +305,12 @@ done
 
 # What lintian finds, and what is left when the package goes.
 if has lintian lintian; then
-    ends lintian 0 env LC_ALL=C.UTF-8 lintian --fail-on error "$folder/once/$name.deb"
+    ends lintian 0 env LC_ALL=C.UTF-8 lintian --fail-on warning "$folder"/once/*.deb
     grep '^[A-Z]:' "$folder/output" || true
 fi
 if [ -e "$root/var" ]; then
-    ends 'dpkg -r' 0 "${dpkg[@]}" -r tmwatch
+    ends 'dpkg -r' 0 "${dpkg[@]}" -r "${packages[@]}"
     tells 'nothing is left' '' 0 find "$root" -mindepth 1 '(' ! -path "$root/var*" -o -name '*tmwatch*' ')'
-    ends 'dpkg has forgotten it' 1 dpkg-query "--admindir=$root/var/lib/dpkg" -W tmwatch
+    ends 'dpkg has forgotten them' 1 dpkg-query "--admindir=$root/var/lib/dpkg" -W "${packages[@]}"
 fi
 end_rows

@@ -86,6 +86,9 @@ for name in norec_READS tl2_LOCKED versions_AGAIN; do
     ends "$name: the same trace" 0 cmp "$folder/one" "$folder/two"
     ends "$name: what stands beside its trace" 0 diff <(sed -n '/^{/p' "$folder/told") <(sed 's/"events":[0-9]*/&/' "$folder/one.run")
 done
+paused versions_O0 tests/c/bench_versions.c AGAIN -O0
+ends 'without optimization, again' 1 "$folder/versions_O0" "${words[@]}" --trace "$folder/two"
+ends 'without optimization: the same trace' 0 cmp "$folder/one" "$folder/two"
 if [ ${#flags[@]} -eq 0 ] && has gdb 'a stop before the round'; then
     printf '%s\n' 'set pagination off' 'set breakpoint pending on' 'set disable-randomization off' 'break tmwatch_break' \
         "run ${words[*]} --trace $folder/two" 'print this_thread->bench->round' 'break commit' continue 'next' 'delete' continue \
@@ -224,6 +227,24 @@ for fault in SPIN MUTEX READ; do
         ends "a memory that never returns, $fault, $schedule: its trace, judged" 0 sh -c '"$1" <"$2"' sh "$folder/replay" "$folder/one"
     done
 done
+
+# On a terminal, and there alone, a line says twice a second how far all legs are. Each is cleared, also before other words.
+on_terminal() {
+    script -qec "'$folder/$1' ${*:2} >'$folder/printed'" /dev/null </dev/null | tr -d '\r\n' | sed 's/\x1b\[K/|\n/g'
+}
+shows_progress() {
+    on_terminal norec "$@" >"$folder/shown"
+    awk 'NR > 1 { is_wrong = is_wrong || !/^[0-9]+ rounds, [0-9]+ events, [0-9]+ unasked aborts[|]$/ || $1 < rounds || $3 <= events
+                  rounds = $1; events = $3; shown++ }
+         END { exit is_wrong || shown < 3 || shown > 6 }' "$folder/shown"
+}
+if has script 'progress on a terminal'; then
+    ends 'progress on a terminal' 0 shows_progress --seconds 3
+    ends 'progress on a terminal, in rounds' 0 shows_progress --schedule rounds --seconds 3
+    ends 'no progress by --quiet' 1 sh -c 'grep . "$1"' sh <(on_terminal norec --quiet --seconds 1)
+    ends 'progress of a memory that never returns' 0 grep -qx 'no event for 1 seconds.*' <(on_terminal stuck_SPIN --patience 1)
+fi
+ends 'no progress on no terminal' 1 sh -c '"$1" --seconds 1 2>&1 >/dev/null | grep .' sh "$folder/norec"
 
 # Runs that can't show much: the words, and what they lack.
 lacking() {

@@ -28,7 +28,7 @@ fn main() {
     println!("cargo:rerun-if-env-changed=TMWATCH_LIB");
     println!("cargo:rerun-if-env-changed=PKG_CONFIG_PATH");
     let Some(folder) = find().filter(|folder| has_archives(folder)) else {
-        panic!("libtmwatch_bench.a and libtmwatch.a are not found: set TMWATCH_LIB to FOLDER/lib, after ./tmwatch-c FOLDER");
+        panic!("libtmwatch_bench.a and libtmwatch.a are not found: set TMWATCH_LIB to FOLDER/lib, a full path, after ./tmwatch-c FOLDER");
     };
     println!("cargo:rerun-if-changed={}", folder.display());
     println!("cargo:rustc-link-search=native={}", folder.display());

@@ -5,9 +5,10 @@
 #   tests/long/planted.sh
 #
 # A row for each mistake says that the test fails with it which tests/c.sh, tests/steps.sh or tests/bindings.sh runs. The first rows say
-# that the tests pass without a mistake. No test here can notice that permits are taken without order (x86 keeps it), that room is asked for
-# before the permit (the ring has seldom so few cells), or that a spent watch is taken for a fault (2^40 events). The last line is 'N
-# passed, M failed', and the exit status is 1 if a row failed. Without cargo the package in Rust is skipped, and a line says so.
+# that the tests pass without a mistake. The last line is 'N passed, M failed', and the exit status is 1 if a row failed. Without cargo the
+# package in Rust is skipped, and a line says so.
+# No test here can notice that permits are taken or recorders in Rust go over without order (on x86 each exchange is a fence), that room is
+# asked for before the permit (the ring has seldom so few cells), or that a spent watch is taken for a fault (2^40 events).
 # Environment: BUILT (tests/common.sh), CC (cc), CARGO (cargo).
 set -eu
 # shellcheck source=tests/common.sh
@@ -105,7 +106,7 @@ mistake 'the last register is never used' 's/draw(&a->draws, plan->registers)/dr
 mistake 'no round is mixed' 's/draw(draws, 100) < b->plan->mixes/draw(draws, 100) > 100/' draws
 mistake 'written values may be those of the start' 's/while (is_start(a->bench->plan, value))/while (false)/' start
 mistake 'by permits, the most rounds are told' \
-    's/begun < rounds ? b->workers/begun > rounds || rounds == UINT64_MAX ? b->workers/' plans
+    's/begun < rounds ? begun/begun > rounds || rounds == UINT64_MAX ? begun/' plans
 mistake 'a wrong start is not told' 's/counts.transactions == 1)/counts.transactions == 0)/' plans
 mistake 'the time is in minutes' 's/began) \/ SECOND >=/began) \/ SECOND \/ 60 >=/' seconds
 mistake 'seconds alone run 100000 rounds' 's/plan->rounds = UINT64_MAX;/;/' seconds
@@ -139,12 +140,16 @@ if has "$cargo" 'the package in Rust'; then
     in_rust 'the seed is not passed on' bench.rs 's/^            seed,$/            seed: seed - seed + 1,/'
     in_rust 'a read that aborts keeps its transaction' bench.rs '/fn keep/,/^    }/s/if answer.is_err()/if false/'
     in_rust 'alignment is not looked at' bench.rs 's/<= 16, "the bench aligns/<= 64, "the bench aligns/'
+    in_rust 'an unwritten trace is told as written' bench.rs 's/if !is_written || !is_closed/if !is_closed/'
     in_rust 'the states bound is told as transactions' told.rs \
         's/Why::Transactions } else { Why::States/Why::States } else { Why::Transactions/'
     in_rust 'a bench that fails leaks its trace' bench.rs \
         's/^    let trace = stream.map(|it| unsafe { Stream::close(it) }).transpose();/    Status::check(status)?;\n&/'
     in_rust 'a dropped watch is not discarded' watch.rs 's/ffi::tmwatch_discard(\(.*\)) }/let _ = \1; }/'
     in_rust 'a recorder that comes back last is not discarded' watch.rs 's/ffi::tmwatch_discard_recorder(\(.*\)) }/let _ = \1; }/'
+    in_rust 'a recorder is discarded that is in use' watch.rs \
+        's/swap(to, SeqCst) != HELD {/swap(to, SeqCst) != HELD || to == ALONE {/'
+    in_rust 'calls may stand within calls' retrying.rs '/self.expect_outside();/{N;/transaction.set/s/.*\n//}'
     in_rust 'attempts and seconds are swapped' bench.rs \
         's/^            attempts,$/            attempts: seconds,/;s/^            seconds,$/            seconds: attempts,/'
 fi

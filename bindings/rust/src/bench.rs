@@ -409,3 +409,34 @@ pub fn thread() -> usize {
     // SAFETY: as in `pause`.
     unsafe { ffi::tmwatch_thread() as usize }
 }
+
+#[cfg(test)]
+mod tests {
+    use super::*;
+
+    extern "C" {
+        fn fopen(name: *const c_char, mode: *const c_char) -> *mut c_void;
+        fn fputs(text: *const c_char, stream: *mut c_void) -> c_int;
+        fn fflush(stream: *mut c_void) -> c_int;
+    }
+
+    #[test]
+    fn what_was_not_written_is_no_text() {
+        let written = |full: bool, flush: bool| {
+            let it = Stream::open()?;
+            // SAFETY: each stream is open, and closed once.
+            unsafe {
+                if full {
+                    assert_eq!(ffi::fclose((*it).stream), 0);
+                    (*it).stream = fopen(c"/dev/full".as_ptr(), c"w".as_ptr());
+                }
+                assert!(fputs(c"opacity".as_ptr(), (*it).stream) >= 0);
+                assert_eq!(flush && fflush((*it).stream) != 0, full && flush);
+                Stream::close(it)
+            }
+        };
+        assert_eq!(written(false, true), Ok("opacity".into()));
+        assert_eq!(written(true, true), Err(Status::Memory));
+        assert_eq!(written(true, false), Err(Status::Memory));
+    }
+}

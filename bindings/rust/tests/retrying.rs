@@ -190,23 +190,26 @@ fn no_calls_are_made_before_an_attempt_begins() {
     assert_eq!((benched.told.events, memory.0.load(SeqCst)), (0, 0));
 }
 
-/// A transaction that has its attempt, and begins another within a call.
-struct Nested;
+/// A transaction that has its attempt, and uses that within a call: makes its calls again, or begins another.
+struct Nested {
+    calls: bool,
+}
 
 struct Nesting<'t> {
     attempt: &'t Attempt<'t, Nested>,
-    begun: Cell<bool>,
+    done: Cell<bool>,
 }
 
 impl RetryingMemory for Nested {
     type Transaction<'t> = Nesting<'t>;
 
     fn run(&self, attempt: &Attempt<'_, Self>) -> bool {
-        attempt.begins() && attempt.calls(&mut Nesting { attempt, begun: Cell::new(false) })
+        attempt.begins() && attempt.calls(&mut Nesting { attempt, done: Cell::new(false) })
     }
 
     fn read(&self, it: &mut Nesting<'_>, _: usize) -> Result<u64, Aborted> {
-        it.begun.set(it.attempt.begins());
+        let mut inner = Nesting { attempt: it.attempt, done: Cell::new(false) };
+        it.done.set(if self.calls { it.attempt.calls(&mut inner) } else { it.attempt.begins() });
         Ok(0)
     }
 
@@ -215,18 +218,20 @@ impl RetryingMemory for Nested {
     }
 }
 
-/// Runs this test again in a process of its own, which is to end at the panic.
+/// Runs this test again in processes of their own, which are to end at the panic.
 #[test]
 fn an_attempt_within_its_calls_ends_the_process() {
-    if std::env::var_os("TMWATCH_NESTS").is_some() {
-        let _ = bench_retrying(&Nested, &Plan { adds: 0, ..Plan::default() });
+    if let Some(word) = std::env::var_os("TMWATCH_NESTS") {
+        let _ = bench_retrying(&Nested { calls: word == "calls" }, &Plan { adds: 0, ..Plan::default() });
         return;
     }
-    let mut again = std::process::Command::new(std::env::current_exe().unwrap());
-    again.args(["--exact", "an_attempt_within_its_calls_ends_the_process", "--nocapture"]);
-    let output = again.env("TMWATCH_NESTS", "1").output().unwrap();
-    assert!(String::from_utf8_lossy(&output.stderr).contains("the attempt is within its calls"));
-    assert_eq!(output.status.code(), None, "it has to end by a signal");
+    for word in ["begins", "calls"] {
+        let mut again = std::process::Command::new(std::env::current_exe().unwrap());
+        again.args(["--exact", "an_attempt_within_its_calls_ends_the_process", "--nocapture"]);
+        let output = again.env("TMWATCH_NESTS", word).output().unwrap();
+        assert!(String::from_utf8_lossy(&output.stderr).contains("the attempt is within its calls"), "{word}");
+        assert_eq!(output.status.code(), None, "it has to end by a signal");
+    }
 }
 
 /// Runs that break their promise.
