@@ -1,12 +1,13 @@
 -- What operations write, need and leave where others follow them.
-use Rattle.std.proofs.Common.{◌≡◌, ◌==◌, ◌&&◌, ◌||◌, ◌^◌, ◌<◌, ℕ, Bool, true, false, not, List, [], ◌∷◌, ◌++◌, refl, sym, ◌∙◌, inl, inr, bit_and, w8}
+use Rattle.std.specs.Prelude.{if◌then◌else◌}
+use Rattle.std.proofs.Common.{◌≡◌, ◌==◌, ◌&&◌, ◌||◌, ◌+◌, ◌%◌, ◌^◌, ◌<◌, ℕ, Bool, true, false, not, List, [], ◌∷◌, ◌++◌, Option, Some, refl, sym, ◌∙◌, inl, inr, bit_and, w8}
 use Rattle.std.specs.Int.{bit_at, bit_not}
 use Rattle.std.proofs.lemmas.Bool.{cases_Bool, eqb-true}
 use Rattle.tmw_events.specs.declared.ix.Ix.{Ix}
 use Rattle.tmw_defs.specs.declared.op.Op.{Op}
 use Rattle.tmw_defs.specs.declared.op.Op.TheVariants.{Read, Write, Add}
 use Rattle.tmw_cuts.specs.Registers.{IsMaskOf}
-use Rattle.tmw_cuts.specs.Written.{writes, needs, writes_blindly}
+use Rattle.tmw_cuts.specs.Written.{writes, needs, writes_blindly, left_by}
 use Rattle.tmw_cuts.proofs.Chosen.{with_bit, with_new, has_bit-with_bit, bits-without}
 
 or_after : (a b c : Bool) → b ≡ c → (a || b) ≡ (a || c)
@@ -139,3 +140,9 @@ pub blind-mask : (left needed : ℕ) (ops : List Op) → left < 2 ^ 8 → needed
     → IsMaskOf (λ k. needs k ops) needed → IsMaskOf (λ k. writes_blindly k ops) (bit_and left (bit_not w8 needed))
 blind-mask left needed ops left_fits needed_fits written is k =
     bits-without left needed left_fits needed_fits k ∙ sym (blind-is ops k ∙ rw (← written k, ← is k) refl)
+
+pub left_by-append : (r : ℕ) (value : Option ℕ) (one two : List Op) → left_by r value (one ++ two) ≡ left_by r (left_by r value one) two
+left_by-append r value [] two = refl
+left_by-append r value (Read q v ∷ one) two = left_by-append r value one two
+left_by-append r value (Write q v ∷ one) two = left_by-append r (if q.number == r then Some v else value) one two
+left_by-append r value (Add q d v ∷ one) two = left_by-append r (if q.number == r then Some ((v + d) % 2 ^ 64) else value) one two

@@ -1,4 +1,4 @@
-ghost use Rattle.std.specs.Prelude.{◌≡◌, ◌==◌, ◌<◌, ◌++◌, [], ◌∷◌, List, IsFalse, length, slice_index};
+ghost use Rattle.std.specs.Prelude.{◌≡◌, ◌==◌, ◌<◌, ◌++◌, [], ◌∷◌, List, None, IsFalse, length, slice_index};
 ghost use Rattle.std.specs.Int.{bit_at};
 ghost use Rattle.std.specs.List.{list_all};
 ghost use Rattle.tmw_defs.specs.declared.op.Op.{Op};
@@ -6,7 +6,7 @@ ghost use Rattle.tmw_defs.specs.declared.op.Op.TheVariants.{Read, Write, Add};
 ghost use Rattle.tmw_defs.specs.Opaque.{State, reads_hold, after_writes};
 ghost use Rattle.tmw_cuts.specs.Registers.{IsMaskOf, AgreeOutside, chosen, have, put};
 ghost use Rattle.tmw_cuts.specs.Replaying.{Replays};
-ghost use Rattle.tmw_cuts.specs.Written.{is_write, writes, writes_blindly};
+ghost use Rattle.tmw_cuts.specs.Written.{is_write, writes, writes_blindly, left_by};
 
 use crate::states::State;
 use tmw_defs::Op;
@@ -214,5 +214,17 @@ impl Effect {
             → IsMaskOf (λ r. writes_blindly r ops) result }
     {
         self.left & !self.needed
+    }
+
+    /// Returns what the operations leave in the register, if they write or add to it.
+    pub fn left_in(&self, register: usize) -> Option<u64>
+        requires { register < 8 }
+        ensures { (ops : List Op) → IsEffectOf self.now ops → result ≡ left_by register None ops }
+    {
+        if has_register(self.left, register) {
+            Some(self.leaves[register])
+        } else {
+            None
+        }
     }
 }

@@ -1,4 +1,4 @@
-ghost use Rattle.std.specs.Prelude.{◌≡◌, ◌<◌, ◌++◌, IsTrue, IsFalse, length};
+ghost use Rattle.std.specs.Prelude.{◌≡◌, ◌<◌, ◌++◌, None, IsTrue, IsFalse, length};
 ghost use Rattle.std.specs.List.{list_all};
 ghost use Rattle.tmw_events.specs.declared.event.Kind.TheVariants.{V};
 ghost use Rattle.tmw_defs.specs.History.{is_over};
@@ -6,7 +6,7 @@ ghost use Rattle.tmw_defs.specs.Opaque.{State, reads_hold, after_writes};
 ghost use Rattle.tmw_cuts.specs.Effects.{IsEffectOf, IsEffectOf-prop, leaves_none};
 ghost use Rattle.tmw_cuts.specs.Registers.{IsMaskOf, AgreeOutside};
 ghost use Rattle.tmw_cuts.specs.Replaying.{Replays};
-ghost use Rattle.tmw_cuts.specs.Written.{is_write, writes, writes_blindly};
+ghost use Rattle.tmw_cuts.specs.Written.{is_write, writes, writes_blindly, left_by};
 
 use crate::effect::Effect;
 use crate::kinds::{operation, status_after};
@@ -149,6 +149,14 @@ impl Txn {
         ensures { IsMaskOf (λ r. writes_blindly r self.now.ops.items) result }
     {
         self.effect.blind()
+    }
+
+    /// Returns what its operations leave in the register, if they write or add to it.
+    pub fn left_in(&self, register: usize) -> Option<u64>
+        requires { register < 8 }
+        ensures { result ≡ left_by register None self.now.ops.items }
+    {
+        self.effect.left_in(register)
     }
 
     /// Makes a transaction that shows the same.

@@ -7,5 +7,8 @@ use Rattle.tmw_cuts.proofs.effect.Effect.new.Goals as goal
 pub returns : goal.returns
 returns c = (
   λ s long. (sym (have-chosen_none _ s), sym (put-chosen_none _ s)),
-  (λ r. rw (bit_at-zero r) refl, (λ r. rw (bit_at-zero r) refl, refl)),
+  (
+    λ r below. rw (bit_at-zero r) refl,
+    (λ r. rw (bit_at-zero r) refl, (λ r. rw (bit_at-zero r) refl, refl)),
+  ),
 )

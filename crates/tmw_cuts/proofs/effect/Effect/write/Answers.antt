@@ -8,5 +8,5 @@ pub returns : goal.returns
 returns c =
     let leaves : length c.args.self.now.leaves ≡ 8 = search rules in
     rw c.get-place.ensures.value (λ ops sums.
-    with_write c.args.self.now _ ops c.args.register c.args.value sums refl refl refl (λ s long.
+    with_write c.args.self.now _ ops c.args.register c.args.value sums refl refl refl refl leaves (λ s long.
     write-more c.args.self.now ops c.args.register c.args.value sums.0 s long leaves))

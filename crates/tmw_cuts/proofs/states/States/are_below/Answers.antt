@@ -1,5 +1,5 @@
 -- The last of a rising list comes last.
-use Rattle.std.proofs.Common.{◌≡◌, ◌-◌, ℕ, length, ap, sym, arith}
+use Rattle.std.proofs.Common.{◌≡◌, ◌-◌, length, ap, sym, arith}
 use Rattle.tmw_cuts.proofs.states.States.are_below.Goals as goal
 
 pub returns-in-Less : goal.returns-in-Less
