@@ -1,3 +1,4 @@
+mod ApartFirst
 mod BlindEnds
 mod BlindProof
 mod Choosing

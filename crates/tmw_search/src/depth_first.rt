@@ -4,6 +4,7 @@ ghost use Rattle.tmw_cuts.specs.Members.{members};
 ghost use Rattle.tmw_cuts.specs.Views.{view};
 ghost use Rattle.tmw_search.specs.DepthFirst.{AddsRest, AddsAt, AddsWay, AreSearched};
 
+use crate::apart::find_apart;
 use crate::aside::set_aside;
 use crate::dead_end::is_dead_end;
 use crate::idle::{idle_of, place_idle};
@@ -17,7 +18,8 @@ use tmw_defs::Criterion;
 /// How many times a search may choose the next transaction.
 const FUEL: u32 = 1024;
 
-/// With no more than so many left, to try each order is faster than to look for a dead end.
+/// With fewer left, to try each order is faster than to look for one to place at once. With so many it is faster than to look
+/// for a dead end.
 const FEW: usize = 3;
 
 /// A search for end states.
@@ -129,6 +131,12 @@ fn add_rest(
         return Ok(false);
     }
     search.fuel -= 1;
+    if placed.left >= FEW {
+        if let Some(place) = find_apart(items, placed.mask) {
+            let held = Step { place, held: true };
+            return add_way(criterion, items, held, placed, state, search);
+        }
+    }
     let mut rest = !placed.mask;
     while (rest.trailing_zeros() as usize) < items.len() {
         let place = rest.trailing_zeros() as usize;

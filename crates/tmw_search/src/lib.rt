@@ -2,6 +2,7 @@
 #![tactic(auto)]
 
 mod alone;
+mod apart;
 mod aside;
 mod blind;
 mod choices;
