@@ -24,8 +24,9 @@ use Rattle.tmw_search.specs.Layers.{reads_asked, IsStep}
 use Rattle.tmw_search.specs.Nexts.{is_next}
 use Rattle.tmw_search.specs.ShownTransactions.{ShowsTransactions}
 use Rattle.tmw_search.proofs.DeadEnd.{step-agrees, out-before}
-use Rattle.tmw_search.proofs.DepthFirst.{adds-same, asked-held, few-of, goes-tried, step-besides}
+use Rattle.tmw_search.proofs.DepthFirst.{adds-same, goes-tried}
 use Rattle.tmw_search.proofs.ForcedProof.{final, after-final, final-kept, index-set, length-after, length-writes}
+use Rattle.tmw_search.proofs.IdleFirst.{asked-held, step-besides}
 use Rattle.tmw_search.proofs.LayersProof.{same_place}
 use Rattle.tmw_search.proofs.LayerSteps.{slice_get_some}
 
@@ -89,9 +90,6 @@ record StandsApart (ts : List Txn) (place mask : ℕ) (t : Txn) : Type 0 where
 -- another is placed after it as it was before
 module _ (criterion : Criterion) (ts : List Txn) (place mask above : ℕ) (s u : State) (t : Txn) (long : length s ≡ 8)
     (k : StandsApart ts place mask t) (x : IsStep criterion ts mask s above u) (other : x.place ≡ place → ⊥) where
-  own : List Op
-  own = operations t.text
-
   apart-step : StandsApart ts place above t
   apart-step = record {
     at = k.at;

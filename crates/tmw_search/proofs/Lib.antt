@@ -11,6 +11,7 @@ mod Forcing
 pub mod FreeNext
 mod Gathering
 mod Holding
+mod IdleFirst
 mod LastOfOrder
 mod LayerLists
 pub mod LayerSteps

@@ -18,6 +18,9 @@ use tmw_defs::Criterion;
 /// How many times a search may choose the next transaction.
 const FUEL: u32 = 1024;
 
+/// With as much fuel left, a search for one end may still go straight to it, in a choice for each of eight transactions at most.
+const STRAIGHT: u32 = FUEL - 8;
+
 /// With fewer left, to try each order is faster than to look for one to place at once. With so many it is faster than to look
 /// for a dead end.
 const FEW: usize = 3;
@@ -41,6 +44,12 @@ pub struct Searched {
     pub ends: States,
     /// Whether they are all.
     pub done: bool,
+}
+
+/// Tells whether it pays to look ahead: for a search for one end only once it has not gone straight to it.
+#[inline(always)]
+fn looks_ahead(cap: usize, fuel: u32) -> bool {
+    cap > 0 || fuel < STRAIGHT
 }
 
 /// Places a transaction, held or left out, and then the rest in each order. Returns whether all ends were added.
@@ -124,14 +133,15 @@ fn add_rest(
         search.ends.insert(*state)?;
         return Ok(search.ends.len() <= search.cap);
     }
-    if placed.left > FEW && is_dead_end(criterion, items, placed.mask, state) {
+    let ahead = looks_ahead(search.cap, search.fuel);
+    if ahead && placed.left > FEW && is_dead_end(criterion, items, placed.mask, state) {
         return Ok(true);
     }
     if search.fuel == 0 {
         return Ok(false);
     }
     search.fuel -= 1;
-    if placed.left >= FEW {
+    if ahead && placed.left >= FEW {
         if let Some(place) = find_apart(items, placed.mask) {
             let held = Step { place, held: true };
             return add_way(criterion, items, held, placed, state, search);
