@@ -6,7 +6,7 @@ ghost use Rattle.tmw_defs.specs.declared.op.Op.TheVariants.{Read, Write, Add};
 ghost use Rattle.tmw_defs.specs.Opaque.{State, reads_hold, after_writes};
 ghost use Rattle.tmw_cuts.specs.Registers.{IsMaskOf, AgreeOutside, chosen, have, put};
 ghost use Rattle.tmw_cuts.specs.Replaying.{Replays};
-ghost use Rattle.tmw_cuts.specs.Written.{is_write, writes, writes_blindly, left_by};
+ghost use Rattle.tmw_cuts.specs.Written.{is_write, writes, needs, writes_blindly, left_by};
 
 use crate::states::State;
 use tmw_defs::Op;
@@ -206,6 +206,13 @@ impl Effect {
         ensures { (ops : List Op) → IsEffectOf self.now ops → IsMaskOf (λ r. writes r ops) result }
     {
         self.left
+    }
+
+    /// Returns the registers that the operations read or add to before they write or add to them, as a mask.
+    pub fn needed(&self) -> u8
+        ensures { (ops : List Op) → IsEffectOf self.now ops → IsMaskOf (λ r. needs r ops) result }
+    {
+        self.needed
     }
 
     /// Returns the registers that the operations write before they read or add to them, as a mask.

@@ -6,7 +6,7 @@ ghost use Rattle.tmw_defs.specs.Opaque.{State, reads_hold, after_writes};
 ghost use Rattle.tmw_cuts.specs.Effects.{IsEffectOf, IsEffectOf-prop, leaves_none};
 ghost use Rattle.tmw_cuts.specs.Registers.{IsMaskOf, AgreeOutside};
 ghost use Rattle.tmw_cuts.specs.Replaying.{Replays};
-ghost use Rattle.tmw_cuts.specs.Written.{is_write, writes, writes_blindly, left_by};
+ghost use Rattle.tmw_cuts.specs.Written.{is_write, writes, needs, writes_blindly, left_by};
 
 use crate::effect::Effect;
 use crate::kinds::{operation, status_after};
@@ -142,6 +142,13 @@ impl Txn {
         ensures { IsMaskOf (λ r. writes r self.now.ops.items) result }
     {
         self.effect.written()
+    }
+
+    /// Returns the registers that its operations read or add to before they write or add to them, as a mask.
+    pub fn needed(&self) -> u8
+        ensures { IsMaskOf (λ r. needs r self.now.ops.items) result }
+    {
+        self.effect.needed()
     }
 
     /// Returns the registers that its operations write before they read or add to them, as a mask.

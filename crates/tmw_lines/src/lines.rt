@@ -140,7 +140,7 @@ impl<F: LineFormat> Lines<F> {
         ensures over_again { IsOver self.old → (result ≡ Ok None) × (source.new ≡ source.old) }
         ensures stays { IfErr result (HasFailed self.new) }
         ensures fault_again { (fault : TextFault) → HasFailed self.old fault
-            → (result ≡ Err fault) × (source.new ≡ source.old) }
+            → (result ≡ Err fault) × (source.new ≡ source.old) × (self.new ≡ self.old) }
     {
         match self.state {
             State::Failed(fault) => return Err(fault),

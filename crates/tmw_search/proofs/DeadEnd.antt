@@ -45,7 +45,7 @@ record IsStuck (criterion : Criterion) (ts : List Txn) (place registers mask : �
       → IsTrue (writes r (operations t.text)) → bit_at registers r ≡ 1
 
 -- a step changes no register outside the mask
-step-agrees : (s : State) (p : Placed) (r : ℕ) → r < length s → (p.held ≡ true → writes r (operations p.txn.text) ≡ false)
+pub step-agrees : (s : State) (p : Placed) (r : ℕ) → r < length s → (p.held ≡ true → writes r (operations p.txn.text) ≡ false)
     → slice_index s r ≡ slice_index (after s p) r
 step-agrees s p r within none =
     elim (cases_Bool p.held) [
@@ -56,7 +56,7 @@ step-agrees s p r within none =
     ]
 
 -- one placed before is out of the mask before
-out-before : (mask place j : ℕ) → bit_at mask place ≡ 0 → bit_at (mask + 2 ^ place) j ≡ 0 → bit_at mask j ≡ 0
+pub out-before : (mask place j : ℕ) → bit_at mask place ≡ 0 → bit_at (mask + 2 ^ place) j ≡ 0 → bit_at mask j ≡ 0
 out-before mask place j new out =
     elim (same_place j place) [ inl same ↦ rw same new | inr apart ↦ sym (bit_at-more_other mask place j new apart) ∙ out ]
 

@@ -1,12 +1,13 @@
--- A search that places one transaction after another: where each is placed that may come next, each end state is reached. One that
--- leaves each state as it is may be placed as soon as it can be.
-use Rattle.std.proofs.Common.{◌≡◌, ◌↔◌, ◌⊎◌, ◌==◌, ◌+◌, ◌-◌, ◌*◌, ◌%◌, ◌^◌, ◌<◌, ◌≤◌, ℕ, zero, suc, Bool, true, false, List, [], ◌∷◌, length, get_or, drop, Some, IsTrue, bit_or, refl, sym, ap, subst, ◌∙◌, inl, inr, arith}
+-- A search that places one transaction after another: where each is placed that may come next, each end state is reached.
+use Rattle.std.proofs.Common.{◌≡◌, ◌↔◌, ◌⊎◌, ◌==◌, ◌+◌, ◌-◌, ◌*◌, ◌%◌, ◌^◌, ◌<◌, ◌≤◌, ℕ, zero, suc, Bool, true, false, List, [], ◌∷◌, ◌++◌, length, get_or, take, drop, Some, IsTrue, bit_or, refl, sym, ap, subst, ◌∙◌, inl, inr, arith}
 use Rattle.std.specs.Int.{bit_at, bit_not, trailing_zeros, w8}
 use Rattle.std.specs.Int.Count.{count_trailing_zeros}
 use Rattle.std.specs.List.{Contains, list_all}
 use Rattle.std.specs.Prelude.{slice_get}
 use Rattle.std.proofs.Math.Seq.{drop-cons}
 use Rattle.std.proofs.lemmas.Bool.{and_parts, eqb-true}
+use Rattle.std.proofs.lemmas.List.{take_more, take-append-drop}
+use Rattle.std.proofs.lemmas.List.Elements.{Contains-append_left, Contains-append_right, Contains-append_cases}
 use Rattle.std.proofs.lemmas.Nat.Bits.{bit_at_ones, bit_at_not, bit_at-zero, bit_at-trailing_zeros}
 use Rattle.std.proofs.lemmas.Option.{slice_get_within}
 use Rattle.tmw_defs.specs.declared.criterion.Criterion.{Criterion}
@@ -16,7 +17,7 @@ use Rattle.tmw_defs.specs.declared.status.Status.{Status}
 use Rattle.tmw_defs.specs.declared.status.Status.TheVariants.{Live, Pending, Committed, Aborted}
 use Rattle.tmw_defs.specs.declared.criterion.Criterion.TheVariants.{Opacity, Strict}
 use Rattle.tmw_defs.specs.Criteria.{EndsBy, LeadsBy}
-use Rattle.tmw_defs.specs.History.{Txn, status_of}
+use Rattle.tmw_defs.specs.History.{Txn, status_of, operations}
 use Rattle.tmw_defs.specs.Opaque.{State, Placed, may_hold, may_be, reads_hold, after, after_writes}
 use Rattle.tmw_defs.specs.Outcomes.{Only}
 use Rattle.tmw_cuts.specs.Members.{AddsMember}
@@ -35,174 +36,9 @@ use Rattle.tmw_search.proofs.LayersProof.{same_place}
 use Rattle.tmw_cuts.proofs.Bits.{mask-set, bit_at-more_same, bit_at-more_other}
 use Rattle.tmw_search.proofs.LayerSteps.{IsMade, way_of, after-way, eight_bits, step-made_at, step-made, slice_get_some}
 use Rattle.tmw_search.proofs.Masks.{all_bits}
+use Rattle.tmw_search.proofs.IdleFirst.{few-of, begun-next}
 
--- operations that are reads leave each state
-only-read : (ops : List Op) (s : State) → list_all is_read ops ≡ true → after_writes s ops ≡ s
-only-read [] s all = refl
-only-read (Read q v ∷ ops) s all = only-read ops s all
-only-read (Write q v ∷ ops) s all = absurd (cc)
-only-read (Add q d v ∷ ops) s all = absurd (cc)
-
--- the transaction leaves each state as it is, however it is placed
-abbrev pub LeavesEach : Txn → Type 0
-LeavesEach t = (by : Bool) (s : State) → IsTrue (may_hold (status_of t.text) by) → after s (record { txn = t; held = by }) ≡ s
-
--- a step with one bit more that it doesn't take
-step-besides : (criterion : Criterion) (ts : List Txn) (mask above i : ℕ) (s u : State) → bit_at mask i ≡ 0
-    → (x : IsStep criterion ts mask s above u) → (x.place ≡ i → ⊥) → IsStep criterion ts (mask + 2 ^ i) s (above + 2 ^ i) u
-step-besides criterion ts mask above i s u out x apart =
-    let is = x.is in
-    record {
-      place = x.place;
-      placed = x.placed;
-      at = x.at;
-      new = bit_at-more_other mask i x.place out apart ∙ x.new;
-      is = omega (arith, is);
-      free = λ j t other at none. elim (same_place j i) [
-        | inl same ↦ absurd (let k = rw same at none in let one = bit_at-more_same mask i out in omega (arith, k, one))
-        | inr differs ↦ x.free j t other at (sym (bit_at-more_other mask i j out differs) ∙ none)
-      ];
-      may = x.may;
-      reads = x.reads;
-      to = x.to;
-    }
-
-stays : (s : State) (p : Placed) (t : Txn) → p.txn ≡ t → LeavesEach t → IsTrue (may_be p) → after s p ≡ s
-stays s p t is leaves may = let each : LeavesEach p.txn = subst (λ (v : Txn). LeavesEach v) (sym is) leaves in each p.held s may
-
--- one that leaves each state can as well be placed first
-same-first : (criterion : Criterion) (ts : List Txn) (n mask above i : ℕ) (s u end : State) (t : Txn) → slice_get ts i ≡ Some t → LeavesEach t
-    → (x : IsStep criterion ts mask s above u) → x.place ≡ i → GoesTo criterion ts n above u end → GoesTo criterion ts n (mask + 2 ^ i) s end
-same-first criterion ts n mask above i s u end t at leaves x same rest =
-    let is : x.placed.txn ≡ t = (let here = x.at in let there = rw same at here in cc) in
-    let state_is : u ≡ s = x.to ∙ stays s x.placed t is leaves x.may in
-    let mask_is : above ≡ mask + 2 ^ i = rw same at x.is in
-    rw (mask_is, state_is) at rest
-
-pub placed-first : (criterion : Criterion) (ts : List Txn) (n mask i : ℕ) (s end : State) (t : Txn) → bit_at mask i ≡ 0
-    → slice_get ts i ≡ Some t → LeavesEach t → GoesTo criterion ts (suc n) mask s end → GoesTo criterion ts n (mask + 2 ^ i) s end
-placed-first criterion ts zero mask i s end t out at leaves (above, u, x, rest) =
-    elim (same_place x.place i) [
-      | inl same ↦ same-first criterion ts zero mask above i s u end t at leaves x same rest
-      | inr apart ↦ absurd (
-          let none : bit_at above i ≡ 0 = ap (λ (m : ℕ). bit_at m i) x.is ∙ bit_at-more_other mask x.place i x.new (λ k. apart (sym k)) ∙ out in
-          let one = rest.0 i (slice_get_within ts i t at) in
-          omega (arith, none, one))
-    ]
-placed-first criterion ts (suc n) mask i s end t out at leaves (above, u, x, rest) =
-    elim (same_place x.place i) [
-      | inl same ↦ same-first criterion ts (suc n) mask above i s u end t at leaves x same rest
-      | inr apart ↦
-          let none : bit_at above i ≡ 0 = ap (λ (m : ℕ). bit_at m i) x.is ∙ bit_at-more_other mask x.place i x.new (λ k. apart (sym k)) ∙ out in (
-            above + 2 ^ i,
-            u,
-            step-besides criterion ts mask above i s u out x apart,
-            placed-first criterion ts n above i u end t none at leaves rest,
-          )
-    ]
-
--- what leaves each state is seen in what is shown
-leaves-view : (x : View) (s : State) (by : Bool) → IsTrue (is_idle x) → IsTrue (may_hold x.status by) → end_at x s by ≡ s
-leaves-view x s false idle may = refl
-leaves-view x s true idle may =
-    let reads : list_all is_read x.ops ≡ true = rw may at idle in
-    only-read x.ops s reads
-
-leaves-each : (ts : List Txn) (x : View) (t : Txn) → ShowsTransaction ts x t → IsTrue (is_idle x) → LeavesEach t
-leaves-each ts x t shows idle = λ by s may.
-    sym (after-way s x t by shows.ops) ∙ leaves-view x s by idle (rw shows.status may)
-
-some-way : (status : Status) → (by : Bool) × IsTrue (may_hold status by)
-some-way Live = (false, refl)
-some-way Aborted = (false, refl)
-some-way Committed = (true, refl)
-some-way Pending = (true, refl)
-
-asked-held : (criterion : Criterion) (by : Bool) (s : State) (ops : List Op) → IsTrue (reads_hold s ops) → IsTrue (reads_asked criterion by s ops)
-asked-held Opacity by s ops reads = reads
-asked-held Strict true s ops reads = reads
-asked-held Strict false s ops reads = refl
-
--- placing it is a step
-record IsIdleStep (criterion : Criterion) (ts : List Txn) (place mask : ℕ) (s : State) : Type 0 where
-  txn : Txn
-  at : slice_get ts place ≡ Some txn
-  out : bit_at mask place ≡ 0
-  few : place < 8
-  leaves : LeavesEach txn
-  step : IsStep criterion ts mask s (bit_or mask (1 * 2 ^ place % 2 ^ 8)) s
-
-idle-step : (criterion : Criterion) (xs : List View) (ts : List Txn) (x : View) (place mask : ℕ) (s : State) → ShowsTransactions xs ts
-    → length ts ≤ 8 → mask < 2 ^ length ts → slice_get xs place ≡ Some x → IsTrue (is_idle_next x place mask s)
-    → IsIdleStep criterion ts place mask s
-idle-step criterion xs ts x place mask s shows few fits shown idle_next =
-    let within : place < length ts = (let inside = slice_get_within xs place x shown in omega (arith, inside, shows.same_length)) in
-    let t = slice_get_some ts place within in
-    let one = shows.each place x t.0 shown t.1 in
-    let (next, more) = and_parts (is_next x place mask) _ idle_next in
-    let (idle, reads) = and_parts (is_idle x) _ more in
-    let (by, may) = some-way x.status in
-    let above = bit_or mask (1 * 2 ^ place % 2 ^ 8) in
-    let made : IsMade criterion x place (mask, s) (above, s) = record {
-      next = next;
-      way = record {
-        by = by;
-        may = may;
-        reads = asked-held criterion by s x.ops reads;
-        mask = refl;
-        state = sym (leaves-view x s by idle may);
-      };
-    } in
-    record {
-      txn = t.0;
-      at = t.1;
-      out = eqb-true (bit_at mask place) 0 (and_parts (bit_at mask place == 0) _ next).0;
-      few = omega (arith, within, few);
-      leaves = leaves-each ts x t.0 one idle;
-      step = step-made_at criterion ts x t.0 place mask above s s one t.1 few fits made;
-    }
-
-few-of : (xs : List View) (ts : List Txn) → ShowsTransactions xs ts → length xs ≤ 8 → length ts ≤ 8
-few-of xs ts shows few = omega (arith, few, shows.same_length)
-
--- one more is placed
-pub begun-next : (criterion : Criterion) (xs : List View) (mask above left : ℕ) (s u : State) (ts : List Txn) → 0 < left
-    → IsBegun criterion xs mask left s ts → IsStep criterion ts mask s above u → IsBegun criterion xs above (left - 1) u ts
-begun-next criterion xs mask above left s u ts some b step = record {
-  shows = b.shows;
-  none_self = b.none_self;
-  start = b.start;
-  count = b.count + 1;
-  sum = omega (arith, some, b.sum);
-  layer = layer-step_by criterion (Only b.start) ts b.count mask above s u b.layer step;
-}
-
-pub onward-none : (xs : List View) (s : State) (mask left : ℕ) → IsOnward xs s mask left mask left
-onward-none xs s mask left = λ criterion ts b. record { begun = b; same = λ end. (λ goes. goes, λ goes. goes) }
-
--- one that leaves each state is placed
-pub onward-next : (xs : List View) (x : View) (s : State) (mask left above fewer place : ℕ) → length xs ≤ 8 → slice_get xs place ≡ Some x
-    → 0 < fewer → IsTrue (is_idle_next x place above s) → IsOnward xs s mask left above fewer
-    → IsOnward xs s mask left (bit_or above (1 * 2 ^ place % 2 ^ 8)) (fewer - 1)
-onward-next xs x s mask left above fewer place few shown some idle_next onward = λ criterion ts b.
-    let l = onward criterion ts b in
-    let k = l.begun in
-    let few_ts = few-of xs ts k.shows few in
-    let i = idle-step criterion xs ts x place above s k.shows few_ts (fits-by criterion (Only k.start) ts k.count above s k.layer) shown idle_next in
-    let more = bit_or above (1 * 2 ^ place % 2 ^ 8) in
-    let one : fewer ≡ suc (fewer - 1) = omega (arith, some) in
-    record {
-      begun = begun-next criterion xs above more fewer s s ts some k i.step;
-      same = λ end. (
-        λ goes. rw (mask-set above place i.few i.out)
-            (placed-first criterion ts (fewer - 1) above place s end i.txn i.out i.at i.leaves (rw one at ((l.same end).0 goes))),
-        λ goes.
-            let longer : GoesTo criterion ts (suc (fewer - 1)) above s end = (more, s, i.step, goes) in
-            (l.same end).1 (subst (λ (n : ℕ). GoesTo criterion ts n above s end) (sym one) longer),
-      );
-    }
-
-adds-same : (done : Bool) (old new : List State) (P Q : State → Type 0) → ((e : State) → P e ↔ Q e) → Adds done old new Q → Adds done old new P
+pub adds-same : (done : Bool) (old new : List State) (P Q : State → Type 0) → ((e : State) → P e ↔ Q e) → Adds done old new Q → Adds done old new P
 adds-same done old new P Q same a = record {
   only = λ e has. elim (a.only e has) [ inl was ↦ inl was | inr is ↦ inr ((same e).1 is) ];
   kept = a.kept;
@@ -255,6 +91,19 @@ rest-none criterion xs mask left s done old new none adds = λ ts b.
     size-by Opacity S us k m r l = l.size
     size-by Strict S us k m r l = l.size
 
+-- placing one of the list, held or left out, is a step
+begun-step : (criterion : Criterion) (xs : List View) (y : View) (place mask left : ℕ) (s : State) (held : Bool) (ts : List Txn) → length xs ≤ 8
+    → IsBegun criterion xs mask left s ts → slice_get xs place ≡ Some y → IsTrue (is_next y place mask) → IsTrue (may_hold y.status held)
+    → IsTrue (reads_asked criterion held s y.ops) → IsStep criterion ts mask s (bit_or mask (1 * 2 ^ place % 2 ^ 8)) (end_at y s held)
+begun-step criterion xs y place mask left s held ts few b at next may reads =
+    let above = bit_or mask (1 * 2 ^ place % 2 ^ 8) in
+    let u = end_at y s held in
+    let t = slice_get_some ts place (omega (arith, slice_get_within xs place y at, b.shows.same_length)) in
+    let made : IsMade criterion y place (mask, s) (above, u) =
+    record { next = next; way = record { by = held; may = may; reads = reads; mask = refl; state = refl } } in
+    step-made_at criterion ts y t.0 place mask above s u (b.shows.each place y t.0 at t.1) t.1 (few-of xs ts b.shows few)
+    (fits-by criterion (Only b.start) ts b.count mask s b.layer) made
+
 -- one of the list is placed, held or left out
 pub way-next : (criterion : Criterion) (xs : List View) (y : View) (place mask left : ℕ) (s u : State) (held done : Bool) (old new : List State)
     → length xs ≤ 8 → 0 < left → slice_get xs place ≡ Some y → IsTrue (may_hold y.status held) → IsTrue (reads_asked criterion held s y.ops)
@@ -263,13 +112,7 @@ pub way-next : (criterion : Criterion) (xs : List View) (y : View) (place mask l
 way-next criterion xs y place mask left s u held done old new few some at may reads is adds = λ ts z b there next.
     let same : y ≡ z = (let one = at in let other = there in cc) in
     let above = bit_or mask (1 * 2 ^ place % 2 ^ 8) in
-    let t = slice_get_some ts place (omega (arith, slice_get_within xs place y at, b.shows.same_length)) in
-    let made : IsMade criterion y place (mask, s) (above, u) = record {
-      next = rw same next;
-      way = record { by = held; may = may; reads = reads; mask = refl; state = is };
-    } in
-    let step = step-made_at criterion ts y t.0 place mask above s u (b.shows.each place y t.0 at t.1) t.1 (few-of xs ts b.shows few)
-    (fits-by criterion (Only b.start) ts b.count mask s b.layer) made in
+    let step = rw (← is) at (begun-step criterion xs y place mask left s held ts few b at (rw same next) may reads) in
     rw (← same) (adds-same done old new _ _ (λ e. (
       λ w. rw is w.goes,
       λ goes. record { may = may; reads = reads; goes = rw (← is) goes },
@@ -322,18 +165,13 @@ pub record GoesTried (criterion : Criterion) (xs : List View) (ts : List Txn) (l
   pub at : slice_get xs place ≡ Some shown
   pub goes : GoesAt criterion ts shown place n mask s end
 
-goes-tried : (criterion : Criterion) (xs : List View) (mask left rest : ℕ) (s end : State) (ts : List Txn) → length xs ≤ 8 → 0 < left
+pub goes-tried : (criterion : Criterion) (xs : List View) (mask left rest : ℕ) (s end : State) (ts : List Txn) → length xs ≤ 8 → 0 < left
     → IsBegun criterion xs mask left s ts → GoesTried criterion xs ts rest (left - 1) mask s end → GoesTo criterion ts left mask s end
 goes-tried criterion xs mask left rest s end ts few some b g =
     let w = g.goes.way in
-    let above = bit_or mask (1 * 2 ^ g.place % 2 ^ 8) in
-    let u = end_at g.shown s g.goes.held in
-    let t = slice_get_some ts g.place (let inside = slice_get_within xs g.place g.shown g.at in omega (arith, inside, b.shows.same_length)) in
-    let made : IsMade criterion g.shown g.place (mask, s) (above, u) =
-    record { next = g.goes.next; way = record { by = g.goes.held; may = w.may; reads = w.reads; mask = refl; state = refl } } in
-    let step = step-made_at criterion ts g.shown t.0 g.place mask above s u (b.shows.each g.place g.shown t.0 g.at t.1) t.1 (few-of xs ts b.shows few)
-    (fits-by criterion (Only b.start) ts b.count mask s b.layer) made in
-    let longer : GoesTo criterion ts (suc (left - 1)) mask s end = (above, u, step, w.goes) in
+    let step = begun-step criterion xs g.shown g.place mask left s g.goes.held ts few b g.at g.goes.next w.may w.reads in
+    let longer : GoesTo criterion ts (suc (left - 1)) mask s end =
+    (bit_or mask (1 * 2 ^ g.place % 2 ^ 8), end_at g.shown s g.goes.held, step, w.goes) in
     let one : suc (left - 1) ≡ left = omega (arith, some) in
     subst (λ (n : ℕ). GoesTo criterion ts n mask s end) one longer
 
@@ -461,88 +299,50 @@ leads-goes criterion ts mask count s end a few leads =
     let sum : d + 0 ≡ d = omega arith in
     subst (λ (z : State). GoesTo criterion ts d mask z end) is (rw sum at goes)
 
--- the ends from some of the states were found, and those from the others are left
-pub record IsSearched (criterion : Criterion) (start left ends : List State) (ts : List Txn) : Type 0 where
-  pub only : (e : State) → Contains ends e → EndsBy criterion (Contains start) ts e
-  pub within : (s : State) → Contains left s → Contains start s
-  pub each : (s e : State) → Contains start s → LeadsBy criterion s ts e → Contains ends e ⊎ Contains left s
-
-abbrev pub SearchesFrom : Criterion → List View → List State → List State → List State → Type 0
-SearchesFrom criterion xs start left ends = (ts : List Txn) → ShowsTransactions xs ts → NoneBeforeItself ts → IsSearched criterion start left ends ts
-
-pub searches-none : (criterion : Criterion) (xs : List View) (start ends : List State) → ends ≡ [] → SearchesFrom criterion xs start start ends
-searches-none criterion xs start ends none = λ ts shows none_self. record {
+-- from no state there is no end
+pub searches-none : (criterion : Criterion) (xs : List View) (ends : List State) → ends ≡ [] → AreSearched criterion xs [] true ends
+searches-none criterion xs ends none = λ ts shows none_self. record {
   only = λ e has. absurd (contains_none e (rw none at has));
-  within = λ s has. has;
-  each = λ s e has leads. inr has;
+  kept = λ e has. absurd (contains_none e has);
+  all = λ is e (s, has, leads). absurd (contains_none s has);
 }
 
 module _ (criterion : Criterion) (xs : List View) (mask count left i : ℕ) (start ends more : List State) (aside : IsAside criterion xs mask count)
-    (few : count ≤ length xs) (rest : left ≡ length xs - count) (within : i < length start)
-    (f : SearchesFrom criterion xs start (drop i start) ends) where
-  begun-first : (s : State) (ts : List Txn) → ShowsTransactions xs ts → NoneBeforeItself ts → IsBegun criterion xs mask left s ts
-  begun-first s ts shows none_self = record {
-    shows = shows;
-    none_self = none_self;
-    start = s;
-    count = count;
-    sum = omega (arith, few, rest, shows.same_length);
-    layer = layer-first criterion (Only s) ts mask count s (aside ts shows) refl;
-  }
+    (few : count ≤ length xs) (rest : left ≡ length xs - count) (within : i < length start) (done : Bool)
+    (found : AreSearched criterion xs (take i start) true ends) (adds : AddsRest criterion xs mask left (get_or start i []) done ends more) where
+  more_is : take (i + 1) start ≡ take i start ++ get_or start i [] ∷ []
+  more_is = take_more start i [] within
 
-  split : drop i start ≡ get_or start i [] ∷ drop (i + 1) start
-  split = let same : suc i ≡ i + 1 = omega arith in drop-cons start i [] within ∙ ap (λ (n : ℕ). get_or start i [] ∷ drop n start) same
-
-  only-more : (done : Bool) → AddsRest criterion xs mask left (get_or start i []) done ends more → (ts : List Txn) → ShowsTransactions xs ts
-      → NoneBeforeItself ts → (e : State) → Contains more e → EndsBy criterion (Contains start) ts e
-  only-more done adds ts shows none_self e has =
+  -- the ends from one state more were found
+  pub searches-next : AreSearched criterion xs (take (i + 1) start) done more
+  searches-next = λ ts shows none_self.
       let s = get_or start i [] in
-      let g = f ts shows none_self in
-      elim ((adds ts (begun-first s ts shows none_self)).only e has) [
-        | inl was ↦ g.only e was
-        | inr goes ↦ (
-          s,
-          g.within s (rw split (contains_here s (drop (i + 1) start))),
-          goes-leads criterion s ts count left mask s e (omega (arith, few, rest, shows.same_length))
-              (layer-first criterion (Only s) ts mask count s (aside ts shows) refl) goes,
-        )
-      ]
-
-  pub searches-next : AddsRest criterion xs mask left (get_or start i []) true ends more → SearchesFrom criterion xs start (drop (i + 1) start) more
-  searches-next adds = λ ts shows none_self.
-      let s = get_or start i [] in
-      let g = f ts shows none_self in
-      let a = adds ts (begun-first s ts shows none_self) in
       let same : length ts - count ≡ left = omega (arith, rest, shows.same_length) in
-      record {
-        only = only-more true adds ts shows none_self;
-        within = λ z has. g.within z (rw split (contains_later s z (drop (i + 1) start) has));
-        each = λ z e has leads. elim (g.each z e has leads) [
-          | inl found ↦ inl (a.kept e found)
-          | inr later ↦ elim (contains_cases s z (drop (i + 1) start) (rw split at later)) [
-            | inl is ↦ inl (a.all refl e (rw (sym same, is) (leads-goes criterion ts mask count z e (aside ts shows)
-                (omega (arith, few, shows.same_length)) leads)))
-            | inr past ↦ inr past
-          ]
-        ];
-      }
+      let first = layer-first criterion (Only s) ts mask count s (aside ts shows) refl in
+      let begun : IsBegun criterion xs mask left s ts = record {
+        shows = shows;
+        none_self = none_self;
+        start = s;
+        count = count;
+        sum = omega (arith, few, rest, shows.same_length);
+        layer = first;
+      } in
+      adds-both done [] ends more _ _ _ (λ e (z, has, leads). (z, rw more_is (Contains-append_left (take i start) (s ∷ []) z has), leads))
+      (λ e goes. (
+        s,
+        rw more_is (Contains-append_right (take i start) (s ∷ []) s (contains_here s [])),
+        goes-leads criterion s ts count left mask s e (omega (arith, few, rest, shows.same_length)) first goes,
+      ))
+      (λ e (z, has, leads). elim (Contains-append_cases (take i start) (s ∷ []) z (rw more_is at has)) [
+        | inl before ↦ inl (z, before, leads)
+        | inr here ↦ elim (contains_cases s z [] here) [
+          | inl is ↦ inr (rw (sym is, same) at (leads-goes criterion ts mask count z e (aside ts shows) (omega (arith, few, shows.same_length)) leads))
+          | inr none ↦ absurd (contains_none z none)
+        ]
+      ])
+      (found ts shows none_self) (adds ts begun)
 
-  pub searches-stopped : AddsRest criterion xs mask left (get_or start i []) false ends more → AreSearched criterion xs start false more
-  searches-stopped adds = λ ts shows none_self. record {
-    only = λ e has. inr (only-more false adds ts shows none_self e has);
-    kept = λ e has. absurd (contains_none e has);
-    all = λ impossible. absurd (cc);
-  }
-
-pub searches-all : (criterion : Criterion) (xs : List View) (start left ends : List State) → left ≡ [] → SearchesFrom criterion xs start left ends
-    → AreSearched criterion xs start true ends
-searches-all criterion xs start left ends none f = λ ts shows none_self.
-    let g = f ts shows none_self in
-    record {
-      only = λ e has. inr (g.only e has);
-      kept = λ e has. absurd (contains_none e has);
-      all = λ is e (s, has, leads). elim (g.each s e has leads) [
-        | inl found ↦ found
-        | inr later ↦ absurd (contains_none s (rw none at later))
-      ];
-    }
+  pub searches-stopped : done ≡ false → AreSearched criterion xs start done more
+  searches-stopped stopped = λ ts shows none_self. rw stopped (adds-some [] more _ _
+      (λ e (z, has, leads). (z, rw (← take-append-drop (i + 1) start) (Contains-append_left (take (i + 1) start) (drop (i + 1) start) z has), leads))
+      (rw stopped at (searches-next ts shows none_self)))

@@ -37,7 +37,7 @@ final r x (Read q v ∷ ops) = final r x ops
 final r x (Write q v ∷ ops) = final r (if q.number == r then v else x) ops
 final r x (Add q d v ∷ ops) = final r (if q.number == r then (v + d) % 2 ^ 64 else x) ops
 
-index-set : (s : State) (q r v : ℕ) → r < length s → slice_index (slice_set s q v) r ≡ (if q == r then v else slice_index s r)
+pub index-set : (s : State) (q r v : ℕ) → r < length s → slice_index (slice_set s q v) r ≡ (if q == r then v else slice_index s r)
 index-set s q r v within =
     elim (cases_Bool (q == r)) [
       | inl is ↦ rw (is, eqb-true q r is) (get_or-set_same s r v 0 within)

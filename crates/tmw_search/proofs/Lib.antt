@@ -1,3 +1,4 @@
+mod ApartFirst
 mod BlindEnds
 mod BlindProof
 mod Choosing
@@ -10,6 +11,7 @@ mod Forcing
 pub mod FreeNext
 mod Gathering
 mod Holding
+mod IdleFirst
 mod LastFound
 mod LastOfOrder
 mod LayerLists

@@ -1,15 +1,17 @@
 -- What a search adds that places one transaction after another: the states in which all of them can end.
-use Rattle.std.specs.Prelude.{◌≡◌, ◌↔◌, ◌+◌, ◌-◌, ◌*◌, ◌%◌, ◌^◌, ◌<◌, ℕ, zero, suc, Bool, true, List, [], length, slice_get, Some, IsTrue, bit_or}
+use Rattle.std.specs.Prelude.{◌≡◌, ◌↔◌, ◌+◌, ◌-◌, ◌*◌, ◌%◌, ◌^◌, ◌<◌, ℕ, zero, suc, Bool, true, false, List, [], length, slice_get, Some, IsTrue, bit_or}
 use Rattle.std.specs.Int.{bit_at}
 use Rattle.std.specs.List.{Contains}
 use Rattle.tmw_defs.specs.declared.criterion.Criterion.{Criterion}
+use Rattle.tmw_defs.specs.declared.op.Op.{Op}
 use Rattle.tmw_defs.specs.Criteria.{EndsBy}
 use Rattle.tmw_defs.specs.History.{Txn}
 use Rattle.tmw_defs.specs.Opaque.{State, may_hold}
 use Rattle.tmw_defs.specs.Outcomes.{Only}
 use Rattle.tmw_cuts.specs.Views.{View}
-use Rattle.tmw_cuts.specs.Written.{writes}
+use Rattle.tmw_cuts.specs.Written.{writes, needs}
 use Rattle.tmw_search.specs.BlindEnds.{Adds}
+use Rattle.tmw_search.specs.ForcedTransactions.{is_committed}
 use Rattle.tmw_search.specs.Layers.{InLayerBy, IsStep, reads_asked}
 use Rattle.tmw_search.specs.Nexts.{is_next, end_at}
 use Rattle.tmw_search.specs.ShownTransactions.{ShowsTransactions, NoneBeforeItself}
@@ -74,6 +76,23 @@ HasWritten xs mask registers = (place r : ℕ) (x : View) → slice_get xs place
 -- No steps lead on from here to an end, where all are placed.
 abbrev pub IsDeadEnd : Criterion → List View → ℕ → State → Type 0
 IsDeadEnd criterion xs mask s = (ts : List Txn) (n : ℕ) (end : State) → ShowsTransactions xs ts → GoesTo criterion ts n mask s end → ⊥
+
+-- Neither writes a register that the other needs or writes.
+abbrev pub AreApart : List Op → List Op → Type 0
+AreApart one other = (r : ℕ) → (IsTrue (writes r one) → (needs r other ≡ false) × (writes r other ≡ false))
+    × (IsTrue (needs r one) → writes r other ≡ false)
+
+-- The transaction is apart from each that is not placed, but for the one at the place.
+abbrev pub IsApartFrom : List View → ℕ → ℕ → View → Type 0
+IsApartFrom xs mask place x = (at : ℕ) (y : View) → slice_get xs at ≡ Some y → bit_at mask at ≡ 0 → (at ≡ place → ⊥) → AreApart x.ops y.ops
+
+-- The transaction at the place may come next, has committed, and is apart from each other that is not placed.
+pub record IsApart (xs : List View) (mask place : ℕ) : Type 0 where
+  pub shown : View
+  pub at : slice_get xs place ≡ Some shown
+  pub next : IsTrue (is_next shown place mask)
+  pub committed : IsTrue (is_committed shown.status)
+  pub apart : IsApartFrom xs mask place shown
 
 -- Whatever transactions the list shows: end states of theirs were found, and all of them where it is done.
 abbrev pub AreSearched : Criterion → List View → List State → Bool → List State → Type 0

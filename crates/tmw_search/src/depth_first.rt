@@ -4,6 +4,7 @@ ghost use Rattle.tmw_cuts.specs.Members.{members};
 ghost use Rattle.tmw_cuts.specs.Views.{view};
 ghost use Rattle.tmw_search.specs.DepthFirst.{AddsRest, AddsAt, AddsWay, AreSearched};
 
+use crate::apart::find_apart;
 use crate::aside::set_aside;
 use crate::dead_end::is_dead_end;
 use crate::idle::{idle_of, place_idle};
@@ -17,7 +18,11 @@ use tmw_defs::Criterion;
 /// How many times a search may choose the next transaction.
 const FUEL: u32 = 1024;
 
-/// With no more than so many left, to try each order is faster than to look for a dead end.
+/// With as much fuel left, a search for one end may still go straight to it, in a choice for each of eight transactions at most.
+const STRAIGHT: u32 = FUEL - 8;
+
+/// With fewer left, to try each order is faster than to look for one to place at once. With so many it is faster than to look
+/// for a dead end.
 const FEW: usize = 3;
 
 /// A search for end states.
@@ -39,6 +44,12 @@ pub struct Searched {
     pub ends: States,
     /// Whether they are all.
     pub done: bool,
+}
+
+/// Tells whether it pays to look ahead: for a search for one end only once it has not gone straight to it.
+#[inline(always)]
+fn looks_ahead(cap: usize, fuel: u32) -> bool {
+    cap > 0 || fuel < STRAIGHT
 }
 
 /// Places a transaction, held or left out, and then the rest in each order. Returns whether all ends were added.
@@ -122,13 +133,20 @@ fn add_rest(
         search.ends.insert(*state)?;
         return Ok(search.ends.len() <= search.cap);
     }
-    if placed.left > FEW && is_dead_end(criterion, items, placed.mask, state) {
+    let ahead = looks_ahead(search.cap, search.fuel);
+    if ahead && placed.left > FEW && is_dead_end(criterion, items, placed.mask, state) {
         return Ok(true);
     }
     if search.fuel == 0 {
         return Ok(false);
     }
     search.fuel -= 1;
+    if ahead && placed.left >= FEW {
+        if let Some(place) = find_apart(items, placed.mask) {
+            let held = Step { place, held: true };
+            return add_way(criterion, items, held, placed, state, search);
+        }
+    }
     let mut rest = !placed.mask;
     while (rest.trailing_zeros() as usize) < items.len() {
         let place = rest.trailing_zeros() as usize;

@@ -1,6 +1,7 @@
 //! The end states of a window, depth first and by layers, and a guess of a serial order.
 #![tactic(auto)]
 
+mod apart;
 mod aside;
 mod blind;
 mod choices;

@@ -1,8 +1,10 @@
 use Rattle.std.proofs.Common.{length, map, sym, ◌∙◌, arith}
 use Rattle.std.proofs.lemmas.List.{length-map}
 use Rattle.std.specs.Int.{trailing_zeros, w8}
+use Rattle.tmw_cuts.specs.Members.{members}
 use Rattle.tmw_cuts.specs.Views.{view}
 use Rattle.tmw_cuts.proofs.Bits.{shift_is}
+use Rattle.tmw_search.proofs.ApartFirst.{rest-apart}
 use Rattle.tmw_search.proofs.BlindProof.{bit_small}
 use Rattle.tmw_search.proofs.DepthFirst.{adds-none, way-next, at-some, at-both, rest-onward, rest-none, tried-none, tried-next, tried-some, tried-all, lowest-left}
 use Rattle.tmw_search.proofs.LayerSteps.{slice_get_some}
@@ -52,6 +54,18 @@ add_rest-returns-then-is_dead_end t c =
     rest-onward c.args.criterion xs c.args.state.now c.args.progress.mask c.args.progress.left placed.mask placed.left _ _ _
     c.place_idle-placed.ensures.onward
     (λ ts b. adds-none _ _ (λ e goes. c.is_dead_end.ensures c.if-is_dead_end.true ts placed.left e b.shows goes))
+
+pub add_rest-returns-in-Some : goal.add_rest-returns-in-Some
+add_rest-returns-in-Some t c =
+    let xs = map view c.args.items.now in
+    let placed = c.place_idle-placed.result in
+    let old = members c.args.search.now.ends in
+    let new = members c.add_way.new.search.ends in
+    if_ok c.add_way.result _ _ c.add_way.ensures (λ done adds.
+    rest-onward c.args.criterion xs c.args.state.now c.args.progress.mask c.args.progress.left placed.mask placed.left done old new
+    c.place_idle-placed.ensures.onward
+    (rest-apart c.args.criterion xs c.in-Some.place placed.mask placed.left c.args.state.now done old new c.told-state (rw length-map c.requires.few)
+    (omega (arith, c.if-placed-eq0.false)) c.in-Some.ensures.1 adds))
 
 pub add_rest-loop-rest-init : goal.add_rest-loop-rest-init
 add_rest-loop-rest-init t c =

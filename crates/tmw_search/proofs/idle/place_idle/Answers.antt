@@ -2,7 +2,7 @@ use Rattle.std.proofs.Common.{map, sym, ◌∙◌, arith}
 use Rattle.std.proofs.lemmas.Bool.{ltb-true}
 use Rattle.std.proofs.lemmas.List.{length-map}
 use Rattle.tmw_cuts.specs.Views.{view}
-use Rattle.tmw_search.proofs.DepthFirst.{onward-none, onward-next}
+use Rattle.tmw_search.proofs.IdleFirst.{onward-none, onward-next}
 use Rattle.tmw_search.proofs.WindowViews.{shown_at}
 use Rattle.tmw_search.proofs.idle.place_idle.Goals as goal
 
