@@ -15,7 +15,7 @@ IsUnasked registers letter register BadKind = IsNoLetter letter
 IsUnasked registers letter register BadRegister = IsNoRegister registers letter register
 IsUnasked registers letter register _ = ⊥
 
--- The recorder of the same thread, of the same ring and the same memory.
+-- The recorder of the same thread and the same ring, for as many registers.
 pub record IsSameEnd (old new : HeldRecorder) : Type 0 where
   pub ring : recorder_ring new.recorder ≡ recorder_ring old.recorder
   pub number : (writer_of new.recorder).number ≡ (writer_of old.recorder).number

@@ -149,8 +149,7 @@ impl Effect {
         self.agrees && self.is_met(self.needed, state)
     }
 
-    /// Tells whether each register that is needed has the needed value, but for those of the mask. If not, no state that
-    /// agrees with this one outside the mask fits.
+    /// If `false`, no state that agrees with this one outside the mask fits.
     pub fn fits_outside(&self, state: &State, mask: u8) -> bool
         ensures { IsFalse result → (ops : List Op) → IsEffectOf self.now ops → (s : State)
             → length s ≡ 8 → AgreeOutside mask state.now s → IsFalse (reads_hold s ops) }

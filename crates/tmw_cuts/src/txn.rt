@@ -87,8 +87,7 @@ impl Txn {
         self.effect.fits(state)
     }
 
-    /// Tells whether each register has the value that its operations need, but for those of the mask. If not, no state
-    /// that agrees with this one outside the mask answers them so.
+    /// If `false`, no state that agrees with this one outside the mask answers its operations as they were answered.
     pub fn fits_outside(&self, state: &State, mask: u8) -> bool
         ensures { IsFalse result → (s : State) → length s ≡ 8 → AgreeOutside mask state.now s
             → IsFalse (reads_hold s self.now.ops.items) }

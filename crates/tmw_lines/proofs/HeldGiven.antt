@@ -6,7 +6,6 @@ use Rattle.tmw_lines.specs.Given.{AreFirst, ReadsHeld, GivesItems, LacksLast}
 use Rattle.tmw_lines.specs.GivenLines.{AreTaken, IsLastLacked, IsRunBy}
 use Rattle.tmw_lines.specs.Grammar.{Grammar, items_text}
 use Rattle.tmw_lines.specs.Held.{bytes_of}
-use Rattle.tmw_lines.specs.Lines.{HasRead}
 use Rattle.tmw_lines.specs.Text.{line}
 use Rattle.tmw_lines.specs.declared.lines.Lines.{Lines}
 use Rattle.tmw_lines.proofs.LinesRead.{few-held}

@@ -1,5 +1,5 @@
 -- A line that is held whole, and the bytes read for one that is not.
-use Rattle.std.proofs.Common.{◌≡◌, ℕ, ◌+◌, ◌<◌, Option, List, [], ◌∷◌, ◌++◌, length, take, drop, sym, ap, ◌∙◌, length-drop, append_assoc, take-append-drop, arith}
+use Rattle.std.proofs.Common.{◌≡◌, ℕ, ◌+◌, ◌<◌, List, [], ◌∷◌, ◌++◌, length, take, drop, sym, ap, ◌∙◌, length-drop, append_assoc, take-append-drop, arith}
 use Rattle.tmw_streams.specs.Told.{Reads}
 use Rattle.tmw_lines.specs.Text.{line}
 use Rattle.tmw_streams.specs.Streams.{FromSource}

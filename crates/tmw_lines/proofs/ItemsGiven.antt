@@ -1,9 +1,9 @@
 -- Reading on to the end: a taker was given the items of the lines read so far.
-use Rattle.std.proofs.Common.{◌≡◌, ℕ, ◌+◌, ◌<◌, ◌≤◌, ◌^◌, Option, Result, Ok, Err, List, [], ◌∷◌, ◌++◌, length, sym, ap, ◌∙◌, append_assoc, append-nil, length-append, vec_capacity, arith}
+use Rattle.std.proofs.Common.{◌≡◌, ℕ, ◌+◌, Ok, Err, List, [], ◌∷◌, ◌++◌, sym, ◌∙◌, append_assoc, append-nil, length-append, arith}
 use Rattle.tmw_lines.specs.Given.{GivesItems, LacksLast}
 use Rattle.tmw_lines.specs.Grammar.{Grammar}
 use Rattle.tmw_lines.specs.ItemsGiven.{GivesAll, AreGiven, ReadsToFault}
-use Rattle.tmw_lines.specs.ItemsRead.{HasBegunToRead, ReadsItems, AreReadFor, FailsBehind}
+use Rattle.tmw_lines.specs.ItemsRead.{HasBegunToRead}
 use Rattle.tmw_lines.specs.Lines.{IsReading, HasRead, GivesItem, GivesEnd, FailsAtLine}
 use Rattle.tmw_lines.specs.declared.lines.Lines.{Lines}
 use Rattle.tmw_lines.specs.declared.text_fault.TextFault.{TextFault}

@@ -1,5 +1,5 @@
 -- What was read where a taker, such as a list, holds the items that it takes behind those that it held.
-use Rattle.std.proofs.Common.{◌≡◌, ℕ, Option, Result, Ok, Err, List, [], ◌∷◌, ◌++◌, ◌∙◌}
+use Rattle.std.proofs.Common.{◌≡◌, Result, Ok, Err, List, ◌++◌, ◌∙◌}
 use Rattle.tmw_lines.specs.Grammar.{Grammar}
 use Rattle.tmw_lines.specs.ItemsGiven.{GivesAll}
 use Rattle.tmw_lines.specs.ItemsRead.{ReadsItems}

@@ -1,5 +1,5 @@
 -- Reading on through a line that is longer than can be held.
-use Rattle.std.proofs.Common.{◌≡◌, ℕ, ◌<◌, ◌≤◌, Option, List, [], ◌∷◌, ◌++◌, length, take, drop, sym, ap, ◌∙◌, ◌==◌, ◌+◌, append_assoc, append-nil, length-append, take-append-drop, refl, arith}
+use Rattle.std.proofs.Common.{◌≡◌, ℕ, ◌<◌, ◌≤◌, List, [], ◌∷◌, ◌++◌, length, take, drop, sym, ap, ◌∙◌, ◌==◌, ◌+◌, append_assoc, append-nil, length-append, take-append-drop, refl, arith}
 use Rattle.std.specs.List.{position_or_len}
 use Rattle.std.proofs.lemmas.List.{take_all}
 use Rattle.tmw_lines.specs.LongLine.{HasFeed, Skips}

@@ -1,5 +1,5 @@
 -- Reading on through a line: the bytes seen so far hold no line feed.
-use Rattle.std.proofs.Common.{◌≡◌, ℕ, ◌+◌, ◌<◌, ◌≤◌, Option, List, [], ◌∷◌, ◌++◌, not, length, take, drop, sym, ap, ◌∙◌, ◌==◌, length-drop, length-append, append_assoc, append-nil, arith}
+use Rattle.std.proofs.Common.{◌≡◌, ℕ, ◌+◌, ◌<◌, ◌≤◌, List, [], ◌∷◌, ◌++◌, not, length, take, drop, sym, ap, ◌∙◌, ◌==◌, length-drop, length-append, append_assoc, append-nil, arith}
 use Rattle.std.specs.List.{position_or_len}
 use Rattle.std.proofs.Math.Seq.{take-add}
 use Rattle.std.proofs.lemmas.List.{drop-drop, take-append-le, take_all}

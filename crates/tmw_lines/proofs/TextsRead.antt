@@ -1,5 +1,5 @@
 -- Reading a whole text: its header, and then the items of all other lines.
-use Rattle.std.proofs.Common.{◌≡◌, ℕ, Option, Ok, Err, List, [], ◌∷◌, ◌++◌, ap, inl, subst, ◌∙◌}
+use Rattle.std.proofs.Common.{◌≡◌, ℕ, Ok, Err, List, [], ◌∷◌, ◌++◌, ap, inl, subst, ◌∙◌}
 use Rattle.tmw_lines.specs.Grammar.{Grammar, lines_text, AreLines}
 use Rattle.tmw_lines.specs.Held.{bytes_of}
 use Rattle.tmw_lines.specs.ItemsRead.{AreReadFor, ReadsItems}

@@ -1,5 +1,5 @@
 -- What is read where lines are read on to the text's end, and what a taker was given of it.
-use Rattle.std.specs.Prelude.{◌≡◌, ℕ, Option, Result, Ok, Err, List, [], ◌∷◌, ◌++◌}
+use Rattle.std.specs.Prelude.{ℕ, Result, Ok, Err, List, [], ◌∷◌, ◌++◌}
 use Rattle.tmw_lines.specs.Grammar.{Grammar}
 use Rattle.tmw_lines.specs.ItemsRead.{EndsBehind, FailsHolding}
 use Rattle.tmw_lines.specs.Lines.{HasRead}

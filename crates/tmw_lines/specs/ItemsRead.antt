@@ -1,5 +1,5 @@
 -- What is read where lines are read on to the text's end, and how much of it is held.
-use Rattle.std.specs.Prelude.{◌≡◌, ℕ, Option, Result, Ok, Err, List, [], ◌∷◌, ◌++◌, length}
+use Rattle.std.specs.Prelude.{◌≡◌, ℕ, Result, Ok, Err, List, [], ◌∷◌, ◌++◌, length}
 use Rattle.tmw_lines.specs.Grammar.{Grammar, lines_text, AreLines}
 use Rattle.tmw_lines.specs.LineRead.{HasLineFault}
 use Rattle.tmw_lines.specs.Lines.{HasRead, format_by, unread_bytes}

@@ -1,5 +1,5 @@
 -- What is read of a line, and what then stands at the front.
-use Rattle.std.specs.Prelude.{◌≡◌, ℕ, ◌+◌, ◌≤◌, Option, List, ◌∷◌, ◌++◌, length, take, drop}
+use Rattle.std.specs.Prelude.{◌≡◌, ℕ, ◌+◌, ◌≤◌, List, ◌∷◌, length, take, drop}
 use Rattle.tmw_lines.specs.Parts.{IsFree}
 use Rattle.tmw_streams.specs.Told.{one_more}
 use Rattle.tmw_lines.specs.declared.piece.Piece.{Piece}

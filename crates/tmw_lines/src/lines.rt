@@ -174,8 +174,8 @@ impl<F: LineFormat> Lines<F> {
         self.format
     }
 
-    /// Returns the bytes held up to the first line feed, or all. After a fault of a line they are how that line begins:
-    /// all of it, or its first 4,096 bytes.
+    /// Returns the bytes held up to the first line feed, or all. After a bad line, or one that is cut, they are how
+    /// that line begins: all of it, or its first 4,096 bytes.
     pub fn front(&self) -> &[u8]
         ensures { result.now ≡ front_of (unread_bytes self.now) }
     {

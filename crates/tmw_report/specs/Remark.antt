@@ -13,7 +13,7 @@ abbrev pub Remarks : {E : Type 0} → ToSink E → Bool → E → E → Type 0
 Remarks Errors true old new = IsSent Errors old new nothing_shown
 Remarks Errors false old new = new ≡ old
 
--- An answer tells that its run shows nothing. A fault does not.
+-- An answer tells it if its run shows nothing. A fault tells nothing.
 abbrev pub RemarksRun : {E Found : Type 0} → ToSink E → (Found → Bool) → List ℕ → Result Found Fault → E → E → Type 0
 RemarksRun Errors shows_nothing bytes (Ok found) old new = Remarks Errors (shows_nothing found) old new
 RemarksRun Errors shows_nothing bytes (Err fault) old new = new ≡ old

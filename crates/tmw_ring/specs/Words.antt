@@ -17,7 +17,7 @@ cell_words (cell ∷ cells) = stamped cell.stamp cell.header ∷ cell.value ∷ 
 abbrev pub apart : List ℕ → List ℕ
 apart words = 0 ∷ 0 ∷ 0 ∷ 0 ∷ 0 ∷ 0 ∷ 0 ∷ 0 ∷ 0 ∷ 0 ∷ 0 ∷ 0 ∷ 0 ∷ 0 ∷ 0 ∷ words
 
--- Where a cell stands among the cells. Sixteen are four lines of memory: as in a square of four by four, rows and columns are exchanged.
+-- Where a cell stands among the cells. Sixteen are four lines of memory, of 64 bytes each: as in a square of four by four, rows and columns are exchanged.
 abbrev pub crossed : ℕ → ℕ
 crossed cell = cell / 16 * 16 + cell % 4 * 4 + cell / 4 % 4
 

@@ -26,7 +26,7 @@ fn cell_of(cells: u64, place: u64) -> u64
 }
 
 /// Returns where the cell of this number stands among the cells. Of sixteen, cells that follow one another stand on
-/// different lines of memory.
+/// different lines of memory, where a line has 64 bytes.
 fn crossed(cell: u64) -> u64
     requires { cell < 4096 }
     ensures { result ≡ words.crossed cell }

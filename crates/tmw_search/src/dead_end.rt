@@ -1,4 +1,4 @@
-//! A dead end: one that is not placed needs a value that its register doesn't have, and that none that is left can write there.
+//! A dead end: one that is not placed needs a value that its register doesn't have, and none that is left writes that register.
 ghost use Rattle.std.specs.Prelude.{◌≡◌, ◌≤◌, Bool, List, IsTrue, length, map};
 ghost use Rattle.tmw_cuts.specs.Views.{view};
 ghost use Rattle.tmw_defs.specs.declared.op.Op.{Op};
@@ -10,7 +10,7 @@ use crate::nexts::may_hold;
 use tmw_cuts::{State, Txn};
 use tmw_defs::{Criterion, Status};
 
-/// Tells whether what a transaction of this status read must hold, however it is placed.
+/// If `true`, what a transaction of this status read must hold, however it is placed.
 fn must_fit(criterion: Criterion, status: Status) -> bool
     ensures { IsTrue result → (held : Bool) (s : State) (ops : List Op)
         → IsTrue (may_hold status held) → reads_asked criterion held s ops ≡ reads_hold s ops }
@@ -32,7 +32,7 @@ fn written_by_rest(items: &[Txn], mask: u8) -> u8
     written
 }
 
-/// Tells whether one that is not placed can never be: what it read must hold, and no longer can. It is called, since it seldom pays.
+/// If `true`, one that is not placed can never be: what it read must hold, and no longer can. It is called, since it seldom pays.
 #[inline(never)]
 pub fn is_dead_end(criterion: Criterion, items: &[Txn], mask: u8, state: &State) -> bool
     requires { length items.now ≤ 8 }
