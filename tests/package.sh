@@ -71,7 +71,7 @@ else
     done
 fi
 if has dpkg-deb 'what dpkg-deb says'; then
-    ends 'dpkg-deb reads each' 0 sh -c 'for deb; do dpkg-deb -I "$deb" && dpkg-deb -c "$deb" || exit; done' sh "$folder"/once/*.deb
+    ends 'dpkg-deb reads each' 0 sh -c 'for it; do dpkg-deb -I "$it" && dpkg-deb -c "$it" || exit; done' sh "$folder"/once/*.deb
     tells 'the library that headers need' "libtmwatch0 (= $version)" 0 dpkg-deb -f "$folder/once/libtmwatch-dev_${version}_amd64.deb" Depends
 fi
 library=$root/usr/lib/x86_64-linux-gnu pages=$root/usr/share/doc/tmwatch
@@ -97,8 +97,8 @@ ends 'links of the README' 0 grep -q '](docs/C-BENCH.md)' "$pages/README.md"
 installed=$root/usr/bin/tmwatch examples=$pages/examples
 # The README's first example, where it is installed.
 sed -n '/^    \$ /,/^$/s/^    \(\$ \)\?//p' "$pages/README.md" | sed -n 1,2p >"$folder/example"
-tells 'the first example of the README' "$(sed -n 2p "$folder/example")" 1 env PATH="$root/usr/bin:$PATH" sh -c 'cd "$1" && eval "$2"' sh "$pages" \
-    "$(sed -n 1p "$folder/example")"
+tells 'the first example of the README' "$(sed -n 2p "$folder/example")" 1 env PATH="$root/usr/bin:$PATH" \
+    sh -c 'cd "$1" && eval "$2"' sh "$pages" "$(sed -n 1p "$folder/example")"
 
 # The program.
 ends 'the program that was built' 0 cmp "$program" "$installed"
