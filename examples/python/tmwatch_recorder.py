@@ -11,8 +11,9 @@
 
     main(lambda options: [Mine() for thread in range(options.threads)])
 
-`begin`, `read`, `write` and `commit` raise Refused if the store refuses the transaction. Each register holds 0 at first. All threads
-make one transaction a round, then wait for one another, so that a round's transactions are few enough to be judged.
+`begin`, `read`, `write` and `commit` raise Refused if the store refuses the transaction. Each register has to hold 0 at first: set it in
+the function that makes the stores, which runs before all threads. These make one transaction a round, then wait for one another, so that a
+round's transactions are few enough to be judged.
 """
 import argparse
 import os
