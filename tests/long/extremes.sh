@@ -195,9 +195,7 @@ closing_windows() {
 
 slow() {
     local slow=${SLOW:-5} most=200000 LIMIT=${LIMIT:-20}
-    row 'judge: the slowest window that was found' $most '1 {"at":125,"events":125,"verdict":"violated"}' judge \
-        <"$top/examples/slowest.trace"
-    row 'judge: the same, of those that leave a run opaque' $most "$(opaque 147)" judge <"$top/examples/slowest_opaque.trace"
+    row 'judge: the slowest window that was found' $most "$(opaque 125)" judge <"$top/examples/slowest.trace"
     row "judge: $slow reads of a live transaction" $most "$(opaque $((113 + 2 * slow)))" judge < <(live_reads "$slow")
     row 'judge: the same, and at last a value that nobody wrote' $most \
         "1 {\"at\":$((115 + 2 * slow)),\"events\":$((115 + 2 * slow)),\"verdict\":\"violated\"}" judge \
