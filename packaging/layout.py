@@ -8,7 +8,7 @@ The folder gets:
     lib/libtmwatch.a              the archive
     lib/libtmwatch.so.VERSION     the same as a shared library, which programs load as libtmwatch.so.0
     lib/libtmwatch.so.0           a link to it
-    lib/libtmwatch.so             a link to that, for -ltmwatch
+    lib/libtmwatch.so             a link to that, for -ltmwatch; in this repository both are copies, since the kit's gate refuses links
     lib/libtmwatch_bench.a        the bench for memories in C, which no proof covers
     lib/libtmwatch_steps.a        its steps for memories that are compiled with -fsanitize=thread
     lib/pkgconfig                 tmwatch.pc, tmwatch_bench.pc and tmwatch_steps.pc
@@ -63,11 +63,12 @@ def describe(name, prefix="${pcfiledir}/../..", libraries="lib"):
 
 
 def put(one, to):
-    """Copies a file or a link there by one step, so that no other call meets half of it."""
+    """Copies a file or a link there by one step, so that no other call meets half of it. A link is copied as a file in this repository,
+    where the kit's gate refuses links."""
     os.makedirs(os.path.dirname(to), exist_ok=True)
     if os.path.lexists(f"{to}.new"):
         os.remove(f"{to}.new")
-    shutil.copy(one, f"{to}.new", follow_symlinks=False)
+    shutil.copy(one, f"{to}.new", follow_symlinks=os.path.realpath(os.path.dirname(to)).startswith(f"{TOP}/"))
     os.replace(f"{to}.new", to)
 
 

@@ -1,5 +1,6 @@
 -- The test of a part: each of its transactions is left of one of the whole, the others may go, and the precedence is the same.
-use Rattle.std.specs.Prelude.{◌==◌, ◌&&◌, ◌||◌, ◌+◌, ℕ, Bool, true, false, not, List, [], ◌∷◌, map, slice_index_or, if◌then◌else◌}
+use Rattle.std.specs.Prelude.{◌==◌, ◌&&◌, ◌||◌, ◌+◌, ℕ, Bool, true, false, not, List, [], ◌∷◌, map, slice_index_or, Option, Some, None, if◌then◌else◌}
+use Rattle.std.specs.List.{list_all}
 use Rattle.tmw_defs.specs.declared.op.Op.{Op}
 use Rattle.tmw_defs.specs.declared.op.Op.TheVariants.{Read, Write, Add}
 use Rattle.tmw_defs.specs.declared.status.Status.{Status}
@@ -7,6 +8,7 @@ use Rattle.tmw_defs.specs.declared.status.Status.TheVariants.{Live, Pending, Com
 use Rattle.tmw_defs.specs.History.{Txn, status_of, operations}
 use Rattle.tmw_defs.specs.Opaque.{precedes}
 use Rattle.tmw_defs.specs.Part.{is_unread, may_go, may_go_whole}
+use Rattle.tmw_cuts.specs.Written.{left_by}
 
 abbrev pub is_same_op : Op → Op → Bool
 is_same_op (Read q w) (Read r v) = (q.number == r.number) && (w == v)
@@ -29,9 +31,31 @@ is_same_status Committed Committed = true
 is_same_status Aborted Aborted = true
 is_same_status _ _ = false
 
+abbrev pub register_of : Op → ℕ
+register_of (Read r v) = r.number
+register_of (Write r v) = r.number
+register_of (Add r d v) = r.number
+
+abbrev pub is_same_or_none : Option ℕ → Option ℕ → Bool
+is_same_or_none None whole = true
+is_same_or_none (Some v) None = false
+is_same_or_none (Some v) (Some w) = v == w
+
+-- In the register, the operations that are left leave nothing or what the whole leaves there.
+abbrev pub leaves_same : List Op → List Op → ℕ → Bool
+leaves_same left whole r = is_same_or_none (left_by r None left) (left_by r None whole)
+
+-- So do they in the register of each of these operations.
+abbrev pub leave_same : List Op → List Op → List Op → Bool
+leave_same left whole ops = list_all (λ op. leaves_same left whole (register_of op)) ops
+
+-- The one transaction is left of the other: it has the same status, lacks only operations that may go, and leaves in each register that
+-- it changes what the other leaves there.
 abbrev pub is_left_of : (ℕ → ℕ → Bool) → Txn → Txn → Bool
 is_left_of unread t u =
-    is_same_status (status_of u.text) (status_of t.text) && are_ops_left unread (operations u.text) (operations t.text)
+    is_same_status (status_of u.text) (status_of t.text)
+    && (leave_same (operations u.text) (operations t.text) (operations u.text)
+    && are_ops_left unread (operations u.text) (operations t.text))
 
 -- One by one, these are left of those.
 abbrev pub are_left_of : (ℕ → ℕ → Bool) → List Txn → List Txn → Bool

@@ -1,12 +1,14 @@
 ghost use Rattle.std.specs.Prelude.{◌≡◌, IfOk};
+ghost use Rattle.tmw_defs.specs.History.{operations};
 ghost use Rattle.tmw_defs.specs.Part.{is_answered, may_go, may_go_whole};
-ghost use Rattle.tmw_part.specs.Test.{is_left_of, is_same_op, is_same_row, is_same_status, are_left_of, are_ops_left, are_same_rows};
+ghost use Rattle.tmw_part.specs.Test.{is_left_of, is_same_op, is_same_row, is_same_status, are_left_of, are_ops_left, are_same_rows, leave_same, leaves_same, register_of};
 ghost use Rattle.tmw_part.specs.Shown.{answers_none, may_all_go, shown, txn_of, txns_of, unread_in};
 
+use crate::deeds::left_by;
 use crate::transaction::{Transaction, operations, precedes, status_of};
 use std::alloc::{AllocError, Global};
 use tmw_defs::{Op, Status};
-use tmw_events::Ix;
+use tmw_events::{Ix, Kind};
 
 /// Whether the operation was answered this value of this register.
 fn is_answered(register: Ix, value: u64, op: Op) -> bool
@@ -137,6 +139,40 @@ fn is_same_status(one: Status, other: Status) -> bool
     }
 }
 
+fn register_of(op: Op) -> Ix
+    ensures { result.number ≡ register_of op }
+{
+    match op {
+        Op::Read(register, _value) => register,
+        Op::Write(register, _value) => register,
+        Op::Add(register, _added, _value) => register,
+    }
+}
+
+/// Whether a transaction of which this text is left leaves in the register nothing, or what its whole text does.
+fn leaves_same(left: &[Kind], whole: &[Kind], register: Ix) -> bool
+    ensures { result
+        ≡ leaves_same (operations left.now) (operations whole.now) register.number }
+{
+    match (left_by(register, left), left_by(register, whole)) {
+        (None, _) => true,
+        (Some(_value), None) => false,
+        (Some(value), Some(other)) => value == other,
+    }
+}
+
+/// Whether this is so of the register of each of these operations.
+fn leave_same(ops: &[Op], left: &[Kind], whole: &[Kind]) -> bool
+    ensures { result ≡ leave_same (operations left.now) (operations whole.now) ops.now }
+{
+    for op in ops {
+        if !leaves_same(left, whole, register_of(*op)) {
+            return false;
+        }
+    }
+    true
+}
+
 /// Whether the other is left of the one.
 fn is_left_of(
     alloc: Global,
@@ -151,6 +187,9 @@ fn is_left_of(
         return Ok(false);
     }
     let left = operations(alloc, &other.text)?;
+    if !leave_same(&left, &other.text, &one.text) {
+        return Ok(false);
+    }
     let ops = operations(alloc, &one.text)?;
     are_ops_left(alloc, part, &left, &ops)
 }
