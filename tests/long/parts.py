@@ -7,6 +7,7 @@ Orders are sought in each permutation with each completion. A part is defined by
 """
 import json
 import random
+import re
 import subprocess
 import sys
 from collections import Counter
@@ -28,11 +29,18 @@ def left_by(call):
     return call[0].kind[1:] if call[0].kind[0] == "W" else done and (done[0], done[2])
 
 
+def last_left(t, register):
+    """What the transaction leaves in the register, or None."""
+    return next((left for other, _, left in reversed(t.operations) if other == register and left is not None), None)
+
+
 def is_part(part, window, broken=None):
     """Whether these events of the window are a part of it: with the last one, whole calls, and of each transaction its own status."""
     kept, own = set(part), {event: t for t in transactions(window) for event in t.events}
     left = {own[u.events[0]]: u for u in transactions(part)}
     if window[-1] not in kept or any(own[u.events[-1]] is not t or u.status != t.status for t, u in left.items()):
+        return False
+    if any(last_left(u, register) not in (None, last_left(t, register)) for t, u in left.items() for register in range(8)):
         return False
     read = {(register, found) for u in left.values() for register, found, _ in u.operations if found is not None}
     for call in calls(window):
@@ -50,6 +58,62 @@ def pieces(window):
 
 def without(piece, events):
     return tuple(event for event in events if event not in piece)
+
+
+def named(part, window):
+    """The transaction of the window in which each one of the part lies, by the name that a sentence gives it."""
+    own, left = {event: t for t in transactions(window) for event in t.events}, transactions(part)
+    numbers = [sum(u.events[0].thread == t.events[0].thread for u in left[:place]) for place, t in enumerate(left)]
+    several = Counter(t.events[0].thread for t in left)
+    names = [f"thread {t.events[0].thread}" for t in left]
+    names = [name + f"'s transaction {n + 1}" * (several[t.events[0].thread] > 1) for name, n, t in zip(names, numbers, left)]
+    return {name: own[t.events[0]] for name, t in zip(names, left)}
+
+
+def has_read(t, register, value):
+    return any((other, found) == (register, value) for other, found, _ in t.operations)
+
+
+def had_to_find(t, register, value):
+    """What the transaction had to find by its own calls, each time that it was answered this value of the register."""
+    known = None
+    for other, found, left in t.operations:
+        if other == register:
+            if found == value and known is not None:
+                yield known
+            known = found if left is None else left
+
+
+def is_true(sentence, names, states, window):
+    """Whether what is said of these transactions is so of the window. A sentence of no known form is false."""
+    name, number = "(thread \\d(?:'s transaction \\d)?)", "(\\d+)"
+
+    def told(form):
+        found = re.fullmatch(form.replace("A", name).replace("V", number), sentence)
+        return found and [names[word] if word in names else int(word) for word in found.groups()]
+
+    if said := told("A had ended before A began"):
+        return said[0].precedes(said[1])
+    if said := told("A read V of register V, so it stands after A, which left it there"):
+        reader, value, register, writer = said
+        may_commit = writer.status in ("committed", "pending")
+        return has_read(reader, register, value) and may_commit and last_left(writer, register) == value
+    if said := told("A read V of register V, so it stands before A, which left another value there"):
+        reader, value, register, rival = said
+        return has_read(reader, register, value) and last_left(rival, register) not in (None, value)
+    if said := told("A left another value in register V, so it stands before A, whose value A read there"):
+        rival, register, writer, reader = said
+        value = last_left(writer, register)
+        return has_read(reader, register, value) and last_left(rival, register) not in (None, value)
+    if said := told("A read V of register V, which no state before these events has there and no other commit can have left"):
+        reader, value, register = said
+        others = [t for t in transactions(window) if t is not reader and t.status in ("committed", "pending")]
+        left = [*[state[register] for state in states], *[last_left(t, register) for t in others]]
+        return has_read(reader, register, value) and value not in left
+    if said := told("A read V of register V, where it had to find V"):
+        reader, value, register, expected = said
+        return expected != value and expected in had_to_find(reader, register, value)
+    return bool(told("A would stand before itself: a cycle"))
 
 
 def random_part(rng, window, broken):
@@ -88,18 +152,21 @@ def compare(program, criterion, start, events):
     assert not has_order(criterion, states, window), "the window has an order"
     assert has_order(criterion, states, window[:-1]), "the window is violated before its end"
     drawn = [line.partition(",")[0] if line.startswith("    part") else line for line in lines if not line.startswith("    why")]
+    why = [line.removeprefix("    why    ") for line in lines if line.startswith("    why")]
     part = tuple(events[int(row[:9]) - 1] for row in drawn[len(states) + 2 :])
     assert drawn == drawing_of(states, part, len(window), mark), "another drawing"
     assert part == tuple(event for event in window if event in part), "events out of order, or not of the window"
     assert is_part(part, window), "no part"
     assert not has_order(criterion, states, part), "the part has an order"
+    for sentence in why:
+        assert is_true(sentence, named(part, window), states, window), f"false of the window: {sentence}"
     traces = [trace_of(state, part) for state in states]
     assert written("show", "--why", "--trace", trace=trace_of(start, events)) == "".join(traces), "other traces"
     for judged in [json.loads(written("judge", trace=trace)) for trace in traces]:
         assert judged["verdict"] == "violated" and (judged["at"] == len(part) or len(states) > 1), "a trace not violated at its end"
     for less in [without(piece, part) for piece in pieces(window)]:
         assert less == part or not is_part(less, window) or has_order(criterion, states, less), "a piece can be taken out"
-    return window, part, states
+    return window, part, states, why
 
 
 def main():
@@ -113,6 +180,7 @@ def main():
             shown = compare(program, criterion, start, events)
             if shown:
                 found.update([VERDICTS[criterion][1], *["violated, from several states"] * (len(shown[2]) > 1)])
+                found["sentences"] += len(shown[3])
                 sizes.append((len(shown[0]), len(shown[1])))
             else:
                 found[VERDICTS[criterion][0]] += 1
@@ -123,7 +191,7 @@ def main():
         except (AssertionError, LookupError, ValueError) as wrong:
             failed += 1
             print(f"{criterion}: {wrong!r}\n< {' | '.join(trace_of(start, events).splitlines())}")
-    for kind in [*[kind for both in VERDICTS.values() for kind in both], "violated, from several states"]:
+    for kind in [*[kind for both in VERDICTS.values() for kind in both], "violated, from several states", "sentences"]:
         print(f"{found[kind]:8d} {kind}")
         failed += found[kind] == 0
     for broken, rule in BROKEN.items():

@@ -7,8 +7,10 @@
 # criterion. For each one violated:
 # - Each permutation with each completion is tried: neither the window nor its part has a serial order from any of its states.
 # - The part is one by Part.antt of tmw_defs, with whole calls and the last event, each transaction left of its events' own. A write is
-#   missing only if the part doesn't read its value.
+#   missing only if the part doesn't read its value. In each register that a transaction of the part changes, it leaves what it left.
 # - What is left without one more transaction, or without one more call and its answer, is no such part, or has an order.
+# - Each sentence of the reason is true of the window: who had ended before another began, what a transaction read, what it left in a
+#   register at its end, and what it had to find by its own calls.
 # - The drawing and the traces of `--trace` have the part's events. `judge` finds each trace violated: if there is one, at its end.
 #
 # Each other history has an order, and so has each random part of it, made without the program. Each of three broken rules has to make a
