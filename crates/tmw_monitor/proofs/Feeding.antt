@@ -1,12 +1,15 @@
 -- A monitor whose verdict is that nothing is wrong, with what the next event makes of what it keeps.
-use Rattle.std.proofs.Common.{◌≡◌, ◌+◌, List, [], ◌∷◌, ◌++◌, Some, None, ap, ◌∙◌, arith}
+use Rattle.std.proofs.Common.{◌≡◌, ◌+◌, List, [], ◌∷◌, ◌++◌, Option, Some, None, ap, sym, ◌∙◌, arith}
 use Rattle.tmw_events.specs.declared.event.Event.{Event}
 use Rattle.tmw_defs.specs.declared.verdict.Verdict.{Verdict}
 use Rattle.tmw_defs.specs.Criteria.{so_far}
 use Rattle.tmw_defs.specs.Verdict.{Rules}
 use Rattle.tmw_defs.proofs.WindowsProof as windows
+use Rattle.tmw_monitor.specs.declared.broken.Broken.{Broken}
 use Rattle.tmw_monitor.specs.declared.monitor.Monitor.{Monitor}
 use Rattle.tmw_monitor.specs.declared.open.Open.{Open}
+use Rattle.tmw_monitor.specs.Breaking.{TellsTracked}
+use Rattle.tmw_monitor.proofs.Final.{verdict-stays}
 use Rattle.tmw_monitor.specs.Fitting.{Fits, Keeps, KeepsNothing, TellsWrong}
 
 -- nothing is wrong with the event either
@@ -20,21 +23,26 @@ fits-next rules h e old kept fits fine told = record {
   counted = (let n = fits.counted in let m = windows.length-push h e in omega (arith, n, m));
   judged = rw (fine, fits.criterion) told.0;
   keeps = λ is. told.1;
+  whole = λ is. fits.whole fine;
   forgets = λ final. absurd (final fine);
+  breaks = λ final. absurd (final fine);
 }
 
 -- something is wrong with it
-pub fits-wrong : (rules : Rules) (h : List Event) (e : Event) (old : Monitor) (verdict : Verdict) (kept left : Open) → Fits rules h old
-    → TellsWrong rules (h ++ e ∷ []) kept (Some verdict) → KeepsNothing left
-    → Fits rules (h ++ e ∷ []) (record old { count = old.count + 1; verdict = verdict; kept = left })
-fits-wrong rules h e old verdict kept left fits told ended = record {
+pub fits-wrong : (rules : Rules) (h : List Event) (e : Event) (old : Monitor) (verdict : Verdict) (kept left : Open) (broken : Option Broken)
+    → Fits rules h old → TellsWrong rules (h ++ e ∷ []) kept (Some verdict) → KeepsNothing left
+    → TellsTracked rules.registers (h ++ e ∷ []) left.tracker broken
+    → Fits rules (h ++ e ∷ []) (record old { count = old.count + 1; verdict = verdict; kept = left; broken = broken })
+fits-wrong rules h e old verdict kept left broken fits told ended breaks = record {
   criterion = fits.criterion;
   window = fits.window;
   states = fits.states;
   counted = (let n = fits.counted in let m = windows.length-push h e in omega (arith, n, m));
   judged = told.0;
   keeps = λ is. absurd (told.1 (is ∙ ap so_far fits.criterion));
+  whole = λ is. absurd (told.1 (is ∙ ap so_far fits.criterion));
   forgets = λ final. ended;
+  breaks = λ final. breaks;
 }
 
 -- where memory was refused
@@ -47,5 +55,24 @@ fits-kept rules h old kept fits fine keeps = record {
   counted = fits.counted;
   judged = fits.judged;
   keeps = λ is. keeps (fits.keeps is);
+  whole = fits.whole;
   forgets = λ final. absurd (final fine);
+  breaks = λ final. absurd (final fine);
+}
+
+-- after a final verdict
+pub fits-final : (rules : Rules) (h : List Event) (e : Event) (old : Monitor) (kept : Open) (broken : Option Broken) → Fits rules h old
+    → (old.verdict ≡ so_far old.criterion → ⊥) → KeepsNothing kept
+    → TellsTracked rules.registers (h ++ e ∷ []) kept.tracker broken
+    → Fits rules (h ++ e ∷ []) (record old { count = old.count + 1; kept = kept; broken = broken })
+fits-final rules h e old kept broken fits final ended breaks = record {
+  criterion = fits.criterion;
+  window = fits.window;
+  states = fits.states;
+  counted = (let n = fits.counted in let m = windows.length-push h e in omega (arith, n, m));
+  judged = verdict-stays rules h e old.verdict fits.judged (λ is. final (is ∙ ap so_far (sym fits.criterion)));
+  keeps = λ is. absurd (final is);
+  whole = λ is. absurd (final is);
+  forgets = λ _. ended;
+  breaks = λ _. breaks;
 }

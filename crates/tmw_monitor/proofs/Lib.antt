@@ -1,5 +1,7 @@
+mod Breaking
 mod Counting
 mod Feeding
+pub mod Final
 mod Fresh
 mod OnlyOpen
 mod Opening

@@ -17,7 +17,8 @@ use Rattle.tmw_witness.specs.Witnessing.{Witnesses}
 use Rattle.tmw_monitor.specs.declared.bounds.Bounds.{Bounds}
 use Rattle.tmw_monitor.specs.declared.monitor.Monitor.{Monitor}
 use Rattle.tmw_monitor.specs.declared.open.Open.{Open}
-use Rattle.tmw_monitor.specs.Monitor.{IsOpen, bounds_of, criterion_of, fed_of, kept_of, verdict_of}
+use Rattle.tmw_monitor.specs.Breaking.{TellsTracked}
+use Rattle.tmw_monitor.specs.Monitor.{IsOpen, bounds_of, broken_of, criterion_of, fed_of, kept_of, verdict_of}
 
 -- What a history is judged by, where the run has so many registers, which begin with these values.
 abbrev pub rules_for : Criterion → Registers → State → Bounds → Rules
@@ -53,7 +54,7 @@ pub record KeepsNothing (kept : Open) : Type 0 where
   pub stands : StandsFor kept.window []
 
 -- The history fits the monitor: its length and its verdict are the monitor's, and where nothing is wrong with it, the monitor has
--- kept of it what it needs to judge what follows, and else nothing.
+-- kept of it what it needs to judge what follows, and else only what tells the first event that fits no run.
 pub record Fits (rules : Rules) (history : List Event) (monitor : Monitor) : Type 0 where
   pub criterion : criterion_of monitor ≡ rules.criterion
   pub window : (bounds_of monitor).window ≡ rules.window
@@ -61,7 +62,9 @@ pub record Fits (rules : Rules) (history : List Event) (monitor : Monitor) : Typ
   pub counted : fed_of monitor ≡ length history
   pub judged : IsVerdict rules history (verdict_of monitor)
   pub keeps : IsOpen monitor → Keeps rules history (kept_of monitor)
+  pub whole : IsOpen monitor → broken_of monitor ≡ None
   pub forgets : (IsOpen monitor → ⊥) → KeepsNothing (kept_of monitor)
+  pub breaks : (IsOpen monitor → ⊥) → TellsTracked rules.registers history (kept_of monitor).tracker (broken_of monitor)
 
 -- What fitted the monitor before fits it still.
 abbrev pub StaysFit : Monitor → Monitor → Type 0

@@ -1,4 +1,5 @@
 pub mod BadBounds
+pub mod Breaking
 pub mod Monitor
 pub mod Fitting
 pub mod Holding

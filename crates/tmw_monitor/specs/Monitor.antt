@@ -1,9 +1,10 @@
 -- What a monitor tells, and what it keeps.
-use Rattle.std.specs.Prelude.{◌≡◌, ℕ}
+use Rattle.std.specs.Prelude.{◌≡◌, ℕ, Option}
 use Rattle.tmw_defs.specs.Criteria.{so_far}
 use Rattle.tmw_defs.specs.declared.criterion.Criterion.{Criterion}
 use Rattle.tmw_defs.specs.declared.verdict.Verdict.{Verdict}
 use Rattle.tmw_monitor.specs.declared.bounds.Bounds.{Bounds}
+use Rattle.tmw_monitor.specs.declared.broken.Broken.{Broken}
 use Rattle.tmw_monitor.specs.declared.monitor.Monitor.{Monitor}
 use Rattle.tmw_monitor.specs.declared.open.Open.{Open}
 
@@ -25,6 +26,10 @@ verdict_of monitor = monitor.verdict
 -- what it keeps of them
 abbrev pub kept_of : Monitor → Open
 kept_of monitor = monitor.kept
+
+-- the first event that fits no run
+abbrev pub broken_of : Monitor → Option Broken
+broken_of monitor = monitor.broken
 
 -- Nothing is wrong with the events that it was fed.
 abbrev pub IsOpen : Monitor → Type 0

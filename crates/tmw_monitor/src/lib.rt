@@ -3,6 +3,7 @@
 
 mod at_once;
 mod bounds;
+mod broken;
 mod judging;
 mod monitor;
 mod next;
@@ -13,6 +14,7 @@ mod weigh;
 mod weighed;
 
 pub use bounds::{BadBounds, Bounds};
+pub use broken::Broken;
 pub use judging::{judge, judge_for, judge_from};
 pub use monitor::Monitor;
 pub use tmw_defs::{Criterion, Verdict, Why};

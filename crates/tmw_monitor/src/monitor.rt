@@ -8,6 +8,7 @@ ghost use Rattle.tmw_defs.specs.Verdict.{Rules, IsVerdict};
 
 use crate::at_once::take_at_once;
 use crate::bounds::Bounds;
+use crate::broken::{Broken, follow};
 use crate::next::next_wrong;
 use crate::open::Open;
 use crate::so_far::{is_any_so_far, is_so_far};
@@ -29,9 +30,12 @@ pub struct Monitor {
     count: u64,
     verdict: Verdict,
     kept: Open,
+    /// The first event that fits no run. Until one comes, the tracker takes each event, after a final verdict too.
+    broken: Option<Broken>,
 }
 
 impl Monitor {
+    ghost use Rattle.tmw_monitor.specs.Breaking.{TellsBroken};
     ghost use Rattle.tmw_monitor.specs.Fitting.{FeedsOne, Fits, StaysFit, rules_for, rules_of};
     ghost use Rattle.tmw_monitor.specs.Holding.{AreLastOutcomes, HoldsStill, HoldsWith, KeepsOnlyOpen};
     ghost use Rattle.tmw_monitor.specs.Monitor.{IsOpen, criterion_of, fed_of, verdict_of};
@@ -90,6 +94,7 @@ impl Monitor {
                 tracker: Tracker::new(registers),
                 witness: Witness::new(start),
             },
+            broken: None,
         })
     }
 
@@ -137,11 +142,13 @@ impl Monitor {
         ensures keeps_err { OnErr result (HoldsStill self.old self.new) }
     {
         let at = self.count + 1;
-        // Each prefix is judged, so a verdict that something is wrong is final. Later events are only counted.
+        // Each prefix is judged, so a verdict that something is wrong is final. Later events are only tracked.
         if !is_so_far(self.criterion, self.verdict) {
+            follow(&mut self.kept.tracker, &mut self.broken, at, event);
             self.count = at;
             return Ok(());
         }
+        let tracker = self.kept.tracker;
         let wrong = next_wrong(
             self.alloc,
             self.criterion,
@@ -154,6 +161,8 @@ impl Monitor {
         if let Some(verdict) = wrong {
             // After a final verdict no event needs what was kept, so its memory is freed.
             self.kept.forget(self.alloc);
+            self.kept.tracker = tracker;
+            follow(&mut self.kept.tracker, &mut self.broken, at, event);
             self.verdict = verdict;
         }
         Ok(())
@@ -192,6 +201,14 @@ impl Monitor {
             → IsVerdict rules history result }
     {
         self.verdict
+    }
+
+    /// Returns the first event that fits no run, if one was taken: also after a final verdict.
+    pub fn broken(&self) -> Option<Broken>
+        ensures { (rules : Rules) (history : List Event) → Fits rules history self.now
+            → TellsBroken rules.registers history result }
+    {
+        self.broken
     }
 
     /// Tells whether nothing is wrong with the events taken, so that what follows is judged too.

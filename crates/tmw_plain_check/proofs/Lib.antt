@@ -1,3 +1,4 @@
+mod Adding
 mod CompletionProof
 mod OrderSteps
 mod StrictOrders

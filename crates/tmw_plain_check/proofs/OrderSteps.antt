@@ -11,8 +11,8 @@ use Rattle.tmw_defs.specs.History.{Txn, operations, status_of}
 use Rattle.tmw_defs.specs.Opaque.{State, may_hold, reads_hold, after_writes}
 use Rattle.tmw_defs.specs.Decision.{is_free, may_come, one_below, has_order, is_explained}
 use Rattle.tmw_defs.proofs.DecisionProof.{found_below}
-use Rattle.tmw_part.specs.declared.transaction.Transaction.{Transaction}
-use Rattle.tmw_part.specs.Shown.{txn_of, shown}
+use Rattle.tmw_plain_check.specs.declared.transaction.Transaction.{Transaction}
+use Rattle.tmw_plain_check.specs.TransactionViews.{txn_of, shown}
 
 pub shown-remove : (ws : List (Bor Transaction)) (i : ℕ) → shown (remove ws i) ≡ remove (shown ws) i
 shown-remove ws i =

@@ -11,11 +11,11 @@ use Rattle.tmw_defs.specs.Decision.{is_explained}
 use Rattle.tmw_defs.specs.History.{Txn, transactions, is_well_formed}
 use Rattle.tmw_defs.specs.Opaque.{State}
 use Rattle.tmw_defs.proofs.DecisionProof.{is_explained-sound, is_explained-complete}
-use Rattle.tmw_part.specs.declared.transaction.Transaction.{Transaction}
+use Rattle.tmw_plain_check.specs.declared.transaction.Transaction.{Transaction}
 use Rattle.tmw_plain_check.specs.declared.whole.WholeFault.{WholeFault}
 use Rattle.tmw_plain_check.specs.declared.whole.WholeFault.TheVariants.{IllFormed, Ninth, Memory}
 use Rattle.tmw_plain_check.specs.Completions.{has_completion}
-use Rattle.tmw_part.specs.Shown.{txns_of}
+use Rattle.tmw_plain_check.specs.TransactionViews.{txns_of}
 use Rattle.tmw_plain_check.specs.Verdict.{IsFaultless, HasNinth, IsNotFinal, IsFirstAtFault, JudgesBy, HasOrderBy, Weighs}
 use Rattle.tmw_plain_check.proofs.CompletionProof.{has_completion-sound, has_completion-complete}
 

@@ -1,11 +1,12 @@
 ghost use Rattle.std.specs.Prelude.{◌≡◌, ◌∷◌, ◌++◌, [], IfOk};
 ghost use Rattle.tmw_plain_check.specs.Completions.{goes_with, has_completion};
-ghost use Rattle.tmw_part.specs.Shown.{txn_of, txns_of, shown};
+ghost use Rattle.tmw_plain_check.specs.TransactionViews.{txn_of, txns_of, shown};
 
 use crate::order::has_order;
+use crate::text::status_of;
+use crate::transaction::Transaction;
 use std::alloc::{AllocError, Global};
 use tmw_defs::Status;
-use tmw_part::{Transaction, status_of};
 
 /// Tells whether the transactions that some completion of these holds have a legal serial order of their own, from
 /// the start.

@@ -3,11 +3,11 @@ ghost use Rattle.tmw_plain_check.specs.Verdict.{Judges, JudgesBy, Weighs};
 
 use crate::completion::has_completion;
 use crate::order::is_explained;
+use crate::transaction::transactions;
 use crate::whole::{Whole, WholeFault};
 use std::alloc::Global;
 use tmw_defs::Criterion;
 use tmw_events::{Event, Registers};
-use tmw_part::transactions;
 use tmw_wellformed::Tracker;
 
 /// Judges a history whose registers all begin at 0, by opacity. See `judge_whole_for`.

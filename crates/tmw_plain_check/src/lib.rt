@@ -6,6 +6,8 @@ mod completion;
 mod judge;
 mod order;
 mod replay;
+mod text;
+mod transaction;
 mod whole;
 
 pub use judge::{judge_whole, judge_whole_for, judge_whole_from};

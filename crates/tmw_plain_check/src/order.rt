@@ -1,12 +1,20 @@
 ghost use Rattle.std.specs.Prelude.{◌≡◌, ◌-◌, ◌<◌, ◌&&◌, ◌||◌, true, false, IfOk, length, remove};
-ghost use Rattle.tmw_defs.specs.Opaque.{may_hold};
+ghost use Rattle.tmw_defs.specs.Opaque.{precedes, may_hold};
 ghost use Rattle.tmw_defs.specs.Decision.{is_free, may_come, has_order, is_explained};
-ghost use Rattle.tmw_part.specs.Shown.{txn_of, txns_of, shown};
+ghost use Rattle.tmw_plain_check.specs.TransactionViews.{txn_of, txns_of, shown};
 
 use crate::replay::replay;
+use crate::text::{is_ended, status_of};
+use crate::transaction::Transaction;
 use std::alloc::{AllocError, Global};
 use tmw_defs::Status;
-use tmw_part::{Transaction, precedes, status_of};
+
+/// Whether the one precedes the other in real time: it is completed, and its last event is before the other's first.
+fn precedes(one: &Transaction, other: &Transaction) -> bool
+    ensures { result ≡ precedes (txn_of one.now) (txn_of other.now) }
+{
+    is_ended(&one.text) && one.last < other.first
+}
 
 /// Tells whether none of the others precedes the transaction in real time.
 fn is_free(transaction: &Transaction, others: &[&Transaction]) -> bool

@@ -2,7 +2,7 @@ ghost use Rattle.std.specs.Prelude.{[], ◌∷◌};
 ghost use Rattle.tmw_defs.specs.History.{operations};
 ghost use Rattle.tmw_cuts.specs.Replaying.{Replays};
 
-use tmw_cuts::operation;
+use crate::text::operation;
 use tmw_defs::Op;
 use tmw_events::Kind;
 

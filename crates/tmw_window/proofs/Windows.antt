@@ -147,26 +147,6 @@ settled rules h e (Undecided m Transactions) is final = record { same = refl; wi
 settled rules h e (Undecided m States) is final = record { same = refl; within = is.within }
 settled rules h e (Violated m) is final = record { same = refl; within = is.within }
 
--- with an event more, what is wrong first stays so
-first-stays : (Wrong : Rules → List Event → Type 0) (rules : Rules) (h : List Event) (e : Event) (m : ℕ) → IsFirst Wrong rules h m
-    → IsFirst Wrong rules (h ++ e ∷ []) m
-first-stays Wrong rules h e m first =
-    let within = first.within in record {
-      within = (let long = length-push h e in omega (arith, within, long));
-      here = subst (Wrong rules) (sym (take-push m h e within)) first.here;
-      before = λ k less. subst (IsFine rules) (sym (take-push k h e (omega (arith, within, less)))) (first.before k less);
-    }
-
--- and so does a final verdict
-pub verdict-stays : (rules : Rules) (h : List Event) (e : Event) (v : Verdict) → IsVerdict rules h v → (v ≡ so_far rules.criterion → ⊥)
-    → IsVerdict rules (h ++ e ∷ []) v
-verdict-stays rules h e OpaqueSoFar is final = absurd (final (sym (ap so_far is.0)))
-verdict-stays rules h e StrictSoFar is final = absurd (final (sym (ap so_far is.0)))
-verdict-stays rules h e (Malformed m) is final = first-stays IsMalformed rules h e m is
-verdict-stays rules h e (Undecided m Transactions) is final = first-stays IsTooWide rules h e m is
-verdict-stays rules h e (Undecided m States) is final = first-stays IsTooMany rules h e m is
-verdict-stays rules h e (Violated m) is final = first-stays IsViolated rules h e m is
-
 pub shown-final : (rules : Rules) (h : List Event) (e : Event) (v w : Verdict) (from : ℕ) (states : List State) (events : List Event)
     → IsVerdict rules h v → (v ≡ so_far rules.criterion → ⊥) → IsVerdict rules (h ++ e ∷ []) w → IsShown rules h v from states events
     → IsShown rules (h ++ e ∷ []) w from states events

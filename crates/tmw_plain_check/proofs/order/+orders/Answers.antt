@@ -3,7 +3,7 @@ use Rattle.std.proofs.Common.{◌≡◌, sym, ◌∙◌, length, arith, refl}
 use Rattle.std.specs.Prelude.{slice_get, Some}
 use Rattle.std.proofs.lemmas.List.{length-map}
 use Rattle.std.proofs.lemmas.Option.{slice_get_read}
-use Rattle.tmw_part.specs.Shown.{txn_of, shown}
+use Rattle.tmw_plain_check.specs.TransactionViews.{txn_of, shown}
 use Rattle.tmw_plain_check.proofs.OrderSteps.{shown_at, explained_found, explained_none, may_come-whole}
 use Rattle.tmw_plain_check.proofs.order.+orders.Goals as goal
 

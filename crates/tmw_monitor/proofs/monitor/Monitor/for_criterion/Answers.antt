@@ -19,7 +19,9 @@ returns-clause-fits c =
       counted = refl;
       judged = rw c.so_far.ensures (so_far-fine rules [] sums.judged);
       keeps = λ is. record { cut = 0; sums_up = sums; stands = c.open.ensures.stands; tracks = c.new.ensures; witness = c.new-2.ensures.witnesses (members c.in_ok-states.states) (rw c.in_ok-states.ensures (contains_here c.args.start [])) };
+      whole = λ is. refl;
       forgets = λ final. absurd (final c.so_far.ensures);
+      breaks = λ final. absurd (final c.so_far.ensures);
     }
 
 pub returns-clause-keeps : goal.returns-clause-keeps

@@ -2,7 +2,8 @@
 use Rattle.std.proofs.Common.{rules, ◌≡◌, ◌∷◌, [], ◌++◌, length, arith}
 use Rattle.std.proofs.lemmas.Result.{err_from_is_err_and}
 use Rattle.tmw_defs.specs.Criteria.{so_far}
-use Rattle.tmw_monitor.proofs.Feeding.{fits-next, fits-wrong, fits-kept}
+use Rattle.tmw_monitor.specs.Breaking.{TellsTracked}
+use Rattle.tmw_monitor.proofs.Feeding.{fits-final, fits-next, fits-wrong, fits-kept}
 use Rattle.tmw_monitor.proofs.OnlyOpen.{keeps_only_open}
 use Rattle.tmw_monitor.proofs.monitor.Monitor.take.Goals as goal
 
@@ -24,9 +25,13 @@ pub returns-in-Some-clause-ok : goal.returns-in-Some-clause-ok
 returns-in-Some-clause-ok c judged_by history fits =
     let fine : c.args.self.now.verdict ≡ so_far c.args.self.now.criterion = search rules in
     let n : c.args.self.now.count ≡ length history = fits.counted in
-    fits-wrong judged_by history c.args.event c.args.self.now c.in-Some.verdict c.next_wrong.new.kept c.forget.new.self fits
+    let nothing = c.forget.ensures in
+    let told : TellsTracked judged_by.registers history c.args.self.now.kept.tracker c.args.self.now.broken
+    = rw (fits.whole fine) ((fits.keeps fine).tracks) in
+    fits-wrong judged_by history c.args.event c.args.self.now c.in-Some.verdict c.next_wrong.new.kept _ _ fits
     (rw c.in-Some.is at (c.in_ok-wrong.ensures.ok judged_by history fits.criterion fits.window fits.states (omega (arith, n)) (fits.keeps fine)))
-    c.forget.ensures
+    (record { states = nothing.states; stands = nothing.stands })
+    (c.follow-in-Some.ensures judged_by.registers history (omega (arith, n)) told)
 
 pub returns-in-Some-clause-keeps : goal.returns-in-Some-clause-keeps
 returns-in-Some-clause-keeps c judged_by history fits =
@@ -43,8 +48,13 @@ pub returns-in_default-clause-keeps : goal.returns-in_default-clause-keeps
 returns-in_default-clause-keeps c judged_by history fits =
     keeps_only_open judged_by (history ++ c.args.event ∷ []) _ (returns-in_default-clause-ok c judged_by history fits)
 
+pub returns-then-not-is_so_far-clause-ok : goal.returns-then-not-is_so_far-clause-ok
+returns-then-not-is_so_far-clause-ok c judged_by history fits =
+    let final : c.args.self.now.verdict ≡ so_far c.args.self.now.criterion → ⊥ = search rules in
+    let n : c.args.self.now.count ≡ length history = fits.counted in
+    fits-final judged_by history c.args.event c.args.self.now _ _ fits final (let nothing = fits.forgets final in record { states = nothing.states; stands = nothing.stands })
+    (c.follow.ensures judged_by.registers history (omega (arith, n)) (fits.breaks final))
+
 pub returns-then-not-is_so_far-clause-keeps : goal.returns-then-not-is_so_far-clause-keeps
 returns-then-not-is_so_far-clause-keeps c judged_by history fits =
-    let final : c.args.self.now.verdict ≡ so_far c.args.self.now.criterion → ⊥ = search rules in
-    let keeps = keeps_only_open judged_by history c.args.self.now fits in
-    record { holds = λ is. absurd (final is); ended = keeps.ended }
+    keeps_only_open judged_by (history ++ c.args.event ∷ []) _ (returns-then-not-is_so_far-clause-ok c judged_by history fits)
