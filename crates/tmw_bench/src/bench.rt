@@ -94,7 +94,7 @@ pub fn hunt<R: Threads + Wait + Sync, P: Progress>(
     let Hunting { window, .. } = kept;
     Ok(Hunted {
         // The log is never malformed.
-        showing: window.finish(front.monitor(), None),
+        showing: window.finish(front.monitor()),
         summary: front.summary(),
         ends: carried.ends,
         rounds: carried.rounds,

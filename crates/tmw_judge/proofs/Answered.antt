@@ -6,7 +6,9 @@ use Rattle.tmw_trace.specs.declared.header.Header.{Header}
 use Rattle.tmw_counts.specs.declared.summary.Summary.{Summary}
 use Rattle.tmw_defs.specs.declared.criterion.Asked.{Asked}
 use Rattle.tmw_defs.specs.declared.verdict.Verdict.{Verdict}
+use Rattle.tmw_monitor.specs.Breaking.{TellsBroken}
 use Rattle.tmw_monitor.specs.declared.bounds.Bounds.{Bounds}
+use Rattle.tmw_monitor.specs.declared.broken.Broken.{Broken}
 use Rattle.tmw_judge.specs.Answering.{told_verdicts, HasFaultFor, IsAnswer, IsReadFor}
 use Rattle.tmw_judge.specs.Counted.{counted_part, CountsFor, HasSummary, verdicts_of}
 use Rattle.tmw_judge.specs.FeedingFirst.{AreJudgesOf}
@@ -20,13 +22,15 @@ use Rattle.tmw_judge.proofs.FirstOpen.{AreOpenBefore-open, open-told}
 
 -- The reports are those of the monitors, and the counts those of the counter.
 pub answer-fed : {C : Type 0} (Counts : CountsFor C) (first counted : Bool) (bounds : Bounds) (asked : Asked) (Ended : Type 0) (bytes : List ℕ)
-    (judges : Judges C) (reports : ByCriterion Report) (summary : Option Summary)
+    (judges : Judges C) (reports : ByCriterion Report) (summary : Option Summary) (broken : Option Broken)
     → ((header : Header) (bounds : Bounds) (asked : Asked) (history : List Event) → AreFed header bounds asked history judges.monitors
     → AreReports header bounds asked history reports)
     → ((registers : ℕ) (history : List Event) → Counts registers history judges.counting → HasSummary counted history summary)
+    → ((header : Header) (bounds : Bounds) (asked : Asked) (history : List Event) → AreFed header bounds asked history judges.monitors
+    → TellsBroken header.registers.number history broken)
     → AreJudgesOf first Counts bounds asked Ended bytes judges
-    → IsAnswer first counted bounds asked Ended bytes (record { reports = reports; summary = summary })
-answer-fed Counts first counted bounds asked Ended bytes judges reports summary tells sums fed =
+    → IsAnswer first counted bounds asked Ended bytes (record { reports = reports; summary = summary; broken = broken })
+answer-fed Counts first counted bounds asked Ended bytes judges reports summary broken tells sums breaks fed =
     let tell = tells fed.header bounds asked fed.history fed.judged.fed in
     let same : verdicts_of judges.monitors ≡ told_verdicts reports
     = told-same fed.header bounds asked fed.history judges.monitors reports fed.judged.fed tell in
@@ -38,6 +42,7 @@ answer-fed Counts first counted bounds asked Ended bytes judges reports summary 
       tell = tell;
       counts = subst (λ (vs : ByCriterion Verdict). HasSummary counted (counted_part vs fed.history) summary) same
           (sums fed.header.registers.number (counted_part (verdicts_of judges.monitors) fed.history) fed.judged.counted);
+      broken = breaks fed.header bounds asked fed.history fed.judged.fed;
     }
 
 module _ (summary : Bool) (bounds : Bounds) (asked : Asked) (Ended : Type 0) (bytes : List ℕ) (answer : Answer) where

@@ -1,5 +1,5 @@
 -- What `judge` answers, by its options: from the bytes that its source tells to the lines that its sink takes and the exit status.
-use Rattle.std.specs.Prelude.{◌≡◌, ◌⊎◌, ◌++◌, ◌&&◌, ◌<◌, ◌≤◌, ℕ, Bool, true, false, List, [], length, take, Option, Some, None, Result, Ok, Err}
+use Rattle.std.specs.Prelude.{◌≡◌, ◌⊎◌, ◌++◌, ◌&&◌, ◌<◌, ◌≤◌, ℕ, Bool, true, false, List, [], length, take, Option, Some, None, Result, Ok, Err, if◌then◌else◌}
 use Rattle.tmw_lines.specs.ItemsRead.{FailsBehind}
 use Rattle.tmw_lines.specs.TextFault.{EndsSoon, HasFirstLineFault, HasTextFault}
 use Rattle.tmw_lines.specs.declared.text_fault.TextFault.{TextFault}
@@ -12,14 +12,18 @@ use Rattle.tmw_defs.specs.declared.criterion.Asked.{Asked}
 use Rattle.tmw_defs.specs.declared.criterion.Asked.TheVariants as asks
 use Rattle.tmw_defs.specs.declared.criterion.Criterion.TheVariants as by
 use Rattle.tmw_defs.specs.declared.verdict.Verdict.{Verdict}
-use Rattle.tmw_defs.specs.declared.verdict.Verdict.TheVariants.{OpaqueSoFar, StrictSoFar}
+use Rattle.tmw_defs.specs.declared.verdict.Verdict.TheVariants.{OpaqueSoFar, StrictSoFar, Malformed}
 use Rattle.tmw_defs.specs.Verdict.{IsVerdict}
 use Rattle.tmw_counts.specs.declared.summary.Summary.{Summary}
+use Rattle.tmw_monitor.specs.Breaking.{TellsBroken}
 use Rattle.tmw_monitor.specs.declared.bounds.Bounds.{Bounds}
+use Rattle.tmw_monitor.specs.declared.broken.Broken.{Broken}
 use Rattle.tmw_report.specs.declared.fault.Fault.{Fault}
 use Rattle.tmw_report.specs.CommandRun.{AnswersTextFault}
 use Rattle.tmw_report.specs.Quote.{RemarksTrace}
-use Rattle.tmw_report.specs.Remark.{IsRemarkedRun}
+use Rattle.tmw_report.specs.Remark.{IsRemarkedRun, nothing_shown_if}
+use Rattle.tmw_report.specs.declared.remark.Remark.{Remark}
+use Rattle.tmw_report.specs.declared.remark.Remark.TheVariants.{Broken as IsBroken}
 use Rattle.tmw_report.specs.SummaryLine.{summary_text}
 use Rattle.tmw_judge.specs.declared.answer.Answer.{Answer}
 use Rattle.tmw_judge.specs.declared.by_criterion.ByCriterion.{ByCriterion}
@@ -91,7 +95,8 @@ abbrev pub HasFaultFor : Bool → Bounds → Asked → Type 0 → List ℕ → T
 HasFaultFor false bounds asked = HasTextFault trace_grammar
 HasFaultFor true bounds asked = HasFaultInTime bounds asked
 
--- These are the reports on the history that is judged, and, if that is asked for, the counts of its prefix that the verdicts cover.
+-- These are the reports on the history that is judged, the first event of it that fits no run, and, if that is asked for, the counts of
+-- its prefix that the verdicts cover.
 pub record IsAnswer (first summary : Bool) (bounds : Bounds) (asked : Asked) (Ended : Type 0) (bytes : List ℕ) (answer : Answer) : Type 0 where
   pub header : Header
   pub history : List Event
@@ -99,6 +104,7 @@ pub record IsAnswer (first summary : Bool) (bounds : Bounds) (asked : Asked) (En
   pub read : IsReadFor first bounds asked Ended bytes header history (told_verdicts answer.reports)
   pub tell : AreReports header bounds asked history answer.reports
   pub counts : HasSummary summary (counted_part (told_verdicts answer.reports) history) answer.summary
+  pub broken : TellsBroken header.registers.number history answer.broken
 
 -- This answers the bytes that a source told, which are all its bytes where `Ended` holds.
 abbrev pub AnswersBy : Bool → Bool → Bounds → Asked → Type 0 → List ℕ → Result Answer Fault → Type 0
@@ -133,7 +139,26 @@ none_overlapped (Some summary) = summary.none_overlapped
 abbrev pub shows_nothing : Answer → Bool
 shows_nothing answer = all_open (told_verdicts answer.reports) && none_overlapped answer.summary
 
--- What a run of `judge` does. The sink for errors is told where the run shows nothing, and which line has a fault.
+abbrev pub is_malformed : Verdict → Bool
+is_malformed (Malformed at) = true
+is_malformed _ = false
+
+-- Each of these says that the history is malformed.
+abbrev pub are_malformed : ByCriterion Verdict → Bool
+are_malformed (Opacity verdict) = is_malformed verdict
+are_malformed (Strict verdict) = is_malformed verdict
+are_malformed (Both opacity strict) = is_malformed opacity && is_malformed strict
+
+-- An event fits no run, though a verdict says something else of the history; or the run shows nothing.
+abbrev pub remark_by : Option Broken → Answer → Option Remark
+remark_by None answer = nothing_shown_if (shows_nothing answer)
+remark_by (Some broken) answer =
+    if are_malformed (told_verdicts answer.reports) then nothing_shown_if (shows_nothing answer) else Some (IsBroken broken.at)
+
+abbrev pub remark_of : Answer → Option Remark
+remark_of answer = remark_by answer.broken answer
+
+-- What a run of `judge` does. The sink for errors is told a remark on the run, or which line has a fault.
 abbrev pub JudgesWith : {S K E : Type 0} → FromSource S → ToSink K → ToSink E → Options → S → S → K → K → E → E → ℕ → Type 0
 JudgesWith From To Errors options =
-    IsRemarkedRun From To (Answers options) judged_lines judged_status (RemarksTrace Errors shows_nothing)
+    IsRemarkedRun From To (Answers options) judged_lines judged_status (RemarksTrace Errors remark_of)

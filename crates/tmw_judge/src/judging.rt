@@ -13,7 +13,7 @@ use crate::counting::{Counting, StrictUncounted, Uncounted};
 use crate::feeding::feed_events;
 use crate::feeding_first::feed_first;
 use crate::judges::Judges;
-use crate::monitors::{monitors_for, reports_of};
+use crate::monitors::{broken_of, monitors_for, reports_of};
 use crate::options::Options;
 use std::alloc::Global;
 use tmw_counts::Counter;
@@ -67,6 +67,7 @@ fn judge_by<S: Source, E: Sink, C: Counting>(
     Ok(Answer {
         reports: reports_of(&judges.monitors),
         summary: judges.counting.summary(),
+        broken: broken_of(&judges.monitors),
     })
 }
 

@@ -1,14 +1,17 @@
 ghost use Rattle.std.specs.Prelude.{◌≡◌, IfOk, string_bytes};
 ghost use Rattle.tmw_judge.specs.Judging.{report_lines, report_status};
 ghost use Rattle.tmw_judge.specs.Counted.{all_open};
-ghost use Rattle.tmw_judge.specs.Answering.{judged_lines, shows_nothing, told_verdicts};
+ghost use Rattle.tmw_judge.specs.Answering.{are_malformed, is_malformed, judged_lines, remark_of, shows_nothing, told_verdicts};
 
 use crate::answer::Answer;
 use crate::by_criterion::ByCriterion;
 use crate::report::Report;
 use std::alloc::{AllocError, Global};
 use tmw_counts::is_open;
-use tmw_report::{both_status, report_strict, report_text, status_of, summary_text};
+use tmw_monitor::Verdict;
+use tmw_report::{
+    Remark, both_status, nothing_shown_if, report_strict, report_text, status_of, summary_text,
+};
 
 /// Makes the lines that report what was found, a line for each report, and that by opacity first.
 pub fn report_lines(alloc: Global, reports: &ByCriterion<Report>) -> Result<String, AllocError>
@@ -48,8 +51,36 @@ pub const fn status_of_reports(reports: &ByCriterion<Report>) -> u8
     }
 }
 
+/// Returns what is remarked of the run: that it shows nothing, or which event fits no run although no line reports it so.
+pub fn remark_of(answer: &Answer) -> Option<Remark>
+    ensures { result ≡ remark_of answer.now }
+{
+    match answer.broken {
+        Some(broken) if !are_malformed(&answer.reports) => Some(Remark::Broken(broken.at)),
+        _ => nothing_shown_if(shows_nothing(answer)),
+    }
+}
+
+/// Returns whether each report says that the run is malformed.
+const fn are_malformed(reports: &ByCriterion<Report>) -> bool
+    ensures { result ≡ are_malformed (told_verdicts reports.now) }
+{
+    match reports {
+        ByCriterion::Opacity(report) | ByCriterion::Strict(report) => is_malformed(&report.verdict),
+        ByCriterion::Both(opacity, strict) => {
+            is_malformed(&opacity.verdict) && is_malformed(&strict.verdict)
+        }
+    }
+}
+
+const fn is_malformed(verdict: &Verdict) -> bool
+    ensures { result ≡ is_malformed verdict.now }
+{
+    matches!(verdict, Verdict::Malformed(_))
+}
+
 /// Returns whether nothing is wrong by any criterion, and the counts tell that no two transactions overlapped.
-pub const fn shows_nothing(answer: &Answer) -> bool
+const fn shows_nothing(answer: &Answer) -> bool
     ensures { result ≡ shows_nothing answer.now }
 {
     match &answer.summary {

@@ -3,6 +3,7 @@ ghost use Rattle.std.specs.Prelude.{◌≡◌, ◌<◌, ◌^◌, List, [], ◌�
 ghost use Rattle.tmw_defs.specs.Verdict.{Rules};
 ghost use Rattle.tmw_defs.specs.declared.criterion.Asked.{Asked};
 ghost use Rattle.tmw_events.specs.declared.event.Event.{Event};
+ghost use Rattle.tmw_monitor.specs.Breaking.{TellsBroken};
 ghost use Rattle.tmw_monitor.specs.Fitting.{Fits};
 ghost use Rattle.tmw_monitor.specs.Monitor.{fed_of};
 ghost use Rattle.tmw_monitor.specs.declared.bounds.Bounds.{Bounds};
@@ -18,7 +19,7 @@ use std::alloc::{AllocError, Global};
 use tmw_counts::is_open;
 use tmw_defs::{Asked, Criterion};
 use tmw_events::Event;
-use tmw_monitor::{Bounds, Monitor};
+use tmw_monitor::{Bounds, Broken, Monitor};
 use tmw_trace::Header;
 
 /// Makes the monitors for the history of a trace with this header, before its first event.
@@ -112,6 +113,18 @@ pub fn reports_of(monitors: &ByCriterion<Monitor>) -> ByCriterion<Report>
         ByCriterion::Both(opacity, strict) => {
             ByCriterion::Both(report_of(opacity), report_of(strict))
         }
+    }
+}
+
+/// Returns the first event that fits no run, if the monitors were fed one.
+pub fn broken_of(monitors: &ByCriterion<Monitor>) -> Option<Broken>
+    ensures { (header : Header) (bounds : Bounds) (asked : Asked) (history : List Event)
+        → AreFed header bounds asked history monitors.now
+        → TellsBroken header.registers.number history result }
+{
+    match monitors {
+        ByCriterion::Opacity(monitor) | ByCriterion::Strict(monitor) => monitor.broken(),
+        ByCriterion::Both(opacity, _) => opacity.broken(),
     }
 }
 

@@ -3,12 +3,12 @@ ghost use Rattle.tmw_report.specs.declared.fault.Fault.TheVariants.{Memory};
 ghost use Rattle.tmw_report.specs.Lines.{fault_line};
 ghost use Rattle.tmw_report.specs.Putting.{IsPut};
 ghost use Rattle.tmw_report.specs.Remark.{Remarks};
-ghost use Rattle.tmw_judge.specs.Answering.{judged_lines, judged_status, shows_nothing, JudgesWith};
+ghost use Rattle.tmw_judge.specs.Answering.{judged_lines, judged_status, remark_of, JudgesWith};
 ghost use Rattle.tmw_judge.specs.Judging.{JudgesBytes};
 
 use crate::answer::Answer;
 use crate::judging::judge;
-use crate::lines::{judged_lines, shows_nothing, status_of_reports};
+use crate::lines::{judged_lines, remark_of, status_of_reports};
 use crate::options::Options;
 use std::alloc::Global;
 use tmw_defs::Asked;
@@ -38,7 +38,8 @@ pub fn run_judge<S: Source, K: Sink>(
 /// is final: the reports count the events up to that one, at most 4,096 bytes are read behind it, and none of these is
 /// parsed. With `summary` a line of counts follows the reports: of the events up to the one that the verdict names, before
 /// it if that event is malformed, or all; of two verdicts the longer part is counted. The sink for errors is told which
-/// line has a fault; and if the counts show that no two transactions overlapped and nothing is wrong.
+/// line has a fault; if the counts show that no two transactions overlapped and nothing is wrong; and the first event that
+/// fits no run, if it comes after the event of a verdict.
 pub fn run_judge_with<S: Source, K: Sink, E: Sink>(
     alloc: Global,
     source: &mut S,
@@ -56,17 +57,17 @@ pub fn run_judge_with<S: Source, K: Sink, E: Sink>(
 }
 
 /// Writes the answer's lines and returns its exit status. The lines are made before any goes out: after a failed
-/// allocation for one, that fault's line is written instead. Of a run that shows nothing the sink for errors is told.
+/// allocation for one, that fault's line is written instead. A remark on the run goes to the sink for errors.
 fn write_answer<K: Sink, E: Sink>(alloc: Global, sink: &mut K, errors: &mut E, answer: Answer) -> u8
     ensures { (IsPut K.to sink.old sink.new (judged_lines answer) (judged_status answer) result
-        × Remarks E.to (shows_nothing answer) errors.old errors.new)
+        × Remarks E.to (remark_of answer) errors.old errors.new)
         ⊎ (IsPut K.to sink.old sink.new (fault_line Memory) 4 result
         × (errors.new ≡ errors.old)) }
 {
     let Ok(lines) = judged_lines(alloc, &answer) else {
         return answer_fault(sink, Fault::Memory);
     };
-    send_remark(errors, shows_nothing(&answer));
+    send_remark(errors, remark_of(&answer));
     match put_all(sink, lines.as_bytes()) {
         Ok(()) => status_of_reports(&answer.reports),
         Err(_) => FAULT_STATUS,

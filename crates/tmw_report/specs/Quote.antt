@@ -1,5 +1,5 @@
 -- What the sink for errors is told of a fault that is at a line of a trace: which line, what is wrong with it, and how it begins.
-use Rattle.std.specs.Prelude.{◌≡◌, ◌==◌, ◌&&◌, ◌||◌, ◌++◌, ◌+◌, ◌/◌, ◌%◌, ℕ, Bool, false, List, [], ◌∷◌, length, take, get_or, nat_le, nat_lt, Option, Some, None, Result, Ok, Err, codes, if◌then◌else◌}
+use Rattle.std.specs.Prelude.{◌≡◌, ◌==◌, ◌&&◌, ◌||◌, ◌++◌, ◌+◌, ◌/◌, ◌%◌, ℕ, Bool, List, [], ◌∷◌, length, take, get_or, nat_le, nat_lt, Option, Some, None, Result, Ok, Err, codes, if◌then◌else◌}
 use Rattle.std.specs.Fmt.{decimal}
 use Rattle.std.specs.List.{flat_map}
 use Rattle.tmw_lines.specs.Text.{line, line_at}
@@ -7,6 +7,7 @@ use Rattle.tmw_streams.specs.Streams.{ToSink}
 use Rattle.tmw_report.specs.Putting.{IsSent}
 use Rattle.tmw_report.specs.Remark.{Remarks}
 use Rattle.tmw_report.specs.declared.fault.Fault.{Fault}
+use Rattle.tmw_report.specs.declared.remark.Remark.{Remark}
 use Rattle.tmw_report.specs.declared.fault.Fault.TheVariants.{BadHeader, BadLine, Cut}
 
 -- a digit of base sixteen
@@ -59,11 +60,11 @@ QuotesLine Errors None fault bytes old new = new ≡ old
 QuotesLine Errors (Some number) fault bytes old new =
     IsSent Errors old new (line (quote_text number fault (version_in bytes) (line_at number bytes)))
 
--- What a command that reads a trace tells the sink for errors of these bytes: that a run shows nothing, or which line has the fault.
-abbrev pub RemarksTrace : {E Found : Type 0} → ToSink E → (Found → Bool) → List ℕ → Result Found Fault → E → E → Type 0
-RemarksTrace Errors shows_nothing bytes (Ok found) old new = Remarks Errors (shows_nothing found) old new
-RemarksTrace Errors shows_nothing bytes (Err fault) old new = QuotesLine Errors (number_of fault) fault bytes old new
+-- What a command that reads a trace tells the sink for errors of these bytes: a remark on its run, or which line has the fault.
+abbrev pub RemarksTrace : {E Found : Type 0} → ToSink E → (Found → Option Remark) → List ℕ → Result Found Fault → E → E → Type 0
+RemarksTrace Errors remark bytes (Ok found) old new = Remarks Errors (remark found) old new
+RemarksTrace Errors remark bytes (Err fault) old new = QuotesLine Errors (number_of fault) fault bytes old new
 
 -- Only which line has the fault.
 abbrev pub RemarksFault : {E Found : Type 0} → ToSink E → List ℕ → Result Found Fault → E → E → Type 0
-RemarksFault Errors = RemarksTrace Errors (λ found. false)
+RemarksFault Errors = RemarksTrace Errors (λ found. None)

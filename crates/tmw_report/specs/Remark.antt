@@ -1,21 +1,30 @@
--- What a command tells on the sink for errors of a run in which no two transactions overlapped.
-use Rattle.std.specs.Prelude.{◌≡◌, ℕ, Bool, true, false, List, Result, Ok, Err, codes}
+-- What a command tells on the sink for errors of a run beside its report.
+use Rattle.std.specs.Prelude.{◌≡◌, ◌++◌, ℕ, Bool, List, Option, Some, None, Result, Ok, Err, codes, if◌then◌else◌}
+use Rattle.std.specs.Fmt.{decimal}
 use Rattle.tmw_streams.specs.Streams.{FromSource, ToSink}
 use Rattle.tmw_report.specs.CommandRun.{IsCommandRun}
 use Rattle.tmw_report.specs.Putting.{IsSent}
 use Rattle.tmw_report.specs.declared.fault.Fault.{Fault}
+use Rattle.tmw_report.specs.declared.remark.Remark.{Remark}
+use Rattle.tmw_report.specs.declared.remark.Remark.TheVariants.{NothingShown, Broken}
 
-abbrev pub nothing_shown : List ℕ
-nothing_shown = codes "no two transactions overlapped: this run shows nothing\n"
+-- No two transactions overlapped; or the event of this number fits no run.
+abbrev pub remark_text : Remark → List ℕ
+remark_text NothingShown = codes "no two transactions overlapped: this run shows nothing\n"
+remark_text (Broken at) =
+    (codes "event " ++ decimal at) ++ codes " fits no run, so the record may be wrong from the start (RECORDING)\n"
 
--- Where the run shows nothing, that is sent to the sink for errors, and else nothing is.
-abbrev pub Remarks : {E : Type 0} → ToSink E → Bool → E → E → Type 0
-Remarks Errors true old new = IsSent Errors old new nothing_shown
-Remarks Errors false old new = new ≡ old
+abbrev pub nothing_shown_if : Bool → Option Remark
+nothing_shown_if shows_nothing = if shows_nothing then Some NothingShown else None
+
+-- The remark is sent to the sink for errors. If there is none, nothing is.
+abbrev pub Remarks : {E : Type 0} → ToSink E → Option Remark → E → E → Type 0
+Remarks Errors None old new = new ≡ old
+Remarks Errors (Some remark) old new = IsSent Errors old new (remark_text remark)
 
 -- An answer tells it if its run shows nothing. A fault tells nothing.
 abbrev pub RemarksRun : {E Found : Type 0} → ToSink E → (Found → Bool) → List ℕ → Result Found Fault → E → E → Type 0
-RemarksRun Errors shows_nothing bytes (Ok found) old new = Remarks Errors (shows_nothing found) old new
+RemarksRun Errors shows_nothing bytes (Ok found) old new = Remarks Errors (nothing_shown_if (shows_nothing found)) old new
 RemarksRun Errors shows_nothing bytes (Err fault) old new = new ≡ old
 
 -- A run of a command that may also tell the sink for errors something of the bytes and their answer.

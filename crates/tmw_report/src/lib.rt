@@ -15,7 +15,7 @@ pub use answer::{answer_fault, fault_of};
 pub use fault::Fault;
 pub use fault_line::write_fault;
 pub use quote::quote_fault;
-pub use remark::send_remark;
+pub use remark::{Remark, nothing_shown_if, send_remark};
 pub use report_line::{report_by, report_strict, report_text};
 pub use status::{FAULT_STATUS, both_status, status_of};
 pub use summary_line::summary_text;

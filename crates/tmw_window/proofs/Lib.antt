@@ -2,7 +2,6 @@ mod Alike
 mod Behind
 mod Outcomes
 mod Part
-pub mod Reasons
 mod ShownStates
 mod Single
 mod Taking

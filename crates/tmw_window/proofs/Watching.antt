@@ -9,15 +9,13 @@ use Rattle.tmw_window.specs.Keeping.{KeepsSame}
 use Rattle.tmw_window.specs.Watching.{Watches}
 use Rattle.tmw_window.specs.declared.kept_window.KeptWindow.{KeptWindow}
 use Rattle.tmw_window.specs.declared.last_window.LastWindow.{LastWindow}
-use Rattle.tmw_window.proofs.Reasons.{reason-same}
 use Rattle.tmw_window.proofs.Windows.{kept-same, shown-same}
 
 pub watches-kept : (rules : Rules) (h : List Event) (old : LastWindow) (new : Monitor) (kept : KeptWindow) → Watches rules h old
-    → Fits rules h new → KeepsSame old.kept kept → Watches rules h (record { monitor = new; kept = kept; reason = old.reason })
+    → Fits rules h new → KeepsSame old.kept kept → Watches rules h (record { monitor = new; kept = kept })
 watches-kept rules h old new kept watches fits same = record {
   fits = fits;
   shown = kept-same rules h new.verdict old.kept kept same
       (shown-same rules h old.monitor.verdict new.verdict old.kept.from (members old.kept.states) old.kept.events.items old.kept.events.items
       watches.fits.judged fits.judged watches.shown refl);
-  reasons = reason-same rules h old.monitor.verdict new.verdict old.reason watches.fits.judged fits.judged watches.reasons;
 }

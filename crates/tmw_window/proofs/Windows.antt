@@ -21,6 +21,7 @@ use Rattle.tmw_defs.specs.Windows.{between}
 use Rattle.tmw_defs.proofs.Criteria.{formed-final}
 use Rattle.tmw_defs.proofs.VerdictProof.{verdict-one, so_far-fine, sums_up-new}
 use Rattle.tmw_defs.proofs.WindowsProof.{length-push, take-push, between-open}
+use Rattle.tmw_monitor.proofs.Final.{verdict-stays}
 use Rattle.tmw_monitor.specs.Holding.{AreLastOutcomes}
 use Rattle.tmw_window.specs.Shown.{shown_length, before_shown, IsShown}
 use Rattle.tmw_window.specs.Keeping.{KeepsSame, KeepsShown}

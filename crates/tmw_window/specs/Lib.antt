@@ -1,6 +1,5 @@
 pub mod Feeding
 pub mod Keeping
-pub mod Reasons
 pub mod Showing
 pub mod Shown
 pub mod StatesLaw

@@ -6,10 +6,8 @@ use Rattle.tmw_monitor.specs.Fitting.{Fits}
 use Rattle.tmw_monitor.specs.Monitor.{verdict_of}
 use Rattle.tmw_monitor.specs.declared.monitor.Monitor.{Monitor}
 use Rattle.tmw_window.specs.Keeping.{KeepsShown}
-use Rattle.tmw_window.specs.Reasons.{KeepsReason}
 use Rattle.tmw_window.specs.declared.kept_window.KeptWindow.{KeptWindow}
 use Rattle.tmw_window.specs.declared.last_window.LastWindow.{LastWindow}
-use Rattle.tmw_window.specs.declared.reason.Reason.{Reason}
 
 -- The monitor that judges the history.
 abbrev pub monitor_of : LastWindow → Monitor
@@ -19,13 +17,8 @@ monitor_of window = window.monitor
 abbrev pub window_of : LastWindow → KeptWindow
 window_of window = window.kept
 
--- And what it keeps for the reason where the history is malformed.
-abbrev pub reason_of : LastWindow → Reason
-reason_of window = window.reason
-
--- Its monitor has been fed the history, and what it keeps beside that is what is shown of the history, and why it is malformed, and
--- no more.
+-- Its monitor has been fed the history, and what it keeps beside that is what is shown of the history, and no
+-- more.
 pub record Watches (rules : Rules) (history : List Event) (window : LastWindow) : Type 0 where
   pub fits : Fits rules history (monitor_of window)
   pub shown : KeepsShown rules history (verdict_of (monitor_of window)) (window_of window)
-  pub reasons : KeepsReason rules history (verdict_of (monitor_of window)) (reason_of window)

@@ -12,7 +12,6 @@ use std::alloc::{AllocError, Global};
 use tmw_cuts::States;
 use tmw_events::Event;
 use tmw_monitor::Monitor;
-use tmw_wellformed::Malformed;
 
 /// The last window of a history that a monitor judges, up to the event at which something is wrong, and the states
 /// from which it begins. No event before it is kept.
@@ -25,7 +24,6 @@ pub struct KeptWindow {
 
 impl KeptWindow {
     ghost use Rattle.tmw_window.specs.Keeping.{HasPlaceFor, IsNext, KeepsSame, KeepsShown, events_of, from_of, states_of};
-    ghost use Rattle.tmw_window.specs.Reasons.{IsReason};
     ghost use Rattle.tmw_window.specs.Showing.{IsShowing};
 
     /// Makes what is kept before the first event that the monitor is fed.
@@ -106,18 +104,16 @@ impl KeptWindow {
         &self.events
     }
 
-    /// Returns what is shown of the run that the monitor was fed, if no event follows. The fault is that of the event at
-    /// which the run is malformed, if it is.
-    pub fn finish(self, monitor: &Monitor, fault: Option<Malformed>) -> Showing
+    /// Returns what is shown of the run that the monitor was fed, if no event follows.
+    pub fn finish(self, monitor: &Monitor) -> Showing
         ensures { (rules : Rules) (history : List Event) → Fits rules history monitor.now
             → KeepsShown rules history (verdict_of monitor.now) self
-            → IsReason rules history (verdict_of monitor.now) fault
             → IsShowing rules history result }
     {
         Showing {
             fed: monitor.fed(),
             verdict: monitor.verdict(),
-            fault,
+            broken: monitor.broken(),
             from: self.from,
             states: self.states,
             events: self.events,

@@ -6,7 +6,6 @@ ghost use Rattle.tmw_monitor.specs.Fitting.{rules_for};
 ghost use Rattle.tmw_monitor.specs.Monitor.{IsOpen, fed_of};
 
 use crate::kept_window::KeptWindow;
-use crate::reason::Reason;
 use crate::showing::Showing;
 use std::alloc::{AllocError, Global};
 use tmw_cuts::{State, States};
@@ -19,7 +18,6 @@ use tmw_monitor::{Bounds, Criterion, Monitor, Verdict};
 pub struct LastWindow {
     monitor: Monitor,
     kept: KeptWindow,
-    reason: Reason,
 }
 
 impl LastWindow {
@@ -41,12 +39,7 @@ impl LastWindow {
     {
         let monitor = Monitor::for_criterion(alloc, criterion, registers, start, bounds)?;
         let kept = KeptWindow::new(alloc, &monitor)?;
-        let reason = Reason::new(registers);
-        Ok(LastWindow {
-            monitor,
-            kept,
-            reason,
-        })
+        Ok(LastWindow { monitor, kept })
     }
 
     /// Takes the next event. After a failed allocation the event is not taken: feed it again.
@@ -62,13 +55,9 @@ impl LastWindow {
         // After a verdict that something is wrong each call succeeds.
         ensures stays { (IsOpen (monitor_of self.old) → ⊥) → IsOk result }
     {
-        let open = self.monitor.is_open();
         let next = self.kept.make_room(&self.monitor)?;
         self.monitor.feed(event)?;
         self.kept.take(next, event);
-        if open {
-            self.reason.take(event);
-        }
         Ok(())
     }
 
@@ -115,6 +104,6 @@ impl LastWindow {
         ensures { (rules : Rules) (history : List Event) → Watches rules history self
             → IsShowing rules history result }
     {
-        self.kept.finish(&self.monitor, self.reason.fault())
+        self.kept.finish(&self.monitor)
     }
 }

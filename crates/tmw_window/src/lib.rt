@@ -6,7 +6,6 @@ mod kept_window;
 mod last_window;
 mod law;
 mod next_shown;
-mod reason;
 mod showing;
 
 pub use kept_window::KeptWindow;

@@ -1,7 +1,6 @@
 use tmw_cuts::States;
 use tmw_events::Event;
-use tmw_monitor::Verdict;
-use tmw_wellformed::Malformed;
+use tmw_monitor::{Broken, Verdict};
 
 /// What is shown of a run: its last window, up to the event at which something is wrong, and the states from which that begins.
 #[derive(Debug, Drop)]
@@ -10,8 +9,8 @@ pub struct Showing {
     pub fed: u64,
     /// The verdict on them.
     pub verdict: Verdict,
-    /// If they are malformed: the first fault of the event at which they are.
-    pub fault: Option<Malformed>,
+    /// The first event that fits no run, if one does not: after a final verdict too.
+    pub broken: Option<Broken>,
     /// How many events stand before the window.
     pub from: u64,
     /// The states from which it begins, in rising order, 1 to 64.

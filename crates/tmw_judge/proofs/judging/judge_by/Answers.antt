@@ -8,6 +8,6 @@ returns-clause-right g c =
       told.0,
       told.1,
       answer-fed g.C.Counting.counts c.args.options.first g.C.Counting.counted c.args.options.bounds c.args.options.asked _ told.0 c.in_ok-judges.judges
-          c.reports_of.result c.summary.result c.reports_of.ensures c.summary.ensures told.2,
+          c.reports_of.result c.summary.result c.broken_of.result c.reports_of.ensures c.summary.ensures c.broken_of.ensures told.2,
       told.3,
     )

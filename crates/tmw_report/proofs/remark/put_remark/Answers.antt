@@ -1,0 +1,7 @@
+use Rattle.tmw_report.proofs.remark.put_remark.Goals as goal
+
+pub returns-in-NothingShown : goal.returns-in-NothingShown
+returns-in-NothingShown g c = rw c.in-NothingShown.is c.put_all.ensures
+
+pub returns-in-Broken : goal.returns-in-Broken
+returns-in-Broken g c = rw c.in-Broken.is c.put_numbered.ensures
