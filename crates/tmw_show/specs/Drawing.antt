@@ -18,6 +18,7 @@ use Rattle.tmw_defs.specs.declared.verdict.Why.TheVariants.{Transactions, States
 use Rattle.tmw_wellformed.specs.declared.malformed.Malformed.{Malformed as Fault}
 use Rattle.tmw_wellformed.specs.declared.malformed.Malformed.TheVariants.{Register, Busy, Idle, Mismatch}
 use Rattle.tmw_part.specs.Kept.{kept_of}
+use Rattle.tmw_monitor.specs.declared.broken.Broken.{Broken}
 use Rattle.tmw_show.specs.declared.command.told.Told.{Told}
 
 -- so many blanks
@@ -63,23 +64,26 @@ undecided_text Transactions = codes "undecided, by transactions"
 undecided_text States = codes "undecided, by states"
 
 -- and for the rule that its last event broke
-abbrev pub malformed_text : Option Fault → List ℕ
-malformed_text (Some Register) = codes "malformed: the register is not one of the run's"
-malformed_text (Some Busy) = codes "malformed: the thread has a pending call already"
-malformed_text (Some Idle) = codes "malformed: no call of the thread is pending"
-malformed_text (Some Mismatch) = codes "malformed: the answer does not fit the call"
+abbrev pub rule_text : Fault → List ℕ
+rule_text Register = codes "malformed: the register is not one of the run's"
+rule_text Busy = codes "malformed: the thread has a pending call already"
+rule_text Idle = codes "malformed: no call of the thread is pending"
+rule_text Mismatch = codes "malformed: the answer does not fit the call"
+
+abbrev pub malformed_text : Option Broken → List ℕ
+malformed_text (Some broken) = rule_text broken.rule
 malformed_text None = codes "malformed"
 
 -- the mark of the event of this number: what is wrong there, where it is the verdict's, and else nothing
-abbrev pub mark_text : Criterion → Option Fault → Verdict → ℕ → List ℕ
-mark_text criterion fault (Violated at) number = if number == at then violated_text criterion else []
-mark_text criterion fault (Undecided at why) number = if number == at then undecided_text why else []
-mark_text criterion fault (Malformed at) number = if number == at then malformed_text fault else []
-mark_text criterion fault _ number = []
+abbrev pub mark_text : Criterion → Option Broken → Verdict → ℕ → List ℕ
+mark_text criterion broken (Violated at) number = if number == at then violated_text criterion else []
+mark_text criterion broken (Undecided at why) number = if number == at then undecided_text why else []
+mark_text criterion broken (Malformed at) number = if number == at then malformed_text broken else []
+mark_text criterion broken _ number = []
 
 -- what is told of that event
 abbrev pub told_text : Told → ℕ → List ℕ
-told_text told number = mark_text told.criterion told.fault told.verdict number
+told_text told number = mark_text told.criterion told.broken told.verdict number
 
 -- what is told stands two places behind the heads, or behind a row that is longer than they
 abbrev pub beside : ℕ → List ℕ → List ℕ

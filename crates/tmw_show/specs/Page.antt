@@ -67,7 +67,7 @@ settled_at (Malformed at) = Some at
 
 -- What is told of the event at which something is wrong.
 abbrev pub told_of : Criterion → Shown → Told
-told_of criterion shown = record { criterion = criterion; verdict = shown.showing.verdict; fault = shown.showing.fault }
+told_of criterion shown = record { criterion = criterion; verdict = shown.showing.verdict; broken = shown.showing.broken }
 
 -- that event, and what is told of it
 abbrev pub mark_at : Told → Option ℕ → List ℕ

@@ -1,17 +1,22 @@
 -- What `show` promises: from the bytes that its source tells to what its sink takes and the exit status.
-use Rattle.std.specs.Prelude.{◌≡◌, ℕ, List, ◌++◌, Result, Ok, Err}
+use Rattle.std.specs.Prelude.{◌≡◌, ℕ, List, ◌++◌, Option, Some, None, Result, Ok, Err}
 use Rattle.tmw_lines.specs.TextFault.{HasTextFault}
 use Rattle.tmw_trace.specs.Text.{trace_grammar, trace_text, AreEvents}
 use Rattle.tmw_trace.specs.declared.header.Header.{Header}
 use Rattle.tmw_events.specs.declared.event.Event.{Event}
 use Rattle.tmw_defs.specs.declared.criterion.Criterion.{Criterion}
+use Rattle.tmw_defs.specs.declared.verdict.Verdict.{Verdict}
+use Rattle.tmw_defs.specs.declared.verdict.Verdict.TheVariants.{Malformed}
 use Rattle.tmw_cuts.specs.Members.{members}
+use Rattle.tmw_monitor.specs.declared.broken.Broken.{Broken}
 use Rattle.tmw_monitor.specs.Fitting.{rules_for}
 use Rattle.tmw_report.specs.declared.fault.Fault.{Fault}
 use Rattle.tmw_report.specs.Lines.{report_by, verdict_status}
 use Rattle.tmw_report.specs.CommandRun.{AnswersTextFault}
-use Rattle.tmw_report.specs.Quote.{RemarksFault}
+use Rattle.tmw_report.specs.Quote.{RemarksTrace}
 use Rattle.tmw_report.specs.Remark.{IsRemarkedRun}
+use Rattle.tmw_report.specs.declared.remark.Remark.{Remark}
+use Rattle.tmw_report.specs.declared.remark.Remark.TheVariants.{Broken as IsBroken}
 use Rattle.tmw_streams.specs.Streams.{FromSource, ToSink}
 use Rattle.tmw_window.specs.Showing.{IsShowing}
 use Rattle.tmw_part.specs.Kept.{kept_of}
@@ -64,8 +69,17 @@ shown_text criterion Page shown = page_text criterion shown
 abbrev pub shown_status : Shown → ℕ
 shown_status shown = verdict_status shown.showing.verdict
 
+-- An event after the one that the verdict names fits no run.
+abbrev pub remark_by : Option Broken → Verdict → Option Remark
+remark_by None verdict = None
+remark_by (Some broken) (Malformed at) = None
+remark_by (Some broken) _ = Some (IsBroken broken.at)
+
+abbrev pub remark_of : Shown → Option Remark
+remark_of shown = remark_by shown.showing.broken shown.showing.verdict
+
 -- What a run of `show` does: an answer to the bytes that its source tells in it, and the answer's text to its sink. The sink for
--- errors is told which line has a fault.
+-- errors is told a remark on the run, or which line has a fault.
 abbrev pub ShowsBytes : {S K E : Type 0} → FromSource S → ToSink K → ToSink E → ShowOptions → S → S → K → K → E → E → ℕ → Type 0
 ShowsBytes From To Errors options =
-    IsRemarkedRun From To (AnswersShow options) (shown_text options.criterion options.form) shown_status (RemarksFault Errors)
+    IsRemarkedRun From To (AnswersShow options) (shown_text options.criterion options.form) shown_status (RemarksTrace Errors remark_of)

@@ -2,7 +2,7 @@ ghost use Rattle.std.specs.Prelude.{◌≡◌, ◌&&◌, ◌+◌, ◌≤◌, ◌
 ghost use Rattle.tmw_counts.specs.Parts.{is_open};
 ghost use Rattle.tmw_report.specs.Lines.{fault_line};
 ghost use Rattle.tmw_report.specs.Putting.{IsPut};
-ghost use Rattle.tmw_report.specs.Remark.{Remarks};
+ghost use Rattle.tmw_report.specs.Remark.{Remarks, nothing_shown_if};
 ghost use Rattle.tmw_report.specs.declared.fault.Fault.TheVariants.{Memory};
 ghost use Rattle.tmw_command.specs.BenchRun.{bench_lines, bench_shows_nothing, bench_status, bench_text, hunt_shows_nothing, hunt_status, hunt_text, last_lines};
 
@@ -15,7 +15,9 @@ use tmw_args::BenchOptions;
 use tmw_counts::{Summary, is_open};
 use tmw_defs::{Criterion, Verdict};
 use tmw_drive::Ending;
-use tmw_report::{FAULT_STATUS, Fault, answer_fault, report_text, send_remark, status_of};
+use tmw_report::{
+    FAULT_STATUS, Fault, answer_fault, nothing_shown_if, report_text, send_remark, status_of,
+};
 use tmw_show::{Form, shown_text};
 use tmw_streams::{Sink, put_all};
 
@@ -30,7 +32,7 @@ pub fn answer_run<K: Sink, E: Sink>(
     run: &BenchRun,
 ) -> u8
     ensures { (IsPut K.to sink.old sink.new (bench_text options.now run.now) (bench_status run.now) result
-        × Remarks E.to (bench_shows_nothing run.now) errors.old errors.new)
+        × Remarks E.to (nothing_shown_if (bench_shows_nothing run.now)) errors.old errors.new)
         ⊎ (IsPut K.to sink.old sink.new (fault_line Memory) 4 result
         × (errors.new ≡ errors.old)) }
 {
@@ -38,7 +40,8 @@ pub fn answer_run<K: Sink, E: Sink>(
         return answer_fault(sink, Fault::Memory);
     };
     let verdict = &run.driven.outcome.verdict;
-    send_remark(errors, shows_nothing(verdict, &run.driven.summary));
+    let nothing_shown = shows_nothing(verdict, &run.driven.summary);
+    send_remark(errors, nothing_shown_if(nothing_shown));
     match put_driven(sink, &run.driven, true, lines.as_bytes()) {
         Ok(()) => status_of(verdict),
         Err(_) => FAULT_STATUS,
@@ -75,17 +78,15 @@ pub fn answer_hunt<K: Sink, E: Sink>(
     requires { run.now.shown.showing.from + length
         run.now.shown.showing.events.items ≤ run.now.shown.showing.fed }
     ensures { (IsPut K.to sink.old sink.new (hunt_text options.now run.now) (hunt_status run.now) result
-        × Remarks E.to (hunt_shows_nothing run.now) errors.old errors.new)
+        × Remarks E.to (nothing_shown_if (hunt_shows_nothing run.now)) errors.old errors.new)
         ⊎ (IsPut K.to sink.old sink.new (fault_line Memory) 4 result
         × (errors.new ≡ errors.old)) }
 {
     let Ok(text) = text_of(alloc, options, run) else {
         return answer_fault(sink, Fault::Memory);
     };
-    send_remark(
-        errors,
-        shows_nothing(&run.shown.showing.verdict, &run.summary),
-    );
+    let nothing_shown = shows_nothing(&run.shown.showing.verdict, &run.summary);
+    send_remark(errors, nothing_shown_if(nothing_shown));
     match put_all(sink, &text) {
         Ok(()) => status_of(&run.shown.showing.verdict),
         Err(_) => FAULT_STATUS,

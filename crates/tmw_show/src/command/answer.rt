@@ -1,37 +1,54 @@
-ghost use Rattle.std.specs.Prelude.{◌+◌, ◌≤◌, ◌⊎◌, length};
+ghost use Rattle.std.specs.Prelude.{◌≡◌, ◌+◌, ◌≤◌, ◌⊎◌, length};
 ghost use Rattle.tmw_report.specs.Lines.{fault_line};
 ghost use Rattle.tmw_report.specs.Putting.{IsPut};
+ghost use Rattle.tmw_report.specs.Remark.{Remarks};
 ghost use Rattle.tmw_report.specs.declared.fault.Fault.TheVariants.{Memory};
-ghost use Rattle.tmw_show.specs.Running.{shown_status, shown_text};
+ghost use Rattle.tmw_show.specs.Running.{remark_by, remark_of, shown_status, shown_text};
 
 use crate::command::form::Form;
 use crate::command::shown::Shown;
 use crate::command::text::shown_text;
 use std::alloc::Global;
-use tmw_defs::Criterion;
-use tmw_report::{FAULT_STATUS, Fault, answer_fault, status_of};
+use tmw_defs::{Criterion, Verdict};
+use tmw_report::{FAULT_STATUS, Fault, Remark, answer_fault, send_remark, status_of};
 use tmw_streams::{Sink, put_all};
+use tmw_window::Showing;
 
 /// Writes what is shown in this form, and returns the exit status. The text is made before any of it
-/// goes out: after a failed allocation for it, that fault's line is written instead.
-pub fn answer_shown<K: Sink>(
+/// goes out: after a failed allocation for it, that fault's line is written instead. A remark on the run goes to the sink
+/// for errors.
+pub fn answer_shown<K: Sink, E: Sink>(
     alloc: Global,
     sink: &mut K,
+    errors: &mut E,
     criterion: Criterion,
     form: Form,
     shown: &Shown,
 ) -> u8
     requires { shown.now.showing.from + length
         shown.now.showing.events.items ≤ shown.now.showing.fed }
-    ensures { IsPut K.to sink.old sink.new (shown_text criterion form shown.now)
+    ensures { (IsPut K.to sink.old sink.new (shown_text criterion form shown.now)
         (shown_status shown.now) result
-        ⊎ IsPut K.to sink.old sink.new (fault_line Memory) 4 result }
+        × Remarks E.to (remark_of shown.now) errors.old errors.new)
+        ⊎ (IsPut K.to sink.old sink.new (fault_line Memory) 4 result
+        × (errors.new ≡ errors.old)) }
 {
     let Ok(text) = shown_text(alloc, criterion, form, shown) else {
         return answer_fault(sink, Fault::Memory);
     };
+    send_remark(errors, remark_of(&shown.showing));
     match put_all(sink, &text) {
         Ok(()) => status_of(&shown.showing.verdict),
         Err(_) => FAULT_STATUS,
+    }
+}
+
+/// Returns the remark that an event after the one which the verdict names fits no run, if one does not.
+fn remark_of(showing: &Showing) -> Option<Remark>
+    ensures { result ≡ remark_by showing.now.broken showing.now.verdict }
+{
+    match (showing.broken, showing.verdict) {
+        (None, _) | (Some(_), Verdict::Malformed(_)) => None,
+        (Some(broken), _) => Some(Remark::Broken(broken.at)),
     }
 }

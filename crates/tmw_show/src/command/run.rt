@@ -15,7 +15,8 @@ use tmw_streams::{Sink, Source};
 /// page of HTML that draws the same, and needs no other file and no network. With `why` only the events of a violated window are
 /// drawn, or written as traces, that contradict each other; the page marks them. The trace is read once. Returns the exit
 /// status: 0 if nothing is wrong so far, 1 for violated, 2 for undecided, 3 for malformed, 4 for any fault, whose line alone
-/// is written. The sink for errors is told which line of the trace has a fault.
+/// is written. The sink for errors is told which line of the trace has a fault, or the first event
+/// that fits no run, if it comes after the event of the verdict.
 pub fn run_show<S: Source, K: Sink, E: Sink>(
     alloc: Global,
     source: &mut S,
@@ -27,7 +28,7 @@ pub fn run_show<S: Source, K: Sink, E: Sink>(
         source.old source.new sink.old sink.new errors.old errors.new result }
 {
     match show_trace(alloc, source, errors, options) {
-        Ok(shown) => answer_shown(alloc, sink, options.criterion, options.form, &shown),
+        Ok(shown) => answer_shown(alloc, sink, errors, options.criterion, options.form, &shown),
         Err(fault) => answer_fault(sink, fault),
     }
 }

@@ -56,7 +56,7 @@ fn drawn_text(alloc: Global, criterion: Criterion, shown: &Shown) -> Result<Vec<
     let told = Told {
         criterion,
         verdict: showing.verdict,
-        fault: showing.fault,
+        broken: showing.broken,
     };
     let marks = marks_of(alloc, &shown.needed, &showing.events)?;
     push_window(&mut text, told, showing.from, &marks, &showing.events)?;

@@ -1,7 +1,8 @@
 ghost use Rattle.std.specs.Prelude.{◌≡◌};
-ghost use Rattle.tmw_show.specs.Drawing.{malformed_text, told_text, undecided_text, violated_text};
+ghost use Rattle.tmw_show.specs.Drawing.{malformed_text, rule_text, told_text, undecided_text, violated_text};
 
 use tmw_defs::{Criterion, Verdict, Why};
+use tmw_monitor::Broken;
 use tmw_wellformed::Malformed;
 
 /// What is told of a run at the event at which something is wrong with it.
@@ -9,8 +10,8 @@ use tmw_wellformed::Malformed;
 pub struct Told {
     pub criterion: Criterion,
     pub verdict: Verdict,
-    /// The first fault of the event at which the run is malformed, if it is.
-    pub fault: Option<Malformed>,
+    /// The first event that fits no run, if one does not.
+    pub broken: Option<Broken>,
 }
 
 /// Returns what is printed beside the event of this number: what is wrong there if the verdict names it, else
@@ -30,7 +31,7 @@ pub fn told_of(told: Told, number: u64) -> &'static str
         Verdict::Undecided(at, why) => { if number == at { undecided_of(why) } else { "" } }
         Verdict::Malformed(at) => {
             if number == at {
-                malformed_of(told.fault)
+                malformed_of(told.broken)
             } else {
                 ""
             }
@@ -58,15 +59,24 @@ fn undecided_of(why: Why) -> &'static str
     }
 }
 
-/// The words for a prefix whose last event has this fault.
-fn malformed_of(fault: Option<Malformed>) -> &'static str
-    ensures { result.now ≡ malformed_text fault }
+/// The words for a prefix whose last event fits no run.
+fn malformed_of(broken: Option<Broken>) -> &'static str
+    ensures { result.now ≡ malformed_text broken }
 {
-    match fault {
-        Some(Malformed::Register) => "malformed: the register is not one of the run's",
-        Some(Malformed::Busy) => "malformed: the thread has a pending call already",
-        Some(Malformed::Idle) => "malformed: no call of the thread is pending",
-        Some(Malformed::Mismatch) => "malformed: the answer does not fit the call",
+    match broken {
+        Some(broken) => rule_of(broken.rule),
         None => "malformed",
+    }
+}
+
+/// The words for the rule that it breaks.
+fn rule_of(rule: Malformed) -> &'static str
+    ensures { result.now ≡ rule_text rule }
+{
+    match rule {
+        Malformed::Register => "malformed: the register is not one of the run's",
+        Malformed::Busy => "malformed: the thread has a pending call already",
+        Malformed::Idle => "malformed: no call of the thread is pending",
+        Malformed::Mismatch => "malformed: the answer does not fit the call",
     }
 }

@@ -1,5 +1,5 @@
 -- The last window of the log is kept.
-use Rattle.std.proofs.Common.{◌≡◌, None, ap, ◌∙◌, subst, sym}
+use Rattle.std.proofs.Common.{◌≡◌, ap, ◌∙◌, subst, sym}
 use Rattle.tmw_bench.specs.Benched.{HasBenched}
 use Rattle.tmw_counts.specs.Parts.{part_by}
 use Rattle.tmw_counts.specs.Summaries.{IsSummary}
@@ -12,8 +12,6 @@ use Rattle.tmw_pump.specs.Fronts.{front_part}
 use Rattle.tmw_pump.specs.declared.front.Front.{Front}
 use Rattle.tmw_runs.specs.Scripts.{scripts_of}
 use Rattle.tmw_window.specs.Keeping.{KeepsShown}
-use Rattle.tmw_window.specs.Reasons.{IsReason}
-use Rattle.tmw_window.proofs.Reasons.{none-told}
 use Rattle.tmw_bench.proofs.bench.hunt.Goals as goal
 
 pub returns-clause-ok : goal.returns-clause-ok
@@ -27,11 +25,9 @@ returns-clause-ok g c =
     let log = carried.rest.front.judged.items in
     let back = c.into_kept-front.ensures in
     let same = sym (c.monitor.ensures ∙ ap (λ (front : Front). front.monitor) back.front) in
-    let reason = none-told rules log carried.rest.front.monitor.verdict done.benched.formed in
     let shown = c.finish.ensures rules log (subst (λ (m : Monitor). Fits rules log m) same done.kept.fits)
     (subst (λ kept. KeepsShown rules log c.monitor.result.now.verdict kept.window) (sym back.kept)
-    (subst (λ (m : Monitor). KeepsShown rules log m.verdict carried.rest.kept.window) same done.kept.keeps_it))
-    (subst (λ (m : Monitor). IsReason rules log m.verdict None) same reason) in
+    (subst (λ (m : Monitor). KeepsShown rules log m.verdict carried.rest.kept.window) same done.kept.keeps_it)) in
     let verdict : carried.rest.front.monitor.verdict ≡ c.finish.result.verdict =
     verdict-one rules log carried.rest.front.monitor.verdict c.finish.result.verdict done.kept.fits.judged shown.judged in record {
       log = log;

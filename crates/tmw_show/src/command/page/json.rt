@@ -36,7 +36,7 @@ pub fn push_json(
     let told = Told {
         criterion,
         verdict: showing.verdict,
-        fault: showing.fault,
+        broken: showing.broken,
     };
     push_mark(text, told)?;
     push_needed(text, &shown.needed)?;

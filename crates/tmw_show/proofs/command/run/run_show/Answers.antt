@@ -16,8 +16,8 @@ returns-in-Ok g c =
     let told = c.in-Ok.ensures.right in
     elim c.answer_shown.ensures [
       | inl put ↦ record {
-        run = record { bytes = told.0; answer = Ok c.in-Ok.shown; told = told.1; right = told.2; failures = c.in-Ok.ensures.failures; put = put };
-        remarked = told.3;
+        run = record { bytes = told.0; answer = Ok c.in-Ok.shown; told = told.1; right = told.2; failures = c.in-Ok.ensures.failures; put = put.0 };
+        remarked = rw told.3 at put.1;
       }
       | inr put ↦ record {
         run = record {
@@ -26,9 +26,9 @@ returns-in-Ok g c =
           told = told.1;
           right = (WantsMemory, refl, trace-soon told.2.1.header told.2.1.history told.0 told.2.1.are_events told.2.1.text);
           failures = c.in-Ok.ensures.failures;
-          put = put;
+          put = put.0;
         };
-        remarked = told.3;
+        remarked = rw told.3 at put.1;
       }
     ]
 
