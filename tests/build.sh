@@ -1,5 +1,6 @@
 #!/usr/bin/env bash
-# Ends ./build by SIGTERM while it proves, and looks whether a process or a folder is left. Nothing is built.
+# Ends ./build by SIGTERM while it proves, and looks whether a process or a folder is left. Runs the gate beside what a build leaves in the
+# repository. Nothing is built.
 #
 #   tests/build.sh
 #
@@ -38,8 +39,26 @@ none_left() {
     [ -z "$(ls "$folder/room")" ]
 }
 
+# Leaves what ./build leaves in the copy, of which it keeps the smallest crate, and runs the gate there. (The library is another one.)
+gate_passes() {
+    echo 'int tmwatch_nothing(void) { return 0; }' >"$folder/nothing.c"
+    "${CC:-cc}" -fPIC -c -o "$folder/nothing.o" "$folder/nothing.c"
+    ar rcs "$folder/nothing.a" "$folder/nothing.o"
+    "$folder/copy/packaging/layout.py" "$folder/nothing.a" "$folder/copy/built"
+    mv "$folder/copy/crates" "$folder/crates"
+    mkdir "$folder/copy/crates"
+    mv "$folder/crates/tmw_streams" "$folder/copy/crates/"
+    echo 'tmw_streams: itoa arrayvec thiserror' >"$folder/copy/crates.txt"
+    mkdir "$folder/copy/.git"
+    (cd "$folder/copy" && rt ci)
+    echo 'int tmwatch_nothing(void); int main(void) { return tmwatch_nothing(); }' >"$folder/main.c"
+    "${CC:-cc}" -o "$folder/main" "$folder/main.c" -L"$folder/copy/built/lib" -ltmwatch -Wl,-rpath,"$folder/copy/built/lib"
+    "$folder/main"
+}
+
 ends 'a build that is ended' 143 ended
 has_told 'a build that is ended: what is told' '^stopped: '
 ends 'a build that is ended: no folder' 0 none_left
 ends 'a build that is ended: no process' 0 none_works
+! has "${CC:-cc}" 'the gate beside what a build leaves' || ends 'the gate beside what a build leaves' 0 gate_passes
 end_rows

@@ -40,7 +40,7 @@ impl<C: Counting> Taker<Event> for Judges<C> {
 
 /// Reads the remaining events, up to the source's end or the first fault, and feeds each to the judges as its line
 /// is read. The reader then returns that end or fault again. `Memory` follows a failed allocation for the event read
-/// last: nothing was read after its line.
+/// last: at most 4,096 bytes were read after its line.
 pub fn feed_events<S: Source, C: Counting>(
     lines: &mut TraceLines,
     source: &mut S,

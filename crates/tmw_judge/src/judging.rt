@@ -26,7 +26,8 @@ use tmw_trace::TraceLines;
 
 /// Reads a trace up to the source's end, or by `first` up to the event at which all verdicts are final, and judges each
 /// event as its line is read, by each requested criterion. No event is kept, so the memory depends on the transactions
-/// since the last cut and not on the trace's length. After a failed allocation nothing more is read. The sink for errors
+/// since the last cut and not on the trace's length. After a failed allocation at most 4,096 bytes were read
+/// after the last event's line. The sink for errors
 /// is told which line has a fault.
 pub fn judge<S: Source, E: Sink>(
     alloc: Global,
@@ -119,7 +120,7 @@ fn feed_for<S: Source, C: Counting>(
 }
 
 /// Reads a trace's first line, and makes the judges for its history. `Memory` follows a failed allocation for them:
-/// nothing was read after that line.
+/// at most 4,096 bytes were read after that line.
 fn begin<S: Source, C: Counting>(
     alloc: Global,
     lines: &mut TraceLines,

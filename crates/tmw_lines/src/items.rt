@@ -13,7 +13,7 @@ use tmw_streams::Source;
 
 /// Reads the remaining lines, up to the source's end or the first fault, and gives the taker each item as its line is
 /// read. The reader then returns that end or fault again. `Memory` follows a failed allocation for the item of the
-/// line read last: nothing was read after that line.
+/// line read last: at most 4,096 bytes were read after that line.
 pub fn give_items<F: LineFormat, S: Source, T: Taker<F::Item>>(
     lines: &mut Lines<F>,
     source: &mut S,
@@ -48,8 +48,8 @@ pub fn give_items<F: LineFormat, S: Source, T: Taker<F::Item>>(
 
 /// Reads the remaining lines, up to the source's end or the first fault, and appends their items to `items`. The
 /// reader then returns that end or fault again. `Memory` follows a failed allocation: the item of the line read last
-/// is not held, and nothing was read after that line. It comes only if the items fill the room that there was at
-/// first; only tests show that an allocation failed.
+/// is not held, and at most 4,096 bytes were read after that line. It comes only if the items fill the room that there
+/// was at first; only tests show that an allocation failed.
 pub fn read_items<F: LineFormat, S: Source>(
     lines: &mut Lines<F>,
     source: &mut S,

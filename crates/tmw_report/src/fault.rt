@@ -18,8 +18,8 @@ pub enum Fault {
     /// Memory was refused.
     #[error("memory was refused")]
     Memory,
-    /// A read or a write failed.
-    #[error("a read or a write failed")]
+    /// A read failed.
+    #[error("a read failed")]
     Io,
     /// The input is not JSON.
     #[error("the input is not JSON")]

@@ -2,7 +2,6 @@
 ghost use Rattle.std.proofs.Common.{rules};
 ghost use Rattle.std.proofs.lemmas.Grind.{common_steps};
 
-use std::hint;
 use std::sync::atomic::{AtomicU64, Ordering};
 use tmw_events::{Ix, Registers};
 use tmw_tm::{Did, Got, Tm, Tx};
@@ -10,13 +9,13 @@ use tmw_tm::{Did, Got, Tm, Tx};
 /// How often a thread looks for the other one.
 const LOOKS: u64 = 1_000_000_000;
 
-/// Waits until there are so many, and answers whether there were. It does not wait for ever.
+/// Waits until there are so many, and answers whether there were. It does not wait for ever: without a pause between its looks, some
+/// seconds.
 fn come(count: &AtomicU64, least: u64) -> bool {
     for _ in 0..LOOKS {
         if count.load(Ordering::SeqCst) >= least {
             return true;
         }
-        hint::spin_loop();
     }
     false
 }

@@ -17,7 +17,8 @@ use tmw_trace::TraceLines;
 use tmw_window::{LastWindow, Showing};
 
 /// Reads a trace up to the source's end, and judges each event as its line is read, as these options say. No event
-/// before the last window is kept. After a failed allocation nothing more is read. The sink for errors is told which line
+/// before the last window is kept. After a failed allocation at most 4,096 bytes were read after the last
+/// event's line. The sink for errors is told which line
 /// has a fault.
 pub fn show_trace<S: Source, E: Sink>(
     alloc: Global,

@@ -1,0 +1,41 @@
+#!/usr/bin/env bash
+# Shows that a test notices one lock round ring and monitor: in a copy of the bench, each worker holds it while it works, and the leader
+# while it judges. No clause says that threads work at once, so the copy is proved; its tests of two workers at once have to fail, each with
+# an answer. Run it when the workers, the leader or these tests change.
+#
+#   tests/long/locked.sh
+#
+# It proves the crates below test_memories, in some half an hour of processor time. The last line is 'N passed, M failed', and the exit
+# status is 1 if a row failed.
+set -eu
+# shellcheck source=tests/common.sh
+. "$(dirname "${BASH_SOURCE[0]}")/../common.sh"
+cp "$top/crates.txt" "$top/HANDLES" "$folder/"
+tar c -C "$top" --exclude=must-fail crates | tar x -C "$folder"
+bench=$folder/crates/tmw_bench/src
+
+# Replaces a line of a file, which has to stand there once.
+replace() {
+    [ "$(grep -cFx "$2" "$bench/$1")" -eq 1 ]
+    awk -v old="$2" -v new="$3" '$0 == old { $0 = new } { print }' "$bench/$1" >"$folder/replaced"
+    cp "$folder/replaced" "$bench/$1"
+}
+
+replace orders.rt 'use std::sync::atomic::{AtomicBool, Ordering};' 'use std::sync::Mutex; use std::sync::atomic::{AtomicBool, Ordering};'
+replace orders.rt '    over: AtomicBool,' '    over: AtomicBool, pub lock: Mutex<()>,'
+replace orders.rt '            over: AtomicBool::new(false),' '            over: AtomicBool::new(false), lock: Mutex::new(()),'
+replace worker.rt '        let stop = work(' '        let held = stage.orders.lock.lock(rt); let stop = work('
+replace worker.rt '        if let Some(_) = stop {' '        drop(held); if let Some(_) = stop {'
+replace line.rt '        let pumped = pump.pump(ring, TURN)?;' \
+    '        let held = orders.lock.lock(rt); let pumped = pump.pump(ring, TURN); drop(held); let pumped = pumped?;'
+
+fails() {
+    ! (cd "$folder/crates/test_memories" && rt test) >"$folder/tested" 2>&1
+    cat "$folder/tested"
+    diff - <(sed -n 's/^test .*::\([a-z_]*\) .* FAILED$/\1/p' "$folder/tested" | LC_ALL=C sort) <<END
+the_log_has_the_order_of_calls_and_answers
+threads_work_at_once
+END
+}
+ends 'one lock round ring and monitor' 0 fails
+end_rows
