@@ -34,13 +34,25 @@ def last_left(t, register):
     return next((left for other, _, left in reversed(t.operations) if other == register and left is not None), None)
 
 
+def first_unlike(t, register):
+    """What the transaction had to find in the register by its own calls, and what it was answered instead, the first time; or None."""
+    known = None
+    for other, found, left in t.operations:
+        if other == register:
+            if None not in (known, found) and known != found:
+                return known, found
+            known = found if left is None else left
+    return None
+
+
 def is_part(part, window, broken=None):
     """Whether these events of the window are a part of it: with the last one, whole calls, and of each transaction its own status."""
     kept, own = set(part), {event: t for t in transactions(window) for event in t.events}
     left = {own[u.events[0]]: u for u in transactions(part)}
     if window[-1] not in kept or any(own[u.events[-1]] is not t or u.status != t.status for t, u in left.items()):
         return False
-    if any(last_left(u, register) not in (None, last_left(t, register)) for t, u in left.items() for register in range(8)):
+    agree = [of(u, register) in (None, of(t, register)) for t, u in left.items() for register in range(8) for of in (last_left, first_unlike)]
+    if not all(agree):
         return False
     read = {(register, found) for u in left.values() for register, found, _ in u.operations if found is not None}
     for call in calls(window):
@@ -74,16 +86,6 @@ def has_read(t, register, value):
     return any((other, found) == (register, value) for other, found, _ in t.operations)
 
 
-def had_to_find(t, register, value):
-    """What the transaction had to find by its own calls, each time that it was answered this value of the register."""
-    known = None
-    for other, found, left in t.operations:
-        if other == register:
-            if found == value and known is not None:
-                yield known
-            known = found if left is None else left
-
-
 def is_true(sentence, names, states, window):
     """Whether what is said of these transactions is so of the window. A sentence of no known form is false."""
     name, number = "(thread \\d(?:'s transaction \\d)?)", "(\\d+)"
@@ -112,7 +114,7 @@ def is_true(sentence, names, states, window):
         return has_read(reader, register, value) and value not in left
     if said := told("A read V of register V, where it had to find V"):
         reader, value, register, expected = said
-        return expected != value and expected in had_to_find(reader, register, value)
+        return (expected, value) == first_unlike(reader, register)
     return bool(told("A would stand before itself: a cycle"))
 
 

@@ -51,7 +51,7 @@ pub const fn status_of_reports(reports: &ByCriterion<Report>) -> u8
     }
 }
 
-/// Returns what is remarked of the run: that it shows nothing, or which event fits no run although no line reports it so.
+/// Returns what is remarked of the run: that it shows nothing, or which event fits no run although not each line reports it.
 pub fn remark_of(answer: &Answer) -> Option<Remark>
     ensures { result ≡ remark_of answer.now }
 {

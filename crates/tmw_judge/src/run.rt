@@ -38,8 +38,8 @@ pub fn run_judge<S: Source, K: Sink>(
 /// is final: the reports count the events up to that one, at most 4,096 bytes are read behind it, and none of these is
 /// parsed. With `summary` a line of counts follows the reports: of the events up to the one that the verdict names, before
 /// it if that event is malformed, or all; of two verdicts the longer part is counted. The sink for errors is told which
-/// line has a fault; if the counts show that no two transactions overlapped and nothing is wrong; and the first event that
-/// fits no run, if it comes after the event of a verdict.
+/// line has a fault; if the counts show that no two transactions overlapped and nothing is wrong; and the first event judged
+/// that fits no run, if it comes after the event of a verdict.
 pub fn run_judge_with<S: Source, K: Sink, E: Sink>(
     alloc: Global,
     source: &mut S,

@@ -17,7 +17,8 @@ use Rattle.tmw_part.specs.declared.step.Step.TheVariants.{RealTime, From, ReadFi
 use Rattle.tmw_part.specs.declared.step.Contradiction.{Contradiction}
 use Rattle.tmw_part.specs.declared.step.Contradiction.TheVariants.{Cycle, NoSource, Unlike}
 use Rattle.tmw_part.specs.Test.{nothing}
-use Rattle.tmw_part.specs.Steps.{txn_at, ops_at, needed_of, first_unlike, is_pair, is_some_of, is_same_source, orders, gives, supplies, is_before, has_place, may_come_from, is_held, is_asked, is_rival, is_known_rival, has_writer, follows, contradicts, Derives}
+use Rattle.tmw_part.specs.Steps.{txn_at, ops_at, needed_of, is_pair, is_some_of, is_same_source, orders, gives, supplies, is_before, has_place, may_come_from, is_held, is_asked, is_rival, is_known_rival, has_writer, follows, contradicts, Derives}
+use Rattle.tmw_part.specs.Unlike.{first_unlike}
 use Rattle.tmw_part.specs.Candidates.{real_times, firsts_with, firsts, throughs_between, throughs, told_candidates, silent_candidates, IsWithin, MayBe, sources_like, sources_of, sources_at, sources, is_new, unlike_of, unlikes_at, without_source, ends, tells}
 use Rattle.tmw_part.specs.Found.{TellAmong, TellNoReason, TriesSilent, is_told}
 use Rattle.tmw_part.specs.Reasons.{IsReason, TriesEnds}

@@ -10,7 +10,8 @@ use Rattle.tmw_defs.specs.History.{operations}
 use Rattle.tmw_defs.specs.Opaque.{State, Placed, reads_hold, after_writes, after, is_legal}
 use Rattle.tmw_defs.specs.Outcomes.{end_state}
 use Rattle.tmw_cuts.specs.Written.{writes, left_by}
-use Rattle.tmw_part.specs.Steps.{needed_of, is_some_of, first_unlike, unlike_or}
+use Rattle.tmw_part.specs.Steps.{needed_of, is_some_of}
+use Rattle.tmw_part.specs.Unlike.{first_unlike, unlike_or}
 use Rattle.tmw_part.specs.Reasons.{Changes, IsUnchanged}
 
 -- a register that is set, and another

@@ -10,7 +10,7 @@ use Rattle.tmw_defs.specs.declared.status.Status.TheVariants.{Live, Pending, Com
 use Rattle.tmw_defs.specs.History.{Txn, status_of, operations}
 use Rattle.tmw_defs.specs.Opaque.{precedes}
 use Rattle.tmw_defs.specs.Part.{is_unread, may_go, may_go_whole, AreOpsLeft, IsLeftOf, AreStaying, Each, IsPart}
-use Rattle.tmw_part.specs.Test.{is_same_op, are_ops_left, is_same_status, leave_same, is_left_of, are_left_of, is_same, is_same_row, are_same_rows, is_among, without_number, are_placed, nothing, staying_of, is_part_at}
+use Rattle.tmw_part.specs.Test.{is_same_op, are_ops_left, is_same_status, agree, is_left_of, are_left_of, is_same, is_same_row, are_same_rows, is_among, without_number, are_placed, nothing, staying_of, is_part_at}
 
 same_op : (x y : Op) → is_same_op x y ≡ true → x ≡ y
 same_op (Read q w) (Read r v) same =
@@ -72,7 +72,7 @@ left-test unread (t ∷ ts) [] all = absurd (cc)
 left-test unread (t ∷ ts) (u ∷ us) all =
     let (here, more) = and_parts (is_left_of unread t u) _ all in
     let (status, others) = and_parts (is_same_status (status_of u.text) (status_of t.text)) _ here in
-    let (same, ops) = and_parts (leave_same (operations u.text) (operations t.text) (operations u.text)) _ others in (
+    let (same, ops) = and_parts (agree (operations u.text) (operations t.text) (operations u.text)) _ others in (
       record {
         status = same_status (status_of u.text) (status_of t.text) status;
         ops = ops_left-test unread (operations u.text) (operations t.text) ops;

@@ -10,7 +10,8 @@ use Rattle.tmw_part.specs.declared.step.Contradiction.TheVariants.{Cycle, NoSour
 use Rattle.tmw_part.specs.declared.step.Source.{Source}
 use Rattle.tmw_part.specs.declared.step.Step.{Step}
 use Rattle.tmw_part.specs.declared.step.Step.TheVariants.{RealTime, From, ReadFirst, ChangedFirst, Through}
-use Rattle.tmw_part.specs.Steps.{ops_at, needed_of, first_unlike, from_else, gives, has_writer, is_before, ends_before, follows}
+use Rattle.tmw_part.specs.Steps.{ops_at, needed_of, from_else, gives, has_writer, is_before, ends_before, follows}
+use Rattle.tmw_part.specs.Unlike.{first_unlike}
 
 -- Of transactions with these places, those that real time may order after the one.
 abbrev pub real_times : List ℕ → ℕ → List Step

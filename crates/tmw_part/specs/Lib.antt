@@ -8,3 +8,4 @@ pub mod Shown
 pub mod Steps
 pub mod Taking
 pub mod Test
+pub mod Unlike

@@ -17,6 +17,7 @@ use Rattle.tmw_part.specs.declared.step.Step.TheVariants.{RealTime, From, ReadFi
 use Rattle.tmw_part.specs.declared.step.Contradiction.{Contradiction}
 use Rattle.tmw_part.specs.declared.step.Contradiction.TheVariants.{Cycle, NoSource, Unlike}
 use Rattle.tmw_part.specs.Test.{nothing}
+use Rattle.tmw_part.specs.Unlike.{first_unlike}
 
 -- The transaction at this place, and its operations.
 abbrev pub txn_at : List Txn → ℕ → Txn
@@ -31,27 +32,6 @@ needed_of r [] = None
 needed_of r (Read q v ∷ ops) = if q.number == r then Some v else needed_of r ops
 needed_of r (Write q v ∷ ops) = if q.number == r then None else needed_of r ops
 needed_of r (Add q d v ∷ ops) = if q.number == r then Some v else needed_of r ops
-
--- What is known of the register's value after the operation, where this is known before it.
-abbrev pub known_after : ℕ → Option ℕ → Op → Option ℕ
-known_after r known (Read q v) = if q.number == r then Some v else known
-known_after r known (Write q v) = if q.number == r then Some v else known
-known_after r known (Add q d v) = if q.number == r then Some ((v + d) % 2 ^ 64) else known
-
--- The value that the operation was answered of the register.
-abbrev pub answer_of : ℕ → Op → Option ℕ
-answer_of r (Read q v) = if q.number == r then Some v else None
-answer_of r (Write q v) = None
-answer_of r (Add q d v) = if q.number == r then Some v else None
-
-abbrev pub unlike_or : Option ℕ → Option ℕ → Option (ℕ × ℕ) → Option (ℕ × ℕ)
-unlike_or (Some expected) (Some read) rest = if expected == read then rest else Some (expected, read)
-unlike_or _ _ rest = rest
-
--- The first answer that is unlike what is known of the register by the operations before it: what was to be expected, and what was read.
-abbrev pub first_unlike : ℕ → Option ℕ → List Op → Option (ℕ × ℕ)
-first_unlike r known [] = None
-first_unlike r known (op ∷ ops) = unlike_or known (answer_of r op) (first_unlike r (known_after r known op) ops)
 
 abbrev pub is_pair : ℕ → ℕ → Option (ℕ × ℕ) → Bool
 is_pair a b None = false

@@ -9,6 +9,7 @@ use Rattle.tmw_defs.specs.History.{Txn, status_of, operations}
 use Rattle.tmw_defs.specs.Opaque.{precedes}
 use Rattle.tmw_defs.specs.Part.{is_unread, may_go, may_go_whole}
 use Rattle.tmw_cuts.specs.Written.{left_by}
+use Rattle.tmw_part.specs.Unlike.{first_unlike}
 
 abbrev pub is_same_op : Op → Op → Bool
 is_same_op (Read q w) (Read r v) = (q.number == r.number) && (w == v)
@@ -41,20 +42,29 @@ is_same_or_none None whole = true
 is_same_or_none (Some v) None = false
 is_same_or_none (Some v) (Some w) = v == w
 
+abbrev pub is_same_pair_or_none : Option (ℕ × ℕ) → Option (ℕ × ℕ) → Bool
+is_same_pair_or_none None whole = true
+is_same_pair_or_none (Some p) None = false
+is_same_pair_or_none (Some p) (Some q) = (p.0 == q.0) && (p.1 == q.1)
+
 -- In the register, the operations that are left leave nothing or what the whole leaves there.
 abbrev pub leaves_same : List Op → List Op → ℕ → Bool
 leaves_same left whole r = is_same_or_none (left_by r None left) (left_by r None whole)
 
--- So do they in the register of each of these operations.
-abbrev pub leave_same : List Op → List Op → List Op → Bool
-leave_same left whole ops = list_all (λ op. leaves_same left whole (register_of op)) ops
+-- Of the register, they were given no answer unlike the operations before it, or the first such answer of the whole.
+abbrev pub is_unlike_same : List Op → List Op → ℕ → Bool
+is_unlike_same left whole r = is_same_pair_or_none (first_unlike r None left) (first_unlike r None whole)
 
--- The one transaction is left of the other: it has the same status, lacks only operations that may go, and leaves in each register that
--- it changes what the other leaves there.
+-- So it is of the register of each of these operations.
+abbrev pub agree : List Op → List Op → List Op → Bool
+agree left whole ops = list_all (λ op. leaves_same left whole (register_of op) && is_unlike_same left whole (register_of op)) ops
+
+-- The one transaction is left of the other: it has the same status, lacks only operations that may go, and agrees with the other on what
+-- it leaves in each register that it changes and on the first answer that it had to find otherwise.
 abbrev pub is_left_of : (ℕ → ℕ → Bool) → Txn → Txn → Bool
 is_left_of unread t u =
     is_same_status (status_of u.text) (status_of t.text)
-    && (leave_same (operations u.text) (operations t.text) (operations u.text)
+    && (agree (operations u.text) (operations t.text) (operations u.text)
     && are_ops_left unread (operations u.text) (operations t.text))
 
 -- One by one, these are left of those.

@@ -1,7 +1,8 @@
 ghost use Rattle.std.specs.Prelude.{◌≡◌, ◌≢◌, ℕ, None, Some, IfSome, IfNone, IsTrue};
 ghost use Rattle.tmw_defs.specs.History.{operations};
 ghost use Rattle.tmw_cuts.specs.Written.{writes, left_by};
-ghost use Rattle.tmw_part.specs.Steps.{answer_of, first_unlike, is_pair, is_some_of, known_after, needed_of};
+ghost use Rattle.tmw_part.specs.Steps.{is_pair, is_some_of, needed_of};
+ghost use Rattle.tmw_part.specs.Unlike.{answer_of, first_unlike, known_after};
 
 use tmw_cuts::operation;
 use tmw_defs::Op;

@@ -103,9 +103,9 @@ fn take_all_out(
 }
 
 /// Finds a part of a window that is violated by itself, from any of the states, and of which nothing more can be taken
-/// out, one transaction or one call with its answer at a time: for each event, whether it is kept. The last event is,
-/// each write of a value that the part reads, and the last change that a transaction makes of a register that the part
-/// has it change. In a window of more than `MOST_EVENTS` events, and in one that is not
+/// out, one transaction or one call with its answer at a time: for each event, whether it is kept. The last event is, and
+/// each write of a value that the part reads. What a transaction leaves at last in a register that the part has it change
+/// is what it leaves in the window, and so is the first answer that it had to find otherwise. In a window of more than `MOST_EVENTS` events, and in one that is not
 /// violated, all are. It fails only if an allocation does.
 pub fn find_part(
     criterion: Criterion,

@@ -1,10 +1,10 @@
 ghost use Rattle.std.specs.Prelude.{◌≡◌, IfOk};
 ghost use Rattle.tmw_defs.specs.History.{operations};
 ghost use Rattle.tmw_defs.specs.Part.{is_answered, may_go, may_go_whole};
-ghost use Rattle.tmw_part.specs.Test.{is_left_of, is_same_op, is_same_row, is_same_status, are_left_of, are_ops_left, are_same_rows, leave_same, leaves_same, register_of};
+ghost use Rattle.tmw_part.specs.Test.{is_left_of, is_same_op, is_same_row, is_same_status, are_left_of, are_ops_left, are_same_rows, agree, is_unlike_same, leaves_same, register_of};
 ghost use Rattle.tmw_part.specs.Shown.{answers_none, may_all_go, shown, txn_of, txns_of, unread_in};
 
-use crate::deeds::left_by;
+use crate::deeds::{find_unlike, left_by};
 use crate::transaction::{Transaction, operations, precedes, status_of};
 use std::alloc::{AllocError, Global};
 use tmw_defs::{Op, Status};
@@ -161,12 +161,28 @@ fn leaves_same(left: &[Kind], whole: &[Kind], register: Ix) -> bool
     }
 }
 
-/// Whether this is so of the register of each of these operations.
-fn leave_same(ops: &[Op], left: &[Kind], whole: &[Kind]) -> bool
-    ensures { result ≡ leave_same (operations left.now) (operations whole.now) ops.now }
+/// Whether a transaction of which this text is left was given no answer of the register unlike its own operations, or
+/// the first such answer of its whole text.
+fn is_unlike_same(left: &[Kind], whole: &[Kind], register: Ix) -> bool
+    ensures { result
+        ≡ is_unlike_same (operations left.now) (operations whole.now) register.number }
+{
+    match (find_unlike(register, left), find_unlike(register, whole)) {
+        (None, _) => true,
+        (Some(_pair), None) => false,
+        (Some((expected, read)), Some((other_expected, other_read))) => {
+            expected == other_expected && read == other_read
+        }
+    }
+}
+
+/// Whether both are so of the register of each of these operations.
+fn agree(ops: &[Op], left: &[Kind], whole: &[Kind]) -> bool
+    ensures { result ≡ agree (operations left.now) (operations whole.now) ops.now }
 {
     for op in ops {
-        if !leaves_same(left, whole, register_of(*op)) {
+        let register = register_of(*op);
+        if !leaves_same(left, whole, register) || !is_unlike_same(left, whole, register) {
             return false;
         }
     }
@@ -187,7 +203,7 @@ fn is_left_of(
         return Ok(false);
     }
     let left = operations(alloc, &other.text)?;
-    if !leave_same(&left, &other.text, &one.text) {
+    if !agree(&left, &other.text, &one.text) {
         return Ok(false);
     }
     let ops = operations(alloc, &one.text)?;

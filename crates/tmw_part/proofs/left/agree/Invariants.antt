@@ -1,0 +1,8 @@
+use Rattle.std.proofs.Common.{◌≡◌, drop}
+use Rattle.tmw_defs.specs.History.{operations}
+use Rattle.tmw_part.specs.Test.{agree}
+use Rattle.tmw_part.proofs.left.agree.Given as goal
+
+abbrev pub invariant-loop-op : goal.invariant-loop-op
+invariant-loop-op l =
+    agree (operations l.left) (operations l.whole) (drop l.op-index l.ops) ≡ agree (operations l.left) (operations l.whole) l.ops

@@ -1,0 +1,25 @@
+-- Answers that a transaction was given unlike what its own operations make known.
+use Rattle.std.specs.Prelude.{◌==◌, ◌+◌, ◌%◌, ◌^◌, ℕ, List, [], ◌∷◌, Option, Some, None, if◌then◌else◌}
+use Rattle.tmw_defs.specs.declared.op.Op.{Op}
+use Rattle.tmw_defs.specs.declared.op.Op.TheVariants.{Read, Write, Add}
+
+-- What is known of the register's value after the operation, where this is known before it.
+abbrev pub known_after : ℕ → Option ℕ → Op → Option ℕ
+known_after r known (Read q v) = if q.number == r then Some v else known
+known_after r known (Write q v) = if q.number == r then Some v else known
+known_after r known (Add q d v) = if q.number == r then Some ((v + d) % 2 ^ 64) else known
+
+-- The value that the operation was answered of the register.
+abbrev pub answer_of : ℕ → Op → Option ℕ
+answer_of r (Read q v) = if q.number == r then Some v else None
+answer_of r (Write q v) = None
+answer_of r (Add q d v) = if q.number == r then Some v else None
+
+abbrev pub unlike_or : Option ℕ → Option ℕ → Option (ℕ × ℕ) → Option (ℕ × ℕ)
+unlike_or (Some expected) (Some read) rest = if expected == read then rest else Some (expected, read)
+unlike_or _ _ rest = rest
+
+-- The first answer that is unlike what is known of the register by the operations before it: what was to be expected, and what was read.
+abbrev pub first_unlike : ℕ → Option ℕ → List Op → Option (ℕ × ℕ)
+first_unlike r known [] = None
+first_unlike r known (op ∷ ops) = unlike_or known (answer_of r op) (first_unlike r (known_after r known op) ops)
