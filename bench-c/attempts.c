@@ -1,5 +1,16 @@
 /* A transaction's attempts: each call is recorded, made by the memory, and its answer recorded. */
 
+/* The thread of a bench that is this one. */
+static _Thread_local tmwatch_attempt *this_thread;
+
+/* Stops the bench, since the watch has answered what wasn't to be. */
+static void stop(struct bench *b, uint32_t status)
+{
+    uint_least32_t none = TMWATCH_DONE;
+    atomic_compare_exchange_strong(&b->fault, &none, status);
+    b->stops = true;
+}
+
 static void step(tmwatch_attempt *a, unsigned pauses);
 
 /* One time in two a few turns, and one time in 64 another thread's turn; by steps, a step. Nobody is met in a look. */

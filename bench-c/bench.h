@@ -1,5 +1,5 @@
 /* What the files of the bench share. */
-#include "step.h"
+#include "instrumented/step.h"
 #include "tmwatch_permits.h"
 #include <errno.h>
 #include <pthread.h>
@@ -14,7 +14,8 @@
 #include <unistd.h>
 
 /* A look comes after each LOOK rounds, or as many attempts as those may have. As many events are kept as two looks may lie apart, and what
-   is recorded and not judged yet. By steps, as many rounds' beginnings are kept as there may be from a violation to the last round. */
+   is recorded and not judged yet. By steps, as many rounds' beginnings are kept as there may be from a violation to the last round. By all,
+   the first legs go by steps, and a leg has so many rounds at most. */
 enum {
     MOST_THREADS = 8,
     MOST_ATTEMPTS = 8,
@@ -23,7 +24,9 @@ enum {
     MOST_REGISTERS = 8,
     KEPT = 1 << 17,
     LOOK = 64,
-    STARTS = 1 << 13
+    STARTS = 1 << 13,
+    STEPS_LEGS = 5,
+    LEG_ROUNDS = 1000
 };
 
 /* An event. `looks` is set if it ends a transaction that has read all registers alone. */
@@ -137,48 +140,4 @@ struct bench {
     atomic_uint_least64_t asked, committed; /* how many commits are recorded, or about to be; and how many are recorded */
 };
 
-/* The thread of a bench that is this one. */
-static _Thread_local tmwatch_attempt *this_thread;
-
 #define TO(field) offsetof(tmwatch_plan, field)
-
-/* The plan's number that stands there. */
-static uint64_t *number_of(tmwatch_plan *plan, size_t to)
-{
-    return (uint64_t *)(void *)((char *)plan + to);
-}
-
-static bool by_permits(const struct bench *b)
-{
-    return b->plan->schedule == TMWATCH_PERMITS;
-}
-
-static bool by_steps(const struct bench *b)
-{
-    return b->plan->schedule == TMWATCH_STEPS;
-}
-
-/* Of libtmwatch_steps.a, if that is linked: what a thread has stored comes out. */
-extern void tmwatch_step_drain(void) __attribute__((weak));
-
-/* Stops the bench, since the watch has answered what wasn't to be. */
-static void stop(struct bench *b, uint32_t status)
-{
-    uint_least32_t none = TMWATCH_DONE;
-    atomic_compare_exchange_strong(&b->fault, &none, status);
-    b->stops = true;
-}
-
-static void nap(long microseconds)
-{
-    struct timespec time = {0, microseconds * 1000};
-    nanosleep(&time, NULL);
-}
-
-/* What this clock has counted, in microseconds. */
-static uint64_t microseconds_of(clockid_t clock)
-{
-    struct timespec time = {0, 0};
-    clock_gettime(clock, &time);
-    return (uint64_t)time.tv_sec * 1000000 + (uint64_t)time.tv_nsec / 1000;
-}

@@ -1,36 +1,5 @@
-/* A plan is checked and run: in one leg, or by all schedules in several. The first legs go by steps, so that what they find comes with
-   words that repeat it. */
-
-static const uint64_t most_pause = 1 << 20;
-enum { STEPS_LEGS = 5, LEG_ROUNDS = 1000, ORDER = 4 };
-
-/* What a plan may leave to be drawn: where it stands, and what it is where nothing is drawn. */
-static const struct drawn {
-    size_t to;
-    uint64_t usual;
-} drawn[] = {{TO(threads), 4}, {TO(registers), 3}, {TO(calls), 3},   {TO(writes), 50},
-             {TO(adds), 20},   {TO(aborts), 12},   {TO(pause), 100}, {TO(mixes), 50}};
-enum { DRAWN = sizeof drawn / sizeof drawn[0] };
-
-/* Fills in what the plan leaves to be drawn, with these numbers. */
-static void fill_in(tmwatch_plan *plan, const uint64_t numbers[DRAWN])
-{
-    for (unsigned i = 0; i < DRAWN; i++) {
-        uint64_t *number = number_of(plan, drawn[i].to);
-        if (*number == TMWATCH_DRAWN)
-            *number = numbers[i];
-    }
-}
-
-static tmwatch_plan usual_plan(const tmwatch_plan *plan)
-{
-    tmwatch_plan it = *plan;
-    uint64_t numbers[DRAWN];
-    for (unsigned i = 0; i < DRAWN; i++)
-        numbers[i] = drawn[i].usual;
-    fill_in(&it, numbers);
-    return it;
-}
+/* A plan is run: in one leg, or by all schedules in several. The first legs go by steps, so that what they find comes with words that repeat
+   it. */
 
 /* Draws the plan of a leg that isn't the first. */
 static void draw_plan(tmwatch_plan *plan, uint64_t *draws)
@@ -48,14 +17,14 @@ static void draw_plan(tmwatch_plan *plan, uint64_t *draws)
 /* The plan of a leg: the first ones go by steps, then all schedules come in turn. */
 static tmwatch_plan plan_of_leg(const struct session *session, uint64_t leg, uint64_t *draws)
 {
-    static const uint64_t order[ORDER] = {TMWATCH_ROUNDS, TMWATCH_STEPS, TMWATCH_PERMITS, TMWATCH_STEPS};
+    static const uint64_t order[] = {TMWATCH_ROUNDS, TMWATCH_STEPS, TMWATCH_PERMITS, TMWATCH_STEPS};
     tmwatch_plan it = *session->plan;
     uint64_t left = it.rounds - session->all.rounds;
     if (leg > 0)
         draw_plan(&it, draws);
     else
         it = usual_plan(&it);
-    it.schedule = leg < STEPS_LEGS ? TMWATCH_STEPS : order[(leg - STEPS_LEGS) % ORDER];
+    it.schedule = leg < STEPS_LEGS ? TMWATCH_STEPS : order[(leg - STEPS_LEGS) % (sizeof order / sizeof order[0])];
     it.rounds = left < LEG_ROUNDS ? left : LEG_ROUNDS;
     it.round = it.round > session->all.rounds && it.round - session->all.rounds <= LEG_ROUNDS ? it.round - session->all.rounds : 0;
     if (it.schedule != TMWATCH_PERMITS && it.attempts > MOST_ATTEMPTS / it.threads)
@@ -139,44 +108,6 @@ static uint32_t run_legs(struct session *session)
         free(b);
     }
     return status;
-}
-
-/* The first function that is null and that the memory has to have, or none. */
-static const char *missing_function(const tmwatch_memory *m)
-{
-    if (!m->read || !m->write)
-        return m->read ? "write" : "read";
-    if (m->run)
-        return NULL;
-    return !m->begin ? "begin" : !m->commit ? "commit" : !m->abort ? "abort" : NULL;
-}
-
-/* Whether a number of the plan is out of its range, besides those of threads and registers. */
-static bool is_out_of_range(const tmwatch_plan *plan)
-{
-    uint64_t most_attempts = plan->schedule == TMWATCH_PERMITS ? UINT64_MAX : MOST_ATTEMPTS / plan->threads;
-    uint64_t most_round = plan->schedule == TMWATCH_STEPS ? UINT64_MAX : plan->schedule == TMWATCH_ALL ? STEPS_LEGS * LEG_ROUNDS : 0;
-    if (plan->calls < 1 || plan->calls > MOST_USES || plan->schedule > TMWATCH_ALL || plan->attempts > most_attempts)
-        return true;
-    if (plan->rounds == 0 || plan->round > most_round || (plan->buffers > 0 && !tmwatch_step_drain))
-        return true;
-    return plan->writes > 100 || plan->adds > 100 || plan->aborts > 100 || plan->mixes > 100 || plan->pause > most_pause;
-}
-
-/* Looks at what no watch looks at. */
-static uint32_t check(const tmwatch_memory *memory, const tmwatch_plan *given)
-{
-    const tmwatch_plan plan = usual_plan(given);
-    if (missing_function(memory))
-        return TMWATCH_MISSING;
-    if (plan.threads < 1 || plan.threads > MOST_THREADS)
-        return TMWATCH_BAD_SIZE;
-    if (plan.registers < 1 || plan.registers > MOST_REGISTERS)
-        return TMWATCH_BAD_REGISTERS;
-    for (uint64_t reg = plan.registers; reg < MOST_REGISTERS; reg++)
-        if (plan.start[reg] != 0)
-            return TMWATCH_BAD_START;
-    return is_out_of_range(&plan) ? TMWATCH_BAD_BOUNDS : TMWATCH_DONE;
 }
 
 uint32_t tmwatch_bench(const tmwatch_memory *memory, const tmwatch_plan *plan, tmwatch_benched *benched)

@@ -1,6 +1,8 @@
 /* The bench of tmwatch_bench.h, which no proof covers. Its files are one object, so that no name of theirs meets a program's. */
 #define _GNU_SOURCE
 #include "bench.h"
+#include "time.c"
+#include "plans.c"
 #include "draws.c"
 #include "attempts.c"
 #include "rounds.c"
@@ -9,6 +11,10 @@
 #include "step_calls.c"
 #include "watchdog.c"
 #include "trace.c"
+#include "judge.c"
+#include "threads.c"
 #include "leg.c"
 #include "legs.c"
-#include "words.c"
+#include "options.c"
+#include "report.c"
+#include "main.c"

@@ -37,7 +37,10 @@ PACKAGES = {
     "tmwatch_steps": ("Steps of that bench at each access of a memory", f" {WRAPPED}\nRequires: tmwatch_bench"),
 }
 # What the archives of the bench are made from, in bench-c.
-ARCHIVES = {"libtmwatch_bench.a": ("tmwatch_bench", "waits"), "libtmwatch_steps.a": ("accesses", "wide")}
+ARCHIVES = {
+    "libtmwatch_bench.a": ("tmwatch_bench", "instrumented/waits"),
+    "libtmwatch_steps.a": ("instrumented/accesses", "instrumented/accesses_16"),
+}
 PACKAGE = """prefix={prefix}
 includedir=${{prefix}}/include
 libdir=${{prefix}}/{libraries}
@@ -88,8 +91,8 @@ def build_bench(room, call):
     cc = [os.environ.get("CC", "cc"), "-std=c11", "-O2", "-fPIC", "-pthread", f"-I{TOP}/include", version, "-c"]
     for archive, files in ARCHIVES.items():
         for name in files:
-            call([*cc, "-o", f"{name}.o", f"{TOP}/bench-c/{name}.c"], cwd=room)
-        call(["ar", "rcs", f"lib/{archive}", *(f"{name}.o" for name in files)], cwd=room)
+            call([*cc, "-o", f"{os.path.basename(name)}.o", f"{TOP}/bench-c/{name}.c"], cwd=room)
+        call(["ar", "rcs", f"lib/{archive}", *(f"{os.path.basename(name)}.o" for name in files)], cwd=room)
 
 
 def lay_out(archive, to, call):

@@ -1,5 +1,5 @@
 #!/usr/bin/env bash
-# Compiles the programs of tests/c and examples/c over the library for C, without a warning, and runs them; then runs tests/steps.sh and
+# Compiles the programs of tests/c and examples/c over the library for C, without a warning, and runs them; then runs tests/c_steps.sh and
 # tests/bindings.sh over the same library.
 #
 #   tests/c.sh
@@ -98,7 +98,7 @@ for room in 112 16; do
 done
 # The bench is compiled here, so that the flags reach it too. It sees that a thread waits for a mutex, or yields.
 waits=('-Wl,--wrap=pthread_mutex_lock,--wrap=pthread_mutex_unlock,--wrap=sched_yield')
-bench=(-DTMWATCH_PAUSES "$folder/bench.o" "$folder/waits.o" "${static[@]}" "${waits[@]}")
+bench=(-DTMWATCH_PAUSES "$folder/lib/libtmwatch_bench.a" "${static[@]}" "${waits[@]}")
 
 # Whether a judge's report on the bench's trace, in a file, is that of the bench, which is in another: the same verdict, with as many events
 # less as precede the trace.
@@ -132,8 +132,7 @@ on_bench() {
     done
 }
 
-ends 'the bench compiles' 0 "$cc" -std=c11 "${strict[@]}" -c -o "$folder/bench.o" "$top/bench-c/tmwatch_bench.c"
-ends 'waits compile' 0 "$cc" -std=c11 "${strict[@]}" -c -o "$folder/waits.o" "$top/bench-c/waits.c"
+ends 'the bench compiles' 0 build_bench "$cc" -std=c11 "${strict[@]}"
 ends 'a replay compiles' 0 "$cc" -std=c11 "${strict[@]}" -o "$folder/bench_replay" "$top/tests/c/bench_replay.c" "${bench[@]}"
 program bench_plans "$top/tests/c/bench_plans.c" 0 '' "${bench[@]}"
 [ ! -x "$folder/bench_plans" ] || "$folder/bench_plans" print >"$folder/lines" 2>&1 || true
@@ -259,6 +258,6 @@ if command -v pkg-config >/dev/null; then
     ends 'a memory by the package' 0 "${run[@]}" "$folder/package" --rounds 100
     ends 'the package' 0 env PKG_CONFIG_PATH="$built/lib/pkgconfig" sh -c "$cc -std=c11 ${FLAGS:-} -o '$folder/package' '$top/tests/c/misuse.c' \$(pkg-config --cflags --libs tmwatch)"
 fi
-ends 'the bench by steps' 0 "$top/tests/steps.sh"
+ends 'the bench by steps' 0 "$top/tests/c_steps.sh"
 ends 'the bindings' 0 "$top/tests/bindings.sh"
 end_rows

@@ -24,13 +24,8 @@ use_library
 flags=(-O2 -Wall -Wextra -pthread -DTMWATCH_PAUSES "-I$top/include")
 
 # The bench is compiled here, so that it is the one of this folder.
-mkdir "$folder/lib"
+build_bench "$cc" -std=c11 "${flags[@]}"
 cp "$built/lib/libtmwatch.a" "$folder/lib"
-for file in tmwatch_bench waits accesses wide; do
-    "$cc" -std=c11 "${flags[@]}" -c -o "$folder/$file.o" "$top/bench-c/$file.c"
-done
-ar rcs "$folder/lib/libtmwatch_bench.a" "$folder/tmwatch_bench.o" "$folder/waits.o"
-ar rcs "$folder/lib/libtmwatch_steps.a" "$folder/accesses.o" "$folder/wide.o"
 link=("$folder/lib/libtmwatch_steps.a" "$folder/lib/libtmwatch_bench.a" "$folder/lib/libtmwatch.a"
     '-Wl,--wrap=pthread_mutex_lock,--wrap=pthread_mutex_unlock,--wrap=sched_yield')
 

@@ -4,7 +4,7 @@
 #
 #   tests/long/planted.sh
 #
-# A row for each mistake says that the test fails with it which tests/c.sh, tests/steps.sh or tests/bindings.sh runs. The first rows say
+# A row for each mistake says that the test fails with it which tests/c.sh, tests/c_steps.sh or tests/bindings.sh runs. The first rows say
 # that the tests pass without a mistake. The last line is 'N passed, M failed', and the exit status is 1 if a row failed. Without cargo the
 # package in Rust is skipped, and a line says so.
 # No test here can notice that permits are taken or recorders in Rust go over without order (on x86 each exchange is a fence), that room is

@@ -13,10 +13,8 @@ set -eu
 runs=${RUNS:-20} rounds=${ROUNDS:-2000}
 use_library
 flags=(-O2 -Wall -Wextra -pthread -DTMWATCH_PAUSES "-I$top/include")
-for file in tmwatch_bench waits; do
-    "${CC:-cc}" -std=c11 "${flags[@]}" -c -o "$folder/$file.o" "$top/bench-c/$file.c"
-done
-link=("$folder/tmwatch_bench.o" "$folder/waits.o" "$built/lib/libtmwatch.a")
+build_bench "${CC:-cc}" -std=c11 "${flags[@]}"
+link=("$folder/lib/libtmwatch_bench.a" "$built/lib/libtmwatch.a")
 wrapped=('-Wl,--wrap=pthread_mutex_lock,--wrap=pthread_mutex_unlock,--wrap=sched_yield')
 
 # A row: the memory, the processors, and further words.

@@ -1,4 +1,4 @@
-/* Atomic accesses of 16 bytes for accesses.c: each is a step, and no store of them is buffered. */
+/* Atomic accesses of 16 bytes: each is a step, and no store of them is buffered. */
 #include "tmwatch_bench.h"
 
 void tmwatch_step_drain(void);

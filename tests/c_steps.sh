@@ -3,7 +3,7 @@
 # again from the printed words, and stopped by a debugger; what is drawn, by draws.py; memories without a pause placed by hand, with delayed
 # stores too; interrupts, memories that never return, and runs that can't show much.
 #
-#   tests/steps.sh
+#   tests/c_steps.sh
 #
 # A line for each row. The last one is 'N passed, M failed', and the exit status is 1 if a row failed. Without a C compiler nothing is
 # tested: a line says so, and the status is 0. What a missing tool would show is skipped, and a line says so.
@@ -12,21 +12,15 @@ set -eu
 # shellcheck source=tests/common.sh
 . "$(dirname "${BASH_SOURCE[0]}")/common.sh"
 cc=${CC:-cc}
-has "$cc" tests/steps.sh || exit 0
+has "$cc" tests/c_steps.sh || exit 0
 use_library
 read -r -a flags <<<"${FLAGS:-}"
 strict=(-std=c11 -Wall -Wextra -pedantic -Werror -g -O2 -pthread "-I$top/include" "${flags[@]}")
 # (a fence is no more than a fence to ThreadSanitizer)
 [ "${FLAGS:-}" != -fsanitize=thread ] || strict+=(-Wno-tsan)
 wrapped=('-Wl,--wrap=pthread_mutex_lock,--wrap=pthread_mutex_unlock,--wrap=sched_yield')
-bench=("$folder/libtmwatch_steps.a" "$folder/libtmwatch_bench.a" "$built/lib/libtmwatch.a")
-
-# The archives as packaging/layout.py makes them, with the flags.
-for file in tmwatch_bench waits accesses wide; do
-    ends "$file.c compiles" 0 "$cc" "${strict[@]}" -c -o "$folder/$file.o" "$top/bench-c/$file.c"
-done
-ar rcs "$folder/libtmwatch_bench.a" "$folder/tmwatch_bench.o" "$folder/waits.o"
-ar rcs "$folder/libtmwatch_steps.a" "$folder/accesses.o" "$folder/wide.o"
+bench=("$folder/lib/libtmwatch_steps.a" "$folder/lib/libtmwatch_bench.a" "$built/lib/libtmwatch.a")
+ends 'the bench compiles' 0 build_bench "$cc" "${strict[@]}"
 
 # Compiles a memory with its pauses: its name, its file, its fault or NONE, and further words.
 paused() {
