@@ -51,10 +51,10 @@ void tmwatch_step_drain(void)
 }
 
 /* A step, at which one store in four comes out. */
-static void at_step(void)
+TMWATCH_PART void at_step(void)
 {
     tmwatch_step_how *how = tmwatch_step_accesses();
-    tmwatch_pause();
+    tmwatch_step_at(TMWATCH_CALLER);
     if (buffered == 0 || !how)
         return;
     how->draws = how->draws * UINT64_C(6364136223846793005) + UINT64_C(1442695040888963407);
@@ -114,7 +114,7 @@ static bool is_forwarded(const volatile void *at, unsigned bytes, uint64_t *valu
 }
 
 /* Before a plain load of so many bytes. */
-static void before_load(const void *at, unsigned bytes, bool is_volatile)
+TMWATCH_PART void before_load(const void *at, unsigned bytes, bool is_volatile)
 {
     uint64_t value;
     const tmwatch_step_how *how = tmwatch_step_accesses();
@@ -127,7 +127,7 @@ static void before_load(const void *at, unsigned bytes, bool is_volatile)
 }
 
 /* Before a plain store, whose value isn't known. */
-static void before_store(const void *at, bool is_volatile)
+TMWATCH_PART void before_store(const void *at, bool is_volatile)
 {
     const tmwatch_step_how *how = tmwatch_step_accesses();
     if (!how || (!is_volatile && is_own(how, at)))
@@ -198,7 +198,7 @@ void *__tsan_memset(void *to, int byte, size_t bytes)
 }
 
 /* A step, and all that was stored comes out: before a read-modify-write. */
-static void at_change(void)
+TMWATCH_PART void at_change(void)
 {
     at_step();
     tmwatch_step_drain();

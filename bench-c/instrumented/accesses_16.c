@@ -5,9 +5,9 @@
 __extension__ typedef unsigned __int128 wide;
 #define CX16 __attribute__((target("cx16")))
 
-static void at_wide(void)
+TMWATCH_PART void at_wide(void)
 {
-    tmwatch_pause();
+    tmwatch_step_at(TMWATCH_CALLER);
     tmwatch_step_drain();
 }
 
