@@ -186,6 +186,12 @@ later() {
 }
 ends 'a violation in a later leg' 0 later
 
+# A round may starve a thread for long: what only that shows is found within few rounds.
+paused sequence_WRAP tests/c/bench_sequence.c WRAP
+for seed in 1 2 3; do
+    ends "a starved thread, seed $seed" 1 "$folder/sequence_WRAP" --schedule steps --rounds 300 --seed $seed
+done
+
 # Which leg goes by which plan, drawn by another program.
 legs_drawn() {
     "$folder/$1" --legs --seed "$2" --seconds 4 >"$folder/printed" 2>"$folder/legs"

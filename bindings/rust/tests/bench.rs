@@ -382,7 +382,8 @@ fn a_mutex_of_the_standard_library_is_seen() {
 
 #[test]
 fn each_number_is_passed_on() {
-    let numbers = Plan { writes: 77, adds: 11, aborts: 9, mixes: 33, blinds: 5, calls: 2, pause: 7, plain: true, seed: 6, ..Plan::default() };
+    let numbers =
+        Plan { writes: 77, adds: 11, aborts: 9, mixes: 33, blinds: 5, calls: 2, pause: 7, plain: true, seed: 6, ..Plan::default() };
     let benched = bench(&Racing::default(), &Plan { threads: 3, registers: 2, attempts: 1, ..numbers }).unwrap();
     let words = "--threads 3 --registers 2 --calls 2 --writes 77 --adds 11 --aborts 9 --pause 7 --mixes 33 --blinds 5 --attempts 1 --plain";
     assert_eq!(benched.again, format!("--seed 6 --round {} {words}", benched.rounds));
