@@ -56,7 +56,7 @@ paused mutex_unseen tests/c/bench_stuck.c NONE
 # The time that a run by default takes, which is all that it has.
 timed_legs() {
     local began=$EPOCHREALTIME
-    "$folder/norec" --seconds 3 >"$folder/printed"
+    "$folder/$1" --seconds 3 >"$folder/printed"
     since "$began" | awk '{ exit !($1 >= 2.9 && $1 < 5) }'
 }
 
@@ -143,6 +143,16 @@ ends 'a memory without a mark: by which schedule' 0 grep -q '"again":"--schedule
 read -r -a words < <("$folder/versions_AGAIN" --schedule steps --seed 3 2>/dev/null | sed -n 's/^{"again":"\(.*\)","certain":true}$/\1/p') || true
 round=${words[-1]:-1}
 ends 'one round less' 0 "$folder/versions_AGAIN" --schedule steps --seed 3 --round $((round - 1))
+# The wrong event is one of its round, also if it ends that.
+paused norec_COMMIT examples/c/norec.c COMMIT
+has_events() {
+    local seed
+    for seed in {1..40}; do
+        "$folder/norec_COMMIT" --schedule steps --seed "$seed" --threads 2 >"$folder/printed" 2>&1 || [ $? -eq 1 ]
+        grep -q 'with --event [1-9][0-9]* before its wrong event$' "$folder/printed"
+    done
+}
+ends 'a wrong event in its round' 0 has_events
 ends 'to a round' 0 "$folder/norec" --round 1234
 has_told 'to a round: no further' '"rounds":1234,'
 
@@ -172,6 +182,18 @@ summed() {
     diff <(sums "$folder/three" | sort) <(awk '{ sum[$1] += $2 } END { for (it in sum) print it, sum[it] }' "$folder/each" | sort)
 }
 ends 'what comes out of three legs' 0 summed
+# A last leg in which nothing overlaps doesn't say so of the run.
+overlapped() {
+    local seed words given=(--threads 2 --registers 8 --calls 1 --mixes 0 --aborts 0)
+    for seed in {1..60}; do
+        "$folder/norec" --rounds 1001 --seed "$seed" --legs "${given[@]}" >"$folder/whole" 2>"$folder/legs"
+        read -r -a words < <(sed -n 's/^leg 2: //p' "$folder/legs")
+        "$folder/norec" "${words[@]}" >"$folder/printed" 2>/dev/null
+        ! grep -q '"lacks":\[.*"overlap"' "$folder/printed" || break
+    done
+    grep -q '"lacks":\[.*"overlap"' "$folder/printed" && ! grep -q '"lacks":\[.*"overlap"' "$folder/whole"
+}
+ends 'a last leg without overlap' 0 overlapped
 # The place of what is wrong in the run is that in its trace, and what precedes the trace, also in a later leg.
 later() {
     local seed
@@ -200,7 +222,8 @@ legs_drawn() {
 ends 'the legs of a marked memory' 0 legs_drawn norec 3 1 0
 ends 'a memory without marks compiles' 0 "$cc" "${strict[@]}" -o "$folder/unmarked" "$top/examples/c/norec.c" "${bench[@]}"
 ends 'the legs of an unmarked memory' 0 legs_drawn unmarked 4 0 0
-ends 'a run by default has all its time' 0 timed_legs
+ends 'a run by default has all its time' 0 timed_legs norec
+ends 'a run by default has all its time, without marks' 0 timed_legs unmarked
 # The steps of the round lead to their lines, and a report that CI systems read says what came out.
 lists_steps() {
     rm -f "$folder/one.steps"
