@@ -53,10 +53,10 @@ paused jumping tests/c/bench_jumping.c NONE
 paused mutex tests/c/bench_stuck.c NONE "$waits"
 paused mutex_unseen tests/c/bench_stuck.c NONE
 
-# The time that a run by default takes, which is all that it has.
+# The time that a run by default takes, which is all that it has. (Long pauses, which steps don't make, let each leg by permits end late.)
 timed_legs() {
     local began=$EPOCHREALTIME
-    "$folder/$1" --seconds 3 >"$folder/printed"
+    "$folder/$1" --seconds 3 --threads 2 --registers 1 --calls 1 --pause 1000000 >"$folder/printed"
     since "$began" | awk '{ exit !($1 >= 2.9 && $1 < 5) }'
 }
 
