@@ -424,6 +424,7 @@ is_patient() {
 ends 'a second of patience' 0 is_patient
 paused stuck_BOTH tests/c/bench_stuck.c BOTH
 ends 'a wrong memory that never returns' 1 "$folder/stuck_BOTH" --schedule rounds --patience 1 --adds 0
+ends 'a wrong memory that never returns: where' 0 grep -q '^thread 1: .* has not returned$' "$folder/output"
 has_told 'a wrong memory that never returns: the verdict' '"verdict":"violated"'
 # A memory that waits without a step, and a bench that doesn't see it.
 ends 'a lock without a mark compiles' 0 "$cc" "${strict[@]}" -DPERCENT=0 -o "$folder/spins" "$top/tests/c/bench_spurious.c" "${bench[@]}"
