@@ -485,11 +485,12 @@ for file in tl2:LEAK tl2:WRAP readers:LEAK; do
     repeats "$name" 4 false '--schedule rounds'
 done
 for each in 0 50; do
+    most=$((each > 0 ? 300 : 3000))
     paused "spurious_$each" tests/c/bench_spurious.c NONE -DPERCENT=50 -DEACH=$each
     for schedule in rounds permits steps all; do
-        ends "rolled back by chance, $each, $schedule" 0 "$folder/spurious_$each" --schedule $schedule --rounds 3000 --registers 8 \
+        ends "rolled back by chance, $each, $schedule" 0 "$folder/spurious_$each" --schedule $schedule --rounds $most --registers 8 \
             --trace "$folder/one"
-        has_told "rolled back by chance, $each, $schedule: all rounds" '"rounds":3000[,}]'
+        has_told "rolled back by chance, $each, $schedule: all rounds" "\"rounds\":$most[,}]"
         ends "rolled back by chance, $each, $schedule: its trace, judged" 0 sh -c '"$1" <"$2"' sh "$folder/replay" "$folder/one"
     done
 done
