@@ -1,61 +1,58 @@
-/* A plan is checked and run: in one leg, or by all schedules in several. The first legs go by steps, so that what they find comes with
-   words that repeat it. */
+/* A plan is run: in one leg, or by all schedules in several. Here is which leg goes how, and why.
 
-static const uint64_t most_pause = 1 << 20;
-enum { STEPS_LEGS = 5, LEG_ROUNDS = 1000, ORDER = 4 };
+   The first STEPS_LEGS go by steps, so that what they find comes with words that repeat it. Then CYCLE legs come again and again: one in
+   rounds and one by permits, for a tenth of a second at most, and all others by steps, which take about half as long. So steps, which find
+   most and soonest, have nine tenths of the time; what only processors do, as to let two threads meet between two steps, is found by the
+   rest. If the memory has no step of its own, steps find little more than calls that overlap, so that only one leg in four goes by them.
 
-/* What a plan may leave to be drawn: where it stands, and what it is where nothing is drawn. */
-static const struct drawn {
-    size_t to;
-    uint64_t usual;
-} drawn[] = {{TO(threads), 4}, {TO(registers), 3}, {TO(calls), 3},   {TO(writes), 50},
-             {TO(adds), 20},   {TO(aborts), 12},   {TO(pause), 100}, {TO(mixes), 50}};
-enum { DRAWN = sizeof drawn / sizeof drawn[0] };
+   One leg in two has the usual numbers and another seed. In the others all is drawn, since what one memory needs another doesn't.
 
-/* Fills in what the plan leaves to be drawn, with these numbers. */
-static void fill_in(tmwatch_plan *plan, const uint64_t numbers[DRAWN])
-{
-    for (unsigned i = 0; i < DRAWN; i++) {
-        uint64_t *number = number_of(plan, drawn[i].to);
-        if (*number == TMWATCH_DRAWN)
-            *number = numbers[i];
-    }
-}
-
-static tmwatch_plan usual_plan(const tmwatch_plan *plan)
-{
-    tmwatch_plan it = *plan;
-    uint64_t numbers[DRAWN];
-    for (unsigned i = 0; i < DRAWN; i++)
-        numbers[i] = drawn[i].usual;
-    fill_in(&it, numbers);
-    return it;
-}
+   With libtmwatch_steps.a one leg by steps in four has delayed stores, and one in eight plain accesses that are steps too: each finds what
+   the others can't, and finds all else more slowly. */
+enum { CYCLE = 20, FEW_STEPS_CYCLE = 4, LEG_MICROSECONDS = SECOND / 10, USUAL_LEGS = 2, BUFFERED_LEGS = 4, PLAIN_LEGS = 8 };
 
 /* Draws the plan of a leg that isn't the first. */
 static void draw_plan(tmwatch_plan *plan, uint64_t *draws)
 {
     static const uint64_t pauses[] = {0, 10, 100, 1000};
     plan->seed = draw(draws, UINT64_MAX);
-    uint64_t more = draw(draws, 2) * 5;
-    uint64_t threads = 2 + draw(draws, 2 + more), registers = 1 + draw(draws, 4), calls = 1 + draw(draws, 5);
+    bool is_usual = draw(draws, USUAL_LEGS) == 0;
+    uint64_t more = draw(draws, 2) * 4;
+    uint64_t threads = 2 + draw(draws, 3 + more), registers = 1 + draw(draws, 4), calls = 1 + draw(draws, 5);
     uint64_t writes = 30 + 20 * draw(draws, 4), adds = 20 * draw(draws, 2);
     uint64_t aborts = draw(draws, 4) == 0 ? 52 : 12, pause = pauses[draw(draws, 4)];
-    const uint64_t numbers[DRAWN] = {threads, registers, calls, writes, adds, aborts, pause, 50};
+    bool has_buffers = draw(draws, BUFFERED_LEGS) == 0, has_plain = draw(draws, PLAIN_LEGS) == 0;
+    const uint64_t numbers[DRAWN] = {threads, registers, calls, writes, adds, aborts, pause, 50, 10};
+    if (is_usual)
+        *plan = usual_plan(plan);
     fill_in(plan, numbers);
+    if (tmwatch_step_drain && plan->schedule == TMWATCH_STEPS) {
+        plan->buffers |= has_buffers;
+        plan->plain |= has_plain;
+    }
 }
 
-/* The plan of a leg: the first ones go by steps, then all schedules come in turn. */
+/* The schedule of a leg. */
+static uint64_t schedule_of_leg(const struct session *session, uint64_t leg)
+{
+    uint64_t cycle = session->all.steps > 0 && !session->has_steps ? FEW_STEPS_CYCLE : CYCLE, place = (leg - STEPS_LEGS) % cycle;
+    if (leg < STEPS_LEGS)
+        return TMWATCH_STEPS;
+    if (cycle == FEW_STEPS_CYCLE && place + 1 < cycle)
+        return place % 2 == 0 ? TMWATCH_ROUNDS : TMWATCH_PERMITS;
+    return place == 0 ? TMWATCH_ROUNDS : place == cycle / 2 ? TMWATCH_PERMITS : TMWATCH_STEPS;
+}
+
+/* The plan of a leg. */
 static tmwatch_plan plan_of_leg(const struct session *session, uint64_t leg, uint64_t *draws)
 {
-    static const uint64_t order[ORDER] = {TMWATCH_ROUNDS, TMWATCH_STEPS, TMWATCH_PERMITS, TMWATCH_STEPS};
     tmwatch_plan it = *session->plan;
     uint64_t left = it.rounds - session->all.rounds;
+    it.schedule = schedule_of_leg(session, leg);
     if (leg > 0)
         draw_plan(&it, draws);
     else
         it = usual_plan(&it);
-    it.schedule = leg < STEPS_LEGS ? TMWATCH_STEPS : order[(leg - STEPS_LEGS) % ORDER];
     it.rounds = left < LEG_ROUNDS ? left : LEG_ROUNDS;
     it.round = it.round > session->all.rounds && it.round - session->all.rounds <= LEG_ROUNDS ? it.round - session->all.rounds : 0;
     if (it.schedule != TMWATCH_PERMITS && it.attempts > MOST_ATTEMPTS / it.threads)
@@ -89,6 +86,9 @@ static void add_leg(tmwatch_benched *all, const tmwatch_benched *leg)
     all->rescues += leg->rescues;
     all->stores += leg->stores;
     all->foreign = leg->foreign > all->foreign ? leg->foreign : all->foreign;
+    all->event = leg->event;
+    all->is_undelayed = all->is_undelayed || leg->is_undelayed;
+    all->rejected = leg->rejected;
 }
 
 /* Keeps what the registers hold after a leg: whether that is known, by its last look. */
@@ -102,15 +102,43 @@ static bool keep_start(const struct bench *b, uint64_t events)
 }
 
 /* Tells by which plan the end of the run is made again, and whether that is certain: then it goes by steps from the beginning. */
-static void set_again(struct session *session, const tmwatch_plan *plan, uint64_t leg, uint64_t rounds)
+static void set_again(struct session *session, const tmwatch_plan *plan, uint64_t leg, const tmwatch_benched *out)
 {
     tmwatch_benched *all = &session->all;
-    bool is_right = all->told.verdict == TMWATCH_OPAQUE_SO_FAR, has_steps = plan->schedule == TMWATCH_STEPS && !is_right;
+    bool is_right = all->told.verdict == TMWATCH_OPAQUE_SO_FAR && out->rejected == 0 && !session->is_stuck;
+    bool has_steps = plan->schedule == TMWATCH_STEPS && !is_right;
     bool is_given = is_right || session->plan->schedule != TMWATCH_ALL || leg < STEPS_LEGS;
+    uint64_t rounds = is_given ? all->rounds : out->rounds;
     all->again = is_given ? *session->plan : *plan;
-    if (has_steps)
-        all->again.rounds = all->again.round = is_given ? all->rounds : rounds;
+    all->leg = *plan;
+    /* (the first look is of round 1) */
+    if (has_steps) {
+        all->again.rounds = all->again.round = rounds > 0 ? rounds : 1;
+        all->again.seconds = all->again.event = 0;
+    }
     all->is_certain = has_steps && is_given && all->rescues == 0;
+}
+
+/* Prints the words of a leg's plan. */
+static void print_leg(FILE *file, uint64_t leg, const tmwatch_plan *plan)
+{
+    tmwatch_plan it = *plan;
+    if (!file)
+        return;
+    it.seconds = 0;
+    fprintf(file, "leg %llu: ", (unsigned long long)leg);
+    tmwatch_bench_words(file, &it);
+    fputc('\n', file);
+}
+
+/* Writes the trace and the listing of what ended the run, after so many events of earlier legs. */
+static void write_end(struct session *session, const struct bench *b, const tmwatch_benched *out, uint64_t before)
+{
+    const tmwatch_plan *plan = session->plan;
+    if (plan->trace)
+        session->all.from = before + write_trace(b, out->told);
+    if (plan->listing && (out->told.at > 0 || out->rejected > 0))
+        write_steps(b, plan->listing, out->rounds);
 }
 
 /* Runs one leg after another until the rounds or the time are over, or something is wrong. */
@@ -126,57 +154,23 @@ static uint32_t run_legs(struct session *session)
         if (!b)
             return TMWATCH_MEMORY;
         tmwatch_plan it = plan->schedule == TMWATCH_ALL ? plan_of_leg(session, leg, &draws) : usual_plan(plan);
+        b->most_time = plan->schedule == TMWATCH_ALL && it.schedule != TMWATCH_STEPS ? LEG_MICROSECONDS : 0;
+        print_leg(plan->legs, leg + 1, &it);
         status = run_leg(b, session, &it, &out);
         uint64_t before = all->told.events;
         add_leg(all, &out);
-        set_again(session, &it, leg++, out.rounds);
-        goes_on = plan->schedule == TMWATCH_ALL && out.told.verdict == TMWATCH_OPAQUE_SO_FAR && !session->is_late && !b->is_stuck &&
-                  all->rounds < plan->rounds && keep_start(b, out.told.events);
-        if (!goes_on && status == TMWATCH_DONE && plan->trace)
-            all->from = before + write_trace(b, out.told);
-        if (b->is_stuck)
-            return TMWATCH_STUCK;
-        free(b);
+        set_again(session, &it, leg++, &out);
+        goes_on = plan->schedule == TMWATCH_ALL && out.told.verdict == TMWATCH_OPAQUE_SO_FAR && !session->is_late &&
+                  !session->is_stuck && out.rejected == 0 && all->rounds < plan->rounds && keep_start(b, out.told.events);
+        if (!goes_on && status == TMWATCH_DONE)
+            write_end(session, b, &out, before);
+        if (status == TMWATCH_DONE && !goes_on)
+            status = session->is_stuck ? TMWATCH_STUCK : out.rejected > 0 ? TMWATCH_NO_PROGRESS : TMWATCH_DONE;
+        /* What is stuck still uses it. */
+        if (!session->is_stuck)
+            free(b);
     }
     return status;
-}
-
-/* The first function that is null and that the memory has to have, or none. */
-static const char *missing_function(const tmwatch_memory *m)
-{
-    if (!m->read || !m->write)
-        return m->read ? "write" : "read";
-    if (m->run)
-        return NULL;
-    return !m->begin ? "begin" : !m->commit ? "commit" : !m->abort ? "abort" : NULL;
-}
-
-/* Whether a number of the plan is out of its range, besides those of threads and registers. */
-static bool is_out_of_range(const tmwatch_plan *plan)
-{
-    uint64_t most_attempts = plan->schedule == TMWATCH_PERMITS ? UINT64_MAX : MOST_ATTEMPTS / plan->threads;
-    uint64_t most_round = plan->schedule == TMWATCH_STEPS ? UINT64_MAX : plan->schedule == TMWATCH_ALL ? STEPS_LEGS * LEG_ROUNDS : 0;
-    if (plan->calls < 1 || plan->calls > MOST_USES || plan->schedule > TMWATCH_ALL || plan->attempts > most_attempts)
-        return true;
-    if (plan->rounds == 0 || plan->round > most_round || (plan->buffers > 0 && !tmwatch_step_drain))
-        return true;
-    return plan->writes > 100 || plan->adds > 100 || plan->aborts > 100 || plan->mixes > 100 || plan->pause > most_pause;
-}
-
-/* Looks at what no watch looks at. */
-static uint32_t check(const tmwatch_memory *memory, const tmwatch_plan *given)
-{
-    const tmwatch_plan plan = usual_plan(given);
-    if (missing_function(memory))
-        return TMWATCH_MISSING;
-    if (plan.threads < 1 || plan.threads > MOST_THREADS)
-        return TMWATCH_BAD_SIZE;
-    if (plan.registers < 1 || plan.registers > MOST_REGISTERS)
-        return TMWATCH_BAD_REGISTERS;
-    for (uint64_t reg = plan.registers; reg < MOST_REGISTERS; reg++)
-        if (plan.start[reg] != 0)
-            return TMWATCH_BAD_START;
-    return is_out_of_range(&plan) ? TMWATCH_BAD_BOUNDS : TMWATCH_DONE;
 }
 
 uint32_t tmwatch_bench(const tmwatch_memory *memory, const tmwatch_plan *plan, tmwatch_benched *benched)
@@ -193,9 +187,8 @@ uint32_t tmwatch_bench(const tmwatch_memory *memory, const tmwatch_plan *plan, t
     status = run_legs(&session);
     if (plan->progress)
         fputs("\r\033[K", plan->progress);
-    if (status == TMWATCH_DONE || status == TMWATCH_STUCK)
+    if (status == TMWATCH_DONE || status == TMWATCH_STUCK || status == TMWATCH_NO_PROGRESS)
         *benched = session.all;
-    for (unsigned i = 0; i < MOST_THREADS && status != TMWATCH_STUCK; i++)
-        free(session.tx[i]);
+    end_threads(&session, session.is_stuck);
     return status;
 }

@@ -18,25 +18,27 @@ static void unlock_steps(struct steps *s)
     atomic_store_explicit(&s->is_locked, false, memory_order_release);
 }
 
-/* Who of these threads runs next: by walk any, by priorities the highest; nobody if none is able to. One that waits for a mutex is only if
-   no other is, since a thread that isn't the bench's may have unlocked that. The steps are locked. */
+/* Any of these threads, of which there is one. The steps are locked. */
+static int any_of(struct steps *s, unsigned threads)
+{
+    for (uint64_t skipped = draw(&s->draws, (uint64_t)__builtin_popcount(threads)); skipped > 0; skipped--)
+        threads &= threads - 1;
+    return __builtin_ctz(threads);
+}
+
+/* Who of these threads runs next: by walk any, by priorities the highest; nobody if none is able to. One that waits is only if no other
+   is, since a thread that isn't the bench's may have freed what it waits for. The steps are locked. */
 static int choose(struct steps *s, unsigned threads)
 {
     unsigned able = s->ready & threads & ~s->stuck;
     int found = NOBODY;
-    if (able == 0)
-        return NOBODY;
     if (able & ~s->waiting)
         able &= ~s->waiting;
-    uint64_t skipped = s->odds > 0 ? draw(&s->draws, (uint64_t)__builtin_popcount(able)) : 0;
-    for (int i = 0; i < MOST_THREADS; i++) {
-        if (!(able >> i & 1))
-            continue;
-        if (s->odds > 0 && skipped-- == 0)
-            return i;
-        if (s->odds == 0 && (found == NOBODY || s->priority[i] > s->priority[found]))
+    if (able && s->odds > 0)
+        return any_of(s, able);
+    for (int i = 0; i < MOST_THREADS; i++)
+        if (able >> i & 1 && (found == NOBODY || s->priority[i] > s->priority[found]))
             found = i;
-    }
     return found;
 }
 
@@ -59,24 +61,26 @@ static void let_go(struct steps *s, int next)
         sem_post(&s->go[next]);
 }
 
-/* A thread that a rescue held for stuck has come to a step: it waits for its turn as all others. */
-static void come_back(tmwatch_attempt *a)
+/* Locks the steps as the runner. A thread that a rescue held for stuck waits for its turn first, as all others. */
+static void lock_as_runner(tmwatch_attempt *a)
 {
     struct steps *s = &a->bench->steps;
     lock_steps(s);
-    s->stuck &= ~(1u << a->thread);
-    if (s->runner == NOBODY)
-        s->runner = (int)a->thread;
-    unlock_steps(s);
-    wait_turn(a);
+    while (s->runner != (int)a->thread && !s->is_over) {
+        s->stuck &= ~(1u << a->thread);
+        if (s->runner == NOBODY)
+            s->runner = (int)a->thread;
+        unlock_steps(s);
+        wait_turn(a);
+        lock_steps(s);
+    }
 }
 
-/* Hands over to another: by walk to any, by priorities to the highest, which may be this thread still. */
+/* Hands over to another, and unlocks the steps: by walk to any, by priorities to the highest, which may be this thread still. */
 static void hand_over(tmwatch_attempt *a)
 {
     struct steps *s = &a->bench->steps;
-    lock_steps(s);
-    int next = s->runner == (int)a->thread ? choose(s, s->odds > 0 ? ~(1u << a->thread) : ~0u) : NOBODY;
+    int next = choose(s, s->odds > 0 ? ~(1u << a->thread) : ~0u);
     if (next == NOBODY || next == (int)a->thread) {
         unlock_steps(s);
         return;
@@ -92,10 +96,11 @@ static void step(tmwatch_attempt *a, unsigned pauses)
     struct steps *s = &a->bench->steps;
     if (a->looks)
         return;
-    if (s->runner != (int)a->thread)
-        come_back(a);
+    lock_as_runner(a);
     s->step++;
     s->spin = pauses > 0 ? s->spin + pauses : 0;
+    if (pauses > 0)
+        s->listed[s->inner++ % LISTED] = (struct listed){s->recorded, a->caller, a->thread};
     bool hands_over = s->spin > MOST_SPIN || (s->odds > 0 && draw(&s->draws, s->odds) == 0);
     while (s->changes > 0 && s->change[s->changes - 1] < s->step) {
         s->changes--;
@@ -105,10 +110,11 @@ static void step(tmwatch_attempt *a, unsigned pauses)
         s->priority[a->thread] = --s->lowest;
         s->spin = 0;
     }
-    /* Whoever reads this, as the watchdog, may read what this thread has set before. */
     s->steps++;
     if (hands_over)
         hand_over(a);
+    else
+        unlock_steps(s);
 }
 
 /* Draws at which steps of the round the runner gets the lowest priority. */
@@ -157,11 +163,22 @@ static void turn_round(tmwatch_attempt *a)
         s->length[s->is_mixed] += s->step - s->length[s->is_mixed] / 16;
     wait_for_room(a);
     b->is_over = is_last(b, round);
+    b->round = round + 1;
+    if (!b->is_over && b->round == b->plan->round && b->plan->event == 0)
+        tmwatch_break();
     if (!b->stops && (b->is_over || round % LOOK == 0))
         look(a);
-    b->round = round + 1;
+    b->is_over = b->is_over || b->rejected > 0;
     s->starts[b->round % STARTS] = s->recorded;
-    if (!b->is_over && b->round == b->plan->round)
+    s->begun = b->round;
+}
+
+/* Stops a debugger before the event of the plan. The first look is of round 1. */
+static void break_at_event(const struct bench *b)
+{
+    const struct steps *s = &b->steps;
+    uint64_t round = s->begun > 0 ? s->begun : 1;
+    if (b->plan->event > 0 && round == b->plan->round && s->recorded + 1 - s->starts[s->begun % STARTS] == b->plan->event)
         tmwatch_break();
 }
 
@@ -182,9 +199,7 @@ static bool meet_by_steps(tmwatch_attempt *a)
 {
     struct bench *b = a->bench;
     struct steps *s = &b->steps;
-    if (s->runner != (int)a->thread)
-        come_back(a);
-    lock_steps(s);
+    lock_as_runner(a);
     s->ready &= ~(1u << a->thread);
     if (s->ready == 0) {
         unlock_steps(s);
@@ -207,9 +222,10 @@ static bool meet_first(tmwatch_attempt *a)
     return !a->bench->is_over;
 }
 
-/* Thread 0 is the first to run, and alone. */
-static void set_steps(struct bench *b)
+/* Thread 0 is the first to run, and alone. Returns false where the system refuses. */
+static bool set_steps(struct bench *b)
 {
+    bool is_done = true;
     struct steps *s = &b->steps;
     s->draws = ~b->plan->seed * apart_values;
     s->ready = 1;
@@ -217,7 +233,8 @@ static void set_steps(struct bench *b)
     s->awake = NOBODY;
     s->length[0] = s->length[1] = 16 * FIRST_LENGTH;
     for (unsigned i = 0; i < MOST_THREADS; i++)
-        sem_init(&s->go[i], 0, 0);
+        is_done = sem_init(&s->go[i], 0, 0) == 0 && is_done;
+    return is_done;
 }
 
 /* In which round the event at this length was recorded. */

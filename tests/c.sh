@@ -1,5 +1,5 @@
 #!/usr/bin/env bash
-# Compiles the programs of tests/c and examples/c over the library for C, without a warning, and runs them; then runs tests/steps.sh and
+# Compiles the programs of tests/c and examples/c over the library for C, without a warning, and runs them; then runs tests/c_steps.sh and
 # tests/bindings.sh over the same library.
 #
 #   tests/c.sh
@@ -96,17 +96,16 @@ for room in 112 16; do
         "$top/examples/recorders/little.c"
     ends "room for $room events" "$([ "$room" = 112 ] && echo 0 || echo 134)" "$folder/room" none right 99 1
 done
-# The bench is compiled here, so that the flags reach it too. It sees that a thread waits for a mutex, or yields.
-waits=('-Wl,--wrap=pthread_mutex_lock,--wrap=pthread_mutex_unlock,--wrap=sched_yield')
-bench=(-DTMWATCH_PAUSES "$folder/bench.o" "$folder/waits.o" "${static[@]}" "${waits[@]}")
+# The bench is compiled here, so that the flags reach it too.
+bench=(-DTMWATCH_PAUSES "$folder/lib/libtmwatch_bench.a" "${static[@]}" "$waits")
 
 # Whether a judge's report on the bench's trace, in a file, is that of the bench, which is in another: the same verdict, with as many events
 # less as precede the trace.
 is_same_report() {
     local from first
     from=$(sed -n 's/^{"foreign":.*"from":\([0-9]*\),.*/\1/p' "$1")
-    first=$(sed -n '1s/^{"[a-z]*":\([0-9]*\),.*/\1/p' "$1")
-    diff <(head -n 1 "$1" | sed "s/:[0-9][0-9]*/:$((first - ${from:-0}))/g") <(head -n 1 "$2")
+    first=$(grep -m1 '^{' "$1" | sed 's/^{"[a-z]*":\([0-9]*\),.*/\1/')
+    diff <(grep -m1 '^{' "$1" | sed "s/:[0-9][0-9]*/:$((first - ${from:-0}))/g") <(head -n 1 "$2")
 }
 
 # A memory that was compiled for the bench: its name, its exit status, and the seeds. A right one runs $rounds, and a broken one until it is
@@ -132,8 +131,7 @@ on_bench() {
     done
 }
 
-ends 'the bench compiles' 0 "$cc" -std=c11 "${strict[@]}" -c -o "$folder/bench.o" "$top/bench-c/tmwatch_bench.c"
-ends 'waits compile' 0 "$cc" -std=c11 "${strict[@]}" -c -o "$folder/waits.o" "$top/bench-c/waits.c"
+ends 'the bench compiles' 0 build_bench "$cc" -std=c11 "${strict[@]}"
 ends 'a replay compiles' 0 "$cc" -std=c11 "${strict[@]}" -o "$folder/bench_replay" "$top/tests/c/bench_replay.c" "${bench[@]}"
 program bench_plans "$top/tests/c/bench_plans.c" 0 '' "${bench[@]}"
 [ ! -x "$folder/bench_plans" ] || "$folder/bench_plans" print >"$folder/lines" 2>&1 || true
@@ -198,6 +196,7 @@ on_class() {
 if command -v "$cxx" >/dev/null; then
     on_class NONE 0
     on_class LOOP 0
+    on_class ABORTS 0
     on_class READS 1
     on_class THROW 134
     on_class THROW_INT 134
@@ -238,6 +237,7 @@ for words in --rounds '--rounds x' '--rounds 0' '--mixes 101' '--schedule rounds
     esac
     ends "wrong words, $words: why" 0 grep -qxF -- "$reason" "$folder/told"
 done
+ends 'an empty word' 4 "${run[@]}" "$folder/norec_NONE" --rounds 9 --adds ''
 ends 'the words there are' 0 "${run[@]}" "$folder/norec_NONE" --help
 sed 's/ norec_commit, norec_abort/ NULL, norec_abort/; /^static bool norec_commit/,/^}/d' "$top/examples/c/norec.c" >"$folder/lacking.c"
 ends 'a memory without a function compiles' 0 "$cc" -std=c11 -O2 -pthread "-I$built/include" "-I$top/examples/c" "${flags[@]}" \
@@ -259,6 +259,6 @@ if command -v pkg-config >/dev/null; then
     ends 'a memory by the package' 0 "${run[@]}" "$folder/package" --rounds 100
     ends 'the package' 0 env PKG_CONFIG_PATH="$built/lib/pkgconfig" sh -c "$cc -std=c11 ${FLAGS:-} -o '$folder/package' '$top/tests/c/misuse.c' \$(pkg-config --cflags --libs tmwatch)"
 fi
-ends 'the bench by steps' 0 "$top/tests/steps.sh"
+ends 'the bench by steps' 0 "$top/tests/c_steps.sh"
 ends 'the bindings' 0 "$top/tests/bindings.sh"
 end_rows

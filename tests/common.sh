@@ -84,9 +84,27 @@ since() {
     echo "$1 $EPOCHREALTIME" | tr , . | awk '{ printf "%.2f", $2 - $1 }'
 }
 
-# Sets built, the folder with the library for C: BUILT, or one that is filled now and becomes BUILT for what the script calls.
+# Compiles the bench of this repository, by these words, into $folder/lib/libtmwatch_bench.a and libtmwatch_steps.a, as
+# packaging/layout.py does.
+build_bench() {
+    local source
+    mkdir -p "$folder/lib" "$folder/steps"
+    "$@" -c -o "$folder/tmwatch_bench.o" "$top/bench-c/tmwatch_bench.c"
+    for source in "$top"/bench-c/instrumented/*.c; do
+        "$@" -c -o "$folder/steps/$(basename "$source" .c).o" "$source"
+    done
+    rm -f "$folder"/lib/libtmwatch_{bench,steps}.a
+    mv "$folder/steps/waits.o" "$folder"
+    ar rcs "$folder/lib/libtmwatch_bench.a" "$folder/tmwatch_bench.o" "$folder/waits.o"
+    ar rcs "$folder/lib/libtmwatch_steps.a" "$folder"/steps/*.o
+}
+
+# Sets built, the folder with the library for C: BUILT, or one that is filled now and becomes BUILT for what the script calls. It also sets
+# waits and blocks, by which the linker shows the bench that a thread waits, and that a block is given back.
 use_library() {
     built=${BUILT:-$folder/built}
     [ -n "${BUILT:-}" ] || "$top/tmwatch-c" "$built"
     export BUILT=$built
+    waits=$(grep -o -- '-Wl,--wrap=pthread[^ ]*' "$built/lib/pkgconfig/tmwatch_bench.pc")
+    blocks=$(grep -o -- '-Wl,-u,[^ ]*' "$built/lib/pkgconfig/tmwatch_steps.pc")
 }

@@ -1,17 +1,21 @@
 /*
 A memory of one lock on the bench, in which thread 1 forgets to unlock: by -DFAULT=SPIN the next transaction spins at its begin; by MUTEX
-it waits for a mutex; by READ thread 1 never returns from a read of register 2. By NONE nothing is forgotten.
+it waits for a mutex; by READ thread 1 never returns from a read of register 2, and by ADD from an add to it. By UNLOCKED thread 2 takes no
+lock, so that the memory isn't opaque. By BOTH thread 1 reads a wrong value and then never returns. By SLOW a read takes three tenths of a second. By MEETS
+there is no lock, and two reads at once return a wrong value. By NONE nothing is forgotten.
 */
+#define _GNU_SOURCE
 #include "tmwatch_bench.h"
 #include <pthread.h>
 #include <stdatomic.h>
+#include <time.h>
 
 #ifndef FAULT
 #define FAULT NONE
 #endif
 
 enum { REGISTERS = 8 };
-enum fault { NONE, SPIN, MUTEX, READ };
+enum fault { NONE, SPIN, MUTEX, READ, ADD, UNLOCKED, BOTH, SLOW, MEETS };
 
 struct tx {
     uint64_t before[REGISTERS];
@@ -23,8 +27,16 @@ static pthread_mutex_t mutex = PTHREAD_MUTEX_INITIALIZER;
 static atomic_bool is_locked;
 static unsigned begun[REGISTERS];
 
+/* Whether this thread takes no lock. */
+static bool is_unlocked(void)
+{
+    return fault == MEETS || (fault == UNLOCKED && tmwatch_thread() == 2);
+}
+
 static void lock(void)
 {
+    if (is_unlocked())
+        return;
     if (fault == SPIN)
         while (atomic_exchange(&is_locked, true))
             TMWATCH_PAUSE();
@@ -35,6 +47,8 @@ static void lock(void)
 static void unlock(void)
 {
     bool forgets = tmwatch_thread() == 1 && ++begun[1] > 20 && (fault == SPIN || fault == MUTEX);
+    if (is_unlocked())
+        return;
     if (fault == SPIN && !forgets)
         is_locked = false;
     else if (!forgets)
@@ -50,26 +64,62 @@ static bool begin(void *memory, void *tx)
     return true;
 }
 
-static bool read(void *memory, void *tx, unsigned reg, uint64_t *value)
+/* Whether another thread is here meanwhile. */
+static bool meets_another(void)
 {
+    static atomic_int inside;
+    bool meets = ++inside > 1;
+    for (int turn = 0; turn < 5000 && !meets; turn++)
+        meets = inside > 1;
+    inside--;
+    return meets;
+}
+
+/* After a wrong value thread 1 doesn't return. */
+static bool lies(void)
+{
+    static bool has_lied;
+    bool is_due = fault == BOTH && tmwatch_thread() == 1 && begun[1] > 20;
+    while (is_due && has_lied)
+        TMWATCH_PAUSE();
+    has_lied = has_lied || is_due;
+    return is_due;
+}
+
+static bool read_value(void *memory, void *tx, unsigned reg, uint64_t *value)
+{
+    struct timespec time = {0, 300000000};
     (void)memory, (void)tx;
+    while (fault == SLOW && nanosleep(&time, &time) != 0)
+        ;
     while (fault == READ && reg == 2 && tmwatch_thread() == 1 && begun[1] > 20)
         TMWATCH_PAUSE();
-    *value = words[reg];
+    *value = words[reg] + (fault == MEETS && meets_another()) + lies();
     TMWATCH_PAUSE();
     return true;
 }
 
-static bool write(void *memory, void *tx, unsigned reg, uint64_t value)
+static bool write_value(void *memory, void *tx, unsigned reg, uint64_t value)
 {
     (void)memory, (void)tx;
     words[reg] = value;
     return true;
 }
 
+static bool add(void *memory, void *tx, unsigned reg, uint64_t addend, uint64_t *before)
+{
+    (void)memory, (void)tx;
+    while (fault == ADD && reg == 2 && tmwatch_thread() == 1 && begun[1] > 20)
+        TMWATCH_PAUSE();
+    *before = words[reg];
+    words[reg] += addend;
+    return true;
+}
+
 static bool commit(void *memory, void *tx)
 {
     (void)memory, (void)tx;
+    lies();
     unlock();
     return true;
 }
@@ -82,6 +132,6 @@ static void cancel(void *memory, void *tx)
     unlock();
 }
 
-static const tmwatch_memory memory = {NULL, sizeof(struct tx), begin, read, write, NULL, commit, cancel, NULL};
+static const tmwatch_memory memory = {NULL, sizeof(struct tx), begin, read_value, write_value, add, commit, cancel, NULL};
 
 TMWATCH_BENCH_MAIN(memory)

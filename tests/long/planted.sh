@@ -4,7 +4,7 @@
 #
 #   tests/long/planted.sh
 #
-# A row for each mistake says that the test fails with it which tests/c.sh, tests/steps.sh or tests/bindings.sh runs. The first rows say
+# A row for each mistake says that the test fails with it which tests/c.sh, tests/c_steps.sh or tests/bindings.sh runs. The first rows say
 # that the tests pass without a mistake. The last line is 'N passed, M failed', and the exit status is 1 if a row failed. Without cargo the
 # package in Rust is skipped, and a line says so.
 # No test here can notice that permits are taken or recorders in Rust go over without order (on x86 each exchange is a fence), that room is
@@ -34,12 +34,12 @@ compiled() {
 draws() {
     compiled memory "$top/examples/c/norec.c"
     timeout 60 "$folder/memory" --schedule rounds --rounds 300 --seed 7 --trace "$folder/trace" >"$folder/printed"
-    "$top/tests/draws.py" "$folder/trace" 300 7 4 3 50 20 12 50
+    "$top/tests/draws.py" "$folder/trace" 300 7 4 3 50 20 12 50 10
 }
 start() {
     compiled start "$top/tests/c/bench_start.c"
     "$folder/start" >"$folder/trace"
-    "$top/tests/draws.py" "$folder/trace" 20 1 1 3 100 20 0 50
+    "$top/tests/draws.py" "$folder/trace" 20 1 1 3 100 20 0 50 10
 }
 plans() {
     compiled plans "$top/tests/c/bench_plans.c"

@@ -101,6 +101,10 @@ pub struct Plan {
     pub buffers: bool,
     /// Whether plain accesses of such a memory are steps too.
     pub plain: bool,
+    /// Of 100 transactions, how many do nothing but write (10).
+    pub blinds: u64,
+    /// With `round`: `tmwatch_break` is called before this event of the round instead. 0: before the round.
+    pub event: u64,
 }
 
 impl Default for Plan {
@@ -125,6 +129,8 @@ impl Default for Plan {
             round: 0,
             buffers: false,
             plain: false,
+            blinds: DRAWN,
+            event: 0,
         }
     }
 }
@@ -154,6 +160,8 @@ pub struct Benched {
     pub again: String,
     /// Whether that is certain, if the memory decides nothing by time, address or chance.
     pub is_certain: bool,
+    /// By steps: which event of its round the wrong one is, from 1 on; 0 if none is.
+    pub event: u64,
     /// The run's end, for `tmwatch show`, if the plan asked for it.
     pub trace: Option<String>,
 }
@@ -332,9 +340,11 @@ pub(crate) unsafe fn run_table(table: &ffi::Memory, plan: &Plan) -> Result<Bench
     // SAFETY: the status says that it was written.
     let benched: ffi::Benched = unsafe { benched.assume_init() };
     let again = words_of(&benched.again)?;
-    let ffi::Benched { told, counts, rounds, from, foreign, stores, steps, switches, rescues, is_certain, .. } = benched;
+    // (there are no words for a start)
+    let is_certain = benched.is_certain && plan.start == [0; 8];
+    let ffi::Benched { told, counts, rounds, from, foreign, stores, steps, switches, rescues, event, .. } = benched;
     let (told, trace) = (told.into(), trace?);
-    Ok(Benched { told, counts, rounds, from, foreign, stores, steps, switches, rescues, again, is_certain, trace })
+    Ok(Benched { told, counts, rounds, from, foreign, stores, steps, switches, rescues, again, is_certain, event, trace })
 }
 
 impl Plan {
@@ -362,6 +372,10 @@ impl Plan {
             // A bench that is given up would leave threads behind that use the memory.
             patience: 0,
             progress: null_mut(),
+            blinds: self.blinds,
+            event: self.event,
+            legs: null_mut(),
+            listing: null_mut(),
         }
     }
 }

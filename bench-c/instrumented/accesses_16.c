@@ -1,15 +1,13 @@
-/* Atomic accesses of 16 bytes for accesses.c: each is a step, and no store of them is buffered. */
-#include "tmwatch_bench.h"
-
-void tmwatch_step_drain(void);
+/* Atomic accesses of 16 bytes: each is a step, and no store of them is buffered. */
+#include "step.h"
 
 #ifdef __x86_64__
 __extension__ typedef unsigned __int128 wide;
 #define CX16 __attribute__((target("cx16")))
 
-static void at_wide(void)
+TMWATCH_PART void at_wide(void)
 {
-    tmwatch_pause();
+    tmwatch_step_at(TMWATCH_CALLER);
     tmwatch_step_drain();
 }
 

@@ -4,7 +4,8 @@
    With drawn buffers, an atomic store that isn't sequentially consistent may stay in its thread's buffer for some steps, as in the store
    buffers of x86 (Sewell, Sarkar, Owens, Zappa Nardelli and Myreen, CACM 2010): the stores of a thread come out in their order, a read of
    the thread sees them, and they are out before a read-modify-write, a sequentially consistent store or fence, a plain store to what other
-   threads may see, and each recorded event. Loads aren't reordered. */
+   threads may see, and each recorded event. Loads aren't reordered. Of a thread's own bytes nothing is buffered, since what is stored to
+   them without a mark, as at the end of a function, would be overtaken; nor of a block that may be given back unseen. */
 #include "step.h"
 #include <string.h>
 
@@ -43,8 +44,6 @@ static void drain_one(void)
     memmove(buffer, buffer + 1, --buffered * sizeof buffer[0]);
 }
 
-/* For the bench too: before each event. */
-void tmwatch_step_drain(void);
 void tmwatch_step_drain(void)
 {
     while (buffered > 0)
@@ -52,10 +51,10 @@ void tmwatch_step_drain(void)
 }
 
 /* A step, at which one store in four comes out. */
-static void at_step(void)
+TMWATCH_PART void at_step(void)
 {
     tmwatch_step_how *how = tmwatch_step_accesses();
-    tmwatch_pause();
+    tmwatch_step_at(TMWATCH_CALLER);
     if (buffered == 0 || !how)
         return;
     how->draws = how->draws * UINT64_C(6364136223846793005) + UINT64_C(1442695040888963407);
@@ -63,17 +62,29 @@ static void at_step(void)
         drain_one();
 }
 
-static bool is_own(const tmwatch_step_how *how, const void *at)
+static bool is_own(const tmwatch_step_how *how, const volatile void *at)
 {
-    const char *it = at;
+    uintptr_t it = (uintptr_t)at;
     return (it >= how->own[0] && it < how->own_end[0]) || (it >= how->own[1] && it < how->own_end[1]);
 }
 
-/* Whether a store of this order is buffered. */
-static bool is_buffered(int order)
+/* Where the program's own variables begin and end, as the linker says. They are never given back. */
+extern char __data_start __attribute__((weak)), _end __attribute__((weak));
+
+static bool is_lasting(const volatile void *at)
 {
-    const tmwatch_step_how *how = tmwatch_step_accesses();
-    return how && how->has_buffers && order != SEQUENTIAL;
+    uintptr_t it = (uintptr_t)at;
+    return tmwatch_step_sees_free() || (it >= (uintptr_t)&__data_start && it < (uintptr_t)&_end);
+}
+
+/* Whether a store of this order is buffered. */
+static bool is_buffered(const volatile void *at, int order)
+{
+    tmwatch_step_how *how = tmwatch_step_accesses();
+    if (!how || !how->has_buffers || order == SEQUENTIAL || is_own(how, at))
+        return false;
+    how->is_undelayed = how->is_undelayed || !is_lasting(at);
+    return is_lasting(at);
 }
 
 static void store_later(void *to, uint64_t value, unsigned bytes)
@@ -103,7 +114,7 @@ static bool is_forwarded(const volatile void *at, unsigned bytes, uint64_t *valu
 }
 
 /* Before a plain load of so many bytes. */
-static void before_load(const void *at, unsigned bytes, bool is_volatile)
+TMWATCH_PART void before_load(const void *at, unsigned bytes, bool is_volatile)
 {
     uint64_t value;
     const tmwatch_step_how *how = tmwatch_step_accesses();
@@ -116,7 +127,7 @@ static void before_load(const void *at, unsigned bytes, bool is_volatile)
 }
 
 /* Before a plain store, whose value isn't known. */
-static void before_store(const void *at, bool is_volatile)
+TMWATCH_PART void before_store(const void *at, bool is_volatile)
 {
     const tmwatch_step_how *how = tmwatch_step_accesses();
     if (!how || (!is_volatile && is_own(how, at)))
@@ -187,7 +198,7 @@ void *__tsan_memset(void *to, int byte, size_t bytes)
 }
 
 /* A step, and all that was stored comes out: before a read-modify-write. */
-static void at_change(void)
+TMWATCH_PART void at_change(void)
 {
     at_step();
     tmwatch_step_drain();
@@ -220,7 +231,7 @@ static void at_change(void)
     ATOMIC(void, __tsan_atomic##bits##_store, volatile type *at, type value, int order)                                        \
     {                                                                                                                          \
         at_step();                                                                                                             \
-        if (is_buffered(order)) {                                                                                              \
+        if (is_buffered(at, order)) {                                                                                              \
             store_later((void *)(uintptr_t)at, value, sizeof(type));                                                           \
             return;                                                                                                            \
         }                                                                                                                      \

@@ -1,0 +1,87 @@
+/* A plan: what it leaves to be drawn, by which schedule it goes, and whether it can be run. */
+
+static const uint64_t most_pause = 1 << 20;
+
+/* The plan's number that stands there. */
+static uint64_t *number_of(tmwatch_plan *plan, size_t to)
+{
+    return (uint64_t *)(void *)((char *)plan + to);
+}
+
+static bool by_permits(const struct bench *b)
+{
+    return b->plan->schedule == TMWATCH_PERMITS;
+}
+
+static bool by_steps(const struct bench *b)
+{
+    return b->plan->schedule == TMWATCH_STEPS;
+}
+
+/* What a plan may leave to be drawn: where it stands, and what it is where nothing is drawn. */
+static const struct drawn {
+    size_t to;
+    uint64_t usual;
+} drawn[] = {{TO(threads), 4}, {TO(registers), 3}, {TO(calls), 3},   {TO(writes), 50},
+             {TO(adds), 20},   {TO(aborts), 12},   {TO(pause), 100}, {TO(mixes), 50}, {TO(blinds), 10}};
+enum { DRAWN = sizeof drawn / sizeof drawn[0] };
+
+/* Fills in what the plan leaves to be drawn, with these numbers. */
+static void fill_in(tmwatch_plan *plan, const uint64_t numbers[DRAWN])
+{
+    for (unsigned i = 0; i < DRAWN; i++) {
+        uint64_t *number = number_of(plan, drawn[i].to);
+        if (*number == TMWATCH_DRAWN)
+            *number = numbers[i];
+    }
+}
+
+static tmwatch_plan usual_plan(const tmwatch_plan *plan)
+{
+    tmwatch_plan it = *plan;
+    uint64_t numbers[DRAWN];
+    for (unsigned i = 0; i < DRAWN; i++)
+        numbers[i] = drawn[i].usual;
+    fill_in(&it, numbers);
+    return it;
+}
+
+/* The first function that is null and that the memory has to have, or none. */
+static const char *missing_function(const tmwatch_memory *m)
+{
+    if (!m->read || !m->write)
+        return m->read ? "write" : "read";
+    if (m->run)
+        return NULL;
+    return !m->begin ? "begin" : !m->commit ? "commit" : !m->abort ? "abort" : NULL;
+}
+
+/* Whether a number of the plan is out of its range, besides those of threads and registers. */
+static bool is_out_of_range(const tmwatch_plan *plan)
+{
+    uint64_t most_attempts = plan->schedule == TMWATCH_PERMITS ? UINT64_MAX : MOST_ATTEMPTS / plan->threads;
+    uint64_t most_round = plan->schedule == TMWATCH_STEPS ? UINT64_MAX : plan->schedule == TMWATCH_ALL ? STEPS_LEGS * LEG_ROUNDS : 0;
+    if (plan->calls < 1 || plan->calls > MOST_USES || plan->schedule > TMWATCH_ALL || plan->attempts > most_attempts)
+        return true;
+    if (plan->rounds == 0 || plan->round > most_round || (plan->buffers > 0 && !tmwatch_step_drain))
+        return true;
+    if (plan->writes > 100 || plan->adds > 100 || plan->aborts > 100 || plan->mixes > 100 || plan->blinds > 100)
+        return true;
+    return plan->pause > most_pause || (plan->event > 0 && plan->round == 0);
+}
+
+/* Looks at what no watch looks at. */
+static uint32_t check(const tmwatch_memory *memory, const tmwatch_plan *given)
+{
+    const tmwatch_plan plan = usual_plan(given);
+    if (missing_function(memory))
+        return TMWATCH_MISSING;
+    if (plan.threads < 1 || plan.threads > MOST_THREADS)
+        return TMWATCH_BAD_SIZE;
+    if (plan.registers < 1 || plan.registers > MOST_REGISTERS)
+        return TMWATCH_BAD_REGISTERS;
+    for (uint64_t reg = plan.registers; reg < MOST_REGISTERS; reg++)
+        if (plan.start[reg] != 0)
+            return TMWATCH_BAD_START;
+    return is_out_of_range(&plan) ? TMWATCH_BAD_BOUNDS : TMWATCH_DONE;
+}
