@@ -1,0 +1,108 @@
+#!/usr/bin/env bash
+# Runs the model of C++20's orders in the bench for memories in C by itself: litmus tests, random runs judged by axioms, all executions of
+# small programs, plain accesses; and mistakes planted into it, each of which these have to notice. Then memories by --orders c++.
+#
+#   tests/orders.sh
+#
+# A line for each row. The last one is 'N passed, M failed', and the exit status is 1 if a row failed. Without a C compiler nothing is
+# tested: a line says so, and the status is 0.
+# Environment: CC (cc), BUILT (tests/common.sh).
+set -eu
+# shellcheck source=tests/common.sh
+. "$(dirname "${BASH_SOURCE[0]}")/common.sh"
+cc=${CC:-cc}
+has "$cc" tests/orders.sh || exit 0
+strict=("$cc" -std=c11 -Wall -Wextra -Wconversion -Werror -g -O2 -pthread "-I$top/include")
+
+# The model's tests, over the model in this folder: where the programs go, and the words for the compiler.
+compile_model() {
+    local test
+    for test in litmus random complete plain; do
+        "${@:2}" -o "$1/$test" "$folder/tests/orders/$test.c" || return
+    done
+}
+mkdir -p "$folder/tests" "$folder/bench-c" "$folder/right" "$folder/wrong"
+cp -r "$top/tests/orders" "$top/tests/c" "$folder/tests"
+cp -r "$top/bench-c/instrumented" "$folder/bench-c"
+last=true
+ends 'the tests of the model compile' 0 compile_model "$folder/right" "${strict[@]}"
+ends 'litmus tests' 0 "$folder/right/litmus" 50000
+ends 'random runs' 0 "$folder/right/random" 100000
+ends 'all executions of small programs' 0 "$folder/right/complete" 100 20000
+ends 'plain accesses, and others that are not simulated' 0 "$folder/right/plain"
+unset last
+
+# Whether one of the model's tests fails, which stand in the order of their time.
+is_noticed() {
+    local test words
+    for test in 'litmus 5000' plain 'random 50000' complete; do
+        read -r -a words <<<"$test"
+        "$cc" -std=c11 -O1 -w "-I$top/include" -o "$folder/wrong/test" "$folder/tests/orders/${words[0]}.c"
+        timeout 60 "$folder/wrong/test" "${words[@]:1}" >"$folder/printed" 2>&1 || { echo "by ${words[0]}" && return; }
+    done
+    return 1
+}
+
+# A mistake: its name, the file, and the change.
+mistake() {
+    local file=bench-c/instrumented/orders/$2
+    sed "$3" "$top/$file" >"$folder/$file"
+    ends "$1: planted" 1 cmp -s "$top/$file" "$folder/$file"
+    last=true ends "$1: noticed" 0 is_noticed
+    cp "$top/$file" "$folder/$file"
+}
+mistake 'an acq_rel acquires nothing' clocks.c 's/return order != RELAXED && order != RELEASE/return order == 2 || order == SEQUENTIAL/'
+mistake 'a consume acquires nothing' clocks.c 's/return order != RELAXED && order != RELEASE/return order > RELEASE || order == 2/'
+mistake 'a relaxed load acquires' clocks.c 's/return order != RELAXED && order != RELEASE/return order != RELEASE/'
+mistake 'a release of a read-modify-write acquires' clocks.c 's/return order != RELAXED && order != RELEASE/return order != RELAXED/'
+mistake 'a release releases nothing' clocks.c 's/return order >= RELEASE/return order > RELEASE/'
+mistake 'an acq_rel releases nothing' clocks.c 's/return order >= RELEASE/return order == RELEASE || order == SEQUENTIAL/'
+mistake 'a relaxed store releases' clocks.c 's/return order >= RELEASE/return order != 2/'
+mistake 'an access does not know earlier fences' model.c '/^static unsigned floor_of/,/^}/s/join(&knows, &o->fences);//'
+mistake 'an access does not know earlier seq_cst ones' model.c 's/        knows.at\[SEQUENCE\] = o->sequence;//'
+mistake 'a load may be one store too old' model.c '/^static unsigned floor_of/,/^}/s/return i;/return i - 1;/'
+mistake 'a load knows a step too many' model.c 's/seen.at\[k\] <= knows.at\[k\]/seen.at[k] <= knows.at[k] + 1/'
+mistake 'what is read is not seen' model.c '/^static uint64_t read_store/,/^}/s/see(a, store);//'
+mistake 'what is stored is not seen' model.c '/^static struct store \*add_store/,/^}/s/see(a, store);//'
+mistake 'a seq_cst access is not counted' model.c 's/it->seen.at\[SEQUENCE\] = o->sequence;/(void)0;/'
+mistake 'an acquire fence knows no loads' model.c 's/join(&view->loaded, &store->releases);//'
+mistake 'an acquire knows nothing' model.c 's/        join(&view->knows, &store->releases);/        (void)0;/'
+mistake 'no load is stale' model.c 's/if (lowest == newest ||/if (true ||/'
+mistake 'a store comes between a change and what it has read' model.c '/^static bool may_change/,/^}/s/return .*/return it \&\& found != ~0u;/'
+mistake 'a change does not go on with a release sequence' model.c 's/join(&store->releases, &released);//'
+mistake 'a change is not marked' model.c 's/store->is_change = true;//'
+mistake 'a change may be of any store' model.c '/tmwatch_orders_take/,/^}/s/floor_of(o, it, view, a->order)/0/'
+mistake 'a change is of the newest store alone' model.c 's/may_change(it, found) ? found : it->count - 1/it->count - 1/'
+mistake 'a store may come before any' model.c '/^bool tmwatch_orders_store/,/^}/s/floor_of(o, it, view, a->order)/0/'
+mistake 'no store is late' model.c '/^bool tmwatch_orders_store/,/^}/s/o->late/0/'
+mistake 'a swap that fails has the order of one that succeeds' model.c 's/to_fail.order = failed;/(void)0;/'
+mistake 'a swap that succeeds reads as one that fails' model.c 's/is_equal ? found >= to_change \&\& may_change(it, found)/is_equal ? found >= to_fail \&\& may_change(it, found)/'
+mistake 'a swap fails by no old value' model.c '/^static unsigned draw_compared/,/^}/s/o->stale/0/'
+mistake 'a weak swap fails as a strong one' model.c 's/is_spurious = is_weak \&\&/is_spurious = false \&\&/'
+mistake 'a strong swap fails as a weak one' model.c 's/is_spurious = is_weak \&\&/is_spurious =/'
+mistake 'a fence does not acquire' model.c 's/join(&view->knows, &view->loaded);/(void)0;/'
+mistake 'a fence does not know earlier fences' model.c '/^void tmwatch_orders_fence/,/^}/s/join(&view->knows, &o->fences);//'
+mistake 'a fence is not counted' model.c 's/view->knows.at\[SEQUENCE\] = ++o->sequence;/++o->sequence;/'
+mistake 'later accesses do not know a fence' model.c 's/o->fences = view->knows;//'
+mistake 'a fence does not release' model.c 's/view->fenced = view->knows;/(void)0;/'
+mistake 'a relaxed store does not release what a fence did' model.c 's/? view->knows : view->fenced/? view->knows : (struct clock){{0}}/'
+mistake 'a relaxed store releases what came after the fence' model.c 's/? view->knows : view->fenced/? view->knows : view->knows/'
+mistake 'a transaction does not know those that have ended' model.c 's/join(&o->views\[thread\].knows, &o->ended);/(void)thread;/'
+mistake 'a transaction that ends makes nothing known' model.c 's/join(&o->ended, &next_step(o, thread)->knows);/(void)thread;/'
+mistake 'an unlock releases nothing' model.c 's/join(&it->all, knows);//'
+mistake 'a shared lock acquires nothing' model.c 's/        join(&it->alone, knows);/        (void)0;/'
+mistake 'those that share a lock know each other' model.c 's/is_shared ? &it->alone : &it->all/\&it->all/'
+mistake 'a plain store ends no history' model.c 's/^    if (is_store)$/    if (false)/'
+mistake 'what is freed is kept' model.c '/^void tmwatch_orders_forget/,/^}/s/forget_places(o, (uintptr_t)at, bytes);//'
+mistake 'an access beyond the table orders nothing' model.c 's/    join(&view->knows, &o->untracked);//'
+mistake 'an access of 16 bytes does not acquire from halves' model.c 's/WORD_BYTES, &view->knows/WORD_BYTES, \&(struct clock){{0}}/'
+mistake 'an access of 16 bytes does not release to halves' model.c 's/it->stores\[0\].releases = view->knows;/(void)0;/'
+mistake 'another size forgets what was released' places.c 's/it->stores\[0\].releases = released;//'
+mistake 'an unmarked store is not noticed' places.c 's/it->stores\[it->count - 1\].value == newest/newest == newest/'
+mistake 'each race is one of a step earlier' races.c 's/last->step <= knows->at/last->step < knows->at/'
+mistake 'neighbouring bytes race' races.c 's/!(last->bytes & bytes)/false/'
+mistake 'two loads race' races.c 's/(is_store(kind) || is_store(other)) \&\&/is_store(kind) <= 1 \&\&/'
+mistake 'atomic accesses race' races.c 's/ \&\& (is_plain(kind) || is_plain(other))//'
+mistake 'a race across words is not seen' races.c 's/i < MOST_WORDS \&\&/i < 1 \&\&/'
+mistake 'what is freed races' races.c '/^static void forget_cells/,/^}/s/last - word < MOST_WORDS/last > UINTPTR_MAX - 1/;/^static void forget_cells/,/^}/s/o->cells\[i\].word >= word/false/'
+end_rows
