@@ -72,9 +72,9 @@ struct steps {
     atomic_bool is_locked;    /* over the sets and the runner, which a rescue changes too */
     atomic_int runner, awake; /* who may run, or nobody; and who does so, in the memory or beside it, where it may be blocked */
     unsigned ready;           /* which threads have not ended the round */
-    unsigned waiting;         /* which of them wait for a mutex that another of them holds */
+    unsigned waiting;         /* which of them wait for a lock that another of them holds, or for a condition */
     unsigned stuck;           /* which of them were running when a rescue came, and have made no step since */
-    const void *mutex[MOST_THREADS];
+    const void *lock[MOST_THREADS];
     uint64_t draws;
     uint64_t odds; /* by walk: one step in so many hands over; 0: by priorities */
     uint64_t priority[MOST_THREADS], lowest;
@@ -87,7 +87,7 @@ struct steps {
     sem_t go[MOST_THREADS];
     atomic_int tid[MOST_THREADS];
     clockid_t clock[MOST_THREADS];
-    uint64_t recorded;       /* how many events */
+    atomic_uint_least64_t recorded; /* how many events */
     uint64_t starts[STARTS]; /* how many events precede a round */
 };
 

@@ -18,9 +18,6 @@ static bool by_steps(const struct bench *b)
     return b->plan->schedule == TMWATCH_STEPS;
 }
 
-/* Of libtmwatch_steps.a, if that is linked: what a thread has stored comes out. */
-extern void tmwatch_step_drain(void) __attribute__((weak));
-
 /* What a plan may leave to be drawn: where it stands, and what it is where nothing is drawn. */
 static const struct drawn {
     size_t to;

@@ -1,4 +1,4 @@
-/* What libtmwatch_steps.a and waits.c call (step.h). */
+/* What the objects call that are linked with the memory (instrumented/step.h). */
 
 /* How many pauses a yield counts as. */
 enum { YIELD_PAUSES = 16 };
@@ -14,12 +14,12 @@ static void set_accesses(tmwatch_attempt *a)
     how->has_buffers = plan->buffers > 0;
     how->has_plain = plan->plain > 0;
     how->draws = ~a->pauses;
-    how->own[1] = a->tx;
+    how->own[1] = (uintptr_t)a->tx;
     how->own_end[1] = how->own[1] + a->bench->memory->tx_size;
     if (pthread_getattr_np(pthread_self(), &of) != 0)
         return;
     if (pthread_attr_getstack(&of, &stack, &size) == 0) {
-        how->own[0] = stack;
+        how->own[0] = (uintptr_t)stack;
         how->own_end[0] = how->own[0] + size;
     }
     pthread_attr_destroy(&of);
@@ -35,30 +35,52 @@ bool tmwatch_step_is_run(void)
     return this_thread && by_steps(this_thread->bench) && this_thread->bench->steps.awake == (int)this_thread->thread;
 }
 
-bool tmwatch_step_wait(const void *mutex)
+enum tmwatch_step_waited tmwatch_step_wait(const void *lock)
 {
     struct steps *s = &this_thread->bench->steps;
-    lock_steps(s);
-    int next = choose(s, ~(1u << this_thread->thread));
+    unsigned own = 1u << this_thread->thread;
+    lock_as_runner(this_thread);
+    int next = choose(s, ~own);
     if (next == NOBODY) {
         unlock_steps(s);
-        return false;
+        return TMWATCH_STEP_ALONE;
     }
-    s->waiting |= 1u << this_thread->thread;
-    s->mutex[this_thread->thread] = mutex;
+    s->waiting |= own;
+    s->lock[this_thread->thread] = lock;
     s->switches++;
     let_go(s, next);
     wait_turn(this_thread);
-    return true;
+    lock_as_runner(this_thread);
+    bool is_free = !(s->waiting & own);
+    s->waiting &= ~own;
+    unlock_steps(s);
+    return is_free ? TMWATCH_STEP_FREED : TMWATCH_STEP_OTHERS;
 }
 
-void tmwatch_step_free(const void *mutex)
+/* Which threads wait for this lock or condition. */
+static unsigned waiting_for(const struct steps *s, const void *lock)
+{
+    unsigned found = 0;
+    for (unsigned i = 0; i < MOST_THREADS; i++)
+        found |= s->lock[i] == lock ? s->waiting & 1u << i : 0;
+    return found;
+}
+
+void tmwatch_step_free(const void *lock)
 {
     struct steps *s = &this_thread->bench->steps;
-    lock_steps(s);
-    for (unsigned i = 0; i < MOST_THREADS; i++)
-        if (s->mutex[i] == mutex)
-            s->waiting &= ~(1u << i);
+    lock_as_runner(this_thread);
+    s->waiting &= ~waiting_for(s, lock);
+    unlock_steps(s);
+}
+
+void tmwatch_step_wake(const void *condition)
+{
+    struct steps *s = &this_thread->bench->steps;
+    lock_as_runner(this_thread);
+    unsigned able = waiting_for(s, condition);
+    if (able)
+        s->waiting &= ~(1u << any_of(s, able));
     unlock_steps(s);
 }
 

@@ -18,25 +18,27 @@ static void unlock_steps(struct steps *s)
     atomic_store_explicit(&s->is_locked, false, memory_order_release);
 }
 
-/* Who of these threads runs next: by walk any, by priorities the highest; nobody if none is able to. One that waits for a mutex is only if
-   no other is, since a thread that isn't the bench's may have unlocked that. The steps are locked. */
+/* Any of these threads, of which there is one. The steps are locked. */
+static int any_of(struct steps *s, unsigned threads)
+{
+    for (uint64_t skipped = draw(&s->draws, (uint64_t)__builtin_popcount(threads)); skipped > 0; skipped--)
+        threads &= threads - 1;
+    return __builtin_ctz(threads);
+}
+
+/* Who of these threads runs next: by walk any, by priorities the highest; nobody if none is able to. One that waits is only if no other
+   is, since a thread that isn't the bench's may have freed what it waits for. The steps are locked. */
 static int choose(struct steps *s, unsigned threads)
 {
     unsigned able = s->ready & threads & ~s->stuck;
     int found = NOBODY;
-    if (able == 0)
-        return NOBODY;
     if (able & ~s->waiting)
         able &= ~s->waiting;
-    uint64_t skipped = s->odds > 0 ? draw(&s->draws, (uint64_t)__builtin_popcount(able)) : 0;
-    for (int i = 0; i < MOST_THREADS; i++) {
-        if (!(able >> i & 1))
-            continue;
-        if (s->odds > 0 && skipped-- == 0)
-            return i;
-        if (s->odds == 0 && (found == NOBODY || s->priority[i] > s->priority[found]))
+    if (able && s->odds > 0)
+        return any_of(s, able);
+    for (int i = 0; i < MOST_THREADS; i++)
+        if (able >> i & 1 && (found == NOBODY || s->priority[i] > s->priority[found]))
             found = i;
-    }
     return found;
 }
 
@@ -59,24 +61,26 @@ static void let_go(struct steps *s, int next)
         sem_post(&s->go[next]);
 }
 
-/* A thread that a rescue held for stuck has come to a step: it waits for its turn as all others. */
-static void come_back(tmwatch_attempt *a)
+/* Locks the steps as the runner. A thread that a rescue held for stuck waits for its turn first, as all others. */
+static void lock_as_runner(tmwatch_attempt *a)
 {
     struct steps *s = &a->bench->steps;
     lock_steps(s);
-    s->stuck &= ~(1u << a->thread);
-    if (s->runner == NOBODY)
-        s->runner = (int)a->thread;
-    unlock_steps(s);
-    wait_turn(a);
+    while (s->runner != (int)a->thread && !s->is_over) {
+        s->stuck &= ~(1u << a->thread);
+        if (s->runner == NOBODY)
+            s->runner = (int)a->thread;
+        unlock_steps(s);
+        wait_turn(a);
+        lock_steps(s);
+    }
 }
 
-/* Hands over to another: by walk to any, by priorities to the highest, which may be this thread still. */
+/* Hands over to another, and unlocks the steps: by walk to any, by priorities to the highest, which may be this thread still. */
 static void hand_over(tmwatch_attempt *a)
 {
     struct steps *s = &a->bench->steps;
-    lock_steps(s);
-    int next = s->runner == (int)a->thread ? choose(s, s->odds > 0 ? ~(1u << a->thread) : ~0u) : NOBODY;
+    int next = choose(s, s->odds > 0 ? ~(1u << a->thread) : ~0u);
     if (next == NOBODY || next == (int)a->thread) {
         unlock_steps(s);
         return;
@@ -92,8 +96,7 @@ static void step(tmwatch_attempt *a, unsigned pauses)
     struct steps *s = &a->bench->steps;
     if (a->looks)
         return;
-    if (s->runner != (int)a->thread)
-        come_back(a);
+    lock_as_runner(a);
     s->step++;
     s->spin = pauses > 0 ? s->spin + pauses : 0;
     bool hands_over = s->spin > MOST_SPIN || (s->odds > 0 && draw(&s->draws, s->odds) == 0);
@@ -105,10 +108,11 @@ static void step(tmwatch_attempt *a, unsigned pauses)
         s->priority[a->thread] = --s->lowest;
         s->spin = 0;
     }
-    /* Whoever reads this, as the watchdog, may read what this thread has set before. */
     s->steps++;
     if (hands_over)
         hand_over(a);
+    else
+        unlock_steps(s);
 }
 
 /* Draws at which steps of the round the runner gets the lowest priority. */
@@ -182,9 +186,7 @@ static bool meet_by_steps(tmwatch_attempt *a)
 {
     struct bench *b = a->bench;
     struct steps *s = &b->steps;
-    if (s->runner != (int)a->thread)
-        come_back(a);
-    lock_steps(s);
+    lock_as_runner(a);
     s->ready &= ~(1u << a->thread);
     if (s->ready == 0) {
         unlock_steps(s);

@@ -28,18 +28,39 @@ TOP = os.path.dirname(os.path.dirname(os.path.realpath(__file__)))
 # What a program that is linked against the library loads. The number goes up when a program that was linked before no longer runs.
 SONAME = "libtmwatch.so.0"
 HEADERS = ("tmwatch.h", "tmwatch_bench.h", "tmwatch_bench.hpp", "tmwatch_permits.h")
-# By these words of the linker the bench sees that a thread waits.
-WRAPPED = "-Wl,--wrap=pthread_mutex_lock,--wrap=pthread_mutex_unlock,--wrap=sched_yield"
+# What the linker wraps, so that the bench sees that a thread waits for a lock, a condition, a futex, or yields.
+WAITS = """
+pthread_mutex_lock pthread_mutex_trylock pthread_mutex_unlock pthread_spin_lock pthread_spin_trylock pthread_spin_unlock
+pthread_rwlock_rdlock pthread_rwlock_tryrdlock pthread_rwlock_wrlock pthread_rwlock_trywrlock pthread_rwlock_unlock
+pthread_cond_wait pthread_cond_timedwait pthread_cond_clockwait pthread_cond_signal pthread_cond_broadcast sched_yield syscall
+_ZNSt18condition_variable4waitERSt11unique_lockISt5mutexE _ZNSt18condition_variable10notify_oneEv
+_ZNSt18condition_variable10notify_allEv
+"""
+# The same for blocks that are given back, also by C++'s operator delete. Their object is always linked.
+BLOCKS = """
+free realloc munmap _ZdlPv _ZdlPvm _ZdlPvSt11align_val_t _ZdlPvmSt11align_val_t _ZdaPv _ZdaPvm _ZdaPvSt11align_val_t
+_ZdaPvmSt11align_val_t
+"""
+
+
+def wrap(names):
+    """Returns the words for the linker that wrap these names."""
+    return ",".join(f"--wrap={name}" for name in names.split())
+
+
 # What each package for pkg-config is, and what it needs of others.
 PACKAGES = {
     "tmwatch": ("A watch that judges whether a transactional memory is opaque", ""),
-    "tmwatch_bench": ("A bench that runs a transactional memory under such a watch", " -pthread\nRequires: tmwatch"),
-    "tmwatch_steps": ("Steps of that bench at each access of a memory", f" {WRAPPED}\nRequires: tmwatch_bench"),
+    "tmwatch_bench": ("A bench that runs a transactional memory under such a watch", f" -pthread -Wl,{wrap(WAITS)}\nRequires: tmwatch"),
+    "tmwatch_steps": (
+        "Steps of that bench at each access of a memory",
+        f" -Wl,-u,tmwatch_step_sees_free,{wrap(BLOCKS)}\nRequires: tmwatch_bench",
+    ),
 }
 # What the archives of the bench are made from, in bench-c.
 ARCHIVES = {
     "libtmwatch_bench.a": ("tmwatch_bench", "instrumented/waits"),
-    "libtmwatch_steps.a": ("instrumented/accesses", "instrumented/accesses_16"),
+    "libtmwatch_steps.a": ("instrumented/accesses", "instrumented/accesses_16", "instrumented/blocks"),
 }
 PACKAGE = """prefix={prefix}
 includedir=${{prefix}}/include

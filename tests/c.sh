@@ -96,9 +96,8 @@ for room in 112 16; do
         "$top/examples/recorders/little.c"
     ends "room for $room events" "$([ "$room" = 112 ] && echo 0 || echo 134)" "$folder/room" none right 99 1
 done
-# The bench is compiled here, so that the flags reach it too. It sees that a thread waits for a mutex, or yields.
-waits=('-Wl,--wrap=pthread_mutex_lock,--wrap=pthread_mutex_unlock,--wrap=sched_yield')
-bench=(-DTMWATCH_PAUSES "$folder/lib/libtmwatch_bench.a" "${static[@]}" "${waits[@]}")
+# The bench is compiled here, so that the flags reach it too.
+bench=(-DTMWATCH_PAUSES "$folder/lib/libtmwatch_bench.a" "${static[@]}" "$waits")
 
 # Whether a judge's report on the bench's trace, in a file, is that of the bench, which is in another: the same verdict, with as many events
 # less as precede the trace.

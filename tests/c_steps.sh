@@ -18,7 +18,6 @@ read -r -a flags <<<"${FLAGS:-}"
 strict=(-std=c11 -Wall -Wextra -pedantic -Werror -g -O2 -pthread "-I$top/include" "${flags[@]}")
 # (a fence is no more than a fence to ThreadSanitizer)
 [ "${FLAGS:-}" != -fsanitize=thread ] || strict+=(-Wno-tsan)
-wrapped=('-Wl,--wrap=pthread_mutex_lock,--wrap=pthread_mutex_unlock,--wrap=sched_yield')
 bench=("$folder/lib/libtmwatch_steps.a" "$folder/lib/libtmwatch_bench.a" "$built/lib/libtmwatch.a")
 ends 'the bench compiles' 0 build_bench "$cc" "${strict[@]}"
 
@@ -31,7 +30,7 @@ paused() {
 unpaused() {
     ends "$1 compiles" 0 "$2" -std=c11 -Wall -Wextra -g -O2 -fsanitize=thread -Wno-tsan -Wno-unknown-warning-option "-I$top/include" \
         "-DFAULT=$4" "${@:5}" -c -o "$folder/memory.o" "$top/$3"
-    ends "$1 is linked" 0 "$cc" "${flags[@]}" -pthread -o "$folder/$1" "$folder/memory.o" "${wrapped[@]}" "${bench[@]}"
+    ends "$1 is linked" 0 "$cc" "${flags[@]}" -pthread -o "$folder/$1" "$folder/memory.o" "$waits" "$blocks" "${bench[@]}"
 }
 
 # The words by which a run is made again, of what it has printed.
@@ -51,7 +50,7 @@ paused locks tests/c/bench_locks.c NONE
 paused readers tests/c/bench_readers.c NONE
 paused sequence tests/c/bench_sequence.c NONE
 paused jumping tests/c/bench_jumping.c NONE
-paused mutex tests/c/bench_stuck.c NONE "${wrapped[@]}"
+paused mutex tests/c/bench_stuck.c NONE "$waits"
 paused mutex_unseen tests/c/bench_stuck.c NONE
 
 # The same seed gives the same trace, on one processor and on several; another seed another one.
@@ -173,13 +172,27 @@ for compiler in "${compilers[@]}"; do
         ends "a fence that is missing, by $compiler: the same trace" 0 cmp "$folder/one" "$folder/two"
     done
 done
+# A thread is seen to wait for each kind of lock and condition, and its delayed stores are out before the lock is given back. What it stores
+# to its own bytes, or to a block that is given back, is not overtaken.
+for compiler in "${compilers[@]}"; do
+    has $compiler "locks, by $compiler" || continue
+    for lock in MUTEX TRY SPIN SPIN_TRY READ_WRITE READ_WRITE_TRY CONDITION TIMED CLOCKED BROADCAST; do
+        unpaused "waits_$lock" $compiler tests/c/bench_waits.c NONE -DLOCK=$lock
+        ends "$lock by $compiler" 0 "$folder/waits_$lock" --schedule steps --rounds 1000 --buffers
+        has_told "$lock by $compiler: rescues" '"rescues":0,'
+    done
+    for kind in TX LOCAL HEAP GROWN; do
+        unpaused "own_$kind" $compiler tests/c/bench_own.c NONE -DKIND=$kind
+        ends "own bytes, $kind, by $compiler" 0 "$folder/own_$kind" --schedule steps --rounds 2000 --buffers
+    done
+done
 for compiler in g++ clang++; do
     [ ${#flags[@]} -eq 0 ] && has $compiler "a class without a pause, by $compiler" || continue
     for fault in NONE READS; do
         ends "a class without a pause, by $compiler, $fault, compiles" 0 $compiler -std=c++17 -O2 -fsanitize=thread "-I$top/include" \
             "-DFAULT=$fault" -c -o "$folder/memory.o" "$top/tests/c/bench_class.cpp"
         ends "a class without a pause, by $compiler, $fault, is linked" 0 $compiler -pthread -o "$folder/class" "$folder/memory.o" \
-            "${wrapped[@]}" "${bench[@]}"
+            "$waits" "$blocks" "${bench[@]}"
         ends "a class without a pause, by $compiler, $fault" "$([ $fault = NONE ] && echo 0 || echo 1)" "$folder/class" --schedule steps \
             --rounds 2000 --buffers
     done
@@ -206,7 +219,7 @@ done
 
 # A memory that never returns is named, with the call and the register.
 for fault in SPIN MUTEX READ; do
-    paused "stuck_$fault" tests/c/bench_stuck.c $fault "${wrapped[@]}"
+    paused "stuck_$fault" tests/c/bench_stuck.c $fault "$waits"
     for schedule in rounds permits steps; do
         ends "a memory that never returns, $fault, $schedule" 4 "$folder/stuck_$fault" --schedule $schedule --patience 1 \
             --trace "$folder/one"

@@ -99,9 +99,12 @@ build_bench() {
     ar rcs "$folder/lib/libtmwatch_steps.a" "$folder"/steps/*.o
 }
 
-# Sets built, the folder with the library for C: BUILT, or one that is filled now and becomes BUILT for what the script calls.
+# Sets built, the folder with the library for C: BUILT, or one that is filled now and becomes BUILT for what the script calls. It also sets
+# waits and blocks, by which the linker shows the bench that a thread waits, and that a block is given back.
 use_library() {
     built=${BUILT:-$folder/built}
     [ -n "${BUILT:-}" ] || "$top/tmwatch-c" "$built"
     export BUILT=$built
+    waits=$(grep -o -- '-Wl,--wrap=pthread[^ ]*' "$built/lib/pkgconfig/tmwatch_bench.pc")
+    blocks=$(grep -o -- '-Wl,-u,[^ ]*' "$built/lib/pkgconfig/tmwatch_steps.pc")
 }

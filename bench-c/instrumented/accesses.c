@@ -4,7 +4,8 @@
    With drawn buffers, an atomic store that isn't sequentially consistent may stay in its thread's buffer for some steps, as in the store
    buffers of x86 (Sewell, Sarkar, Owens, Zappa Nardelli and Myreen, CACM 2010): the stores of a thread come out in their order, a read of
    the thread sees them, and they are out before a read-modify-write, a sequentially consistent store or fence, a plain store to what other
-   threads may see, and each recorded event. Loads aren't reordered. */
+   threads may see, and each recorded event. Loads aren't reordered. Of a thread's own bytes nothing is buffered, since what is stored to
+   them without a mark, as at the end of a function, would be overtaken; nor of a block that may be given back unseen. */
 #include "step.h"
 #include <string.h>
 
@@ -43,8 +44,6 @@ static void drain_one(void)
     memmove(buffer, buffer + 1, --buffered * sizeof buffer[0]);
 }
 
-/* For the bench too: before each event. */
-void tmwatch_step_drain(void);
 void tmwatch_step_drain(void)
 {
     while (buffered > 0)
@@ -63,17 +62,29 @@ static void at_step(void)
         drain_one();
 }
 
-static bool is_own(const tmwatch_step_how *how, const void *at)
+static bool is_own(const tmwatch_step_how *how, const volatile void *at)
 {
-    const char *it = at;
+    uintptr_t it = (uintptr_t)at;
     return (it >= how->own[0] && it < how->own_end[0]) || (it >= how->own[1] && it < how->own_end[1]);
 }
 
-/* Whether a store of this order is buffered. */
-static bool is_buffered(int order)
+/* Where the program's own variables begin and end, as the linker says. They are never given back. */
+extern char __data_start, _end;
+
+static bool is_lasting(const volatile void *at)
 {
-    const tmwatch_step_how *how = tmwatch_step_accesses();
-    return how && how->has_buffers && order != SEQUENTIAL;
+    uintptr_t it = (uintptr_t)at;
+    return tmwatch_step_sees_free() || (it >= (uintptr_t)&__data_start && it < (uintptr_t)&_end);
+}
+
+/* Whether a store of this order is buffered. */
+static bool is_buffered(const volatile void *at, int order)
+{
+    tmwatch_step_how *how = tmwatch_step_accesses();
+    if (!how || !how->has_buffers || order == SEQUENTIAL || is_own(how, at))
+        return false;
+    how->is_undelayed = how->is_undelayed || !is_lasting(at);
+    return is_lasting(at);
 }
 
 static void store_later(void *to, uint64_t value, unsigned bytes)
@@ -220,7 +231,7 @@ static void at_change(void)
     ATOMIC(void, __tsan_atomic##bits##_store, volatile type *at, type value, int order)                                        \
     {                                                                                                                          \
         at_step();                                                                                                             \
-        if (is_buffered(order)) {                                                                                              \
+        if (is_buffered(at, order)) {                                                                                              \
             store_later((void *)(uintptr_t)at, value, sizeof(type));                                                           \
             return;                                                                                                            \
         }                                                                                                                      \

@@ -1,7 +1,5 @@
 /* Atomic accesses of 16 bytes: each is a step, and no store of them is buffered. */
-#include "tmwatch_bench.h"
-
-void tmwatch_step_drain(void);
+#include "step.h"
 
 #ifdef __x86_64__
 __extension__ typedef unsigned __int128 wide;

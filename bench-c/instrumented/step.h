@@ -1,24 +1,35 @@
-/* What the bench (step_calls.c) has for libtmwatch_steps.a (accesses.c, wide.c), and for waits.c. */
+/* What the bench (step_calls.c) has for the objects that are linked with the memory: those of this folder. */
 #include "tmwatch_bench.h"
 
 /* How a thread's accesses are made. */
 typedef struct tmwatch_step_how {
     bool has_buffers, has_plain; /* stores are buffered; plain accesses are steps too */
+    bool is_undelayed;           /* a store wasn't buffered, since nothing says when its block is given back */
     uint64_t draws;
-    const char *own[2], *own_end[2]; /* what no other thread sees: its stack, and its transaction's bytes */
+    uintptr_t own[2], own_end[2]; /* the thread's stack, and its transaction's bytes */
 } tmwatch_step_how;
 
 /* This thread's, or null if it isn't one of a bench. */
 tmwatch_step_how *tmwatch_step_accesses(void);
 
-/* Whether this thread is one of a bench by steps, and not in a look or beside a round. The three below are for such a thread. */
+/* Of libtmwatch_steps.a, if that is linked: what a thread has stored comes out. */
+extern void tmwatch_step_drain(void) __attribute__((weak));
+
+/* Whether blocks.c sees that a block is given back. */
+bool tmwatch_step_sees_free(void);
+
+/* Whether this thread is one of a bench by steps, and not in a look or beside a round. Those below are for such a thread. */
 bool tmwatch_step_is_run(void);
 
-/* Lets others run until this mutex, which one of them holds, may be unlocked: whether there are others. */
-bool tmwatch_step_wait(const void *mutex);
+/* How a wait has ended: no other thread is able to run; others have run, and none is able to any more; or what is waited for is free. */
+enum tmwatch_step_waited { TMWATCH_STEP_ALONE, TMWATCH_STEP_OTHERS, TMWATCH_STEP_FREED };
 
-/* Those that wait for this mutex are able to run. */
-void tmwatch_step_free(const void *mutex);
+/* Lets others run until this lock or condition, which one of them has to free, is free. */
+enum tmwatch_step_waited tmwatch_step_wait(const void *lock);
+
+/* Those that wait for this lock or condition are able to run; or one of them is, as drawn. */
+void tmwatch_step_free(const void *lock);
+void tmwatch_step_wake(const void *condition);
 
 /* A wait that yields: several pauses at once. */
 void tmwatch_step_yield(void);

@@ -1,46 +1,121 @@
-/* By steps, what a thread waits for: a mutex that another holds, a yield, and a futex, as of the locks of Rust. Without these, only the
-   watchdog sees that it waits. A program calls them in place of the C library's if it is linked with -Wl,--wrap= and the name. */
+/* By steps, what a thread waits for: a lock that another holds, a condition, a yield, and a futex, as of the locks of Rust. Without these,
+   only the watchdog sees that it waits. A program calls them in place of the C library's if it is linked with -Wl,--wrap= and the name.
+   Each of them is a step, and what the thread has stored is out before it. */
+#define _GNU_SOURCE
 #include "step.h"
 #include <errno.h>
 #include <linux/futex.h>
 #include <pthread.h>
 #include <sched.h>
-#include <stdarg.h>
 #include <sys/syscall.h>
 
-/* Null in a program that is linked without the name. */
-#define WEAK __attribute__((weak))
-WEAK int __real_pthread_mutex_lock(pthread_mutex_t *mutex);
-WEAK int __real_pthread_mutex_unlock(pthread_mutex_t *mutex);
-WEAK int __real_sched_yield(void);
-WEAK long __real_syscall(long number, ...);
-int __wrap_pthread_mutex_lock(pthread_mutex_t *mutex);
-int __wrap_pthread_mutex_unlock(pthread_mutex_t *mutex);
-int __wrap_sched_yield(void);
-long __wrap_syscall(long number, ...);
+/* A function that the linker wraps. The C library's is null in a program that is linked without the name. */
+#define WRAPPED(type, name, ...)                            \
+    __attribute__((weak)) type __real_##name(__VA_ARGS__);  \
+    type __wrap_##name(__VA_ARGS__);                        \
+    type __wrap_##name(__VA_ARGS__)
 
-int __wrap_pthread_mutex_lock(pthread_mutex_t *mutex)
+/* Before each call: whether the thread goes by steps. */
+static bool is_stepped(void)
 {
-    if (!tmwatch_step_is_run())
-        return __real_pthread_mutex_lock(mutex);
-    tmwatch_pause();
-    int status;
-    while ((status = pthread_mutex_trylock(mutex)) == EBUSY && tmwatch_step_wait(mutex))
-        ;
-    return status == EBUSY ? __real_pthread_mutex_lock(mutex) : status;
-}
-
-int __wrap_pthread_mutex_unlock(pthread_mutex_t *mutex)
-{
-    int status = __real_pthread_mutex_unlock(mutex);
-    if (tmwatch_step_is_run()) {
-        tmwatch_step_free(mutex);
+    bool is_run = tmwatch_step_is_run();
+    if (is_run)
         tmwatch_pause();
-    }
-    return status;
+    if (tmwatch_step_drain)
+        tmwatch_step_drain();
+    return is_run;
 }
 
-int __wrap_sched_yield(void)
+/* A lock is tried, taken, or given back: those that wait for it are able to run then. */
+#define TRY(name, lock_type)               \
+    WRAPPED(int, name, lock_type *lock)    \
+    {                                      \
+        is_stepped();                      \
+        return __real_##name(lock);        \
+    }
+#define LOCK(name, try_name, lock_type)                                                                          \
+    WRAPPED(int, name, lock_type *lock)                                                                          \
+    {                                                                                                            \
+        int status;                                                                                              \
+        if (!is_stepped())                                                                                       \
+            return __real_##name(lock);                                                                          \
+        while ((status = (__real_##try_name ? __real_##try_name : try_name)(lock)) == EBUSY &&                    \
+               tmwatch_step_wait((const void *)lock))                                                            \
+            ;                                                                                                    \
+        return status == EBUSY ? __real_##name(lock) : status;                                                   \
+    }
+#define UNLOCK(name, lock_type)                       \
+    WRAPPED(int, name, lock_type *lock)               \
+    {                                                 \
+        bool is_run = is_stepped();                   \
+        int status = __real_##name(lock);             \
+        if (is_run) {                                 \
+            tmwatch_step_free((const void *)lock);    \
+            tmwatch_pause();                          \
+        }                                             \
+        return status;                                \
+    }
+TRY(pthread_mutex_trylock, pthread_mutex_t)
+LOCK(pthread_mutex_lock, pthread_mutex_trylock, pthread_mutex_t)
+UNLOCK(pthread_mutex_unlock, pthread_mutex_t)
+TRY(pthread_spin_trylock, pthread_spinlock_t)
+LOCK(pthread_spin_lock, pthread_spin_trylock, pthread_spinlock_t)
+UNLOCK(pthread_spin_unlock, pthread_spinlock_t)
+TRY(pthread_rwlock_tryrdlock, pthread_rwlock_t)
+TRY(pthread_rwlock_trywrlock, pthread_rwlock_t)
+LOCK(pthread_rwlock_rdlock, pthread_rwlock_tryrdlock, pthread_rwlock_t)
+LOCK(pthread_rwlock_wrlock, pthread_rwlock_trywrlock, pthread_rwlock_t)
+UNLOCK(pthread_rwlock_unlock, pthread_rwlock_t)
+
+/* Waits for a condition: whether it was signalled. Nobody else runs between the unlocking and the wait. */
+static bool is_signalled(pthread_cond_t *condition, pthread_mutex_t *mutex)
+{
+    __real_pthread_mutex_unlock(mutex);
+    tmwatch_step_free(mutex);
+    bool is_freed = tmwatch_step_wait(condition) == TMWATCH_STEP_FREED;
+    __wrap_pthread_mutex_lock(mutex);
+    return is_freed;
+}
+
+/* A wait returns after a signal, or where no other thread is able to run; one with a time is then over. */
+WRAPPED(int, pthread_cond_wait, pthread_cond_t *condition, pthread_mutex_t *mutex)
+{
+    if (!is_stepped())
+        return __real_pthread_cond_wait(condition, mutex);
+    is_signalled(condition, mutex);
+    return 0;
+}
+
+WRAPPED(int, pthread_cond_timedwait, pthread_cond_t *condition, pthread_mutex_t *mutex, const struct timespec *until)
+{
+    if (!is_stepped())
+        return __real_pthread_cond_timedwait(condition, mutex, until);
+    return is_signalled(condition, mutex) ? 0 : ETIMEDOUT;
+}
+
+WRAPPED(int, pthread_cond_clockwait, pthread_cond_t *condition, pthread_mutex_t *mutex, clockid_t clock, const struct timespec *until)
+{
+    if (!is_stepped())
+        return __real_pthread_cond_clockwait(condition, mutex, clock, until);
+    return is_signalled(condition, mutex) ? 0 : ETIMEDOUT;
+}
+
+/* Those that wait unseen get the signal too. */
+WRAPPED(int, pthread_cond_signal, pthread_cond_t *condition)
+{
+    if (is_stepped())
+        tmwatch_step_wake(condition);
+    return __real_pthread_cond_signal(condition);
+}
+
+WRAPPED(int, pthread_cond_broadcast, pthread_cond_t *condition)
+{
+    if (is_stepped())
+        tmwatch_step_free(condition);
+    return __real_pthread_cond_broadcast(condition);
+}
+
+WRAPPED(int, sched_yield, void)
 {
     if (!tmwatch_step_is_run())
         return __real_sched_yield();
@@ -48,21 +123,41 @@ int __wrap_sched_yield(void)
     return 0;
 }
 
-/* What a system call may be given. */
-enum { GIVEN = 6 };
-
-/* A wait for a futex returns at once, as it always may, after a yield. Each other call is made. */
-long __wrap_syscall(long number, ...)
+/* A wait for a futex returns at once, as it always may, after a yield. Each other call is made. As the C library's function does, this
+   one takes six words, whatever was given. */
+__attribute__((weak)) long __real_syscall(long number, ...);
+long __wrap_syscall(long number, long first, long what, long third, long fourth, long fifth, long sixth);
+long __wrap_syscall(long number, long first, long what, long third, long fourth, long fifth, long sixth)
 {
-    long given[GIVEN];
-    va_list list;
-    va_start(list, number);
-    for (unsigned i = 0; i < GIVEN; i++)
-        given[i] = va_arg(list, long);
-    va_end(list);
-    int what = (int)given[1] & FUTEX_CMD_MASK;
-    if (number != SYS_futex || (what != FUTEX_WAIT && what != FUTEX_WAIT_BITSET) || !tmwatch_step_is_run())
-        return __real_syscall(number, given[0], given[1], given[2], given[3], given[4], given[5]);
+    long command = what & FUTEX_CMD_MASK;
+    if (tmwatch_step_drain)
+        tmwatch_step_drain();
+    if (number != SYS_futex || (command != FUTEX_WAIT && command != FUTEX_WAIT_BITSET) || !tmwatch_step_is_run())
+        return __real_syscall(number, first, what, third, fourth, fifth, sixth);
     tmwatch_step_yield();
     return 0;
+}
+
+/* The condition variables of libstdc++, which wait in its shared library: each begins with one of the C library's, and a lock with a
+   pointer to its mutex. */
+WRAPPED(void, _ZNSt18condition_variable4waitERSt11unique_lockISt5mutexE, pthread_cond_t *condition, pthread_mutex_t **lock)
+{
+    if (is_stepped())
+        is_signalled(condition, *lock);
+    else
+        __real__ZNSt18condition_variable4waitERSt11unique_lockISt5mutexE(condition, lock);
+}
+
+WRAPPED(void, _ZNSt18condition_variable10notify_oneEv, pthread_cond_t *condition)
+{
+    if (is_stepped())
+        tmwatch_step_wake(condition);
+    __real__ZNSt18condition_variable10notify_oneEv(condition);
+}
+
+WRAPPED(void, _ZNSt18condition_variable10notify_allEv, pthread_cond_t *condition)
+{
+    if (is_stepped())
+        tmwatch_step_free(condition);
+    __real__ZNSt18condition_variable10notify_allEv(condition);
 }

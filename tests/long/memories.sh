@@ -27,7 +27,7 @@ flags=(-O2 -Wall -Wextra -pthread -DTMWATCH_PAUSES "-I$top/include")
 build_bench "$cc" -std=c11 "${flags[@]}"
 cp "$built/lib/libtmwatch.a" "$folder/lib"
 link=("$folder/lib/libtmwatch_steps.a" "$folder/lib/libtmwatch_bench.a" "$folder/lib/libtmwatch.a"
-    '-Wl,--wrap=pthread_mutex_lock,--wrap=pthread_mutex_unlock,--wrap=sched_yield')
+    "$waits" "$blocks")
 
 # Compiles a memory in C: the program's name, the file, its fault, and further flags.
 in_c() {

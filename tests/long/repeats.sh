@@ -15,7 +15,6 @@ use_library
 flags=(-O2 -Wall -Wextra -pthread -DTMWATCH_PAUSES "-I$top/include")
 build_bench "${CC:-cc}" -std=c11 "${flags[@]}"
 link=("$folder/lib/libtmwatch_bench.a" "$built/lib/libtmwatch.a")
-wrapped=('-Wl,--wrap=pthread_mutex_lock,--wrap=pthread_mutex_unlock,--wrap=sched_yield')
 
 # A row: the memory, the processors, and further words.
 row() {
@@ -32,13 +31,13 @@ row() {
     printf '%-14s %-10s %5d %7d %8d  %s\n' "$1" "$beside$2" "$runs" "$traces" "$rescues" $passes
 }
 
-"${CXX:-c++}" -std=c++17 "${flags[@]}" -DFAULT=NONE -o "$folder/class" "$top/tests/c/bench_class.cpp" "${link[@]}" "${wrapped[@]}"
-"${CXX:-c++}" -std=c++17 "${flags[@]}" -o "$folder/lock" "$top/tests/c/bench_lock.cpp" "${link[@]}" "${wrapped[@]}"
+"${CXX:-c++}" -std=c++17 "${flags[@]}" -DFAULT=NONE -o "$folder/class" "$top/tests/c/bench_class.cpp" "${link[@]}" "$waits"
+"${CXX:-c++}" -std=c++17 "${flags[@]}" -o "$folder/lock" "$top/tests/c/bench_lock.cpp" "${link[@]}" "$waits"
 names=(class lock norec norec_READS)
-"${CC:-cc}" -std=c11 "${flags[@]}" -o "$folder/norec" "$top/examples/c/norec.c" "${link[@]}" "${wrapped[@]}"
-"${CC:-cc}" -std=c11 "${flags[@]}" -DFAULT=READS -o "$folder/norec_READS" "$top/examples/c/norec.c" "${link[@]}" "${wrapped[@]}"
+"${CC:-cc}" -std=c11 "${flags[@]}" -o "$folder/norec" "$top/examples/c/norec.c" "${link[@]}" "$waits"
+"${CC:-cc}" -std=c11 "${flags[@]}" -DFAULT=READS -o "$folder/norec_READS" "$top/examples/c/norec.c" "${link[@]}" "$waits"
 for name in tl2 versions undo locks readers sequence jumping stuck; do
-    "${CC:-cc}" -std=c11 "${flags[@]}" -DFAULT=NONE -o "$folder/$name" "$top/tests/c/bench_$name.c" "${link[@]}" "${wrapped[@]}"
+    "${CC:-cc}" -std=c11 "${flags[@]}" -DFAULT=NONE -o "$folder/$name" "$top/tests/c/bench_$name.c" "${link[@]}" "$waits"
     names+=("$name")
 done
 printf '%-14s %-10s %5s %7s %8s\n' memory processors runs traces rescues
