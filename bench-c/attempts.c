@@ -75,8 +75,11 @@ static void note_call(tmwatch_attempt *a)
         keep(a, place, call->letter, call->register_number, call->value);
     } else
         stop(a->bench, status);
-    if (a->turn.place == 0)
+    if (a->turn.place == 0) {
         a->before = a->bench->asked;
+        if (a->bench->orders)
+            tmwatch_orders_begins(a->bench->orders, a->thread);
+    }
     pause_sometimes(a, 0);
 }
 
@@ -107,6 +110,8 @@ static void end_attempt(tmwatch_attempt *a, bool has_committed)
     a->bench->asked += has_committed;
     note_answer(a, has_committed ? 'C' : 'A', 0);
     a->bench->committed += has_committed;
+    if (a->bench->orders)
+        tmwatch_orders_ends(a->bench->orders, a->thread);
     if (has_committed || a->has_asked)
         a->made = a->most;
     a->is_live = false;

@@ -42,6 +42,21 @@ static void count_threads(struct bench *b, tmwatch_benched *out)
     }
 }
 
+/* Tells what the orders of C++20 have shown: of the violated round, and of what they don't see. */
+static void tell_orders(const struct bench *b, tmwatch_benched *out)
+{
+    FILE *file = fmemopen(out->shown, sizeof out->shown, "w");
+    bool is_violated = out->told.verdict == TMWATCH_VIOLATED;
+    if (!file)
+        return;
+    if (is_violated)
+        tmwatch_orders_tell(b->orders, file, b->steps.starts[out->rounds % STARTS], out->told.at);
+    tmwatch_orders_tell_unseen(b->orders, file, is_violated);
+    if (is_violated && !tmwatch_step_sees_waits())
+        fputs("what locks of pthread order is not seen: the program is linked without the words --wrap=..\n", file);
+    fclose(file);
+}
+
 /* Runs a leg under a watch that is open, and closes it. */
 static uint32_t run_watched(struct bench *b, tmwatch_benched *out)
 {
@@ -54,6 +69,8 @@ static uint32_t run_watched(struct bench *b, tmwatch_benched *out)
     out->switches = b->steps.switches;
     out->rescues = b->steps.rescues;
     count_threads(b, out);
+    if (b->orders && !b->is_stuck)
+        tell_orders(b, out);
     return status;
 }
 
@@ -83,8 +100,14 @@ static uint32_t run_leg(struct bench *b, struct session *session, const tmwatch_
     b->memory = &b->own_memory;
     b->plan = &b->own_plan;
     set_bounds(b);
+    if (plan->orders == TMWATCH_CXX && by_steps(b) && !(b->orders = tmwatch_orders_new(plan->seed, &b->steps.recorded)))
+        return TMWATCH_MEMORY;
     tmwatch_settings settings = TMWATCH_SETTINGS(plan->registers);
     memcpy(settings.start, plan->start, sizeof settings.start);
     uint32_t status = tmwatch_open(&b->watch, b->recorders, plan->threads, &settings);
-    return status == TMWATCH_DONE ? run_watched(b, out) : status;
+    if (status == TMWATCH_DONE)
+        status = run_watched(b, out);
+    if (b->orders && !b->is_stuck)
+        tmwatch_orders_discard(b->orders);
+    return status;
 }

@@ -10,8 +10,17 @@ static void draw_plan(tmwatch_plan *plan, uint64_t *draws)
     uint64_t threads = 2 + draw(draws, 2 + more), registers = 1 + draw(draws, 4), calls = 1 + draw(draws, 5);
     uint64_t writes = 30 + 20 * draw(draws, 4), adds = 20 * draw(draws, 2);
     uint64_t aborts = draw(draws, 4) == 0 ? 52 : 12, pause = pauses[draw(draws, 4)];
-    const uint64_t numbers[DRAWN] = {threads, registers, calls, writes, adds, aborts, pause, 50};
+    const uint64_t numbers[DRAWN] = {threads, registers, calls, writes, adds, aborts, pause, 50, TMWATCH_SEQUENTIAL};
     fill_in(plan, numbers);
+}
+
+/* By which orders a leg goes: every second one by steps is sequential, and of the others one by those of C++20, one by those of x86. */
+static uint64_t orders_of_leg(uint64_t leg, uint64_t schedule)
+{
+    static const uint64_t orders[] = {TMWATCH_SEQUENTIAL, TMWATCH_CXX, TMWATCH_SEQUENTIAL, TMWATCH_X86};
+    uint64_t steps_leg = leg < STEPS_LEGS ? leg : STEPS_LEGS + (leg - STEPS_LEGS) / 2;
+    bool is_compiled = tmwatch_step_drain && schedule == TMWATCH_STEPS;
+    return is_compiled ? orders[steps_leg % (sizeof orders / sizeof orders[0])] : TMWATCH_SEQUENTIAL;
 }
 
 /* The plan of a leg: the first ones go by steps, then all schedules come in turn. */
@@ -27,6 +36,8 @@ static tmwatch_plan plan_of_leg(const struct session *session, uint64_t leg, uin
     it.schedule = leg < STEPS_LEGS ? TMWATCH_STEPS : order[(leg - STEPS_LEGS) % (sizeof order / sizeof order[0])];
     it.rounds = left < LEG_ROUNDS ? left : LEG_ROUNDS;
     it.round = it.round > session->all.rounds && it.round - session->all.rounds <= LEG_ROUNDS ? it.round - session->all.rounds : 0;
+    if (session->plan->orders == TMWATCH_DRAWN)
+        it.orders = orders_of_leg(leg, it.schedule);
     if (it.schedule != TMWATCH_PERMITS && it.attempts > MOST_ATTEMPTS / it.threads)
         it.attempts = 0;
     memset(it.start, 0, sizeof it.start);
@@ -52,6 +63,8 @@ static void add_leg(tmwatch_benched *all, const tmwatch_benched *leg)
     to->transactions += of->transactions;
     to->unasked += of->unasked;
     to->widest = of->widest > to->widest ? of->widest : to->widest;
+    if (leg->shown[0])
+        memcpy(all->shown, leg->shown, sizeof all->shown);
     all->rounds += leg->rounds;
     all->steps += leg->steps;
     all->switches += leg->switches;

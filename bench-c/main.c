@@ -28,8 +28,10 @@ static int tell_usage(const char *wrong, const tmwatch_memory *memory, const tmw
         fprintf(stderr, "the memory's function `%s` is null\n", missing);
     else if (wrong)
         fprintf(stderr, "wrong, or without its value: %s\n", wrong);
-    else if (plan->buffers > 0 && !tmwatch_step_drain)
-        fputs("--buffers: the memory isn't compiled with -fsanitize=thread and linked with libtmwatch_steps.a\n", stderr);
+    else if (plan->orders != TMWATCH_DRAWN && !tmwatch_step_drain && !has_orders(plan))
+        fputs("--orders: the memory isn't compiled with -fsanitize=thread and linked with libtmwatch_steps.a\n", stderr);
+    else if (plan->orders == TMWATCH_CXX && !has_orders(plan))
+        fputs("--orders c++: by steps alone\n", stderr);
     else
         fputs("a number is out of its range\n", stderr);
     if (!missing)

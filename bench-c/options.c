@@ -1,7 +1,13 @@
 /* The options of a program: read into a plan, and printed from one. */
 
-static const char *const schedules[] = {"rounds", "permits", "steps", "all"};
-enum { SCHEDULES = sizeof schedules / sizeof schedules[0] };
+static const char *const schedules[] = {"rounds", "permits", "steps", "all", NULL};
+static const char *const orders[] = {"sequential", "x86", "c++", NULL};
+
+/* The words for the numbers that stand there in a plan, or null. */
+static const char *const *choices_of(size_t to)
+{
+    return to == TO(schedule) ? schedules : to == TO(orders) ? orders : NULL;
+}
 
 /* An option: its name, what it takes, or nothing, where its number goes in a plan, and what it is for, with its default. */
 struct option {
@@ -25,7 +31,7 @@ static const struct option options[] = {
     {"--aborts", "0-100", TO(aborts), "percent of transactions that ask to abort (12)"},
     {"--pause", "0-1048576", TO(pause), "longest pause beside a call, in turns of a loop (100)"},
     {"--mixes", "0-100", TO(mixes), "percent of rounds with a long transaction (50)"},
-    {"--buffers", "", TO(buffers), "stores are delayed (libtmwatch_steps.a)"},
+    {"--orders", "WORD", TO(orders), "sequential, x86, c++ (libtmwatch_steps.a; by all, in turn)"},
     {"--plain", "", TO(plain), "plain accesses are steps too (libtmwatch_steps.a)"},
     {"--patience", "N", TO(patience), "seconds without an event until the run is given up (10)"},
     {"--trace", "FILE", SIZE_MAX, "the run's end as a trace; FILE.run says of which run"},
@@ -44,15 +50,16 @@ static bool read_number(const char *word, uint64_t *number)
     return errno == 0;
 }
 
-/* The word's number, or that of the schedule which it names. */
-static bool read_value(const char *name, const char *word, uint64_t *number)
+/* The word's number, or that of the choice which it names. */
+static bool read_value(const struct option *option, const char *word, uint64_t *number)
 {
-    if (strcmp(name, "--schedule") != 0)
+    const char *const *choices = choices_of(option->to);
+    if (!choices)
         return read_number(word, number);
-    *number = 0;
-    while (*number < SCHEDULES && strcmp(word, schedules[*number]) != 0)
-        ++*number;
-    return *number < SCHEDULES;
+    for (*number = 0; choices[*number]; ++*number)
+        if (strcmp(word, choices[*number]) == 0)
+            return true;
+    return false;
 }
 
 static const struct option *find_option(const char *word)
@@ -74,7 +81,7 @@ static const char *read_option(tmwatch_plan *plan, const char **trace, const str
         plan->progress = NULL;
     else if (!option->takes[0])
         *number_of(plan, option->to) = 1;
-    else if (!read_value(option->name, words[1], number_of(plan, option->to)))
+    else if (!read_value(option, words[1], number_of(plan, option->to)))
         return words[1];
     return NULL;
 }
@@ -108,8 +115,8 @@ void tmwatch_bench_words(FILE *file, const tmwatch_plan *given)
         if (is_left_out || (number == *number_of(&usual, option->to) && option->to != TO(seed)))
             continue;
         fprintf(file, "%s%s", before, option->name);
-        if (option->to == TO(schedule))
-            fprintf(file, " %s", schedules[number]);
+        if (choices_of(option->to))
+            fprintf(file, " %s", choices_of(option->to)[number]);
         else if (option->takes[0])
             fprintf(file, " %llu", (unsigned long long)number);
         before = " ";

@@ -133,4 +133,5 @@ void tmwatch_bench_print(FILE *file, const tmwatch_benched *benched)
         fputs("the first reading is wrong: does the memory hold plan.start?\n", stderr);
     if (is_wrong)
         tell_again(benched);
+    fputs(benched->shown, stderr);
 }

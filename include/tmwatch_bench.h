@@ -34,8 +34,9 @@ in rounds or by permits takes half a second at most. In each leg but the first, 
 last look of a leg is rolled back, no other follows.
 
 No pause has to be placed by hand if the memory is compiled with -fsanitize=thread and linked without it, with libtmwatch_steps.a first:
-each atomic access is then a step, and by plan.plain each other one. By plan.buffers an atomic store that isn't sequentially consistent
-may be delayed, as in the store buffers of x86. Loads aren't reordered, and what inline assembly does isn't seen.
+each atomic access is then a step, and by plan.plain each other one. By plan.orders an atomic store that isn't sequentially consistent
+may be delayed, as in the store buffers of x86; or each atomic load returns what C++20 lets it return, as the seed draws. What inline
+assembly and code compiled elsewhere does isn't seen. By all, legs that go by steps take these orders in turn.
 
 A call is recorded before the memory is asked, and its answer after it has answered; a transaction's first call, before the memory begins
 it. Each is recorded by turns (tmwatch_next, tmwatch_answered), so that no record is malformed. No two writes have the same value, and
@@ -95,6 +96,13 @@ enum tmwatch_schedule {
     TMWATCH_ALL = 3      /* in legs: first by steps, then by each of these in turn */
 };
 
+/* How the atomic accesses are ordered of a memory that is compiled for libtmwatch_steps.a. */
+enum tmwatch_orders {
+    TMWATCH_SEQUENTIAL = 0, /* all in the order of the steps */
+    TMWATCH_X86 = 1,        /* stores are delayed, as in the store buffers of x86 */
+    TMWATCH_CXX = 2         /* by steps: a load returns what C++20 lets it return */
+};
+
 /* A number of a plan that is the usual one, or, by TMWATCH_ALL, another one in each leg but the first. */
 #define TMWATCH_DRAWN UINT64_MAX
 
@@ -119,7 +127,7 @@ typedef struct tmwatch_plan {
     uint64_t mixes;     /* ** (50) of 100 rounds, how many are mixed: one thread makes one long transaction, others several short
                            ones, of eight attempts in all */
     uint64_t round;     /* by steps: before this round tmwatch_break is called; by all, one of the first 5000; 0: never */
-    uint64_t buffers;   /* 1: stores are delayed, as drawn (libtmwatch_steps.a); or 0 */
+    uint64_t orders;    /* ** (0) a tmwatch_orders; by rounds and by permits not TMWATCH_CXX */
     uint64_t plain;     /* 1: plain accesses are steps too (libtmwatch_steps.a); or 0 */
     uint64_t patience;  /* after so many seconds without an event the run is given up; 0: never */
     FILE *progress;     /* or null: here a line says twice a second how far the run is */
@@ -127,7 +135,10 @@ typedef struct tmwatch_plan {
 
 #define TMWATCH_PLAN                                                                                                                     \
     {100000, 1, TMWATCH_DRAWN, TMWATCH_DRAWN, TMWATCH_DRAWN, 0, TMWATCH_DRAWN, TMWATCH_DRAWN, TMWATCH_DRAWN, TMWATCH_DRAWN, 0,             \
-     TMWATCH_ALL, {0, 0, 0, 0, 0, 0, 0, 0}, NULL, TMWATCH_DRAWN, 0, 0, 0, 10, NULL}
+     TMWATCH_ALL, {0, 0, 0, 0, 0, 0, 0, 0}, NULL, TMWATCH_DRAWN, 0, TMWATCH_DRAWN, 0, 10, NULL}
+
+/* How many bytes tell what the orders of C++20 have shown. */
+enum { TMWATCH_MOST_SHOWN = 4096 };
 
 /* What came out. */
 typedef struct tmwatch_benched {
@@ -143,6 +154,8 @@ typedef struct tmwatch_benched {
     uint64_t rescues;      /* and how many times a thread was blocked, so that another went too: if any, the run need not come again */
     tmwatch_plan again;    /* a plan that makes the run's end again, */
     bool is_certain;       /* for sure, if the memory decides nothing by time, address or chance; else it may go otherwise */
+    char shown[TMWATCH_MOST_SHOWN]; /* by the orders of C++20, lines: which loads of a violated round did not return the newest value, where
+                                       in the program, and which stores they missed; the first race on plain data; what isn't seen */
 } tmwatch_benched;
 
 /* A further status of the bench: no event came for plan.patience seconds. */
@@ -155,7 +168,7 @@ TMWATCH_STUCK, *benched stays.
 
 TMWATCH_MISSING: a function that the memory has to have is null. TMWATCH_BAD_SIZE: not 1 to 8 threads. TMWATCH_BAD_REGISTERS: not 1 to 8.
 TMWATCH_BAD_START: as in tmwatch_open. TMWATCH_BAD_BOUNDS: the rounds, the calls, the attempts, a part of 100, the pause, the schedule or
-the round are out of their range; or buffers are asked for, and the memory isn't compiled for libtmwatch_steps.a. TMWATCH_MEMORY: a growth
+the round are out of their range; or orders are asked for, and the memory isn't compiled for libtmwatch_steps.a. TMWATCH_MEMORY: a growth
 of memory or a thread was refused, before or while the rounds ran. TMWATCH_MISFIT: `run` has answered true where tmwatch_calls has not.
 TMWATCH_OUT_OF_TURN: `run` has called tmwatch_calls twice in one attempt. TMWATCH_STUCK: no event came for plan.patience seconds. Standard
 error then tells where each thread is; the threads go on, so that neither they nor what they use is given back. Another status: as the

@@ -4,7 +4,7 @@
    With drawn buffers, an atomic store that isn't sequentially consistent may stay in its thread's buffer for some steps, as in the store
    buffers of x86 (Sewell, Sarkar, Owens, Zappa Nardelli and Myreen, CACM 2010): the stores of a thread come out in their order, a read of
    the thread sees them, and they are out before a read-modify-write, a sequentially consistent store or fence, a plain store to what other
-   threads may see, and each recorded event. Loads aren't reordered. Of a thread's own bytes nothing is buffered, since what is stored to
+   threads may see, and each recorded event. Loads aren't reordered. By the orders of C++20, orders.c says what each access does. Of a thread's own bytes nothing is buffered, since what is stored to
    them without a mark, as at the end of a function, would be overtaken; nor of a block that may be given back unseen. */
 #include "step.h"
 #include <string.h>
@@ -113,27 +113,47 @@ static bool is_forwarded(const volatile void *at, unsigned bytes, uint64_t *valu
     return false;
 }
 
+/* Whether an access is simulated, which is made there in the program. */
+static bool is_simulated(tmwatch_access *to, const volatile void *at, unsigned bytes, int order, const void *caller)
+{
+    tmwatch_simulation *orders = tmwatch_step_orders();
+    if (orders)
+        *to = (tmwatch_access){orders, tmwatch_thread(), caller, at, bytes, order};
+    return orders;
+}
+
 /* Before a plain load of so many bytes. */
-static void before_load(const void *at, unsigned bytes, bool is_volatile)
+static void before_load(const void *at, size_t bytes, bool is_volatile, const void *caller)
 {
     uint64_t value;
+    tmwatch_access access;
     const tmwatch_step_how *how = tmwatch_step_accesses();
     if (!how || (!is_volatile && is_own(how, at)))
         return;
     if (is_volatile || how->has_plain)
         at_step();
-    if (is_forwarded(at, bytes, &value))
+    if (is_simulated(&access, at, 0, 0, caller))
+        tmwatch_orders_plain(&access, bytes, false);
+    if (is_forwarded(at, (unsigned)bytes, &value))
         tmwatch_step_drain();
 }
 
 /* Before a plain store, whose value isn't known. */
-static void before_store(const void *at, bool is_volatile)
+static void before_store(const void *at, size_t bytes, bool is_volatile, const void *caller)
 {
+    tmwatch_access access;
     const tmwatch_step_how *how = tmwatch_step_accesses();
-    if (!how || (!is_volatile && is_own(how, at)))
+    if (!how)
         return;
+    if (!is_volatile && is_own(how, at)) {
+        if (is_simulated(&access, at, 0, 0, caller))
+            tmwatch_orders_forget(access.orders, at, bytes);
+        return;
+    }
     if (is_volatile || how->has_plain)
         at_step();
+    if (is_simulated(&access, at, 0, 0, caller))
+        tmwatch_orders_plain(&access, bytes, true);
     tmwatch_step_drain();
 }
 
@@ -148,6 +168,7 @@ NOTHING(__tsan_vptr_update, void **at UNUSED, void *to UNUSED)
 NOTHING(__tsan_vptr_read, void **at UNUSED)
 NOTHING(__tsan_atomic_signal_fence, int order UNUSED)
 
+#define CALLER __builtin_return_address(0)
 #define CALLED(name, does, ...)  \
     void name(__VA_ARGS__);      \
     void name(__VA_ARGS__)       \
@@ -155,9 +176,9 @@ NOTHING(__tsan_atomic_signal_fence, int order UNUSED)
         does;                    \
     }
 #define PLAIN(infix, bytes, is_volatile)                                                       \
-    CALLED(__tsan_##infix##read##bytes, before_load(at, bytes, is_volatile), const void *at)   \
-    CALLED(__tsan_##infix##write##bytes, before_store(at, is_volatile), const void *at)
-#define READ_WRITE(infix, bytes) CALLED(__tsan_##infix##read_write##bytes, before_store(at, false), const void *at)
+    CALLED(__tsan_##infix##read##bytes, before_load(at, bytes, is_volatile, CALLER), const void *at)   \
+    CALLED(__tsan_##infix##write##bytes, before_store(at, bytes, is_volatile, CALLER), const void *at)
+#define READ_WRITE(infix, bytes) CALLED(__tsan_##infix##read_write##bytes, before_store(at, bytes, false, CALLER), const void *at)
 #define PLAINS(bytes)                    \
     PLAIN(, bytes, false)                \
     PLAIN(unaligned_, bytes, false)      \
@@ -170,8 +191,8 @@ PLAINS(2)
 PLAINS(4)
 PLAINS(8)
 PLAINS(16)
-CALLED(__tsan_read_range, before_load(at, (unsigned)bytes, false), const void *at, unsigned long bytes)
-CALLED(__tsan_write_range, before_store(at, false), const void *at, unsigned long bytes UNUSED)
+CALLED(__tsan_read_range, before_load(at, bytes, false, CALLER), const void *at, unsigned long bytes)
+CALLED(__tsan_write_range, before_store(at, bytes, false, CALLER), const void *at, unsigned long bytes)
 
 void *__tsan_memcpy(void *to, const void *from, size_t bytes);
 void *__tsan_memmove(void *to, const void *from, size_t bytes);
@@ -179,21 +200,21 @@ void *__tsan_memset(void *to, int byte, size_t bytes);
 
 void *__tsan_memcpy(void *to, const void *from, size_t bytes)
 {
-    before_load(from, (unsigned)bytes, false);
-    before_store(to, false);
+    before_load(from, bytes, false, CALLER);
+    before_store(to, bytes, false, CALLER);
     return memcpy(to, from, bytes);
 }
 
 void *__tsan_memmove(void *to, const void *from, size_t bytes)
 {
-    before_load(from, (unsigned)bytes, false);
-    before_store(to, false);
+    before_load(from, bytes, false, CALLER);
+    before_store(to, bytes, false, CALLER);
     return memmove(to, from, bytes);
 }
 
 void *__tsan_memset(void *to, int byte, size_t bytes)
 {
-    before_store(to, false);
+    before_store(to, bytes, false, CALLER);
     return memset(to, byte, bytes);
 }
 
@@ -204,34 +225,74 @@ static void at_change(void)
     tmwatch_step_drain();
 }
 
-/* An atomic access, as declared for the compiler: its type, what it is called, its parameters, and what it does. */
+/* An atomic access, as declared for the compiler: its type, what it is called, its parameters, and what it does. One that isn't simulated is
+   sequentially consistent; one that is, and changes an older store than the newest, leaves memory alone. */
 #define ATOMIC(type, name, ...) \
     type name(__VA_ARGS__);     \
     type name(__VA_ARGS__)
 #define CHANGE(bits, type, name, op)                                                              \
-    ATOMIC(type, __tsan_atomic##bits##_##name, volatile type *at, type value, int order UNUSED)   \
+    ATOMIC(type, __tsan_atomic##bits##_##name, volatile type *at, type value, int order)          \
     {                                                                                             \
+        tmwatch_access access;                                                                    \
+        uint64_t held;                                                                            \
+        volatile type older, *to = at;                                                            \
         at_change();                                                                              \
-        return op(at, value, SEQUENTIAL);                                                         \
+        bool has_orders = is_simulated(&access, at, sizeof(type), order, CALLER);                 \
+        if (has_orders && !tmwatch_orders_take(&access, &held)) {                                 \
+            older = (type)held;                                                                   \
+            to = &older;                                                                          \
+        }                                                                                         \
+        type read = op(to, value, SEQUENTIAL);                                                    \
+        if (has_orders)                                                                           \
+            tmwatch_orders_change(&access, *to);                                                  \
+        return read;                                                                              \
     }
-#define COMPARE(bits, type, name)                                                                                              \
-    ATOMIC(int, __tsan_atomic##bits##_compare_exchange_##name, volatile type *at, type *held, type value, int order UNUSED,    \
-           int failed UNUSED)                                                                                                  \
+#define COMPARES(bits, type)                                                                                                   \
+    static bool compare_##bits(volatile type *at, type *held, type value, int order, int failed, bool is_weak, const void *caller) \
     {                                                                                                                          \
+        tmwatch_access access;                                                                                                 \
+        uint64_t loaded = *held;                                                                                               \
+        enum tmwatch_compared how = TMWATCH_TAKES_NEWEST;                                                                      \
         at_change();                                                                                                           \
-        return __atomic_compare_exchange_n(at, held, value, 0, SEQUENTIAL, SEQUENTIAL);                                        \
+        bool has_orders = is_simulated(&access, at, sizeof(type), order, caller);                                              \
+        if (has_orders)                                                                                                        \
+            how = tmwatch_orders_compare(&access, &loaded, failed, is_weak);                                                   \
+        bool is_done = how != TMWATCH_FAILS;                                                                                   \
+        if (how == TMWATCH_TAKES_NEWEST)                                                                                       \
+            is_done = __atomic_compare_exchange_n(at, held, value, 0, SEQUENTIAL, SEQUENTIAL);                                 \
+        else                                                                                                                   \
+            *held = (type)loaded;                                                                                              \
+        if (has_orders && is_done)                                                                                             \
+            tmwatch_orders_change(&access, value);                                                                             \
+        return is_done;                                                                                                        \
+    }                                                                                                                          \
+    ATOMIC(type, __tsan_atomic##bits##_compare_exchange_val, volatile type *at, type held, type value, int order, int failed)  \
+    {                                                                                                                          \
+        compare_##bits(at, &held, value, order, failed, false, CALLER);                                                        \
+        return held;                                                                                                           \
+    }
+#define COMPARE(bits, type, name, is_weak)                                                                                     \
+    ATOMIC(int, __tsan_atomic##bits##_compare_exchange_##name, volatile type *at, type *held, type value, int order, int failed) \
+    {                                                                                                                          \
+        return compare_##bits(at, held, value, order, failed, is_weak, CALLER);                                                \
     }
 #define ATOMICS(bits, type)                                                                                                    \
-    ATOMIC(type, __tsan_atomic##bits##_load, const volatile type *at, int order UNUSED)                                        \
+    ATOMIC(type, __tsan_atomic##bits##_load, const volatile type *at, int order)                                               \
     {                                                                                                                          \
         uint64_t value;                                                                                                        \
+        tmwatch_access access;                                                                                                 \
         at_step();                                                                                                             \
+        if (is_simulated(&access, at, sizeof(type), order, CALLER))                                                            \
+            return (type)tmwatch_orders_load(&access);                                                                         \
         return is_forwarded(at, sizeof(type), &value) ? (type)value : __atomic_load_n(at, SEQUENTIAL);                         \
     }                                                                                                                          \
     ATOMIC(void, __tsan_atomic##bits##_store, volatile type *at, type value, int order)                                        \
     {                                                                                                                          \
+        tmwatch_access access;                                                                                                 \
         at_step();                                                                                                             \
-        if (is_buffered(at, order)) {                                                                                              \
+        if (is_simulated(&access, at, sizeof(type), order, CALLER) && !tmwatch_orders_store(&access, value))                   \
+            return;                                                                                                            \
+        if (is_buffered(at, order)) {                                                                                          \
             store_later((void *)(uintptr_t)at, value, sizeof(type));                                                           \
             return;                                                                                                            \
         }                                                                                                                      \
@@ -245,15 +306,9 @@ static void at_change(void)
     CHANGE(bits, type, fetch_or, __atomic_fetch_or)                                                                            \
     CHANGE(bits, type, fetch_xor, __atomic_fetch_xor)                                                                          \
     CHANGE(bits, type, fetch_nand, __atomic_fetch_nand)                                                                        \
-    COMPARE(bits, type, strong)                                                                                                \
-    COMPARE(bits, type, weak)                                                                                                  \
-    ATOMIC(type, __tsan_atomic##bits##_compare_exchange_val, volatile type *at, type held, type value, int order UNUSED,       \
-           int failed UNUSED)                                                                                                  \
-    {                                                                                                                          \
-        at_change();                                                                                                           \
-        __atomic_compare_exchange_n(at, &held, value, 0, SEQUENTIAL, SEQUENTIAL);                                              \
-        return held;                                                                                                           \
-    }
+    COMPARES(bits, type)                                                                                                       \
+    COMPARE(bits, type, strong, false)                                                                                         \
+    COMPARE(bits, type, weak, true)
 ATOMICS(8, uint8_t)
 ATOMICS(16, uint16_t)
 ATOMICS(32, uint32_t)
@@ -262,7 +317,10 @@ ATOMICS(64, uint64_t)
 /* All comes out at a sequentially consistent fence, and at no weaker one. */
 ATOMIC(void, __tsan_atomic_thread_fence, int order)
 {
+    tmwatch_access access;
     at_step();
+    if (is_simulated(&access, NULL, 0, order, CALLER))
+        tmwatch_orders_fence(&access);
     if (order == SEQUENTIAL)
         tmwatch_step_drain();
 }

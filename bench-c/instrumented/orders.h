@@ -1,17 +1,18 @@
 /* What the instrumented library, waits.c and the bench call of orders.c: the orders of C++20 by simulation. */
 #ifndef ORDERS_H
 #define ORDERS_H
+#include <stdatomic.h>
 #include <stdbool.h>
 #include <stddef.h>
 #include <stdint.h>
 #include <stdio.h>
 
 /* The simulated memory of one bench. */
-typedef struct tmwatch_orders tmwatch_orders;
+typedef struct tmwatch_simulation tmwatch_simulation;
 
 /* An access: in whose memory, by which of its threads, where it is in the program, and by what order. */
 typedef struct tmwatch_access {
-    tmwatch_orders *orders;
+    tmwatch_simulation *orders;
     unsigned thread;
     const void *caller;
     const volatile void *at;
@@ -21,9 +22,6 @@ typedef struct tmwatch_access {
 
 /* What a compare-and-swap does: it fails; or it succeeds, and stores after the newest store or after an older one. */
 enum tmwatch_compared { TMWATCH_FAILS, TMWATCH_TAKES_OLDER, TMWATCH_TAKES_NEWEST };
-
-/* What orders threads and isn't simulated. */
-enum tmwatch_unseen { TMWATCH_UNMARKED_STORE, TMWATCH_UNMARKED_LOCK, TMWATCH_UNMARKED_KINDS };
 
 /* A load, as drawn: what it returns. */
 uint64_t tmwatch_orders_load(const tmwatch_access *access);
@@ -51,30 +49,30 @@ void tmwatch_orders_wide(const tmwatch_access *access);
 /* For the bench and waits.c, which may be linked without it. A memory for a bench that draws from this seed, and whose record has *recorded
    events; or null. */
 #define WEAK __attribute__((weak))
-WEAK tmwatch_orders *tmwatch_orders_new(uint64_t seed, const uint64_t *recorded);
-WEAK void tmwatch_orders_discard(tmwatch_orders *orders);
+WEAK tmwatch_simulation *tmwatch_orders_new(uint64_t seed, const atomic_uint_least64_t *recorded);
+WEAK void tmwatch_orders_discard(tmwatch_simulation *orders);
 
 /* Between two rounds: all threads know all. */
-WEAK void tmwatch_orders_round(tmwatch_orders *orders);
+WEAK void tmwatch_orders_round(tmwatch_simulation *orders);
 
 /* An attempt's first call has been recorded, or its end: what has ended before it began happens before it. */
-WEAK void tmwatch_orders_begins(tmwatch_orders *orders, unsigned thread);
-WEAK void tmwatch_orders_ends(tmwatch_orders *orders, unsigned thread);
+WEAK void tmwatch_orders_begins(tmwatch_simulation *orders, unsigned thread);
+WEAK void tmwatch_orders_ends(tmwatch_simulation *orders, unsigned thread);
 
 /* A lock has been taken, or is about to be given back: a shared one orders nothing among those that share it. */
-WEAK void tmwatch_orders_locked(tmwatch_orders *orders, unsigned thread, const volatile void *lock, bool is_shared);
-WEAK void tmwatch_orders_unlocks(tmwatch_orders *orders, unsigned thread, const volatile void *lock);
+WEAK void tmwatch_orders_locked(tmwatch_simulation *orders, unsigned thread, const volatile void *lock, bool is_shared);
+WEAK void tmwatch_orders_unlocks(tmwatch_simulation *orders, unsigned thread, const volatile void *lock);
 
 /* These bytes are about to be another object's, or to be stored by code that isn't marked: nothing of them is kept. */
-WEAK void tmwatch_orders_forget(tmwatch_orders *orders, const volatile void *at, size_t bytes);
+WEAK void tmwatch_orders_forget(tmwatch_simulation *orders, const volatile void *at, size_t bytes);
 
-/* Something was met that isn't simulated. */
-WEAK void tmwatch_orders_unseen(tmwatch_orders *orders, enum tmwatch_unseen kind, const void *caller);
+/* The system is asked to wait for this word, or to wake who does: if no marked access is of it, a lock orders threads unseen. */
+WEAK void tmwatch_orders_futex(tmwatch_simulation *orders, const volatile void *word, const void *caller);
 
 /* Tells where in the program loads did not return the newest value, from this length of the record to that, and what they missed. */
-WEAK void tmwatch_orders_tell(const tmwatch_orders *orders, FILE *file, uint64_t from, uint64_t to);
+WEAK void tmwatch_orders_tell(const tmwatch_simulation *orders, FILE *file, uint64_t from, uint64_t to);
 
-/* Tells the first race of plain accesses, and what was met that isn't simulated. */
-WEAK void tmwatch_orders_tell_unseen(const tmwatch_orders *orders, FILE *file);
+/* Tells the first race of plain accesses; and, of a run that is violated, what was met that isn't simulated. */
+WEAK void tmwatch_orders_tell_unseen(const tmwatch_simulation *orders, FILE *file, bool is_violated);
 #undef WEAK
 #endif

@@ -1,9 +1,13 @@
 /* What the bench (step_calls.c) has for the objects that are linked with the memory: those of this folder. */
+#ifndef STEP_H
+#define STEP_H
+#include "orders.h"
 #include "tmwatch_bench.h"
 
 /* How a thread's accesses are made. */
 typedef struct tmwatch_step_how {
     bool has_buffers, has_plain; /* stores are buffered; plain accesses are steps too */
+    tmwatch_simulation *orders;  /* by the orders of C++20: the memory that is simulated; or null */
     bool is_undelayed;           /* a store wasn't buffered, since nothing says when its block is given back */
     uint64_t draws;
     uintptr_t own[2], own_end[2]; /* the thread's stack, and its transaction's bytes */
@@ -18,11 +22,17 @@ extern void tmwatch_step_drain(void) __attribute__((weak));
 /* Whether blocks.c sees that a block is given back. */
 bool tmwatch_step_sees_free(void);
 
+/* Whether waits.c sees locks. */
+bool tmwatch_step_sees_waits(void);
+
 /* Whether this thread is one of a bench by steps, and not in a look or beside a round. Those below are for such a thread. */
 bool tmwatch_step_is_run(void);
 
 /* How a wait has ended: no other thread is able to run; others have run, and none is able to any more; or what is waited for is free. */
 enum tmwatch_step_waited { TMWATCH_STEP_ALONE, TMWATCH_STEP_OTHERS, TMWATCH_STEP_FREED };
+
+/* The memory that is simulated, if such a thread's is; or null. */
+tmwatch_simulation *tmwatch_step_orders(void);
 
 /* Lets others run until this lock or condition, which one of them has to free, is free. */
 enum tmwatch_step_waited tmwatch_step_wait(const void *lock);
@@ -33,3 +43,4 @@ void tmwatch_step_wake(const void *condition);
 
 /* A wait that yields: several pauses at once. */
 void tmwatch_step_yield(void);
+#endif

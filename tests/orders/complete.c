@@ -99,7 +99,7 @@ static unsigned draw_next(uint64_t *draws, const struct execution *x, uint32_t m
 }
 
 /* Runs the program once: which execution it was. */
-static uint64_t run(tmwatch_orders *orders, struct execution *x)
+static uint64_t run(tmwatch_simulation *orders, struct execution *x)
 {
     uint32_t made = 0;
     begin_run(orders);
@@ -149,7 +149,7 @@ int main(int count, char **given)
     static struct outcomes allowed, came;
     unsigned long programs = count > 1 ? strtoul(given[1], NULL, 10) : 60, runs = count > 2 ? strtoul(given[2], NULL, 10) : 20000;
     unsigned long sum_allowed = 0, sum_came = 0, whole = 0, forbidden = 0;
-    tmwatch_orders *orders = tmwatch_orders_new(count > 3 ? strtoul(given[3], NULL, 10) : 3, &recorded);
+    tmwatch_simulation *orders = tmwatch_orders_new(count > 3 ? strtoul(given[3], NULL, 10) : 3, &recorded);
     for (unsigned long p = 0; p < programs; p++) {
         struct execution x = draw_program(&orders->draws);
         allowed.count = came.count = 0;

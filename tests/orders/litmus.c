@@ -132,7 +132,7 @@ static const struct litmus all[] = {
 static uint64_t results[RESULTS];
 
 /* Which thread makes its next operation: any of those that have one; MOST_THREADS if none has. */
-static unsigned draw_thread(tmwatch_orders *orders, const struct litmus *it, const unsigned next[MOST_THREADS])
+static unsigned draw_thread(tmwatch_simulation *orders, const struct litmus *it, const unsigned next[MOST_THREADS])
 {
     uint32_t able = 0;
     for (unsigned i = 0; i < MOST_THREADS; i++)
@@ -147,7 +147,7 @@ static unsigned draw_thread(tmwatch_orders *orders, const struct litmus *it, con
 }
 
 /* Runs it once: whether the outcome has come. */
-static bool run(const struct litmus *it, tmwatch_orders *orders)
+static bool run(const struct litmus *it, tmwatch_simulation *orders)
 {
     unsigned next[MOST_THREADS] = {0}, thread;
     begin_run(orders);
@@ -170,7 +170,7 @@ static bool run(const struct litmus *it, tmwatch_orders *orders)
 int main(int count, char **given)
 {
     unsigned long runs = count > 1 ? strtoul(given[1], NULL, 10) : 20000;
-    tmwatch_orders *orders = tmwatch_orders_new(1, &recorded);
+    tmwatch_simulation *orders = tmwatch_orders_new(1, &recorded);
     unsigned wrong = 0;
     for (unsigned i = 0; i < sizeof all / sizeof all[0]; i++) {
         unsigned long came = 0;

@@ -4,7 +4,7 @@ What bench-c/instrumented/orders.c does beside atomic accesses: races of plain o
 #include "program.c"
 #include "../c/check.h"
 
-static tmwatch_orders *orders;
+static tmwatch_simulation *orders;
 static _Alignas(16) unsigned char bytes[64];
 
 static tmwatch_access plain_at(unsigned thread, const void *at)
@@ -36,7 +36,7 @@ static uint64_t makes(unsigned thread, enum kind kind, enum word word, uint64_t 
 static void begin(void)
 {
     begin_run(orders);
-    orders->races = orders->unseen[TMWATCH_UNMARKED_STORE] = 0;
+    orders->races = orders->unseen[UNMARKED_STORE] = 0;
 }
 
 /* Hands over from thread 0 to thread 1. */
@@ -124,17 +124,17 @@ static void check_unmarked(void)
         makes(0, WRITE, X, 1, RELAXED);
         makes(0, WRITE, X, 2, RELAXED);
         words[X] = 7;
-        CHECK(makes(1, READ, X, 0, RELAXED) == 7 && orders->unseen[TMWATCH_UNMARKED_STORE] == 1);
+        CHECK(makes(1, READ, X, 0, RELAXED) == 7 && orders->unseen[UNMARKED_STORE] == 1);
         begin();
         makes(0, WRITE, X, 1, RELAXED);
         stores(0, (const void *)(uintptr_t)&words[X], 8);
         words[X] = 7;
-        CHECK(makes(1, READ, X, 0, RELAXED) == 7 && orders->unseen[TMWATCH_UNMARKED_STORE] == 0);
+        CHECK(makes(1, READ, X, 0, RELAXED) == 7 && orders->unseen[UNMARKED_STORE] == 0);
         begin();
         makes(0, WRITE, X, 1, RELAXED);
         tmwatch_orders_forget(orders, words, sizeof words);
         words[X] = 0;
-        CHECK(makes(1, READ, X, 0, RELAXED) == 0 && orders->unseen[TMWATCH_UNMARKED_STORE] == 0);
+        CHECK(makes(1, READ, X, 0, RELAXED) == 0 && orders->unseen[UNMARKED_STORE] == 0);
     }
 }
 
@@ -201,7 +201,7 @@ static void check_wide(void)
         tmwatch_access wide = {orders, 0, words, words, 16, RELAXED};
         tmwatch_orders_wide(&wide);
         words[Y] = 7;
-        CHECK(makes(1, READ, Y, 0, ACQUIRE) == 7 && orders->unseen[TMWATCH_UNMARKED_STORE] == 0);
+        CHECK(makes(1, READ, Y, 0, ACQUIRE) == 7 && orders->unseen[UNMARKED_STORE] == 0);
         CHECK(makes(1, READ, Z, 0, RELAXED) == 1);
         makes(1, WRITE, Z, 2, RELAXED);
         makes(1, WRITE, X, 1, RELEASE);

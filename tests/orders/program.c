@@ -19,9 +19,9 @@ struct operation {
 
 /* What memory holds. */
 static _Alignas(16) _Atomic uint64_t words[WORDS];
-static const uint64_t recorded;
+static const atomic_uint_least64_t recorded;
 
-static tmwatch_access access_of(tmwatch_orders *orders, unsigned thread, const struct operation *it)
+static tmwatch_access access_of(tmwatch_simulation *orders, unsigned thread, const struct operation *it)
 {
     return (tmwatch_access){orders, thread, it, &words[it->word], sizeof words[0], it->order};
 }
@@ -54,7 +54,7 @@ static uint64_t make_add(const tmwatch_access *access, const struct operation *i
 }
 
 /* Makes an operation: whether it has stored. *read is what it has read, if it reads. */
-static bool make(tmwatch_orders *orders, unsigned thread, const struct operation *it, uint64_t *read)
+static bool make(tmwatch_simulation *orders, unsigned thread, const struct operation *it, uint64_t *read)
 {
     tmwatch_access access = access_of(orders, thread, it);
     switch (it->kind) {
@@ -94,7 +94,7 @@ static bool make(tmwatch_orders *orders, unsigned thread, const struct operation
 }
 
 /* Begins a run of a program: all words are 0, and all threads know that. */
-static void begin_run(tmwatch_orders *orders)
+static void begin_run(tmwatch_simulation *orders)
 {
     memset((void *)words, 0, sizeof words);
     tmwatch_orders_round(orders);

@@ -60,7 +60,7 @@ static struct operation draw_operation(uint64_t *draws, struct execution *x, uns
 }
 
 /* Makes the next operation, and counts what is seen. Adds here store their own value too: what they read stays apart. */
-static void make_next(tmwatch_orders *orders, struct execution *x, unsigned thread, struct seen *seen)
+static void make_next(tmwatch_simulation *orders, struct execution *x, unsigned thread, struct seen *seen)
 {
     struct event *event = &x->events[x->count];
     struct operation it = draw_operation(&orders->draws, x, thread);
@@ -88,7 +88,7 @@ static void make_next(tmwatch_orders *orders, struct execution *x, unsigned thre
 }
 
 /* Takes the modification orders from the model: whether it has kept them whole. */
-static bool take_orders(const tmwatch_orders *orders, struct execution *x)
+static bool take_orders(const tmwatch_simulation *orders, struct execution *x)
 {
     for (unsigned i = 0; i < orders->used; i++) {
         const struct place *place = &orders->places[i];
@@ -115,7 +115,7 @@ static void print_run(unsigned long run, const struct execution *x, const char *
 int main(int count, char **given)
 {
     unsigned long runs = count > 1 ? strtoul(given[1], NULL, 10) : 100000;
-    tmwatch_orders *orders = tmwatch_orders_new(count > 2 ? strtoul(given[2], NULL, 10) : 7, &recorded);
+    tmwatch_simulation *orders = tmwatch_orders_new(count > 2 ? strtoul(given[2], NULL, 10) : 7, &recorded);
     struct seen seen = {0, 0, 0, 0, 0};
     for (unsigned long k = 0; k < runs; k++) {
         struct execution x = {0, {{0}}};

@@ -5,7 +5,7 @@
 enum { ODDS = 16, LATE_ODDS = 4, MOST_STALE = 8 };
 
 /* This thread at its next step. */
-static struct view *next_step(tmwatch_orders *o, unsigned thread)
+static struct view *next_step(tmwatch_simulation *o, unsigned thread)
 {
     struct view *it = &o->views[thread];
     it->knows.at[thread]++;
@@ -13,7 +13,7 @@ static struct view *next_step(tmwatch_orders *o, unsigned thread)
 }
 
 /* The oldest store that an access of this order may read, or after which it may store. */
-static unsigned floor_of(const tmwatch_orders *o, const struct place *it, const struct view *view, int order)
+static unsigned floor_of(const tmwatch_simulation *o, const struct place *it, const struct view *view, int order)
 {
     struct clock knows = view->knows;
     if (order == SEQUENTIAL) {
@@ -30,7 +30,7 @@ static unsigned floor_of(const tmwatch_orders *o, const struct place *it, const 
 /* The thread has read or written this store. */
 static void see(const tmwatch_access *a, struct store *it)
 {
-    tmwatch_orders *o = a->orders;
+    tmwatch_simulation *o = a->orders;
     if (it->seen.at[a->thread] == 0)
         it->seen.at[a->thread] = o->views[a->thread].knows.at[a->thread];
     if (a->order == SEQUENTIAL && ++o->sequence && it->seen.at[SEQUENCE] == 0)
@@ -38,7 +38,7 @@ static void see(const tmwatch_access *a, struct store *it)
 }
 
 /* An access beside the table: as if by one that acquires and releases, whatever its order. */
-static void pass(tmwatch_orders *o, struct view *view)
+static void pass(tmwatch_simulation *o, struct view *view)
 {
     join(&view->knows, &o->untracked);
     o->untracked = view->knows;
@@ -76,7 +76,7 @@ static bool may_change(const struct place *it, unsigned found)
 
 uint64_t tmwatch_orders_load(const tmwatch_access *a)
 {
-    tmwatch_orders *o = a->orders;
+    tmwatch_simulation *o = a->orders;
     struct view *view = next_step(o, a->thread);
     struct place *it = find_place(a);
     look_for_race(a, a->bytes, ATOMIC_LOAD);
@@ -88,7 +88,7 @@ uint64_t tmwatch_orders_load(const tmwatch_access *a)
 
 bool tmwatch_orders_take(const tmwatch_access *a, uint64_t *held)
 {
-    tmwatch_orders *o = a->orders;
+    tmwatch_simulation *o = a->orders;
     struct view *view = next_step(o, a->thread);
     struct place *it = find_place(a);
     o->taken = it;
@@ -106,7 +106,7 @@ bool tmwatch_orders_take(const tmwatch_access *a, uint64_t *held)
 /* Draws the store that a compare-and-swap reads: of an older one it may fail, or succeed if nothing has changed that. */
 static unsigned draw_compared(const tmwatch_access *a, const struct place *it, uint64_t looked_for, int failed)
 {
-    const tmwatch_orders *o = a->orders;
+    const tmwatch_simulation *o = a->orders;
     const struct view *view = &o->views[a->thread];
     unsigned newest = it->count - 1, to_fail = floor_of(o, it, view, failed), to_change = floor_of(o, it, view, a->order);
     unsigned found = draw_store(a, it, to_fail < to_change ? to_fail : to_change, o->stale);
@@ -118,7 +118,7 @@ static unsigned draw_compared(const tmwatch_access *a, const struct place *it, u
 
 enum tmwatch_compared tmwatch_orders_compare(const tmwatch_access *a, uint64_t *held, int failed, bool is_weak)
 {
-    tmwatch_orders *o = a->orders;
+    tmwatch_simulation *o = a->orders;
     struct view *view = next_step(o, a->thread);
     struct place *it = find_place(a);
     uint64_t newest = in_memory(a->at, a->bytes), looked_for = *held;
@@ -160,7 +160,7 @@ static struct store *add_store(const tmwatch_access *a, struct place *it, unsign
 
 bool tmwatch_orders_store(const tmwatch_access *a, uint64_t value)
 {
-    tmwatch_orders *o = a->orders;
+    tmwatch_simulation *o = a->orders;
     struct view *view = next_step(o, a->thread);
     struct place *it = find_place(a);
     if (!it) {
@@ -189,7 +189,7 @@ void tmwatch_orders_change(const tmwatch_access *a, uint64_t value)
 
 void tmwatch_orders_fence(const tmwatch_access *a)
 {
-    tmwatch_orders *o = a->orders;
+    tmwatch_simulation *o = a->orders;
     struct view *view = next_step(o, a->thread);
     if (acquires(a->order))
         join(&view->knows, &view->loaded);
@@ -203,7 +203,7 @@ void tmwatch_orders_fence(const tmwatch_access *a)
 }
 
 /* Ends the histories of places that overlap these bytes. */
-static void forget_places(tmwatch_orders *o, uintptr_t at, size_t bytes)
+static void forget_places(tmwatch_simulation *o, uintptr_t at, size_t bytes)
 {
     uintptr_t end = at + bytes;
     struct clock released = {{0}};
@@ -216,7 +216,7 @@ static void forget_places(tmwatch_orders *o, uintptr_t at, size_t bytes)
                 o->places[i].bytes = 0;
 }
 
-void tmwatch_orders_forget(tmwatch_orders *o, const volatile void *at, size_t bytes)
+void tmwatch_orders_forget(tmwatch_simulation *o, const volatile void *at, size_t bytes)
 {
     forget_places(o, (uintptr_t)at, bytes);
     forget_cells(o, (uintptr_t)at, bytes);
@@ -231,7 +231,7 @@ void tmwatch_orders_plain(const tmwatch_access *a, size_t bytes, bool is_store)
 
 void tmwatch_orders_wide(const tmwatch_access *a)
 {
-    tmwatch_orders *o = a->orders;
+    tmwatch_simulation *o = a->orders;
     struct view *view = next_step(o, a->thread);
     uintptr_t at = (uintptr_t)a->at;
     look_for_race(a, a->bytes, ATOMIC_STORE);
@@ -245,17 +245,17 @@ void tmwatch_orders_wide(const tmwatch_access *a)
     }
 }
 
-void tmwatch_orders_begins(tmwatch_orders *o, unsigned thread)
+void tmwatch_orders_begins(tmwatch_simulation *o, unsigned thread)
 {
     join(&o->views[thread].knows, &o->ended);
 }
 
-void tmwatch_orders_ends(tmwatch_orders *o, unsigned thread)
+void tmwatch_orders_ends(tmwatch_simulation *o, unsigned thread)
 {
     join(&o->ended, &next_step(o, thread)->knows);
 }
 
-void tmwatch_orders_locked(tmwatch_orders *o, unsigned thread, const volatile void *at, bool is_shared)
+void tmwatch_orders_locked(tmwatch_simulation *o, unsigned thread, const volatile void *at, bool is_shared)
 {
     struct lock *it = find_lock(o, at);
     join(&next_step(o, thread)->knows, is_shared ? &it->alone : &it->all);
@@ -263,7 +263,7 @@ void tmwatch_orders_locked(tmwatch_orders *o, unsigned thread, const volatile vo
         it->sharers |= 1u << thread;
 }
 
-void tmwatch_orders_unlocks(tmwatch_orders *o, unsigned thread, const volatile void *at)
+void tmwatch_orders_unlocks(tmwatch_simulation *o, unsigned thread, const volatile void *at)
 {
     struct lock *it = find_lock(o, at);
     const struct clock *knows = &next_step(o, thread)->knows;
@@ -273,9 +273,15 @@ void tmwatch_orders_unlocks(tmwatch_orders *o, unsigned thread, const volatile v
     it->sharers &= ~(1u << thread);
 }
 
-tmwatch_orders *tmwatch_orders_new(uint64_t seed, const uint64_t *recorded)
+void tmwatch_orders_futex(tmwatch_simulation *o, const volatile void *word, const void *caller)
 {
-    tmwatch_orders *o = calloc(1, sizeof *o);
+    if (!look_up(o, (uintptr_t)word, sizeof(uint32_t)))
+        meet_unseen(o, UNMARKED_LOCK, caller);
+}
+
+tmwatch_simulation *tmwatch_orders_new(uint64_t seed, const atomic_uint_least64_t *recorded)
+{
+    tmwatch_simulation *o = calloc(1, sizeof *o);
     if (!o)
         return NULL;
     o->draws = seed;
@@ -284,15 +290,15 @@ tmwatch_orders *tmwatch_orders_new(uint64_t seed, const uint64_t *recorded)
     return o;
 }
 
-void tmwatch_orders_discard(tmwatch_orders *o)
+void tmwatch_orders_discard(tmwatch_simulation *o)
 {
     free(o);
 }
 
-void tmwatch_orders_round(tmwatch_orders *o)
+void tmwatch_orders_round(tmwatch_simulation *o)
 {
     static const uint8_t stale_odds[] = {2, 8, 8, 14};
-    memset(o, 0, offsetof(tmwatch_orders, locks));
+    memset(o, 0, offsetof(tmwatch_simulation, locks));
     o->round++;
     o->stale = stale_odds[draw_below(&o->draws, sizeof stale_odds)];
     o->late = draw_below(&o->draws, 2) == 0 ? 0 : LATE_ODDS;

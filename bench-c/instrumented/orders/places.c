@@ -31,6 +31,9 @@ struct lock {
     struct clock alone, all;
 };
 
+/* What orders threads and isn't simulated. */
+enum unseen { UNMARKED_STORE, UNMARKED_LOCK, UNSEEN_KINDS };
+
 enum deviation_kind { STALE_LOAD, LATE_STORE, LATE_CHANGE };
 
 /* An access that wasn't of the newest store: by whom and where, who has made the store after it, and how many events preceded. */
@@ -62,7 +65,7 @@ struct race {
     const void *caller, *other_caller;
 };
 
-struct tmwatch_orders {
+struct tmwatch_simulation {
     /* Of a round: what threads know; what transactions that have ended, fences of sequential consistency and accesses beside the table
        have made known; how many operations of sequential consistency there were; the odds. */
     struct view views[THREADS];
@@ -75,10 +78,10 @@ struct tmwatch_orders {
     struct place places[MOST_PLACES];
     struct place *taken; /* of the read-modify-write that is under way: its place, or null, and which store it has read */
     unsigned taken_store;
-    uint64_t draws, races, deviated, unseen[TMWATCH_UNMARKED_KINDS];
+    uint64_t draws, races, deviated, unseen[UNSEEN_KINDS];
     uint32_t round;
-    const uint64_t *recorded;
-    const void *unseen_caller[TMWATCH_UNMARKED_KINDS];
+    const atomic_uint_least64_t *recorded;
+    const void *unseen_caller[UNSEEN_KINDS];
     struct race race;
     struct cell cells[CELLS];
     struct deviation deviations[KEPT_DEVIATIONS];
@@ -98,13 +101,13 @@ static uint64_t in_memory(const volatile void *at, unsigned bytes)
     }
 }
 
-static uint16_t *head_of(tmwatch_orders *o, uintptr_t at)
+static uint16_t *head_of(tmwatch_simulation *o, uintptr_t at)
 {
     return &o->heads[(at >> WORD_BITS) * apart_words >> (64 - HEAD_BITS)];
 }
 
 /* Empties those that overlap these bytes of one word, and adds to *released what their stores have released: the last of them, or none. */
-static struct place *drop_places(tmwatch_orders *o, uintptr_t at, size_t bytes, struct clock *released)
+static struct place *drop_places(tmwatch_simulation *o, uintptr_t at, size_t bytes, struct clock *released)
 {
     struct place *found = NULL;
     for (uint16_t i = *head_of(o, at); i > 0; i = o->places[i - 1].next) {
@@ -121,7 +124,7 @@ static struct place *drop_places(tmwatch_orders *o, uintptr_t at, size_t bytes, 
 
 /* A place that isn't in the table yet; null if that is full. Its first store is to be what memory holds then, and releases what places of
    other sizes did there: too much rather than too little. */
-static struct place *add_place(tmwatch_orders *o, uintptr_t at, unsigned bytes)
+static struct place *add_place(tmwatch_simulation *o, uintptr_t at, unsigned bytes)
 {
     struct clock released = {{0}};
     struct place *it = drop_places(o, at, bytes, &released);
@@ -140,7 +143,7 @@ static struct place *add_place(tmwatch_orders *o, uintptr_t at, unsigned bytes)
     return it;
 }
 
-static struct place *look_up(tmwatch_orders *o, uintptr_t at, unsigned bytes)
+static struct place *look_up(tmwatch_simulation *o, uintptr_t at, unsigned bytes)
 {
     for (uint16_t i = *head_of(o, at); i > 0; i = o->places[i - 1].next)
         if (o->places[i - 1].at == at && o->places[i - 1].bytes == bytes)
@@ -148,11 +151,18 @@ static struct place *look_up(tmwatch_orders *o, uintptr_t at, unsigned bytes)
     return NULL;
 }
 
+/* Something was met that isn't simulated. */
+static void meet_unseen(tmwatch_simulation *o, enum unseen kind, const void *caller)
+{
+    if (o->unseen[kind]++ == 0)
+        o->unseen_caller[kind] = caller;
+}
+
 /* The place of an access, or null. Memory holds its newest store: if it holds something else, a store that isn't simulated has come, and the
    history is forgotten. */
 static struct place *find_place(const tmwatch_access *a)
 {
-    tmwatch_orders *o = a->orders;
+    tmwatch_simulation *o = a->orders;
     uintptr_t at = (uintptr_t)a->at;
     uint64_t newest = in_memory(a->at, a->bytes);
     struct place *it = look_up(o, at, a->bytes);
@@ -161,7 +171,7 @@ static struct place *find_place(const tmwatch_access *a)
     if (!it || (it->count > 0 && it->stores[it->count - 1].value == newest))
         return it;
     if (it->count > 0)
-        tmwatch_orders_unseen(o, TMWATCH_UNMARKED_STORE, a->caller);
+        meet_unseen(o, UNMARKED_STORE, a->caller);
     memset(it->stale, 0, sizeof it->stale);
     it->stores[0] = (struct store){.value = newest, .releases = it->count > 0 ? (struct clock){{0}} : it->stores[0].releases};
     it->count = 1;
@@ -183,7 +193,7 @@ static struct store *make_room(struct place *it, unsigned at)
 }
 
 /* The lock there. Those beyond the table share one. */
-static struct lock *find_lock(tmwatch_orders *o, const volatile void *at)
+static struct lock *find_lock(tmwatch_simulation *o, const volatile void *at)
 {
     unsigned i = 0;
     while (i < o->locks_used && o->locks[i].at != at)

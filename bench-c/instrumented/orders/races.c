@@ -5,7 +5,7 @@
 enum { MOST_TRIES = 8, MOST_WORDS = 64, ALL_BYTES = (1 << WORD_BYTES) - 1 };
 
 /* The word's cell of this round, or null. */
-static struct cell *find_cell(tmwatch_orders *o, uintptr_t word)
+static struct cell *find_cell(tmwatch_simulation *o, uintptr_t word)
 {
     uint64_t from = word * apart_words >> (64 - CELL_BITS);
     for (unsigned i = 0; i < MOST_TRIES; i++) {
@@ -34,7 +34,7 @@ static bool is_plain(enum access_kind kind)
 /* Looks whether an access races with the last ones of this kind by others. */
 static void look_at_kind(const tmwatch_access *a, const struct cell *it, uint8_t bytes, enum access_kind kind, enum access_kind other)
 {
-    tmwatch_orders *o = a->orders;
+    tmwatch_simulation *o = a->orders;
     const struct clock *knows = &o->views[a->thread].knows;
     unsigned threads = it->threads[other] & ~(1u << a->thread);
     for (unsigned i = 0; threads >> i > 0 && o->races == 0; i++) {
@@ -73,7 +73,7 @@ static void look_for_race(const tmwatch_access *a, size_t bytes, enum access_kin
 }
 
 /* Ends what is kept of these bytes. */
-static void forget_cells(tmwatch_orders *o, uintptr_t at, size_t bytes)
+static void forget_cells(tmwatch_simulation *o, uintptr_t at, size_t bytes)
 {
     uintptr_t word = at >> WORD_BITS, last = (at + bytes - 1) >> WORD_BITS;
     if (bytes == 0)

@@ -3,7 +3,7 @@
 /* Keeps that an access has found this store, or stores after it, if that isn't the newest. */
 static void keep_deviation(const tmwatch_access *a, const struct place *it, unsigned found, enum deviation_kind kind)
 {
-    tmwatch_orders *o = a->orders;
+    tmwatch_simulation *o = a->orders;
     if (found + 1 >= it->count)
         return;
     const struct store *next = &it->stores[found + 1];
@@ -11,14 +11,8 @@ static void keep_deviation(const tmwatch_access *a, const struct place *it, unsi
         *o->recorded, a->caller, next->caller, (uint8_t)kind, (uint8_t)a->thread, next->thread, (uint8_t)(it->count - 1 - found)};
 }
 
-void tmwatch_orders_unseen(tmwatch_orders *o, enum tmwatch_unseen kind, const void *caller)
-{
-    if (o->unseen[kind]++ == 0)
-        o->unseen_caller[kind] = caller;
-}
-
 /* The first of those kept that is the same one from this event on, and how many there are up to that event; this one if it is the first. */
-static uint64_t count_same(const tmwatch_orders *o, const struct deviation *it, uint64_t first, uint64_t from, uint64_t to, uint64_t *found)
+static uint64_t count_same(const tmwatch_simulation *o, const struct deviation *it, uint64_t first, uint64_t from, uint64_t to, uint64_t *found)
 {
     uint64_t count = 0;
     for (uint64_t i = first; i < o->deviated; i++) {
@@ -44,7 +38,7 @@ static void tell_deviation(const struct deviation *it, uint64_t count, FILE *fil
     fprintf(file, count > 1 ? " (and %llu like this)\n" : "\n", (unsigned long long)count - 1);
 }
 
-void tmwatch_orders_tell(const tmwatch_orders *o, FILE *file, uint64_t from, uint64_t to)
+void tmwatch_orders_tell(const tmwatch_simulation *o, FILE *file, uint64_t from, uint64_t to)
 {
     uint64_t first = o->deviated > KEPT_DEVIATIONS ? o->deviated - KEPT_DEVIATIONS : 0, told = 0, found = 0;
     for (uint64_t i = first; i < o->deviated; i++) {
@@ -68,7 +62,7 @@ static const char *name_of(enum access_kind kind)
     return names[kind];
 }
 
-void tmwatch_orders_tell_unseen(const tmwatch_orders *o, FILE *file)
+void tmwatch_orders_tell_unseen(const tmwatch_simulation *o, FILE *file, bool is_violated)
 {
     static const char *const unseen[] = {"code that the compiler has not marked stores to what is loaded at ",
                                          "a lock or a wait of code that the compiler has not marked, in "};
@@ -79,7 +73,7 @@ void tmwatch_orders_tell_unseen(const tmwatch_orders *o, FILE *file)
         print_place(file, o->race.other_caller);
         fputc('\n', file);
     }
-    for (unsigned i = 0; i < TMWATCH_UNMARKED_KINDS; i++) {
+    for (unsigned i = 0; i < UNSEEN_KINDS && is_violated; i++) {
         if (o->unseen[i] == 0)
             continue;
         fputs(unseen[i], file);

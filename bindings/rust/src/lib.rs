@@ -14,6 +14,7 @@
 mod bench;
 mod ffi;
 mod retrying;
+pub mod sync;
 mod told;
 mod watch;
 
