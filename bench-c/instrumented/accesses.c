@@ -133,7 +133,7 @@ static void before_load(const void *at, size_t bytes, bool is_volatile, const vo
     if (is_volatile || how->has_plain)
         at_step();
     if (is_simulated(&access, at, 0, 0, caller))
-        tmwatch_orders_plain(&access, bytes, false);
+        tmwatch_orders_plain_load(&access, bytes);
     if (is_forwarded(at, (unsigned)bytes, &value))
         tmwatch_step_drain();
 }
@@ -143,18 +143,13 @@ static void before_store(const void *at, size_t bytes, bool is_volatile, const v
 {
     tmwatch_access access;
     const tmwatch_step_how *how = tmwatch_step_accesses();
-    if (!how)
-        return;
-    if (!is_volatile && is_own(how, at)) {
-        if (is_simulated(&access, at, 0, 0, caller))
-            tmwatch_orders_forget(access.orders, at, bytes);
-        return;
-    }
-    if (is_volatile || how->has_plain)
+    bool is_stepped = how && (is_volatile || !is_own(how, at));
+    if (is_stepped && (is_volatile || how->has_plain))
         at_step();
     if (is_simulated(&access, at, 0, 0, caller))
-        tmwatch_orders_plain(&access, bytes, true);
-    tmwatch_step_drain();
+        tmwatch_orders_plain_store(&access, bytes, !is_stepped);
+    if (is_stepped)
+        tmwatch_step_drain();
 }
 
 #define UNUSED __attribute__((unused))

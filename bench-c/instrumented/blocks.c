@@ -5,7 +5,7 @@
 #include "step.h"
 #include <malloc.h>
 
-static void give_back(const void *block, size_t size)
+void tmwatch_step_gives_back(const void *block, size_t size)
 {
     tmwatch_simulation *orders = tmwatch_step_orders();
     if (tmwatch_step_drain)
@@ -30,7 +30,7 @@ static size_t size_of(void *block, void (*delete)(void *))
     __attribute__((weak)) type __wrap_##name(__VA_ARGS__);  \
     type __wrap_##name(__VA_ARGS__)                         \
     {                                                       \
-        give_back(block, size_given);                       \
+        tmwatch_step_gives_back(block, size_given);         \
         returns __real_##name given;                        \
     }
 /* As C++ names them, each operator delete has arguments more: a size, an alignment, or both. */

@@ -41,6 +41,14 @@ enum tmwatch_step_waited tmwatch_step_wait(const void *lock);
 void tmwatch_step_free(const void *lock);
 void tmwatch_step_wake(const void *condition);
 
+/* For a lock that isn't one of C, in any thread (waits.c); and a block of a type that isn't one of C is given back (blocks.c). */
+bool tmwatch_lock_tried(void);
+bool tmwatch_lock_awaited(const void *lock);
+void tmwatch_lock_taken(const void *lock);
+void tmwatch_lock_returning(const void *lock);
+void tmwatch_lock_returned(const void *lock);
+void tmwatch_step_gives_back(const void *block, size_t size);
+
 /* A wait that yields: several pauses at once. */
 void tmwatch_step_yield(void);
 #endif

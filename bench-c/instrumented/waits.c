@@ -105,6 +105,36 @@ bool tmwatch_step_sees_waits(void)
     return __real_pthread_mutex_lock;
 }
 
+/* The same for a lock of another language: it was tried, and the answer says whether the thread goes by steps; others run until it may be
+   free, and the answer says whether to try again; it was taken; it is about to be given back; it was given back. */
+bool tmwatch_lock_tried(void)
+{
+    return is_stepped();
+}
+
+bool tmwatch_lock_awaited(const void *lock)
+{
+    return tmwatch_step_wait(lock) != TMWATCH_STEP_ALONE;
+}
+
+void tmwatch_lock_taken(const void *lock)
+{
+    has_locked(0, lock, false);
+}
+
+void tmwatch_lock_returning(const void *lock)
+{
+    unlocks(lock);
+}
+
+void tmwatch_lock_returned(const void *lock)
+{
+    if (!tmwatch_step_is_run())
+        return;
+    tmwatch_step_free(lock);
+    tmwatch_pause();
+}
+
 /* Waits for a condition: whether it was signalled. Nobody else runs between the unlocking and the wait. */
 static bool is_signalled(pthread_cond_t *condition, pthread_mutex_t *mutex)
 {

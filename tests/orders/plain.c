@@ -15,13 +15,13 @@ static tmwatch_access plain_at(unsigned thread, const void *at)
 static void loads(unsigned thread, const void *at, size_t size)
 {
     tmwatch_access access = plain_at(thread, at);
-    tmwatch_orders_plain(&access, size, false);
+    tmwatch_orders_plain_load(&access, size);
 }
 
 static void stores(unsigned thread, const void *at, size_t size)
 {
     tmwatch_access access = plain_at(thread, at);
-    tmwatch_orders_plain(&access, size, true);
+    tmwatch_orders_plain_store(&access, size, false);
 }
 
 /* An operation on a word. */
@@ -36,7 +36,8 @@ static uint64_t makes(unsigned thread, enum kind kind, enum word word, uint64_t 
 static void begin(void)
 {
     begin_run(orders);
-    orders->races = orders->unseen[UNMARKED_STORE] = 0;
+    orders->has_race = false;
+    orders->unseen[UNMARKED_STORE] = 0;
 }
 
 /* Hands over from thread 0 to thread 1. */
@@ -52,24 +53,24 @@ static void check_races(void)
     begin();
     stores(0, bytes, 8);
     loads(0, bytes, 8);
-    CHECK(orders->races == 0);
+    CHECK(!orders->has_race);
     loads(1, bytes + 4, 1);
-    CHECK(orders->races == 1 && orders->race.thread == 1 && orders->race.other == 0 && orders->race.other_kind == PLAIN_STORE);
+    CHECK(orders->has_race && orders->race.thread == 1 && orders->race.other == 0 && orders->race.other_kind == PLAIN_STORE);
     begin();
     loads(0, bytes, 8);
     loads(1, bytes, 8);
-    CHECK(orders->races == 0);
+    CHECK(!orders->has_race);
     stores(1, bytes, 1);
-    CHECK(orders->races == 1 && orders->race.kind == PLAIN_STORE && orders->race.other_kind == PLAIN_LOAD);
+    CHECK(orders->has_race && orders->race.kind == PLAIN_STORE && orders->race.other_kind == PLAIN_LOAD);
     begin();
     stores(0, bytes, 1);
     stores(1, bytes + 1, 1);
     stores(2, bytes + 6, 4);
     stores(3, bytes + 10, 6);
     loads(0, bytes, 1);
-    CHECK(orders->races == 0);
+    CHECK(!orders->has_race);
     stores(3, bytes + 9, 1);
-    CHECK(orders->races == 1);
+    CHECK(orders->has_race);
 }
 
 static void check_ordered(void)
@@ -83,21 +84,21 @@ static void check_ordered(void)
         stores(0, bytes, 8);
         hand_over(all[i].release, all[i].acquire);
         loads(1, bytes, 8);
-        CHECK(orders->races == all[i].is_race);
+        CHECK(orders->has_race == all[i].is_race);
     }
     begin();
     hand_over(RELEASE, ACQUIRE);
     stores(0, bytes, 8);
     loads(1, bytes, 8);
-    CHECK(orders->races == 1);
+    CHECK(orders->has_race);
     begin();
     stores(0, bytes, 8);
     tmwatch_orders_forget(orders, bytes, sizeof bytes);
     stores(1, bytes, 8);
-    CHECK(orders->races == 0);
+    CHECK(!orders->has_race);
     begin_run(orders);
     loads(0, bytes, 8);
-    CHECK(orders->races == 0);
+    CHECK(!orders->has_race);
 }
 
 /* A plain access and an atomic one race too; two atomic ones do not. */
@@ -107,13 +108,25 @@ static void check_atomic(void)
     makes(0, WRITE, Y, 1, RELAXED);
     makes(1, WRITE, Y, 2, RELAXED);
     makes(2, READ, Y, 0, RELAXED);
-    CHECK(orders->races == 0);
+    CHECK(!orders->has_race);
     loads(2, (const void *)(uintptr_t)&words[Y], 8);
-    CHECK(orders->races == 1 && orders->race.other_kind == ATOMIC_STORE);
+    CHECK(orders->has_race && orders->race.other_kind == ATOMIC_STORE);
     begin();
     stores(0, (const void *)(uintptr_t)&words[Y], 8);
     makes(1, READ, Y, 0, SEQUENTIAL);
-    CHECK(orders->races == 1 && orders->race.kind == ATOMIC_LOAD && orders->race.other_kind == PLAIN_STORE);
+    CHECK(orders->has_race && orders->race.kind == ATOMIC_LOAD && orders->race.other_kind == PLAIN_STORE);
+    begin();
+    makes(1, READ, Y, 0, RELAXED);
+    loads(0, (const void *)(uintptr_t)&words[Y], 8);
+    CHECK(!orders->has_race);
+    stores(0, (const void *)(uintptr_t)&words[Y], 1);
+    CHECK(orders->has_race && orders->race.kind == PLAIN_STORE && orders->race.other_kind == ATOMIC_LOAD);
+    begin();
+    makes(0, WRITE, Y, 1, RELAXED);
+    loads(1, (const void *)(uintptr_t)&words[Z], 8);
+    hand_over(RELEASE, ACQUIRE);
+    stores(1, (const void *)(uintptr_t)&words[Y], 8);
+    CHECK(!orders->has_race);
 }
 
 /* What is stored by code that isn't marked is what all load; so is what is stored plainly. */

@@ -28,7 +28,7 @@ static int is_loaded(struct dl_phdr_info *info, size_t size, void *to)
 static FILE *start_addr2line(const struct loaded *it, pid_t *child)
 {
     char place[32], file[MOST_LINE];
-    char *words[] = {"addr2line", "-Cifse", file, place, NULL};
+    char *words[] = {"addr2line", "-Cife", file, place, NULL};
     posix_spawn_file_actions_t actions;
     int ends[2];
     snprintf(place, sizeof place, "0x%llx", (unsigned long long)it->place);
@@ -60,10 +60,10 @@ static bool read_line(FILE *file, char line[MOST_LINE])
     return true;
 }
 
-/* Whether a line of the source is one of a header that does no more than make the access. */
+/* Whether a line of the source only passes the access on: of the standard libraries of C++ and Rust, or of tmwatch::sync. */
 static bool is_wrapper(const char *line)
 {
-    return strncmp(line, "atomic_base.h:", 14) == 0 || strncmp(line, "atomic:", 7) == 0 || strncmp(line, "sync.rs:", 8) == 0;
+    return strstr(line, "/include/c++/") || strstr(line, "/src/sync/atomic.rs:");
 }
 
 /* Prints where an address is in the program: the function and the line, or the address if these aren't known. */
@@ -83,8 +83,9 @@ static void print_place(FILE *to, const void *address)
         fclose(printed);
         waitpid(child, NULL, 0);
     }
+    const char *folder = strrchr(line, '/');
     if (line[0] == '?')
         fprintf(to, "0x%llx", (unsigned long long)it.place);
     else
-        fprintf(to, "%s (%s)", line, function);
+        fprintf(to, "%s (%s)", folder ? folder + 1 : line, function);
 }

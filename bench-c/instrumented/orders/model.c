@@ -222,11 +222,16 @@ void tmwatch_orders_forget(tmwatch_simulation *o, const volatile void *at, size_
     forget_cells(o, (uintptr_t)at, bytes);
 }
 
-void tmwatch_orders_plain(const tmwatch_access *a, size_t bytes, bool is_store)
+void tmwatch_orders_plain_load(const tmwatch_access *a, size_t bytes)
 {
-    look_for_race(a, bytes, is_store ? PLAIN_STORE : PLAIN_LOAD);
-    if (is_store)
-        forget_places(a->orders, (uintptr_t)a->at, bytes);
+    look_for_race(a, bytes, PLAIN_LOAD);
+}
+
+void tmwatch_orders_plain_store(const tmwatch_access *a, size_t bytes, bool is_own)
+{
+    if (!is_own)
+        look_for_race(a, bytes, PLAIN_STORE);
+    forget_places(a->orders, (uintptr_t)a->at, bytes);
 }
 
 void tmwatch_orders_wide(const tmwatch_access *a)

@@ -44,21 +44,21 @@ struct deviation {
     uint8_t newer; /* how many stores are newer */
 };
 
-/* The last accesses of a word by each thread: their step, and which bytes. */
-enum access_kind { PLAIN_LOAD, PLAIN_STORE, ATOMIC_LOAD, ATOMIC_STORE, ACCESS_KINDS };
+/* The last plain accesses of a word by each thread: their step, which bytes, and where. */
+enum access_kind { PLAIN_LOAD, PLAIN_STORE, PLAIN_KINDS, ATOMIC_LOAD = PLAIN_KINDS, ATOMIC_STORE };
 struct last {
     uint32_t step;
     uint8_t bytes;
+    const void *caller;
 };
 struct cell {
     uintptr_t word;
     uint32_t round;
-    uint8_t threads[ACCESS_KINDS]; /* which have such an access */
-    struct last last[ACCESS_KINDS][THREADS];
-    const void *caller[ACCESS_KINDS][THREADS];
+    uint8_t threads[PLAIN_KINDS]; /* which have such an access */
+    struct last last[PLAIN_KINDS][THREADS];
 };
 
-/* The first race: who met whom, and where. */
+/* The first race: who met whom, and where; null if that isn't kept. */
 struct race {
     unsigned thread, other;
     enum access_kind kind, other_kind;
@@ -78,10 +78,11 @@ struct tmwatch_simulation {
     struct place places[MOST_PLACES];
     struct place *taken; /* of the read-modify-write that is under way: its place, or null, and which store it has read */
     unsigned taken_store;
-    uint64_t draws, races, deviated, unseen[UNSEEN_KINDS];
+    uint64_t draws, deviated, unseen[UNSEEN_KINDS];
     uint32_t round;
     const atomic_uint_least64_t *recorded;
     const void *unseen_caller[UNSEEN_KINDS];
+    bool has_race;
     struct race race;
     struct cell cells[CELLS];
     struct deviation deviations[KEPT_DEVIATIONS];

@@ -66,11 +66,14 @@ void tmwatch_orders_tell_unseen(const tmwatch_simulation *o, FILE *file, bool is
 {
     static const char *const unseen[] = {"code that the compiler has not marked stores to what is loaded at ",
                                          "a lock or a wait of code that the compiler has not marked, in "};
-    if (o->races > 0) {
+    if (o->has_race) {
         fprintf(file, "a race, which C++20 leaves undefined: thread %u %s at ", o->race.thread, name_of(o->race.kind));
         print_place(file, o->race.caller);
-        fprintf(file, ", thread %u %s at ", o->race.other, name_of(o->race.other_kind));
-        print_place(file, o->race.other_caller);
+        fprintf(file, ", thread %u %s", o->race.other, name_of(o->race.other_kind));
+        if (o->race.other_caller) {
+            fputs(" at ", file);
+            print_place(file, o->race.other_caller);
+        }
         fputc('\n', file);
     }
     for (unsigned i = 0; i < UNSEEN_KINDS && is_violated; i++) {

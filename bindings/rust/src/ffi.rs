@@ -67,11 +67,14 @@ pub struct Plan {
     pub trace: *mut c_void,
     pub mixes: u64,
     pub round: u64,
-    pub buffers: u64,
+    pub orders: u64,
     pub plain: u64,
     pub patience: u64,
     pub progress: *mut c_void,
 }
+
+/// How many bytes tell what the orders of C++20 have shown.
+pub const MOST_SHOWN: usize = 4096;
 
 #[repr(C)]
 pub struct Benched {
@@ -86,6 +89,7 @@ pub struct Benched {
     pub rescues: u64,
     pub again: Plan,
     pub is_certain: bool,
+    pub shown: [c_char; MOST_SHOWN],
 }
 
 extern "C" {
@@ -147,10 +151,10 @@ mod tests {
         layout!(to, Memory, "tmwatch_memory", memory tx_size begin read write add commit abort run);
         layout!(
             to, Plan, "tmwatch_plan", rounds seed threads registers calls attempts writes adds aborts pause seconds schedule start trace
-            mixes round buffers plain patience progress
+            mixes round orders plain patience progress
         );
         layout!(
-            to, Benched, "tmwatch_benched", told counts rounds from foreign stores steps switches rescues again is_certain
+            to, Benched, "tmwatch_benched", told counts rounds from foreign stores steps switches rescues again is_certain shown
         );
         to
     }
@@ -186,7 +190,7 @@ mod tests {
             ("schedule", plan.schedule as u64),
             ("mixes", plan.mixes),
             ("round", plan.round),
-            ("buffers", u64::from(plan.buffers)),
+            ("orders", plan.orders.map_or(crate::DRAWN, |orders| orders as u64)),
             ("plain", u64::from(plan.plain)),
         ] {
             same(&format!("plan.{name}"), number);

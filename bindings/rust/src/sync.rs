@@ -13,6 +13,6 @@ mod mutex;
 
 #[cfg(feature = "steps")]
 pub use mutex::{Mutex, MutexGuard};
+pub use std::sync::{LockResult, PoisonError, TryLockError, TryLockResult};
 #[cfg(not(feature = "steps"))]
 pub use std::sync::{Mutex, MutexGuard};
-pub use std::sync::{LockResult, PoisonError, TryLockError, TryLockResult};

@@ -20,9 +20,10 @@ struct protected {
     uint64_t written[REGISTERS];
 };
 
-/* Copies that a thread may use again: at first its own, and then those that its commits have replaced. */
+/* Copies that a thread may use again: at first its own, and then those that its commits have replaced; and whether somebody may read one. */
 struct thread {
     struct copy own[SPARE], *spare[SPARE];
+    bool is_read[SPARE];
     _Atomic(struct copy *) hazard;
 };
 
@@ -72,32 +73,43 @@ static bool is_read(const struct copy *copy)
     return false;
 }
 
-/* Where a spare copy stands that nobody reads, or null. */
-static struct copy **find_spare(struct thread *mine)
+/* Which spare copy nobody reads, or SPARE. */
+static unsigned find_spare(struct thread *mine)
 {
-    FENCE(5, seq_cst);
-    for (unsigned i = 0; i < SPARE; i++) {
-        if (!mine->spare[i])
-            mine->spare[i] = &mine->own[i];
-        if (!is_read(mine->spare[i]))
-            return &mine->spare[i];
+    unsigned i = 0;
+    while (i < SPARE && mine->is_read[i] && (mine->is_read[i] = is_read(mine->spare[i])))
+        i++;
+    if (i < SPARE && !mine->spare[i])
+        mine->spare[i] = &mine->own[i];
+    return i;
+}
+
+/* Puts the copy in the root's place, and keeps what stood there for later. */
+static bool replace(struct thread *mine, unsigned i, struct copy *old)
+{
+    struct copy *held = old;
+    bool is_done = SWAP(root, &held, mine->spare[i], ORDER(4, release, relaxed));
+    cancel(NULL, NULL);
+    if (is_done) {
+        mine->spare[i] = old;
+        FENCE(5, seq_cst);
+        mine->is_read[i] = is_read(old);
     }
-    return NULL;
+    return is_done;
 }
 
 static bool commit(void *memory, void *tx)
 {
     struct protected *it = tx;
-    struct copy *held = it->root, **spare = it->has_written ? find_spare(&threads[tmwatch_thread()]) : NULL;
-    bool is_done = !it->has_written;
-    for (unsigned reg = 0; spare && reg < REGISTERS; reg++)
-        STORE((*spare)->words[reg], it->writes[reg] ? it->written[reg] : LOAD(held->words[reg], relaxed), relaxed);
-    if (spare && SWAP(root, &held, *spare, ORDER(4, release, relaxed))) {
-        *spare = it->root;
-        is_done = true;
+    struct thread *mine = &threads[tmwatch_thread()];
+    unsigned i = it->has_written ? find_spare(mine) : SPARE;
+    if (i == SPARE) {
+        cancel(memory, tx);
+        return !it->has_written;
     }
-    cancel(memory, tx);
-    return is_done;
+    for (unsigned reg = 0; reg < REGISTERS; reg++)
+        STORE(mine->spare[i]->words[reg], it->writes[reg] ? it->written[reg] : LOAD(it->root->words[reg], relaxed), relaxed);
+    return replace(mine, i, it->root);
 }
 
 BENCH_OF(sizeof(struct protected), begin, read, write, commit, cancel)

@@ -3,8 +3,8 @@ DSTM (Herlihy, Luchangco, Moir and Scherer, PODC 2003) with the weakest orders t
 written it last, the value before and the value after. Whether the writer has committed says which counts. Who meets an active one aborts
 that. Reads are seen by nobody: each looks again at all locators that were read before, and so does the commit.
 
-WRONG: 1 a locator is loaded relaxed; 2 installed relaxed; 3 a status is loaded relaxed; 4 committed relaxed; 5 no fence between the last
-locator that is installed and the last look at those that were read.
+WRONG: 1 a locator is loaded relaxed; 2 installed relaxed; 3 a status is loaded relaxed; 4 committed relaxed (right: fence 5 comes before);
+5 no fence between the last locator that is installed and the last look at those that were read.
 */
 #include "ordered.h"
 #include <stdlib.h>

@@ -3,8 +3,8 @@ TinySTM's write-through (Felber, Fetzer and Riegel, PPoPP 2008) with the weakest
 first written, and written in place; who aborts restores it and unlocks with a new version.
 
 WRONG: 1 no release fence between lock and data; 2 no acquire fence between data and second look; 3 the first look at a lock is relaxed, 4
-the clock is loaded relaxed (each alone is right: a fence follows before the second look), 34 both are; 5 unlocked relaxed; 6 the clock is
-raised relaxed; 7 an acquire load as the second look in place of fence 2.
+the clock is loaded relaxed (each alone is right: a fence follows before the second look), 34 both are; 5 unlocked relaxed (right: the clock
+is raised after the values are stored); 6 the clock is raised relaxed; 7 an acquire load as the second look in place of fence 2.
 */
 #include "ordered.h"
 

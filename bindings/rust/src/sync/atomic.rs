@@ -50,8 +50,8 @@ mod stepped {
 
     /// Declares what libtmwatch_steps.a has for atomic accesses of so many bits.
     macro_rules! calls {
-        ($module:ident, $raw:ty, $load:ident, $store:ident, $swap:ident, $strong:ident, $weak:ident,
-         $add:ident, $sub:ident, $and:ident, $or:ident, $xor:ident, $nand:ident) => {
+        ($module:ident $raw:ty: $load:ident $store:ident $swap:ident $strong:ident $weak:ident
+         $add:ident $sub:ident $and:ident $or:ident $xor:ident $nand:ident) => {
             mod $module {
                 use std::ffi::c_int;
 
@@ -84,26 +84,30 @@ mod stepped {
             }
         };
     }
-    calls!(
-        of_8, u8, __tsan_atomic8_load, __tsan_atomic8_store, __tsan_atomic8_exchange, __tsan_atomic8_compare_exchange_strong,
-        __tsan_atomic8_compare_exchange_weak, __tsan_atomic8_fetch_add, __tsan_atomic8_fetch_sub, __tsan_atomic8_fetch_and,
-        __tsan_atomic8_fetch_or, __tsan_atomic8_fetch_xor, __tsan_atomic8_fetch_nand
-    );
-    calls!(
-        of_16, u16, __tsan_atomic16_load, __tsan_atomic16_store, __tsan_atomic16_exchange, __tsan_atomic16_compare_exchange_strong,
-        __tsan_atomic16_compare_exchange_weak, __tsan_atomic16_fetch_add, __tsan_atomic16_fetch_sub, __tsan_atomic16_fetch_and,
-        __tsan_atomic16_fetch_or, __tsan_atomic16_fetch_xor, __tsan_atomic16_fetch_nand
-    );
-    calls!(
-        of_32, u32, __tsan_atomic32_load, __tsan_atomic32_store, __tsan_atomic32_exchange, __tsan_atomic32_compare_exchange_strong,
-        __tsan_atomic32_compare_exchange_weak, __tsan_atomic32_fetch_add, __tsan_atomic32_fetch_sub, __tsan_atomic32_fetch_and,
-        __tsan_atomic32_fetch_or, __tsan_atomic32_fetch_xor, __tsan_atomic32_fetch_nand
-    );
-    calls!(
-        of_64, u64, __tsan_atomic64_load, __tsan_atomic64_store, __tsan_atomic64_exchange, __tsan_atomic64_compare_exchange_strong,
-        __tsan_atomic64_compare_exchange_weak, __tsan_atomic64_fetch_add, __tsan_atomic64_fetch_sub, __tsan_atomic64_fetch_and,
-        __tsan_atomic64_fetch_or, __tsan_atomic64_fetch_xor, __tsan_atomic64_fetch_nand
-    );
+    calls! {
+        of_8 u8: __tsan_atomic8_load __tsan_atomic8_store __tsan_atomic8_exchange
+        __tsan_atomic8_compare_exchange_strong __tsan_atomic8_compare_exchange_weak
+        __tsan_atomic8_fetch_add __tsan_atomic8_fetch_sub __tsan_atomic8_fetch_and
+        __tsan_atomic8_fetch_or __tsan_atomic8_fetch_xor __tsan_atomic8_fetch_nand
+    }
+    calls! {
+        of_16 u16: __tsan_atomic16_load __tsan_atomic16_store __tsan_atomic16_exchange
+        __tsan_atomic16_compare_exchange_strong __tsan_atomic16_compare_exchange_weak
+        __tsan_atomic16_fetch_add __tsan_atomic16_fetch_sub __tsan_atomic16_fetch_and
+        __tsan_atomic16_fetch_or __tsan_atomic16_fetch_xor __tsan_atomic16_fetch_nand
+    }
+    calls! {
+        of_32 u32: __tsan_atomic32_load __tsan_atomic32_store __tsan_atomic32_exchange
+        __tsan_atomic32_compare_exchange_strong __tsan_atomic32_compare_exchange_weak
+        __tsan_atomic32_fetch_add __tsan_atomic32_fetch_sub __tsan_atomic32_fetch_and
+        __tsan_atomic32_fetch_or __tsan_atomic32_fetch_xor __tsan_atomic32_fetch_nand
+    }
+    calls! {
+        of_64 u64: __tsan_atomic64_load __tsan_atomic64_store __tsan_atomic64_exchange
+        __tsan_atomic64_compare_exchange_strong __tsan_atomic64_compare_exchange_weak
+        __tsan_atomic64_fetch_add __tsan_atomic64_fetch_sub __tsan_atomic64_fetch_and
+        __tsan_atomic64_fetch_or __tsan_atomic64_fetch_xor __tsan_atomic64_fetch_nand
+    }
 
     /// Defines methods that take a value and return the one before.
     macro_rules! changes {

@@ -22,7 +22,7 @@ pub struct Mutex<T: ?Sized>(sync::Mutex<T>);
 pub struct MutexGuard<'m, T: ?Sized> {
     /// Some until it is dropped.
     guard: Option<sync::MutexGuard<'m, T>>,
-    lock: *const c_void,
+    lock: &'m Mutex<T>,
 }
 
 impl<T> Mutex<T> {
@@ -46,23 +46,18 @@ impl<T: ?Sized> Mutex<T> {
     fn taken<'m>(&'m self, guard: sync::MutexGuard<'m, T>) -> MutexGuard<'m, T> {
         // SAFETY: the bench takes the lock's place for a name, and reads nothing there. So do all calls below.
         unsafe { tmwatch_lock_taken(self.place()) };
-        MutexGuard { guard: Some(guard), lock: self.place() }
+        MutexGuard { guard: Some(guard), lock: self }
     }
 
-    /// As `std::sync::Mutex::lock`.
+    /// As `std::sync::Mutex::lock`. By steps, it is tried again whenever others have run.
     pub fn lock(&self) -> LockResult<MutexGuard<'_, T>> {
-        // SAFETY: any thread may call it.
-        let is_stepped = unsafe { tmwatch_lock_tried() };
-        while is_stepped {
+        // SAFETY: any thread may call them.
+        let mut tries = unsafe { tmwatch_lock_tried() };
+        while tries {
             match self.0.try_lock() {
                 Ok(guard) => return Ok(self.taken(guard)),
                 Err(TryLockError::Poisoned(it)) => return Err(PoisonError::new(self.taken(it.into_inner()))),
-                Err(TryLockError::WouldBlock) => {
-                    // SAFETY: as above.
-                    if !unsafe { tmwatch_lock_awaited(self.place()) } {
-                        break;
-                    }
-                }
+                Err(TryLockError::WouldBlock) => tries = unsafe { tmwatch_lock_awaited(self.place()) },
             }
         }
         match self.0.lock() {
@@ -102,10 +97,10 @@ impl<T: ?Sized + fmt::Debug> fmt::Debug for Mutex<T> {
 impl<T: ?Sized> Drop for MutexGuard<'_, T> {
     fn drop(&mut self) {
         // SAFETY: as above.
-        unsafe { tmwatch_lock_returning(self.lock) };
+        unsafe { tmwatch_lock_returning(self.lock.place()) };
         self.guard = None;
         // SAFETY: as above.
-        unsafe { tmwatch_lock_returned(self.lock) };
+        unsafe { tmwatch_lock_returned(self.lock.place()) };
     }
 }
 
