@@ -12,6 +12,7 @@ static void stop(struct bench *b, uint32_t status)
 }
 
 static void step(tmwatch_attempt *a, unsigned pauses);
+static void break_at_event(const struct bench *b);
 
 /* One time in two a few turns, and one time in 64 another thread's turn; by steps, a step. Nobody is met in a look. */
 static void pause_sometimes(tmwatch_attempt *a, unsigned pauses)
@@ -30,10 +31,17 @@ static void pause_sometimes(tmwatch_attempt *a, unsigned pauses)
         sched_yield();
 }
 
+void tmwatch_step_at(const void *caller)
+{
+    if (!this_thread)
+        return;
+    this_thread->caller = caller;
+    pause_sometimes(this_thread, 1);
+}
+
 void tmwatch_pause(void)
 {
-    if (this_thread)
-        pause_sometimes(this_thread, 1);
+    tmwatch_step_at(__builtin_return_address(0));
 }
 
 unsigned tmwatch_thread(void)
@@ -44,17 +52,21 @@ unsigned tmwatch_thread(void)
 /* Keeps an event that was recorded at this place, after what is counted of it. */
 static void keep(tmwatch_attempt *a, uint64_t place, uint32_t letter, uint64_t reg, uint64_t value)
 {
-    a->bench->kept[place % KEPT] = (struct kept){value, (uint8_t)a->thread, (uint8_t)reg, (char)letter, a->looks && letter == 'C'};
+    bool looks = a->looks && letter == 'C' && a->calls[0].letter == 'R';
+    a->bench->kept[place % KEPT] = (struct kept){value, (uint8_t)a->thread, (uint8_t)reg, (char)letter, looks};
     if (by_steps(a->bench))
         a->bench->steps.recorded = place + 1;
+    a->recorded = place + 1;
     a->keeps++;
 }
 
 /* Before an event, what the thread has stored comes out: so the record is that of the memory. */
-static void drain(void)
+static void before_event(const struct bench *b)
 {
     if (tmwatch_step_drain)
         tmwatch_step_drain();
+    if (by_steps(b))
+        break_at_event(b);
 }
 
 /* Says where the thread is. */
@@ -67,7 +79,7 @@ static void set_place(tmwatch_attempt *a, enum place place, unsigned reg)
 static void note_call(tmwatch_attempt *a)
 {
     uint64_t place;
-    drain();
+    before_event(a->bench);
     uint32_t status = tmwatch_next(a->recorder, a->calls, a->count, &a->turn, &place);
     if (status == TMWATCH_DONE) {
         const tmwatch_call *call = &a->calls[a->turn.place];
@@ -87,7 +99,7 @@ static void note_call(tmwatch_attempt *a)
 static void note_answer(tmwatch_attempt *a, char letter, uint64_t value)
 {
     uint64_t place;
-    drain();
+    before_event(a->bench);
     uint32_t status = tmwatch_answered(a->recorder, a->calls, a->count, &a->turn, (uint32_t)letter, value, &place);
     if (status == TMWATCH_DONE)
         keep(a, place, (uint32_t)letter, 0, value);
@@ -106,31 +118,49 @@ static void count_foreign(tmwatch_attempt *a)
 /* Records that the attempt has ended. None follows one that has committed, or was asked to abort. */
 static void end_attempt(tmwatch_attempt *a, bool has_committed)
 {
+    struct bench *b = a->bench;
     count_foreign(a);
-    a->bench->asked += has_committed;
+    b->asked += has_committed;
     note_answer(a, has_committed ? 'C' : 'A', 0);
-    a->bench->committed += has_committed;
-    if (a->bench->orders)
-        tmwatch_orders_ends(a->bench->orders, a->thread);
-    if (has_committed || a->has_asked)
+    b->committed += has_committed;
+    if (b->orders)
+        tmwatch_orders_ends(b->orders, a->thread);
+    a->is_done = has_committed || a->has_asked;
+    if (a->is_done)
         a->made = a->most;
+    if (a->writes && (has_committed || !a->has_asked))
+        atomic_fetch_or(has_committed ? &b->stored : &b->refused, a->writes);
     a->is_live = false;
-    if (by_permits(a->bench))
-        tmwatch_permits_give(&a->bench->permits);
+    if (by_permits(b) && !a->looks)
+        tmwatch_permits_give(&b->permits);
 }
 
+static bool may_look(tmwatch_attempt *a);
+static bool is_look_due(const struct bench *b);
 static bool take_permit(tmwatch_attempt *a);
+
+/* Whether a further attempt may begin. By permits it is put off if a look is due, which then comes between two attempts. */
+static bool may_begin(tmwatch_attempt *a)
+{
+    if (a->made == a->most)
+        return false;
+    if (a->looks || !by_permits(a->bench))
+        return !a->looks || may_look(a);
+    a->is_put_off = a->made > 0 && is_look_due(a->bench);
+    return !a->is_put_off && take_permit(a);
+}
 
 bool tmwatch_begins(tmwatch_attempt *a)
 {
     if (a->is_live)
         end_attempt(a, false);
-    if (a->made == a->most || (by_permits(a->bench) && !take_permit(a)))
+    if (!may_begin(a))
         return false;
     a->made++;
     a->tried++;
     a->is_live = true;
-    a->has_called = false;
+    a->has_called = a->is_done = false;
+    a->writes = 0;
     a->turn = (tmwatch_turn)TMWATCH_FIRST_TURN;
     draw_values(a);
     note_call(a);
@@ -145,6 +175,7 @@ static bool make_call(tmwatch_attempt *a, const tmwatch_call *call)
     uint64_t value = 0;
     bool is_done;
     set_place(a, call->letter == 'W' ? IN_WRITE : call->letter == 'N' ? IN_ADD : IN_READ, reg);
+    a->writes |= call->letter == 'R' ? 0 : 1u << reg;
     if (call->letter == 'W')
         is_done = m->write(m->memory, a->tx, reg, call->value);
     else if (call->letter == 'N')
@@ -205,14 +236,16 @@ static bool run_some(const tmwatch_memory *m, tmwatch_attempt *a)
     return has_committed;
 }
 
+static void look_within(tmwatch_attempt *a);
+
 /* Makes the thread's transaction, until it has ended or no attempt is left. A `run` that begins none makes none. */
 static void make_transaction(tmwatch_attempt *a)
 {
     const tmwatch_memory *m = a->bench->memory;
-    bool has_begun = true;
+    bool goes_on = true;
     a->made = 0;
-    a->has_asked = false;
-    while (has_begun && a->made < a->most) {
+    a->has_asked = a->is_put_off = false;
+    while (goes_on && a->made < a->most) {
         uint64_t before = a->tried;
         bool has_committed = run_some(m, a);
         pause_sometimes(a, 0);
@@ -220,7 +253,9 @@ static void make_transaction(tmwatch_attempt *a)
             end_attempt(a, has_committed);
         else if (m->run && has_committed)
             stop(a->bench, TMWATCH_MISFIT);
-        has_begun = a->tried > before;
+        goes_on = a->tried > before || a->is_put_off;
+        if (a->is_put_off)
+            look_within(a);
     }
 }
 
@@ -235,19 +270,6 @@ static void make_share(tmwatch_attempt *a)
         has_tried = a->tried > before;
         a->left = is_mixed ? a->left - (a->tried - before) : 0;
     }
-}
-
-/* Reads all registers while all other threads wait. What they hold is then known, whatever serial order the rounds before have. */
-static void look(tmwatch_attempt *a)
-{
-    a->looks = true;
-    a->most = a->bench->attempts < MOST_ATTEMPTS ? a->bench->attempts : MOST_ATTEMPTS;
-    a->count = 0;
-    for (uint64_t reg = 0; reg < a->bench->plan->registers; reg++)
-        add_call(a, 'R', reg);
-    add_call(a, 'T', 0);
-    make_transaction(a);
-    a->looks = false;
 }
 
 /* Waits for the room that was planned for, so that no record waits inside a transaction. */

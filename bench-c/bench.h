@@ -2,6 +2,7 @@
 #include "instrumented/step.h"
 #include "tmwatch_permits.h"
 #include <errno.h>
+#include <link.h>
 #include <pthread.h>
 #include <sched.h>
 #include <semaphore.h>
@@ -17,15 +18,18 @@
    is recorded and not judged yet. By steps, as many rounds' beginnings are kept as there may be from a violation to the last round. By all,
    the first legs go by steps, and a leg has so many rounds at most. */
 enum {
+    SECOND = 1000000, /* in microseconds */
     MOST_THREADS = 8,
     MOST_ATTEMPTS = 8,
     MOST_USES = 16,
     MOST_CALLS = 2 * MOST_USES + 1,
     MOST_REGISTERS = 8,
     KEPT = 1 << 17,
+    MOST_LOOKED = KEPT / 2, /* events of one look */
     LOOK = 64,
     STARTS = 1 << 13,
-    STEPS_LEGS = 5,
+    LISTED = 1 << 14,
+    STEPS_LEGS = 20,
     LEG_ROUNDS = 1000
 };
 
@@ -52,21 +56,33 @@ struct tmwatch_attempt {
     tmwatch_turn turn;
     atomic_uint inside;                  /* in which function of the memory it is, and with which register (a `place`, and 256 times it) */
     bool is_live, has_called, has_asked; /* an attempt is recorded and not ended; its calls are made; it has asked to abort */
+    bool is_done, is_put_off; /* it has committed or aborted as asked; by permits, a look comes before its next attempt */
+    unsigned writes;          /* which registers the attempt has asked to write */
     uint64_t made, most;  /* how many attempts were begun, or all, since none is to follow; and how many there may be */
     uint64_t tried;       /* how many attempts were begun, of all transactions */
     uint64_t uses, left;  /* in this round: how many registers a transaction uses, and how many attempts are left */
     atomic_uint_least64_t begun; /* by permits: how many transactions were begun */
     uint64_t written;     /* how many values were drawn to be written */
     atomic_uint_least64_t keeps; /* how many events it has kept: whoever reads this may read them */
+    uint64_t recorded;           /* how many events there were with its last one, by all threads */
+    uint64_t look_from, look_began; /* how many it had kept when its look began, and when that was */
     uint64_t stores;      /* how many writes and adds were recorded */
     uint64_t before;      /* how many commits were asked for when the attempt began */
     uint64_t foreign;     /* the most commits of others within an attempt */
     tmwatch_step_how how; /* its accesses are made */
+    const void *caller;   /* where its last step returns to */
     uint64_t draws, addends, pauses; /* what is drawn for transactions, for what they add, and for pauses: each by the seed alone */
 };
 
 /* By steps, one thread runs at a time: the runner. At a step it may hand over to another, as drawn from the seed. */
 enum { NOBODY = -1, MOST_CHANGES = 4 };
+
+/* A step of the memory: how many events there were, where it returns to, and whose it is. */
+struct listed {
+    uint64_t recorded;
+    const void *at;
+    unsigned thread;
+};
 
 struct steps {
     atomic_bool is_locked;    /* over the sets and the runner, which a rescue changes too */
@@ -89,6 +105,9 @@ struct steps {
     clockid_t clock[MOST_THREADS];
     atomic_uint_least64_t recorded; /* how many events */
     uint64_t starts[STARTS]; /* how many events precede a round */
+    uint64_t begun;          /* the round that has begun last */
+    struct listed listed[LISTED];
+    uint64_t inner;          /* how many steps were the memory's own */
 };
 
 /* What the watchdog of the steps has seen last. */
@@ -100,20 +119,26 @@ struct watchdog {
 /* Where a thread is: in none of the memory's functions, or in one. */
 enum place { OUTSIDE, IN_BEGIN, IN_READ, IN_WRITE, IN_ADD, IN_COMMIT, IN_ABORT, IN_RUN };
 
+/* A thread of a session, which runs in one leg after another. */
+struct worker {
+    pthread_t thread;
+    sem_t goes;
+    tmwatch_attempt *attempt; /* of the next leg, or null, where none follows */
+    void *tx;
+};
+
 /* What goes on from one leg to the next. */
 struct session {
     const tmwatch_memory *memory;
     const tmwatch_plan *plan; /* as it was given */
-    void *tx[MOST_THREADS];
-    uint64_t written[MOST_THREADS];
+    struct worker *workers[MOST_THREADS];
+    uint64_t written[MOST_THREADS], looked;
     uint64_t start[MOST_REGISTERS]; /* what the registers hold */
     uint64_t began, shown;          /* when the session began, and when its progress was last shown: microseconds */
-    bool is_late;                   /* the time is up, or an interrupt has come */
+    bool is_late, is_stuck;         /* the time is up, or an interrupt has come; threads have not returned */
+    bool has_steps;                 /* the memory has steps of its own */
     tmwatch_benched all;            /* of all legs before this one */
 };
-
-/* What the threads may do. */
-enum gate { WAIT, RUN, END };
 
 struct bench {
     struct session *session; /* of the judge alone: threads that are stuck outlive it */
@@ -122,11 +147,11 @@ struct bench {
     const tmwatch_memory *memory; /* these two */
     const tmwatch_plan *plan;
     uint64_t attempts, room;
+    uint64_t most_time; /* how many microseconds the leg may take; 0: any time */
     tmwatch watch;
     tmwatch_recorder recorders[MOST_THREADS];
-    tmwatch_attempt workers[MOST_THREADS];
+    tmwatch_attempt parts[MOST_THREADS];
     struct kept kept[KEPT];
-    atomic_int gate;
     atomic_uint come, here, ended; /* how many threads have come, how many wait for the others, and how many have ended */
     atomic_uint_least64_t round;
     tmwatch_permits permits;
@@ -136,9 +161,16 @@ struct bench {
     struct watchdog watchdog;
     atomic_uint_least32_t fault; /* the first status of the watch that wasn't to be */
     atomic_bool stops, is_late;  /* no round is to follow, since something is wrong, or since the time is up */
+    atomic_bool has_no_time;     /* no leg is to follow, since the time of all is up */
     atomic_bool is_over;         /* no round follows */
     bool is_stuck;               /* no event has come for too long */
+    uint64_t idle;               /* for how many microseconds */
     atomic_uint_least64_t asked, committed; /* how many commits are recorded, or about to be; and how many are recorded */
+    atomic_uint refused, stored; /* since the last look, which registers were written by attempts that were rolled back, or committed */
+    uint64_t looked;             /* how many values looks have written */
+    uint64_t rejected;           /* how many times a look was rolled back that was given up, or 0 */
+    uint64_t rejected_at;        /* how many events there were after its first attempts */
+    unsigned rejected_reg;       /* which register it was to write, or MOST_REGISTERS, if it was to read all */
 };
 
 #define TO(field) offsetof(tmwatch_plan, field)

@@ -38,13 +38,19 @@ static uint64_t fresh_value(tmwatch_attempt *a)
     return value;
 }
 
+/* A value that a look writes: of the other half of those numbers. */
+static uint64_t look_value(struct bench *b)
+{
+    return ((UINT64_C(1) << 63) + ++b->looked) * apart_values;
+}
+
 /* Draws what an attempt writes and adds: other values than the one before. An addend is any number below 2^64 - 1, so that no sum is likely
    to come twice. */
 static void draw_values(tmwatch_attempt *a)
 {
     for (tmwatch_call *call = a->calls; call < a->calls + a->count; call++)
         if (call->letter == 'W')
-            call->value = fresh_value(a);
+            call->value = a->looks ? look_value(a->bench) : fresh_value(a);
         else if (call->letter == 'N')
             call->value = draw(&a->addends, UINT64_MAX);
 }
@@ -54,7 +60,7 @@ static void add_call(tmwatch_attempt *a, char letter, uint64_t reg)
     a->calls[a->count++] = (tmwatch_call){(uint32_t)letter, reg, 0};
 }
 
-/* A transaction uses registers, one after another: it adds to one, or reads it, and then may write it. */
+/* A transaction uses registers, one after another: it adds to one, or reads it, and then may write it. A blind one writes each. */
 static void draw_transaction(tmwatch_attempt *a)
 {
     const tmwatch_plan *plan = a->bench->plan;
@@ -62,12 +68,14 @@ static void draw_transaction(tmwatch_attempt *a)
     a->most = plan->attempts > 0 && plan->attempts < a->left ? plan->attempts : a->left;
     a->count = 0;
     bool asks_abort = draw(&a->draws, 100) < plan->aborts;
+    bool is_blind = draw(&a->draws, 100) < plan->blinds && plan->writes > 0;
     for (uint64_t used = 0; used < a->uses; used++) {
         uint64_t reg = draw(&a->draws, plan->registers);
         bool adds = draw(&a->draws, 100) < plan->adds && a->bench->memory->add;
         bool writes = draw(&a->draws, 100) < plan->writes && !adds;
-        add_call(a, adds ? 'N' : 'R', reg);
-        if (writes)
+        if (!is_blind)
+            add_call(a, adds ? 'N' : 'R', reg);
+        if (writes || is_blind)
             add_call(a, 'W', reg);
     }
     add_call(a, asks_abort ? 'X' : 'T', 0);

@@ -38,15 +38,18 @@ struct waiting {
 };
 
 /* A look at the time counts for no more than this, so that what stops the whole process, as a debugger, isn't taken for a wait. */
-enum { MOST_WAITED = 100000, SHOWN_EACH = 500000, SECOND = 1000000 };
+enum { MOST_WAITED = SECOND / 10, SHOWN_EACH = SECOND / 2, INTERRUPTED_WAIT = SECOND / 2 };
 
-/* Looks at the time: whether nothing has come for too long. */
+/* Looks at the time: whether nothing has come for too long. An interrupt waits for no more than half a second. */
 static bool is_idle(struct bench *b, struct waiting *w, uint64_t judged)
 {
     uint64_t now = microseconds_of(CLOCK_MONOTONIC), passed = now - w->looked, moved = b->round + b->attempted + b->ended;
     w->idle = judged > 0 || moved != w->moved ? 0 : w->idle + (passed < MOST_WAITED ? passed : MOST_WAITED);
     w->looked = now;
     w->moved = moved;
+    b->idle = w->idle;
+    if (is_interrupted && w->idle >= INTERRUPTED_WAIT)
+        return true;
     return b->plan->patience > 0 && w->idle / SECOND >= b->plan->patience;
 }
 
@@ -67,26 +70,22 @@ static void show_progress(struct bench *b, uint64_t now)
     fflush(b->plan->progress);
 }
 
-/* How long a leg may take that isn't the only one and can't be repeated: on a busy machine some hundred rounds. */
-enum { LEG_MICROSECONDS = 500000 };
-
 /* Looks whether the leg's time is up, or that of all. */
 static void look_for_end(struct bench *b, uint64_t leg_began, uint64_t now)
 {
     struct session *session = b->session;
     if (is_interrupted || (b->plan->seconds > 0 && (now - session->began) / SECOND >= b->plan->seconds))
-        session->is_late = true;
-    bool is_long = session->plan->schedule == TMWATCH_ALL && !by_steps(b) && now - leg_began >= LEG_MICROSECONDS;
-    if (session->is_late || is_long)
+        b->has_no_time = session->is_late = true;
+    if (session->is_late || (b->most_time > 0 && now - leg_began >= b->most_time))
         b->is_late = true;
 }
 
 /* Judges until all threads have ended, and then what is left; or until nothing has come for too long. */
-static void judge(struct bench *b, unsigned threads)
+static void judge(struct bench *b)
 {
     uint64_t began = microseconds_of(CLOCK_MONOTONIC);
     struct waiting w = {began, 0, 0};
-    while (b->ended < threads && !b->is_stuck) {
+    while (b->ended < b->plan->threads && !b->is_stuck) {
         uint64_t judged = judge_some(b);
         if (judged == 0)
             rest(b);
@@ -96,21 +95,22 @@ static void judge(struct bench *b, unsigned threads)
         show_progress(b, w.looked);
         look_for_end(b, began, w.looked);
     }
+    /* What is stuck may come back: then it ends. */
+    if (b->is_stuck)
+        b->stops = true;
     while (judge_some(b) > 0)
         ;
 }
 
-/* Tells where each thread of a bench is that is stuck. */
+/* Tells where each thread is that is stuck. */
 static void tell_places(struct bench *b)
 {
     static const char *const places[] = {"none", "begin", "read", "write", "add", "commit", "abort", "run"};
-    if (b->plan->progress)
-        fputs("\r\033[K", b->plan->progress);
-    fprintf(stderr, "no event for %llu seconds\n", (unsigned long long)b->plan->patience);
+    fprintf(stderr, "no event for %llu seconds\n", (unsigned long long)(b->idle / SECOND));
     for (unsigned i = 0; i < b->plan->threads; i++) {
-        unsigned inside = b->workers[i].inside, place = inside % 256;
+        unsigned inside = b->parts[i].inside, place = inside % 256;
         /* What the trace is written from is kept. */
-        (void)b->workers[i].keeps;
+        (void)b->parts[i].keeps;
         if (place == OUTSIDE)
             fprintf(stderr, "thread %u waits for the others\n", i);
         else if (place == IN_READ || place == IN_WRITE || place == IN_ADD)
@@ -118,4 +118,20 @@ static void tell_places(struct bench *b)
         else
             fprintf(stderr, "thread %u: `%s` has not returned\n", i, places[place]);
     }
+}
+
+/* Tells how the memory has lost progress. */
+static void tell_lost(struct bench *b)
+{
+    if (b->plan->progress)
+        fputs("\r\033[K", b->plan->progress);
+    if (b->is_stuck) {
+        tell_places(b);
+        return;
+    }
+    fprintf(stderr, "a transaction that ran alone was rolled back %llu times: ", (unsigned long long)b->rejected);
+    if (b->rejected_reg < MOST_REGISTERS)
+        fprintf(stderr, "it writes register %u. Is a lock left held, or a reader's mark?\n", b->rejected_reg);
+    else
+        fputs("it reads all registers. Is a lock left held, or has a clock wrapped?\n", stderr);
 }

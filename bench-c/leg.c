@@ -5,10 +5,12 @@
 static uint64_t count_rounds(const struct bench *b, const tmwatch_told *told)
 {
     uint64_t rounds = UINT64_MAX;
+    if (by_steps(b) && (told->at > 0 || b->is_stuck))
+        return told->at > 0 ? round_of(b, told->at) : b->round;
     if (!by_permits(b))
-        return by_steps(b) && told->at > 0 ? round_of(b, told->at) : b->round - 1;
+        return b->round > 0 ? b->round - 1 : 0;
     for (unsigned i = 0; i < b->plan->threads; i++) {
-        uint64_t begun = b->workers[i].begun;
+        uint64_t begun = b->parts[i].begun;
         rounds = begun < rounds ? begun : rounds;
     }
     return rounds;
@@ -35,9 +37,10 @@ static uint32_t close_watch(struct bench *b, tmwatch_benched *out)
 static void count_threads(struct bench *b, tmwatch_benched *out)
 {
     for (unsigned i = 0; i < b->plan->threads; i++) {
-        const tmwatch_attempt *a = &b->workers[i];
+        const tmwatch_attempt *a = &b->parts[i];
         out->stores += a->stores;
         out->foreign = a->foreign > out->foreign ? a->foreign : out->foreign;
+        out->is_undelayed = out->is_undelayed || a->how.is_undelayed;
         b->session->written[i] = a->written;
     }
 }
@@ -60,17 +63,23 @@ static void tell_orders(const struct bench *b, tmwatch_benched *out)
 /* Runs a leg under a watch that is open, and closes it. */
 static uint32_t run_watched(struct bench *b, tmwatch_benched *out)
 {
-    run_threads(b);
-    if (b->is_stuck)
-        tell_places(b);
+    run_parts(b);
+    judge(b);
     uint32_t status = close_watch(b, out);
     out->rounds = count_rounds(b, &out->told);
     out->steps = b->steps.steps;
     out->switches = b->steps.switches;
     out->rescues = b->steps.rescues;
+    out->rejected = out->told.verdict == TMWATCH_OPAQUE_SO_FAR ? b->rejected : 0;
+    out->event = by_steps(b) && out->told.at > 0 ? out->told.at - b->steps.starts[out->rounds % STARTS] : 0;
+    b->session->is_stuck = b->is_stuck;
+    b->session->has_steps = b->session->has_steps || b->steps.inner > 0;
+    b->session->looked = b->looked;
     count_threads(b, out);
     if (b->orders && !b->is_stuck)
         tell_orders(b, out);
+    if (status == TMWATCH_DONE && (b->is_stuck || out->rejected > 0))
+        tell_lost(b);
     return status;
 }
 
@@ -99,8 +108,11 @@ static uint32_t run_leg(struct bench *b, struct session *session, const tmwatch_
     b->own_plan = *plan;
     b->memory = &b->own_memory;
     b->plan = &b->own_plan;
+    b->looked = session->looked;
     set_bounds(b);
     if (plan->orders == TMWATCH_CXX && by_steps(b) && !(b->orders = tmwatch_orders_new(plan->seed, &b->steps.recorded)))
+        return TMWATCH_MEMORY;
+    if (!start_threads(b) || !set_steps(b))
         return TMWATCH_MEMORY;
     tmwatch_settings settings = TMWATCH_SETTINGS(plan->registers);
     memcpy(settings.start, plan->start, sizeof settings.start);

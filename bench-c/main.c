@@ -40,17 +40,21 @@ static int tell_usage(const char *wrong, const tmwatch_memory *memory, const tmw
 }
 
 /* Tells why the bench has come to no verdict. */
-static int tell_status(uint32_t status)
+static void tell_status(uint32_t status, const tmwatch_benched *benched)
 {
-    bool is_misused = status == TMWATCH_MISFIT || status == TMWATCH_OUT_OF_TURN;
-    puts(is_misused ? "{\"fault\":\"usage\"}" : status == TMWATCH_STUCK ? "{\"fault\":\"stuck\"}" : "{\"fault\":\"memory\"}");
-    if (status == TMWATCH_MISFIT)
+    bool is_misused = status == TMWATCH_MISFIT || status == TMWATCH_OUT_OF_TURN, is_lost = has_run(status);
+    puts(is_misused ? "{\"fault\":\"usage\"}" : is_lost ? "{\"fault\":\"stuck\"}" : "{\"fault\":\"memory\"}");
+    if (is_lost)
+        print_again(stdout, benched);
+    fflush(stdout);
+    if (is_lost)
+        tell_again(benched);
+    else if (status == TMWATCH_MISFIT)
         fputs("`run` has answered true, and tmwatch_calls has not\n", stderr);
     else if (status == TMWATCH_OUT_OF_TURN)
         fputs("`run` has called tmwatch_calls twice in one attempt\n", stderr);
-    else if (status != TMWATCH_MEMORY && status != TMWATCH_STUCK)
+    else if (status != TMWATCH_MEMORY)
         fprintf(stderr, "the watch has answered %u\n", (unsigned)status);
-    return 4;
 }
 
 /* Closes a file: whether all was written. */
@@ -63,20 +67,85 @@ static bool close_file(FILE *file)
 static int tell_unwritten(const char *name)
 {
     puts("{\"fault\":\"io\"}");
-    fprintf(stderr, "the trace can't be written: %s\n", name);
+    fflush(stdout);
+    fprintf(stderr, "a file can't be written: %s\n", name);
     return 4;
+}
+
+/* Opens a file beside a trace, with this after its name: none if that can't be. */
+static FILE *open_beside(const char *name, const char *after)
+{
+    char beside[4096];
+    int length = snprintf(beside, sizeof beside, "%s%s", name, after);
+    return length > 0 && (size_t)length < sizeof beside ? fopen(beside, "w") : NULL;
 }
 
 /* Writes beside a trace what is printed of its run, and the words: whether all was written. */
 static bool write_run(const char *name, const tmwatch_benched *benched)
 {
-    char beside[4096];
-    int length = snprintf(beside, sizeof beside, "%s.run", name);
-    FILE *file = length > 0 && (size_t)length < sizeof beside ? fopen(beside, "w") : NULL;
+    FILE *file = open_beside(name, ".run");
     if (!file)
         return false;
     print_lines(file, benched);
     print_again(file, benched);
+    return close_file(file);
+}
+
+/* What is written while the bench runs, besides the trace: the steps of a round. */
+struct written {
+    FILE *steps;
+    char *text;
+    size_t size;
+};
+
+/* Closes the files of a trace, and writes those beside it: whether all was written. */
+static bool write_beside(const char *name, FILE *trace, struct written *written, const tmwatch_benched *benched, bool has_run)
+{
+    bool is_written = !trace || close_file(trace);
+    if (written->steps)
+        is_written = fclose(written->steps) == 0 && is_written;
+    if (name && has_run)
+        is_written = write_run(name, benched) && is_written;
+    if (name && written->size > 0) {
+        FILE *file = open_beside(name, ".steps");
+        is_written = file && fwrite(written->text, 1, written->size, file) == written->size && close_file(file) && is_written;
+    }
+    free(written->text);
+    return is_written;
+}
+
+/* Writes a text of XML. */
+static void write_escaped(FILE *file, const char *text)
+{
+    for (; *text; text++)
+        if (strchr("<>&\"'", *text))
+            fprintf(file, "&#%d;", *text);
+        else
+            fputc(*text, file);
+}
+
+/* Writes what came out as JUnit does: one test, which a wrong memory fails, and which is an error without a verdict. */
+static bool write_junit(const char *name, const char *program, uint32_t status, const tmwatch_benched *benched)
+{
+    FILE *file = fopen(name, "w");
+    bool is_wrong = has_run(status) && benched->told.verdict != TMWATCH_OPAQUE_SO_FAR, is_error = !is_wrong && status != TMWATCH_DONE;
+    if (!file)
+        return false;
+    fprintf(file, "<?xml version=\"1.0\" encoding=\"UTF-8\"?>\n<testsuite name=\"tmwatch_bench\" tests=\"1\" failures=\"%d\" errors=\"%d\">\n",
+            is_wrong, is_error);
+    fputs("<testcase classname=\"tmwatch_bench\" name=\"", file);
+    write_escaped(file, program);
+    fputs("\">\n", file);
+    if (is_wrong || is_error) {
+        fprintf(file, "<%s message=\"%s\">\n", is_wrong ? "failure" : "error",
+                is_wrong ? verdicts[benched->told.verdict] : has_run(status) ? "stuck" : "no verdict");
+        if (has_run(status)) {
+            print_lines(file, benched);
+            print_again(file, benched);
+        }
+        fprintf(file, "</%s>\n", is_wrong ? "failure" : "error");
+    }
+    fputs("</testcase>\n</testsuite>\n", file);
     return close_file(file);
 }
 
@@ -86,22 +155,25 @@ static void end_by_signal(int signal)
     tmwatch_bench_end();
 }
 
-/* An interrupt ends the rounds, and a second one the program. */
-static void catch_signals(void)
+/* An interrupt ends the rounds, and a second one the program. What was ignored stays so. */
+static void catch_signal(int signal, struct sigaction *before)
 {
     struct sigaction action;
     memset(&action, 0, sizeof action);
     action.sa_handler = end_by_signal;
     action.sa_flags = (int)SA_RESETHAND | SA_RESTART;
-    sigaction(SIGINT, &action, NULL);
-    sigaction(SIGTERM, &action, NULL);
+    sigaction(signal, NULL, before);
+    if (before->sa_handler != SIG_IGN)
+        sigaction(signal, &action, NULL);
 }
 
 /* Prints what came out, and answers with the exit status. */
 static int tell_result(uint32_t status, const tmwatch_benched *benched)
 {
-    if (status != TMWATCH_DONE && (status != TMWATCH_STUCK || benched->told.verdict == TMWATCH_OPAQUE_SO_FAR))
-        return tell_status(status);
+    if (status != TMWATCH_DONE && !(has_run(status) && benched->told.verdict != TMWATCH_OPAQUE_SO_FAR)) {
+        tell_status(status, benched);
+        return 4;
+    }
     tmwatch_bench_print(stdout, benched);
     if (fflush(stdout) == 0 && !ferror(stdout))
         return (int)benched->told.verdict;
@@ -109,25 +181,45 @@ static int tell_result(uint32_t status, const tmwatch_benched *benched)
     return 4;
 }
 
+/* Runs the bench as the words say, and answers with the exit status. */
+static int run_given(const tmwatch_memory *memory, struct given *given, const char *program)
+{
+    struct sigaction interrupt, end;
+    struct written written = {NULL, NULL, 0};
+    tmwatch_benched benched;
+    if (given->trace && !(given->plan.trace = fopen(given->trace, "w")))
+        return tell_unwritten(given->trace);
+    if (given->trace)
+        given->plan.listing = written.steps = open_memstream(&written.text, &written.size);
+    catch_signal(SIGINT, &interrupt);
+    catch_signal(SIGTERM, &end);
+    uint32_t status = tmwatch_bench(memory, &given->plan, &benched);
+    sigaction(SIGINT, &interrupt, NULL);
+    sigaction(SIGTERM, &end, NULL);
+    bool is_written = write_beside(given->trace, given->plan.trace, &written, &benched, has_run(status));
+    int result = tell_result(status, &benched);
+    if (!is_written)
+        result = tell_unwritten(given->trace);
+    if (given->junit && !write_junit(given->junit, program, status, &benched))
+        result = tell_unwritten(given->junit);
+    /* What the program would give back at its end, threads that are stuck still use. */
+    if (status == TMWATCH_STUCK) {
+        fflush(stdout);
+        _Exit(result);
+    }
+    return result;
+}
+
 int tmwatch_bench_main(const tmwatch_memory *memory, int count, char **words)
 {
-    tmwatch_plan plan = TMWATCH_PLAN;
-    tmwatch_benched benched;
-    const char *name = NULL;
+    struct given given = {TMWATCH_PLAN, NULL, NULL};
     if (count == 2 && strcmp(words[1], "--help") == 0)
         return tell_help(words[0]);
     if (count == 2 && strcmp(words[1], "--version") == 0)
         return tell_version();
-    plan.progress = isatty(fileno(stderr)) ? stderr : NULL;
-    const char *wrong = read_words(&plan, &name, count > 0 ? words + 1 : words);
-    if (wrong || check(memory, &plan) != TMWATCH_DONE)
-        return tell_usage(wrong, memory, &plan);
-    if (name && !(plan.trace = fopen(name, "w")))
-        return tell_unwritten(name);
-    catch_signals();
-    uint32_t status = tmwatch_bench(memory, &plan, &benched);
-    bool is_written = !plan.trace || close_file(plan.trace);
-    if (name && is_written && (status == TMWATCH_DONE || status == TMWATCH_STUCK))
-        is_written = write_run(name, &benched);
-    return is_written ? tell_result(status, &benched) : tell_unwritten(name);
+    given.plan.progress = isatty(fileno(stderr)) ? stderr : NULL;
+    const char *wrong = read_words(&given, count > 0 ? words + 1 : words);
+    if (wrong || check(memory, &given.plan) != TMWATCH_DONE)
+        return tell_usage(wrong, memory, &given.plan);
+    return run_given(memory, &given, count > 0 ? words[0] : "memory");
 }

@@ -23,7 +23,8 @@ static const struct option options[] = {
     {"--seconds", "N", TO(seconds), "no round begins later"},
     {"--seed", "N", TO(seed), "what all is drawn from (1)"},
     {"--round", "N", TO(round), "by steps: the last one; tmwatch_break is called before it"},
-    {"--threads", "1-8", TO(threads), "(4; by all, drawn for each leg, as the next seven)"},
+    {"--event", "N", TO(event), "with --round: it is called before this event of the round"},
+    {"--threads", "1-8", TO(threads), "(4; by all, drawn for each leg, as the next eight)"},
     {"--registers", "1-8", TO(registers), "(3)"},
     {"--calls", "1-16", TO(calls), "registers that a transaction uses (3)"},
     {"--writes", "0-100", TO(writes), "percent of reads that a write follows (50)"},
@@ -31,10 +32,14 @@ static const struct option options[] = {
     {"--aborts", "0-100", TO(aborts), "percent of transactions that ask to abort (12)"},
     {"--pause", "0-1048576", TO(pause), "longest pause beside a call, in turns of a loop (100)"},
     {"--mixes", "0-100", TO(mixes), "percent of rounds with a long transaction (50)"},
-    {"--orders", "WORD", TO(orders), "sequential, x86, c++ (libtmwatch_steps.a; by all, in turn)"},
+    {"--blinds", "0-100", TO(blinds), "percent of transactions that do nothing but write (10)"},
+    {"--attempts", "N", TO(attempts), "of each transaction, at most (as many as are decided)"},
+    {"--orders", "WORD", TO(orders), "sequential, x86, c++ (libtmwatch_steps.a; by all, drawn)"},
     {"--plain", "", TO(plain), "plain accesses are steps too (libtmwatch_steps.a)"},
-    {"--patience", "N", TO(patience), "seconds without an event until the run is given up (10)"},
-    {"--trace", "FILE", SIZE_MAX, "the run's end as a trace; FILE.run says of which run"},
+    {"--patience", "N", TO(patience), "seconds without an event until the run is given up (5)"},
+    {"--trace", "FILE", SIZE_MAX, "the run's end; FILE.run: of which run; FILE.steps: its steps"},
+    {"--junit", "FILE", SIZE_MAX, "what came out, as CI systems read it"},
+    {"--legs", "", SIZE_MAX, "the plan of each leg on standard error"},
     {"--quiet", "", SIZE_MAX, "no progress on a terminal"},
     {NULL, NULL, SIZE_MAX, NULL}};
 
@@ -70,31 +75,42 @@ static const struct option *find_option(const char *word)
     return option;
 }
 
-/* Reads an option's word into the plan, or the trace's name: the word that is wrong, or none. */
-static const char *read_option(tmwatch_plan *plan, const char **trace, const struct option *option, char **words)
+/* What the words say: a plan, and the names of files, or null. */
+struct given {
+    tmwatch_plan plan;
+    const char *trace, *junit;
+};
+
+/* Reads an option's word: the word that is wrong, or none. */
+static const char *read_option(struct given *given, const struct option *option, char **words)
 {
     if (!option->name || (option->takes[0] && !words[1]))
         return words[0];
-    if (option->to == SIZE_MAX && option->takes[0])
-        *trace = words[1];
+    if (strcmp(option->name, "--trace") == 0)
+        given->trace = words[1];
+    else if (strcmp(option->name, "--junit") == 0)
+        given->junit = words[1];
+    else if (strcmp(option->name, "--legs") == 0)
+        given->plan.legs = stderr;
     else if (option->to == SIZE_MAX)
-        plan->progress = NULL;
+        given->plan.progress = NULL;
     else if (!option->takes[0])
-        *number_of(plan, option->to) = 1;
-    else if (!read_value(option, words[1], number_of(plan, option->to)))
+        *number_of(&given->plan, option->to) = 1;
+    else if (!read_value(option, words[1], number_of(&given->plan, option->to)))
         return words[1];
     return NULL;
 }
 
-/* Reads the words into the plan and the trace's name: the first word that is wrong, or none. With a time and without a number of rounds,
-   the time alone counts; with a round to end with, that alone. */
-static const char *read_words(tmwatch_plan *plan, const char **trace, char **words)
+/* Reads the words: the first one that is wrong, or none. With a time and without a number of rounds, the time alone counts; with a round to
+   end with, that alone. */
+static const char *read_words(struct given *given, char **words)
 {
+    tmwatch_plan *plan = &given->plan;
     const char *wrong = NULL;
     bool has_rounds = false;
     while (words[0] && !wrong) {
         const struct option *option = find_option(words[0]);
-        wrong = read_option(plan, trace, option, words);
+        wrong = read_option(given, option, words);
         has_rounds = has_rounds || option->to == TO(rounds);
         words += wrong || !option->takes[0] ? 1 : 2;
     }

@@ -23,7 +23,8 @@ static const struct drawn {
     size_t to;
     uint64_t usual;
 } drawn[] = {{TO(threads), 4}, {TO(registers), 3}, {TO(calls), 3},   {TO(writes), 50},
-             {TO(adds), 20},   {TO(aborts), 12},   {TO(pause), 100}, {TO(mixes), 50}, {TO(orders), TMWATCH_SEQUENTIAL}};
+             {TO(adds), 20},   {TO(aborts), 12},   {TO(pause), 100}, {TO(mixes), 50},
+             {TO(blinds), 10}, {TO(orders), TMWATCH_SEQUENTIAL}};
 enum { DRAWN = sizeof drawn / sizeof drawn[0] };
 
 /* Fills in what the plan leaves to be drawn, with these numbers. */
@@ -73,7 +74,9 @@ static bool is_out_of_range(const tmwatch_plan *plan)
         return true;
     if (plan->rounds == 0 || plan->round > most_round || !has_orders(plan))
         return true;
-    return plan->writes > 100 || plan->adds > 100 || plan->aborts > 100 || plan->mixes > 100 || plan->pause > most_pause;
+    if (plan->writes > 100 || plan->adds > 100 || plan->aborts > 100 || plan->mixes > 100 || plan->blinds > 100)
+        return true;
+    return plan->pause > most_pause || (plan->event > 0 && plan->round == 0);
 }
 
 /* Looks at what no watch looks at. */

@@ -5,9 +5,16 @@ static void print_number(FILE *file, const char *before, const char *name, uint6
     fprintf(file, "%s\"%s\":%llu", before, name, (unsigned long long)number);
 }
 
+static const char *const verdicts[] = {"opaque so far", "violated", "undecided", "malformed"};
+
+/* Whether the bench tells what came out. */
+static bool has_run(uint32_t status)
+{
+    return status == TMWATCH_DONE || status == TMWATCH_STUCK || status == TMWATCH_NO_PROGRESS;
+}
+
 static void print_report(FILE *file, const tmwatch_told *told)
 {
-    static const char *const verdicts[] = {"opaque so far", "violated", "undecided", "malformed"};
     static const char *const whys[] = {"", ",\"why\":\"transactions\"", ",\"why\":\"states\""};
     if (told->at > 0)
         print_number(file, "{", "at", told->at);
@@ -22,7 +29,8 @@ struct lack {
     const char *text;
 };
 
-enum { LACKS = 5 };
+/* Of so many attempts, one commits at least where the memory makes progress. */
+enum { LACKS = 6, FEW_COMMITS = 20 };
 
 static void find_lacks(const tmwatch_benched *benched, struct lack lacks[LACKS])
 {
@@ -33,6 +41,8 @@ static void find_lacks(const tmwatch_benched *benched, struct lack lacks[LACKS])
         {"stores", benched->stores == 0, "nothing was written: this run shows nothing"},
         {"commits", counts->committed == 0, "no transaction has committed: this run shows little"},
         {"aborts", counts->unasked == 0, "no transaction was aborted unasked: if the memory validates or locks, few have met"},
+        {"progress", benched->rejected > 0 || (counts->committed > 0 && counts->transactions / FEW_COMMITS > counts->committed),
+         "nearly all transactions were rolled back: this run shows little"},
     };
     bool is_wrong = benched->told.verdict != TMWATCH_OPAQUE_SO_FAR;
     for (unsigned i = 0; i < LACKS; i++) {
@@ -95,12 +105,21 @@ static void print_counts(FILE *file, const tmwatch_counts *counts)
     fputs("}\n", file);
 }
 
+/* Whether the words make the same run: there are none for the start. */
+static bool are_certain(const tmwatch_benched *benched)
+{
+    bool is_certain = benched->is_certain;
+    for (unsigned reg = 0; reg < MOST_REGISTERS; reg++)
+        is_certain = is_certain && benched->again.start[reg] == 0;
+    return is_certain;
+}
+
 /* Prints by which words the run is made again, and whether it is the same then. */
 static void print_again(FILE *file, const tmwatch_benched *benched)
 {
     fputs("{\"again\":\"", file);
     tmwatch_bench_words(file, &benched->again);
-    fprintf(file, "\",\"certain\":%s}\n", benched->is_certain ? "true" : "false");
+    fprintf(file, "\",\"certain\":%s}\n", are_certain(benched) ? "true" : "false");
 }
 
 static void print_lines(FILE *file, const tmwatch_benched *benched)
@@ -110,14 +129,33 @@ static void print_lines(FILE *file, const tmwatch_benched *benched)
     print_counts(file, &benched->counts);
 }
 
-/* Says how a violation is met again. */
+/* Says how what is wrong is met again. */
 static void tell_again(const tmwatch_benched *benched)
 {
-    fputs(benched->is_certain ? "again: " : "by the same plan, but maybe not the same run: ", stderr);
+    bool is_certain = are_certain(benched);
+    fputs(is_certain ? "again: " : "by the same plan, but maybe not the same run: ", stderr);
     tmwatch_bench_words(stderr, &benched->again);
-    fputs(benched->is_certain ? "; in gdb, `break tmwatch_break` stops before that round\n" : "\n", stderr);
-    if (benched->rescues > 0)
+    fputs(is_certain ? "; in gdb, `break tmwatch_break` stops before that round" : "", stderr);
+    if (is_certain && benched->event > 0)
+        fprintf(stderr, ", with --event %llu before its wrong event", (unsigned long long)benched->event);
+    fputc('\n', stderr);
+    if (benched->again.schedule != TMWATCH_ALL || benched->leg.rounds == 0)
+        return;
+    fputs("its leg: ", stderr);
+    tmwatch_bench_words(stderr, &benched->leg);
+    fputc('\n', stderr);
+}
+
+/* So many rescues make a run slow, though nothing is wrong. */
+enum { MANY_RESCUES = 10 };
+
+/* Warns of what the bench hasn't seen. */
+static void warn_of_unseen(const tmwatch_benched *benched, bool is_wrong)
+{
+    if (benched->rescues >= (is_wrong ? 1 : MANY_RESCUES))
         fprintf(stderr, "%llu rescues: the memory waits for what the bench doesn't see\n", (unsigned long long)benched->rescues);
+    if (benched->is_undelayed)
+        fputs("stores to blocks weren't delayed: the program isn't linked with -Wl,--wrap=free\n", stderr);
 }
 
 void tmwatch_bench_print(FILE *file, const tmwatch_benched *benched)
@@ -133,5 +171,6 @@ void tmwatch_bench_print(FILE *file, const tmwatch_benched *benched)
         fputs("the first reading is wrong: does the memory hold plan.start?\n", stderr);
     if (is_wrong)
         tell_again(benched);
+    warn_of_unseen(benched, is_wrong);
     fputs(benched->shown, stderr);
 }

@@ -16,6 +16,7 @@ static bool meet(tmwatch_attempt *a)
         b->is_over = is_last(b, round);
         if (!b->stops && (b->is_over || round % LOOK == 0))
             look(a);
+        b->is_over = b->is_over || b->rejected > 0;
         b->here = 0;
         b->round = round + 1;
     } else {

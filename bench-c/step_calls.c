@@ -17,8 +17,10 @@ static void set_accesses(tmwatch_attempt *a)
     how->draws = ~a->pauses;
     how->own[1] = (uintptr_t)a->tx;
     how->own_end[1] = how->own[1] + a->bench->memory->tx_size;
-    if (pthread_getattr_np(pthread_self(), &of) != 0)
+    if (pthread_getattr_np(pthread_self(), &of) != 0) {
+        stop(a->bench, TMWATCH_MEMORY);
         return;
+    }
     if (pthread_attr_getstack(&of, &stack, &size) == 0) {
         how->own[0] = (uintptr_t)stack;
         how->own_end[0] = how->own[0] + size;
@@ -90,7 +92,8 @@ void tmwatch_step_wake(const void *condition)
     unlock_steps(s);
 }
 
-void tmwatch_step_yield(void)
+void tmwatch_step_yield(const void *caller)
 {
+    this_thread->caller = caller;
     pause_sometimes(this_thread, YIELD_PAUSES);
 }

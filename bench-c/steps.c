@@ -113,6 +113,8 @@ static void step(tmwatch_attempt *a, unsigned pauses)
     lock_as_runner(a);
     s->step++;
     s->spin = pauses > 0 ? s->spin + pauses : 0;
+    if (pauses > 0)
+        s->listed[s->inner++ % LISTED] = (struct listed){s->recorded, a->caller, a->thread};
     bool hands_over = s->spin > MOST_SPIN || (s->odds > 0 && draw(&s->draws, s->odds) == 0);
     while (s->changes > 0 && s->change[s->changes - 1] < s->step) {
         s->changes--;
@@ -175,11 +177,22 @@ static void turn_round(tmwatch_attempt *a)
         s->length[s->is_mixed] += s->step - s->length[s->is_mixed] / 16;
     wait_for_room(a);
     b->is_over = is_last(b, round);
+    b->round = round + 1;
+    if (!b->is_over && b->round == b->plan->round && b->plan->event == 0)
+        tmwatch_break();
     if (!b->stops && (b->is_over || round % LOOK == 0))
         look(a);
-    b->round = round + 1;
+    b->is_over = b->is_over || b->rejected > 0;
     s->starts[b->round % STARTS] = s->recorded;
-    if (!b->is_over && b->round == b->plan->round)
+    s->begun = b->round;
+}
+
+/* Stops a debugger before the event of the plan. The first look is of round 1. */
+static void break_at_event(const struct bench *b)
+{
+    const struct steps *s = &b->steps;
+    uint64_t round = s->begun > 0 ? s->begun : 1;
+    if (b->plan->event > 0 && round == b->plan->round && s->recorded + 1 - s->starts[s->begun % STARTS] == b->plan->event)
         tmwatch_break();
 }
 
@@ -225,9 +238,10 @@ static bool meet_first(tmwatch_attempt *a)
     return !a->bench->is_over;
 }
 
-/* Thread 0 is the first to run, and alone. */
-static void set_steps(struct bench *b)
+/* Thread 0 is the first to run, and alone. Returns false where the system refuses. */
+static bool set_steps(struct bench *b)
 {
+    bool is_done = true;
     struct steps *s = &b->steps;
     s->draws = ~b->plan->seed * apart_values;
     s->ready = 1;
@@ -235,7 +249,8 @@ static void set_steps(struct bench *b)
     s->awake = NOBODY;
     s->length[0] = s->length[1] = 16 * FIRST_LENGTH;
     for (unsigned i = 0; i < MOST_THREADS; i++)
-        sem_init(&s->go[i], 0, 0);
+        is_done = sem_init(&s->go[i], 0, 0) == 0 && is_done;
+    return is_done;
 }
 
 /* In which round the event at this length was recorded. */

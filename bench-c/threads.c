@@ -1,4 +1,4 @@
-/* The threads of a leg, from their start to their end. */
+/* The threads of a session, from their start to their end. In each leg the first ones have a part. */
 
 /* Whether the thread makes another share. */
 static bool has_more(tmwatch_attempt *a)
@@ -8,56 +8,97 @@ static bool has_more(tmwatch_attempt *a)
     return by_permits(a->bench) ? go_on(a) : meet(a);
 }
 
-static void *work(void *argument)
+/* Makes the thread's part of a leg, once all threads of it have come. */
+static void make_part(tmwatch_attempt *a)
 {
-    tmwatch_attempt *a = argument;
     struct bench *b = a->bench;
     this_thread = a;
     show_watchdog(a);
     set_accesses(a);
     b->come++;
-    while (b->gate == WAIT || (b->gate == RUN && b->come < b->plan->threads))
+    while (b->come < b->plan->threads)
         sched_yield();
-    bool has_share = b->gate == RUN && (by_steps(b) ? meet_first(a) : has_more(a));
+    bool has_share = by_steps(b) ? meet_first(a) : has_more(a);
     while (has_share) {
         make_share(a);
         has_share = has_more(a);
     }
+    this_thread = NULL;
     b->ended++;
+}
+
+static void wait_for(sem_t *semaphore)
+{
+    while (sem_wait(semaphore) != 0)
+        ;
+}
+
+static void *work(void *argument)
+{
+    struct worker *worker = argument;
+    for (wait_for(&worker->goes); worker->attempt; wait_for(&worker->goes))
+        make_part(worker->attempt);
     return NULL;
 }
 
-/* Starts a thread: whether it was started. */
-static bool start_thread(struct bench *b, unsigned i, pthread_t *thread)
+/* Starts a thread, with bytes of its own for the memory: two threads' bytes lie apart, so that neither slows the other. */
+static struct worker *start_thread(size_t tx_size)
 {
-    tmwatch_attempt *a = &b->workers[i];
-    a->bench = b;
-    a->recorder = &b->recorders[i];
-    a->thread = i;
-    a->written = b->session->written[i];
-    set_draws(a);
-    /* Two threads' bytes lie apart, so that neither slows the other. */
-    if (!b->session->tx[i])
-        b->session->tx[i] = calloc(1, b->memory->tx_size + 128);
-    a->tx = b->session->tx[i];
-    return a->tx && pthread_create(thread, NULL, work, a) == 0;
+    struct worker *it = calloc(1, sizeof *it);
+    void *tx = calloc(1, tx_size + 128);
+    if (it && tx && sem_init(&it->goes, 0, 0) == 0) {
+        it->tx = tx;
+        if (pthread_create(&it->thread, NULL, work, it) == 0)
+            return it;
+        sem_destroy(&it->goes);
+    }
+    free(tx);
+    free(it);
+    return NULL;
 }
 
-/* Starts the threads, has judged what they record, and waits for their end, if they come to one. */
-static void run_threads(struct bench *b)
+/* Starts what threads the leg lacks: whether it has all. */
+static bool start_threads(const struct bench *b)
 {
-    pthread_t threads[MOST_THREADS];
-    unsigned started = 0;
-    set_steps(b);
-    while (started < b->plan->threads && start_thread(b, started, &threads[started]))
-        started++;
-    if (started < b->plan->threads)
-        stop(b, TMWATCH_MEMORY);
-    b->gate = started < b->plan->threads ? END : RUN;
-    judge(b, started);
-    for (unsigned i = 0; i < started; i++)
-        if (b->is_stuck)
-            pthread_detach(threads[i]);
-        else
-            pthread_join(threads[i], NULL);
+    struct worker **workers = b->session->workers;
+    for (unsigned i = 0; i < b->plan->threads; i++)
+        if (!workers[i] && !(workers[i] = start_thread(b->memory->tx_size)))
+            return false;
+    return true;
+}
+
+/* Has each thread of the leg make its part. */
+static void run_parts(struct bench *b)
+{
+    for (unsigned i = 0; i < b->plan->threads; i++) {
+        tmwatch_attempt *a = &b->parts[i];
+        a->bench = b;
+        a->recorder = &b->recorders[i];
+        a->thread = i;
+        a->written = b->session->written[i];
+        a->tx = b->session->workers[i]->tx;
+        set_draws(a);
+    }
+    for (unsigned i = 0; i < b->plan->threads; i++) {
+        b->session->workers[i]->attempt = &b->parts[i];
+        sem_post(&b->session->workers[i]->goes);
+    }
+}
+
+/* Waits for the threads' end. Those that are stuck, and what they use, stay. */
+static void end_threads(const struct session *session, bool are_stuck)
+{
+    for (unsigned i = 0; i < MOST_THREADS && session->workers[i]; i++) {
+        struct worker *it = session->workers[i];
+        if (are_stuck) {
+            pthread_detach(it->thread);
+            continue;
+        }
+        it->attempt = NULL;
+        sem_post(&it->goes);
+        pthread_join(it->thread, NULL);
+        sem_destroy(&it->goes);
+        free(it->tx);
+        free(it);
+    }
 }

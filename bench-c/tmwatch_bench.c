@@ -5,6 +5,7 @@
 #include "plans.c"
 #include "draws.c"
 #include "attempts.c"
+#include "looks.c"
 #include "rounds.c"
 #include "permits.c"
 #include "steps.c"

@@ -1,4 +1,4 @@
-/* The trace of the run's end. */
+/* The trace of the run's end, and the steps of its round. */
 
 /* Where the trace of the first `at` events begins: at 0 or after a look, as late as it may if something is wrong, else as early. If nothing
    that is kept will do, it is empty. */
@@ -40,13 +40,53 @@ static void write_header(const struct bench *b, uint64_t from, uint64_t at)
     fputc('\n', b->plan->trace);
 }
 
-/* Writes the trace: how many events precede it. */
+/* Writes the trace: how many events precede it. Of a look that is rolled back again and again it has the first attempts. */
 static uint64_t write_trace(const struct bench *b, tmwatch_told told)
 {
-    bool is_wrong = told.verdict != TMWATCH_OPAQUE_SO_FAR;
-    uint64_t at = is_wrong ? told.at : told.events, from = first_of_trace(b, at, told.events, is_wrong);
+    bool is_wrong = told.verdict != TMWATCH_OPAQUE_SO_FAR || b->rejected > 0;
+    uint64_t at = told.at > 0 ? told.at : b->rejected > 0 ? b->rejected_at : told.events;
+    uint64_t from = first_of_trace(b, at, told.events, is_wrong);
     write_header(b, from, at);
     for (uint64_t place = from; place < at; place++)
         write_event(b->plan->trace, &b->kept[place % KEPT]);
     return from;
+}
+
+/* An address, and then where its program or library lies, as the linker numbers it, and the library's name. */
+struct found {
+    uintptr_t at;
+    const char *name;
+    bool is_found;
+};
+
+static int find_library(struct dl_phdr_info *library, size_t size, void *argument)
+{
+    struct found *found = argument;
+    (void)size;
+    for (unsigned i = 0; i < library->dlpi_phnum && !found->is_found; i++) {
+        uintptr_t from = library->dlpi_addr + library->dlpi_phdr[i].p_vaddr;
+        found->is_found = library->dlpi_phdr[i].p_type == PT_LOAD && found->at - from < library->dlpi_phdr[i].p_memsz;
+    }
+    if (found->is_found)
+        *found = (struct found){found->at - library->dlpi_addr, library->dlpi_name, true};
+    return found->is_found;
+}
+
+/* Lists the steps of a round, if all are kept: how many events of it precede each, the thread, and the address of the call. */
+static void write_steps(const struct bench *b, FILE *file, uint64_t round)
+{
+    const struct steps *s = &b->steps;
+    uint64_t from = s->starts[round % STARTS], end = round < s->begun ? s->starts[(round + 1) % STARTS] : UINT64_MAX;
+    uint64_t first = s->inner > LISTED ? s->inner - LISTED : 0;
+    if (!by_steps(b) || (first > 0 && s->listed[first % LISTED].recorded > from))
+        return;
+    for (uint64_t i = first; i < s->inner; i++) {
+        const struct listed *it = &s->listed[i % LISTED];
+        struct found found = {(uintptr_t)it->at - 1, "", false};
+        if (it->recorded < from || it->recorded >= end)
+            continue;
+        dl_iterate_phdr(find_library, &found);
+        fprintf(file, "%llu %u 0x%llx%s%s\n", (unsigned long long)(it->recorded - from), it->thread, (unsigned long long)found.at,
+                found.name[0] ? " " : "", found.name);
+    }
 }

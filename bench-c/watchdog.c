@@ -10,7 +10,8 @@ static void show_watchdog(tmwatch_attempt *a)
 {
     struct steps *s = &a->bench->steps;
     s->tid[a->thread] = (int)syscall(SYS_gettid);
-    pthread_getcpuclockid(pthread_self(), &s->clock[a->thread]);
+    if (pthread_getcpuclockid(pthread_self(), &s->clock[a->thread]) != 0)
+        stop(a->bench, TMWATCH_MEMORY);
 }
 
 /* Whether a thread sleeps, as far as the system tells. */

@@ -126,16 +126,21 @@ typedef struct tmwatch_plan {
     FILE *trace;        /* or null: here the run's end is written as a trace, maybe of no event */
     uint64_t mixes;     /* ** (50) of 100 rounds, how many are mixed: one thread makes one long transaction, others several short
                            ones, of eight attempts in all */
-    uint64_t round;     /* by steps: before this round tmwatch_break is called; by all, one of the first 5000; 0: never */
+    uint64_t round;     /* by steps: before this round tmwatch_break is called; by all, one of the first 20000; 0: never */
     uint64_t orders;    /* ** (0) a tmwatch_orders; by rounds and by permits not TMWATCH_CXX */
     uint64_t plain;     /* 1: plain accesses are steps too (libtmwatch_steps.a); or 0 */
     uint64_t patience;  /* after so many seconds without an event the run is given up; 0: never */
     FILE *progress;     /* or null: here a line says twice a second how far the run is */
+    uint64_t blinds;    /* ** (10) of 100 transactions that write, how many do nothing but write, and read nothing before */
+    uint64_t event;     /* with `round`: tmwatch_break is called before this event of the round instead; 0: before the round */
+    FILE *legs;         /* or null: here a line for each leg has the words of its plan */
+    FILE *listing;      /* or null: here the steps of the round that is wrong are listed: how many events of it precede the step, the
+                           thread, and the address in its program or library, with that library's name */
 } tmwatch_plan;
 
 #define TMWATCH_PLAN                                                                                                                     \
     {100000, 1, TMWATCH_DRAWN, TMWATCH_DRAWN, TMWATCH_DRAWN, 0, TMWATCH_DRAWN, TMWATCH_DRAWN, TMWATCH_DRAWN, TMWATCH_DRAWN, 0,             \
-     TMWATCH_ALL, {0, 0, 0, 0, 0, 0, 0, 0}, NULL, TMWATCH_DRAWN, 0, TMWATCH_DRAWN, 0, 10, NULL}
+     TMWATCH_ALL, {0, 0, 0, 0, 0, 0, 0, 0}, NULL, TMWATCH_DRAWN, 0, TMWATCH_DRAWN, 0, 5, NULL, TMWATCH_DRAWN, 0, NULL, NULL}
 
 /* How many bytes tell what the orders of C++20 have shown. */
 enum { TMWATCH_MOST_SHOWN = 4096 };
@@ -154,12 +159,16 @@ typedef struct tmwatch_benched {
     uint64_t rescues;      /* and how many times a thread was blocked, so that another went too: if any, the run need not come again */
     tmwatch_plan again;    /* a plan that makes the run's end again, */
     bool is_certain;       /* for sure, if the memory decides nothing by time, address or chance; else it may go otherwise */
+    uint64_t event;        /* by steps: which event of its round the wrong one is, from 1 on */
+    uint64_t rejected;     /* how many times a transaction that ran alone was rolled back, if the memory has lost progress; or 0 */
+    tmwatch_plan leg;      /* the plan of the last leg */
+    bool is_undelayed;     /* by TMWATCH_X86, a store wasn't delayed, since nothing shows when its block is given back */
     char shown[TMWATCH_MOST_SHOWN]; /* by the orders of C++20, lines: which loads of a violated round did not return the newest value, where
                                        in the program, and which stores they missed; the first race on plain data; what isn't seen */
 } tmwatch_benched;
 
-/* A further status of the bench: no event came for plan.patience seconds. */
-enum { TMWATCH_STUCK = 32 };
+/* Further statuses of the bench: no event came for plan.patience seconds; a transaction that ran alone was rolled back again and again. */
+enum { TMWATCH_STUCK = 32, TMWATCH_NO_PROGRESS = 33 };
 
 /*
 Runs the plan's rounds on the memory, and tells in *benched what came out. Once the verdict is another than opaque so far, no further

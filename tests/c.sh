@@ -104,8 +104,8 @@ bench=(-DTMWATCH_PAUSES "$folder/lib/libtmwatch_bench.a" "${static[@]}" "$waits"
 is_same_report() {
     local from first
     from=$(sed -n 's/^{"foreign":.*"from":\([0-9]*\),.*/\1/p' "$1")
-    first=$(sed -n '1s/^{"[a-z]*":\([0-9]*\),.*/\1/p' "$1")
-    diff <(head -n 1 "$1" | sed "s/:[0-9][0-9]*/:$((first - ${from:-0}))/g") <(head -n 1 "$2")
+    first=$(grep -m1 '^{' "$1" | sed 's/^{"[a-z]*":\([0-9]*\),.*/\1/')
+    diff <(grep -m1 '^{' "$1" | sed "s/:[0-9][0-9]*/:$((first - ${from:-0}))/g") <(head -n 1 "$2")
 }
 
 # A memory that was compiled for the bench: its name, its exit status, and the seeds. A right one runs $rounds, and a broken one until it is

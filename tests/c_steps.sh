@@ -97,20 +97,20 @@ fi
 drawn() {
     local name=$1 schedule=$2 rounds=$3
     "$folder/$name" --schedule "$schedule" --rounds "$rounds" --seed "$4" --threads "$5" --registers "$6" --calls "$7" --writes "$8" \
-        --adds "$9" --aborts "${10}" --mixes "${11}" --trace "$folder/one" >"$folder/printed"
-    "$top/tests/draws.py" "$folder/one" "$rounds" "$4" "$5" "$7" "$8" "$9" "${10}" "${11}"
+        --adds "$9" --aborts "${10}" --mixes "${11}" --blinds "${12}" "${@:13}" --trace "$folder/one" >"$folder/printed"
+    "$top/tests/draws.py" "$folder/one" "$rounds" "$4" "$5" "$7" "$8" "$9" "${10}" "${11}" "${12}" "${@:14}"
 }
 last=true
 for schedule in steps rounds; do
     for name in norec tl2 undo locks readers; do
-        ends "what $name draws, in $schedule" 0 drawn $name $schedule 1000 7 4 3 3 50 20 12 50
-        ends "what $name draws, in $schedule, by another plan" 0 drawn $name $schedule 300 9 7 2 5 90 30 40 100
-        ends "what $name draws, in $schedule, without a mixed round" 0 drawn $name $schedule 500 3 3 8 2 60 50 0 0
+        ends "what $name draws, in $schedule" 0 drawn $name $schedule 1000 7 4 3 3 50 20 12 50 10
+        ends "what $name draws, in $schedule, by another plan" 0 drawn $name $schedule 300 9 7 2 5 90 30 40 100 40
+        ends "what $name draws, in $schedule, without a mixed round" 0 drawn $name $schedule 500 3 3 8 2 60 50 0 0 0
     done
 done
 ends 'a start that is written first, compiled' 0 "$cc" "${strict[@]}" -o "$folder/start" "$top/tests/c/bench_start.c" "${bench[@]}"
 ends 'a start that is written first' 0 sh -c '"$1" >"$2"' sh "$folder/start" "$folder/one"
-ends 'a start that is written first: what is drawn' 0 "$top/tests/draws.py" "$folder/one" 20 1 1 3 100 20 0 50
+ends 'a start that is written first: what is drawn' 0 "$top/tests/draws.py" "$folder/one" 20 1 1 3 100 20 0 50 10
 
 # A trace begins at the last look before a violation, and there are at most 64 rounds of eight attempts after it.
 ends 'a trace of few rounds' 1 "$folder/versions_AGAIN" --schedule steps --trace "$folder/one"

@@ -1,16 +1,17 @@
 #!/usr/bin/env python3
 """Compares the transactions of a bench's trace with those that its plan says, drawn here anew.
 
-    tests/draws.py TRACE ROUNDS SEED THREADS CALLS WRITES ADDS ABORTS MIXES
+    tests/draws.py TRACE ROUNDS SEED THREADS CALLS WRITES ADDS ABORTS MIXES BLINDS [ATTEMPTS]
 
 The trace is that of a whole run in rounds or by steps, of a memory with `add`. Each attempt of each thread has to be the beginning of what
-the plan says, with its registers and values, and each round has to have its share of attempts; a transaction that reads all registers alone
-is a look. Prints how many attempts were compared, and how many values, all of which differ. Exit status: 0 all is so; 1 it is not.
+the plan says, with its registers and values, and each round has to have its share of attempts, of which a transaction has ATTEMPTS at most;
+one that reads all registers alone is a look, and one that writes one alone, with a value that only looks write, belongs to it. Prints how many attempts were compared, and how many values, all of which differ. Exit status: 0 all is so; 1 it is not.
 """
 import sys
 
 WORD, SPLIT, ROUNDS, VALUES = 2**64, 0x9E3779B97F4A7C15, 0xD1342543DE82EF95, 0x9E3779B97F4A7C15
 MOST_ATTEMPTS, MOST_USES, PLACES = 8, 16, 8
+UNVALUE = pow(VALUES, -1, WORD)
 
 
 class Draws:
@@ -27,7 +28,7 @@ class Draws:
 
 
 class Thread:
-    """What a thread draws: by the plan (seed, threads, calls, writes, adds, aborts, mixes), and the start of the registers."""
+    """What a thread draws: by the plan (seed, threads, calls, writes, adds, aborts, mixes, blinds, attempts), and the registers' start."""
 
     def __init__(self, number, plan, start):
         self.number, self.plan, self.start, self.written, self.round = number, plan, start, 0, 0
@@ -39,7 +40,7 @@ class Thread:
         seed, threads, calls = self.plan[:3]
         self.round += 1
         draws = Draws(seed * ROUNDS + self.round)
-        self.left, self.uses = MOST_ATTEMPTS // threads, calls
+        self.left, self.uses = self.plan[8] or MOST_ATTEMPTS // threads, calls
         self.is_mixed = threads > 1 and draws.below(100) < self.plan[6]
         if self.is_mixed:
             first, others = draws.below(threads), 1 + draws.below(threads - 1)
@@ -48,15 +49,17 @@ class Thread:
             self.uses = min(2 * calls, MOST_USES) if self.number == first else 1 + self.draws.below(2)
 
     def draw_transaction(self):
-        _, _, _, writes, adds, aborts, _ = self.plan
+        _, _, _, writes, adds, aborts, _, blinds, attempts = self.plan
         while self.left == 0:
             self.draw_share()
-        self.calls, self.most, self.made = [], self.left, 0
+        self.calls, self.most, self.made = [], min(self.left, attempts or self.left), 0
         end = "X" if self.draws.below(100) < aborts else "T"
+        is_blind = self.draws.below(100) < blinds and writes > 0
         for _ in range(self.uses):
             register, is_add = self.draws.below(len(self.start)), self.draws.below(100) < adds
             is_write = self.draws.below(100) < writes and not is_add
-            self.calls += [("N" if is_add else "R", register)] + ([("W", register)] if is_write else [])
+            self.calls += [] if is_blind else [("N" if is_add else "R", register)]
+            self.calls += [("W", register)] if is_write or is_blind else []
         self.calls.append((end, None))
 
     def value_of(self, letter):
@@ -82,6 +85,13 @@ class Thread:
             self.left = self.left - tried if self.is_mixed else 0
 
 
+def is_of_look(calls, registers):
+    """Whether a look may make these calls: the first ones, if it was rolled back."""
+    reads = [("R", k) for k in range(registers)] + [("T", None)]
+    is_write = calls[0][0] == "W" and calls[0][2] * UNVALUE % WORD > WORD // 2 and [it[0] for it in calls[1:]] in ([], ["T"])
+    return is_write or [it[:2] for it in calls] == reads[: len(calls)]
+
+
 def read_attempts(lines, registers):
     """Yields each attempt at its end: the thread, its calls, whether none follows it, and whether it may be a look."""
     live = {}
@@ -96,7 +106,7 @@ def read_attempts(lines, registers):
             calls.append((letter, register, int(words[3]) if letter in "WN" else None))
         elif letter in "CA":
             calls, met = live.pop(thread)
-            alone = met <= {thread} and [it[:2] for it in calls] == [("R", k) for k in range(registers)] + [("T", None)]
+            alone = met <= {thread} and is_of_look(calls, registers)
             yield thread, calls, letter == "C" or calls[-1][0] == "X", alone
 
 
@@ -124,7 +134,7 @@ def compare(lines, rounds, plan):
 
 def main(words):
     with open(words[0], encoding="ascii") as it:
-        wrong = compare(it.read().splitlines(), int(words[1]), [int(word) for word in words[2:]])
+        wrong = compare(it.read().splitlines(), int(words[1]), [int(word) for word in [*words[2:], 0]][:9])
     if wrong:
         print(wrong)
     return 1 if wrong else 0

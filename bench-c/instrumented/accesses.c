@@ -51,10 +51,10 @@ void tmwatch_step_drain(void)
 }
 
 /* A step, at which one store in four comes out. */
-static void at_step(void)
+TMWATCH_PART void at_step(void)
 {
     tmwatch_step_how *how = tmwatch_step_accesses();
-    tmwatch_pause();
+    tmwatch_step_at(TMWATCH_CALLER);
     if (buffered == 0 || !how)
         return;
     how->draws = how->draws * UINT64_C(6364136223846793005) + UINT64_C(1442695040888963407);
@@ -114,16 +114,16 @@ static bool is_forwarded(const volatile void *at, unsigned bytes, uint64_t *valu
 }
 
 /* Whether an access is simulated, which is made there in the program. */
-static bool is_simulated(tmwatch_access *to, const volatile void *at, unsigned bytes, int order, const void *caller)
+TMWATCH_PART bool is_simulated(tmwatch_access *to, const volatile void *at, unsigned bytes, int order)
 {
     tmwatch_simulation *orders = tmwatch_step_orders();
     if (orders)
-        *to = (tmwatch_access){orders, tmwatch_thread(), caller, at, bytes, order};
+        *to = (tmwatch_access){orders, tmwatch_thread(), TMWATCH_CALLER, at, bytes, order};
     return orders;
 }
 
 /* Before a plain load of so many bytes. */
-static void before_load(const void *at, size_t bytes, bool is_volatile, const void *caller)
+TMWATCH_PART void before_load(const void *at, size_t bytes, bool is_volatile)
 {
     uint64_t value;
     tmwatch_access access;
@@ -132,21 +132,21 @@ static void before_load(const void *at, size_t bytes, bool is_volatile, const vo
         return;
     if (is_volatile || how->has_plain)
         at_step();
-    if (is_simulated(&access, at, 0, 0, caller))
+    if (is_simulated(&access, at, 0, 0))
         tmwatch_orders_plain_load(&access, bytes);
     if (is_forwarded(at, (unsigned)bytes, &value))
         tmwatch_step_drain();
 }
 
 /* Before a plain store, whose value isn't known. */
-static void before_store(const void *at, size_t bytes, bool is_volatile, const void *caller)
+TMWATCH_PART void before_store(const void *at, size_t bytes, bool is_volatile)
 {
     tmwatch_access access;
     const tmwatch_step_how *how = tmwatch_step_accesses();
     bool is_stepped = how && (is_volatile || !is_own(how, at));
     if (is_stepped && (is_volatile || how->has_plain))
         at_step();
-    if (is_simulated(&access, at, 0, 0, caller))
+    if (is_simulated(&access, at, 0, 0))
         tmwatch_orders_plain_store(&access, bytes, !is_stepped);
     if (is_stepped)
         tmwatch_step_drain();
@@ -163,7 +163,6 @@ NOTHING(__tsan_vptr_update, void **at UNUSED, void *to UNUSED)
 NOTHING(__tsan_vptr_read, void **at UNUSED)
 NOTHING(__tsan_atomic_signal_fence, int order UNUSED)
 
-#define CALLER __builtin_return_address(0)
 #define CALLED(name, does, ...)  \
     void name(__VA_ARGS__);      \
     void name(__VA_ARGS__)       \
@@ -171,9 +170,9 @@ NOTHING(__tsan_atomic_signal_fence, int order UNUSED)
         does;                    \
     }
 #define PLAIN(infix, bytes, is_volatile)                                                       \
-    CALLED(__tsan_##infix##read##bytes, before_load(at, bytes, is_volatile, CALLER), const void *at)   \
-    CALLED(__tsan_##infix##write##bytes, before_store(at, bytes, is_volatile, CALLER), const void *at)
-#define READ_WRITE(infix, bytes) CALLED(__tsan_##infix##read_write##bytes, before_store(at, bytes, false, CALLER), const void *at)
+    CALLED(__tsan_##infix##read##bytes, before_load(at, bytes, is_volatile), const void *at)   \
+    CALLED(__tsan_##infix##write##bytes, before_store(at, bytes, is_volatile), const void *at)
+#define READ_WRITE(infix, bytes) CALLED(__tsan_##infix##read_write##bytes, before_store(at, bytes, false), const void *at)
 #define PLAINS(bytes)                    \
     PLAIN(, bytes, false)                \
     PLAIN(unaligned_, bytes, false)      \
@@ -186,8 +185,8 @@ PLAINS(2)
 PLAINS(4)
 PLAINS(8)
 PLAINS(16)
-CALLED(__tsan_read_range, before_load(at, bytes, false, CALLER), const void *at, unsigned long bytes)
-CALLED(__tsan_write_range, before_store(at, bytes, false, CALLER), const void *at, unsigned long bytes)
+CALLED(__tsan_read_range, before_load(at, bytes, false), const void *at, unsigned long bytes)
+CALLED(__tsan_write_range, before_store(at, bytes, false), const void *at, unsigned long bytes)
 
 void *__tsan_memcpy(void *to, const void *from, size_t bytes);
 void *__tsan_memmove(void *to, const void *from, size_t bytes);
@@ -195,26 +194,26 @@ void *__tsan_memset(void *to, int byte, size_t bytes);
 
 void *__tsan_memcpy(void *to, const void *from, size_t bytes)
 {
-    before_load(from, bytes, false, CALLER);
-    before_store(to, bytes, false, CALLER);
+    before_load(from, bytes, false);
+    before_store(to, bytes, false);
     return memcpy(to, from, bytes);
 }
 
 void *__tsan_memmove(void *to, const void *from, size_t bytes)
 {
-    before_load(from, bytes, false, CALLER);
-    before_store(to, bytes, false, CALLER);
+    before_load(from, bytes, false);
+    before_store(to, bytes, false);
     return memmove(to, from, bytes);
 }
 
 void *__tsan_memset(void *to, int byte, size_t bytes)
 {
-    before_store(to, bytes, false, CALLER);
+    before_store(to, bytes, false);
     return memset(to, byte, bytes);
 }
 
 /* A step, and all that was stored comes out: before a read-modify-write. */
-static void at_change(void)
+TMWATCH_PART void at_change(void)
 {
     at_step();
     tmwatch_step_drain();
@@ -232,7 +231,7 @@ static void at_change(void)
         uint64_t held;                                                                            \
         volatile type older, *to = at;                                                            \
         at_change();                                                                              \
-        bool has_orders = is_simulated(&access, at, sizeof(type), order, CALLER);                 \
+        bool has_orders = is_simulated(&access, at, sizeof(type), order);                 \
         if (has_orders && !tmwatch_orders_take(&access, &held)) {                                 \
             older = (type)held;                                                                   \
             to = &older;                                                                          \
@@ -243,13 +242,13 @@ static void at_change(void)
         return read;                                                                              \
     }
 #define COMPARES(bits, type)                                                                                                   \
-    static bool compare_##bits(volatile type *at, type *held, type value, int order, int failed, bool is_weak, const void *caller) \
+    TMWATCH_PART bool compare_##bits(volatile type *at, type *held, type value, int order, int failed, bool is_weak)           \
     {                                                                                                                          \
         tmwatch_access access;                                                                                                 \
         uint64_t loaded = *held;                                                                                               \
         enum tmwatch_compared how = TMWATCH_TAKES_NEWEST;                                                                      \
         at_change();                                                                                                           \
-        bool has_orders = is_simulated(&access, at, sizeof(type), order, caller);                                              \
+        bool has_orders = is_simulated(&access, at, sizeof(type), order);                                                      \
         if (has_orders)                                                                                                        \
             how = tmwatch_orders_compare(&access, &loaded, failed, is_weak);                                                   \
         bool is_done = how != TMWATCH_FAILS;                                                                                   \
@@ -263,13 +262,13 @@ static void at_change(void)
     }                                                                                                                          \
     ATOMIC(type, __tsan_atomic##bits##_compare_exchange_val, volatile type *at, type held, type value, int order, int failed)  \
     {                                                                                                                          \
-        compare_##bits(at, &held, value, order, failed, false, CALLER);                                                        \
+        compare_##bits(at, &held, value, order, failed, false);                                                                \
         return held;                                                                                                           \
     }
 #define COMPARE(bits, type, name, is_weak)                                                                                     \
     ATOMIC(int, __tsan_atomic##bits##_compare_exchange_##name, volatile type *at, type *held, type value, int order, int failed) \
     {                                                                                                                          \
-        return compare_##bits(at, held, value, order, failed, is_weak, CALLER);                                                \
+        return compare_##bits(at, held, value, order, failed, is_weak);                                                        \
     }
 #define ATOMICS(bits, type)                                                                                                    \
     ATOMIC(type, __tsan_atomic##bits##_load, const volatile type *at, int order)                                               \
@@ -277,7 +276,7 @@ static void at_change(void)
         uint64_t value;                                                                                                        \
         tmwatch_access access;                                                                                                 \
         at_step();                                                                                                             \
-        if (is_simulated(&access, at, sizeof(type), order, CALLER))                                                            \
+        if (is_simulated(&access, at, sizeof(type), order))                                                            \
             return (type)tmwatch_orders_load(&access);                                                                         \
         return is_forwarded(at, sizeof(type), &value) ? (type)value : __atomic_load_n(at, SEQUENTIAL);                         \
     }                                                                                                                          \
@@ -285,7 +284,7 @@ static void at_change(void)
     {                                                                                                                          \
         tmwatch_access access;                                                                                                 \
         at_step();                                                                                                             \
-        if (is_simulated(&access, at, sizeof(type), order, CALLER) && !tmwatch_orders_store(&access, value))                   \
+        if (is_simulated(&access, at, sizeof(type), order) && !tmwatch_orders_store(&access, value))                   \
             return;                                                                                                            \
         if (is_buffered(at, order)) {                                                                                          \
             store_later((void *)(uintptr_t)at, value, sizeof(type));                                                           \
@@ -314,7 +313,7 @@ ATOMIC(void, __tsan_atomic_thread_fence, int order)
 {
     tmwatch_access access;
     at_step();
-    if (is_simulated(&access, NULL, 0, order, CALLER))
+    if (is_simulated(&access, NULL, 0, order))
         tmwatch_orders_fence(&access);
     if (order == SEQUENTIAL)
         tmwatch_step_drain();

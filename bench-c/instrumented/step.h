@@ -13,6 +13,13 @@ typedef struct tmwatch_step_how {
     uintptr_t own[2], own_end[2]; /* the thread's stack, and its transaction's bytes */
 } tmwatch_step_how;
 
+/* A step of this thread, which returns to that place; and the place that the function returns to which this is written in. */
+void tmwatch_step_at(const void *caller);
+#define TMWATCH_CALLER __builtin_return_address(0)
+
+/* For a function that is a part of what it is called in. */
+#define TMWATCH_PART static inline __attribute__((always_inline))
+
 /* This thread's, or null if it isn't one of a bench. */
 tmwatch_step_how *tmwatch_step_accesses(void);
 
@@ -50,5 +57,5 @@ void tmwatch_lock_returned(const void *lock);
 void tmwatch_step_gives_back(const void *block, size_t size);
 
 /* A wait that yields: several pauses at once. */
-void tmwatch_step_yield(void);
+void tmwatch_step_yield(const void *caller);
 #endif

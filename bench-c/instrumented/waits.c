@@ -17,11 +17,11 @@
     type __wrap_##name(__VA_ARGS__)
 
 /* Before each call: whether the thread goes by steps. */
-static bool is_stepped(void)
+TMWATCH_PART bool is_stepped(void)
 {
     bool is_run = tmwatch_step_is_run();
     if (is_run)
-        tmwatch_pause();
+        tmwatch_step_at(TMWATCH_CALLER);
     if (tmwatch_step_drain)
         tmwatch_step_drain();
     return is_run;
@@ -70,7 +70,7 @@ static void unlocks(const volatile void *lock)
         int status = __real_##name(lock);             \
         if (is_run) {                                 \
             tmwatch_step_free((const void *)lock);    \
-            tmwatch_pause();                          \
+            tmwatch_step_at(TMWATCH_CALLER);          \
         }                                             \
         return status;                                \
     }
@@ -188,7 +188,7 @@ WRAPPED(int, sched_yield, void)
 {
     if (!tmwatch_step_is_run())
         return __real_sched_yield();
-    tmwatch_step_yield();
+    tmwatch_step_yield(TMWATCH_CALLER);
     return 0;
 }
 
@@ -206,7 +206,7 @@ long __wrap_syscall(long number, long first, long what, long third, long fourth,
         tmwatch_orders_futex(orders, (const volatile void *)first, __builtin_return_address(0));
     if (number != SYS_futex || (command != FUTEX_WAIT && command != FUTEX_WAIT_BITSET) || !tmwatch_step_is_run())
         return __real_syscall(number, first, what, third, fourth, fifth, sixth);
-    tmwatch_step_yield();
+    tmwatch_step_yield(TMWATCH_CALLER);
     return 0;
 }
 

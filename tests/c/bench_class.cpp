@@ -160,16 +160,16 @@ struct Never {
     void abort(Tx &) const {}
 };
 
-/* Whether a bench by a plan, of a memory that is const, tells that all transactions were rolled back unasked. */
+/* Whether a bench by a plan, of a memory that is const, tells that all transactions were rolled back unasked, and none can commit. */
 bool has_never_begun()
 {
     const Never never{};
     tmwatch_plan plan = TMWATCH_PLAN;
     tmwatch_benched benched;
     plan.rounds = 9;
-    if (tmwatch_bench(never, plan, benched) != TMWATCH_DONE || benched.told.verdict != TMWATCH_OPAQUE_SO_FAR)
+    if (tmwatch_bench(never, plan, benched) != TMWATCH_NO_PROGRESS || benched.told.verdict != TMWATCH_OPAQUE_SO_FAR)
         return false;
-    return benched.rounds == 9 && benched.counts.transactions > 0 && benched.counts.unasked == benched.counts.transactions;
+    return benched.rejected > 0 && benched.counts.unasked == benched.rejected;
 }
 
 } // namespace

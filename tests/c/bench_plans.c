@@ -4,8 +4,10 @@ Plans that the bench refuses, and what comes out of a memory for one thread, whi
     bench_plans           checks all
     bench_plans print     prints what may come out
 */
+#define _GNU_SOURCE
 #include "tmwatch_bench.h"
 #include "check.h"
+#include <time.h>
 
 static uint64_t words[8];
 static unsigned long calls;
@@ -146,7 +148,9 @@ static void refuse_plans(void)
     REFUSES(TMWATCH_BAD_BOUNDS, schedule, 4);
     REFUSES(TMWATCH_BAD_BOUNDS, rounds, 0);
     REFUSES(TMWATCH_BAD_BOUNDS, mixes, 101);
-    REFUSES(TMWATCH_BAD_BOUNDS, round, 5001);
+    REFUSES(TMWATCH_BAD_BOUNDS, round, 20001);
+    REFUSES(TMWATCH_BAD_BOUNDS, event, 1);
+    REFUSES(TMWATCH_BAD_BOUNDS, blinds, 101);
     REFUSES(TMWATCH_BAD_BOUNDS, buffers, 1);
     REFUSES(TMWATCH_BAD_BOUNDS, writes, 101);
     REFUSES(TMWATCH_BAD_BOUNDS, adds, 101);
@@ -198,21 +202,37 @@ static void find_another_start(void)
     CHECK(out.told.verdict == TMWATCH_VIOLATED && out.told.at == 4);
 }
 
-/* A memory that never begins, one that never commits, and runs that make no attempt or too many. */
+/* A memory that makes no progress from its first look on: how many attempts that has made. */
+static uint64_t run_in_vain(const tmwatch_memory *it, tmwatch_plan plan)
+{
+    tmwatch_benched out;
+    CHECK(tmwatch_bench(it, &plan, &out) == TMWATCH_NO_PROGRESS);
+    CHECK(out.told.verdict == TMWATCH_OPAQUE_SO_FAR && out.counts.committed == 0 && out.counts.unasked == out.counts.transactions);
+    CHECK(out.rejected >= 200 && out.counts.transactions == out.rejected && out.rounds <= 1);
+    return out.rejected;
+}
+
+/* A memory that never begins, by each schedule; and runs that make no attempt, or many. */
 static void run_idle(void)
 {
     tmwatch_memory it = memory;
+    tmwatch_plan plan = one_thread();
     it.begin = never;
-    tmwatch_benched out = run(&it, one_thread());
-    CHECK(out.told.verdict == TMWATCH_OPAQUE_SO_FAR && out.counts.committed == 0 && out.counts.unasked == out.counts.transactions);
+    for (plan.schedule = TMWATCH_ROUNDS; plan.schedule <= TMWATCH_ALL; plan.schedule++)
+        run_in_vain(&it, plan);
     it = memory;
     it.run = begin_none;
-    out = run(&it, one_thread());
+    tmwatch_benched out = run(&it, one_thread());
+    CHECK(out.told.events == 0 && out.rounds == 300);
+    plan.schedule = TMWATCH_PERMITS;
+    plan.attempts = 10;
+    out = run(&it, plan);
     CHECK(out.told.events == 0 && out.rounds == 300);
     it.run = begin_all;
     calls = 0;
-    out = run(&it, one_thread());
-    CHECK(calls == 306 * 8 && out.counts.transactions == 306 * 8 && out.told.verdict == TMWATCH_OPAQUE_SO_FAR);
+    CHECK(run_in_vain(&it, one_thread()) == calls);
+    calls = 0;
+    CHECK(run_in_vain(&it, plan) == calls);
 }
 
 /* Runs that break their promise: nothing comes out, and the status says which it was. */
@@ -235,7 +255,6 @@ static void refuse_runs(void)
 /* One thread by permits: a look comes at first, some time after each 512 attempts, and at the end. */
 static void run_by_permits(void)
 {
-    tmwatch_memory it = memory;
     tmwatch_plan plan = one_thread();
     plan.schedule = TMWATCH_PERMITS;
     tmwatch_benched out = run(&memory, plan);
@@ -245,51 +264,61 @@ static void run_by_permits(void)
     plan.start[2]++;
     out = run(&memory, plan);
     CHECK(out.told.verdict == TMWATCH_VIOLATED && out.told.at == 6);
-    plan = one_thread();
-    plan.schedule = TMWATCH_PERMITS;
-    plan.attempts = 10;
-    it.run = begin_none;
-    out = run(&it, plan);
-    CHECK(out.told.events == 0 && out.rounds == 300);
-    it.run = begin_all;
-    calls = 0;
-    out = run(&it, plan);
-    /* Eight attempts of each look, of which one begins at 0, one at 518, and so on up to 2590, and the last one at the end. */
-    CHECK(calls == 3000 + 7 * 8 && out.counts.transactions == calls && out.told.verdict == TMWATCH_OPAQUE_SO_FAR);
 }
 
-/* By permits, a memory that never begins is attempted until the time is up. */
-static void never_begin(void)
+/* Refuses to commit what writes, so that looks commit until one is to write. */
+static bool commit_reads(void *memory, void *tx)
+{
+    if (memcmp(tx, words, sizeof words) == 0)
+        return true;
+    cancel(memory, tx);
+    return false;
+}
+
+/* A memory in which no write commits, by each schedule. */
+static void refuse_writes(void)
 {
     tmwatch_memory it = memory;
     tmwatch_plan plan = one_thread();
-    it.begin = never;
-    plan.threads = 3;
-    plan.seconds = 1;
-    plan.schedule = TMWATCH_PERMITS;
-    tmwatch_benched out = run(&it, plan);
-    CHECK(out.told.verdict == TMWATCH_OPAQUE_SO_FAR && out.rounds == 1);
-    CHECK(out.counts.committed == 0 && out.counts.transactions > 3 && out.counts.unasked == out.counts.transactions);
+    tmwatch_benched out;
+    it.commit = commit_reads;
+    plan.rounds = 1000;
+    for (plan.schedule = TMWATCH_ROUNDS; plan.schedule <= TMWATCH_ALL; plan.schedule++) {
+        CHECK(tmwatch_bench(&it, &plan, &out) == TMWATCH_NO_PROGRESS);
+        CHECK(out.told.verdict == TMWATCH_OPAQUE_SO_FAR && out.counts.committed > 0 && out.rejected >= 200);
+    }
 }
 
-/* Begins in no thread but 1. */
-static bool begin_in_one(void *memory, void *tx)
+/* Begins late in thread 0. */
+static bool begin_late(void *memory, void *tx)
 {
-    return tmwatch_thread() == 1 && begin(memory, tx);
+    struct timespec time = {0, 20000000};
+    if (tmwatch_thread() == 0)
+        nanosleep(&time, NULL);
+    return begin(memory, tx);
+}
+
+/* A memory for several threads in which none writes. */
+static bool store_nothing(void *memory, void *tx, unsigned reg, uint64_t value)
+{
+    (void)memory, (void)tx, (void)reg, (void)value;
+    return false;
 }
 
 /* By permits, as many rounds are told as the thread has begun that has begun the fewest. */
-static void refuse_a_thread(void)
+static void begin_rarely(void)
 {
     tmwatch_memory it = memory;
     tmwatch_plan plan = one_thread();
-    it.begin = begin_in_one;
+    it.begin = begin_late;
+    it.write = store_nothing;
     plan.threads = 2;
+    plan.writes = plan.adds = plan.aborts = 0;
     plan.seconds = 1;
     plan.rounds = UINT64_MAX;
     plan.schedule = TMWATCH_PERMITS;
     tmwatch_benched out = run(&it, plan);
-    CHECK(out.told.verdict == TMWATCH_OPAQUE_SO_FAR && out.rounds == 1 && out.counts.committed > 10);
+    CHECK(out.told.verdict == TMWATCH_OPAQUE_SO_FAR && out.rounds > 0 && 3 * out.rounds < out.counts.committed);
 }
 
 /* A time ends the rounds, and a pause outside of a bench is none. */
@@ -321,9 +350,14 @@ static const tmwatch_benched results[] = {
      .rescues = 2,
      .again = {.schedule = TMWATCH_STEPS, .seed = 5, .rounds = 3, .round = 3, .threads = 2, .registers = TMWATCH_DRAWN, .calls = 1,
                .writes = TMWATCH_DRAWN, .adds = 0, .aborts = TMWATCH_DRAWN, .pause = TMWATCH_DRAWN, .mixes = TMWATCH_DRAWN, .buffers = 1,
-               .patience = 10}},
-    {.told = {12, 7, TMWATCH_VIOLATED, 0}, .rounds = 3, .steps = 20, .again = {.schedule = TMWATCH_ALL, .seed = 1, .rounds = 3, .round = 3},
-     .is_certain = true},
+               .patience = 10, .attempts = 2, .blinds = 0}},
+    {.told = {12, 7, TMWATCH_VIOLATED, 0}, .rounds = 3, .steps = 20, .again = TMWATCH_PLAN, .is_certain = true, .event = 5,
+     .leg = {.schedule = TMWATCH_STEPS, .seed = 8, .rounds = 3, .threads = 2, .registers = 3, .calls = 1, .plain = 1}},
+    {.told = {12, 7, TMWATCH_VIOLATED, 0}, .again = {.schedule = TMWATCH_PERMITS, .start = {0, 7}, .seconds = 4}, .is_certain = true},
+    {.told = {12, 0, TMWATCH_OPAQUE_SO_FAR, 0}, .counts = {97, 2, 3, 4, 5, 99, 97, 8, 0}, .stores = 1, .steps = 9, .rescues = 9},
+    {.told = {12, 0, TMWATCH_OPAQUE_SO_FAR, 0}, .counts = {97, 5, 3, 4, 5, 102, 97, 8, 0}, .stores = 1, .steps = 9, .rescues = 10,
+     .is_undelayed = true},
+    {.told = {12, 0, TMWATCH_OPAQUE_SO_FAR, 0}, .counts = {1, 2, 3, 4, 5, 6, 7, 8, 0}, .stores = 1, .rejected = 3},
 };
 
 static void print_results(void)
@@ -345,8 +379,8 @@ int main(int count, char **given)
     run_idle();
     refuse_runs();
     run_by_permits();
-    never_begin();
-    refuse_a_thread();
+    refuse_writes();
+    begin_rarely();
     run_for_a_second();
     return 0;
 }

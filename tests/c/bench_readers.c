@@ -4,7 +4,9 @@ and then looks whether the word is locked. One that writes locks the word, and t
 kept to the transaction's end. It writes in place, and aborts rather than waits.
 
 Between its flag and its look a reader has a fence. By -DFAULT=FENCE it has none: the look may be made while the flag is still in the
-processor's store buffer.
+processor's store buffer. By LEAK a transaction that aborts keeps its flag on register 0: nobody else writes that word any more.
+
+-DFLAGS=memory_order_acquire: a writer loads the flags by a weaker order, which C++20 doesn't keep after the exchange that locks the word.
 */
 #include "tmwatch_bench.h"
 #include <stdatomic.h>
@@ -13,8 +15,12 @@ processor's store buffer.
 #define FAULT NONE
 #endif
 
+#ifndef FLAGS
+#define FLAGS memory_order_seq_cst
+#endif
+
 enum { REGISTERS = 8, THREADS = 8 };
-enum fault { NONE, FENCE };
+enum fault { NONE, FENCE, LEAK };
 
 struct word {
     _Atomic uint64_t value;
@@ -36,26 +42,32 @@ static bool begin(void *memory, void *tx)
     return true;
 }
 
-static bool commit(void *memory, void *tx)
+/* Gives back the locks, and the flags from register `first` on. */
+static void give_back(const struct tx *tx, unsigned first)
 {
-    struct tx *it = tx;
-    (void)memory;
     for (unsigned reg = 0; reg < REGISTERS; reg++) {
-        if (it->writes[reg])
+        if (tx->writes[reg])
             atomic_store_explicit(&words[reg].is_locked, false, memory_order_release);
-        if (it->reads[reg])
+        if (tx->reads[reg] && reg >= first)
             atomic_store_explicit(&words[reg].is_read[tmwatch_thread()], false, memory_order_release);
     }
+}
+
+static bool commit(void *memory, void *tx)
+{
+    (void)memory;
+    give_back(tx, 0);
     return true;
 }
 
 static void cancel(void *memory, void *tx)
 {
     struct tx *it = tx;
+    (void)memory;
     for (unsigned reg = 0; reg < REGISTERS; reg++)
         if (it->writes[reg])
             atomic_store_explicit(&words[reg].value, it->before[reg], memory_order_relaxed);
-    commit(memory, tx);
+    give_back(tx, fault == LEAK);
 }
 
 /* A call that answers false leaves nothing of the transaction. */
@@ -91,7 +103,8 @@ static bool read(void *memory, void *tx, unsigned reg, uint64_t *value)
 static bool has_readers(unsigned reg)
 {
     for (unsigned i = 0; i < THREADS; i++)
-        if (i != tmwatch_thread() && atomic_load_explicit(&words[reg].is_read[i], memory_order_acquire))
+        /* (C++20 orders no acquire load after the exchange that has locked the word) */
+        if (i != tmwatch_thread() && atomic_load_explicit(&words[reg].is_read[i], FLAGS))
             return true;
     return false;
 }

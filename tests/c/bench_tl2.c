@@ -4,6 +4,7 @@ kept until the commit. The commit locks what it writes, raises the clock, valida
 
 A read looks at the word's lock before it loads the value and afterwards. By -DFAULT=BEFORE it looks only before; by AFTER, only afterwards.
 By LOCKED the validation takes a locked word for a good one. By HALF a commit stores the upper halves of its values after it has unlocked.
+By LEAK a commit that fails keeps its locks, and by WRAP the clock has eight bits: after some commits no other one follows.
 */
 #include "tmwatch_bench.h"
 #include <stdatomic.h>
@@ -13,7 +14,7 @@ By LOCKED the validation takes a locked word for a good one. By HALF a commit st
 #endif
 
 enum { REGISTERS = 8 };
-enum fault { NONE, BEFORE, AFTER, LOCKED, HALF };
+enum fault { NONE, BEFORE, AFTER, LOCKED, HALF, LEAK, WRAP };
 
 /* `lock` is the version doubled, and odd while a commit holds it. */
 struct word {
@@ -33,7 +34,7 @@ static _Atomic uint64_t ticks;
 static bool begin(void *memory, void *tx)
 {
     (void)memory;
-    *(struct tx *)tx = (struct tx){.snapshot = ticks};
+    *(struct tx *)tx = (struct tx){.snapshot = fault == WRAP ? ticks % 256 : ticks};
     return true;
 }
 
@@ -132,7 +133,8 @@ static bool commit(void *memory, void *tx)
     uint64_t version = is_done ? ++ticks : 0;
     TMWATCH_PAUSE();
     is_done = is_done && is_valid(it);
-    give_locks(it, is_done, version);
+    if (is_done || fault != LEAK)
+        give_locks(it, is_done, fault == WRAP ? version % 256 : version);
     return is_done;
 }
 

@@ -5,7 +5,8 @@ always; it aborts only if a version that it needs is no longer kept. A commit th
 its versions, and then raises the clock.
 
 By -DFAULT=CLOCK the commit raises the clock first: a transaction that begins then misses its versions. By DROPPED a read returns the oldest
-version that is kept, if the one it needs isn't. By AGAIN it doesn't look whether the version was overwritten while it loaded the value.
+version that is kept, if the one it needs isn't. By AGAIN it doesn't look whether the version was overwritten while it loaded the value. By
+RECYCLED a commit uses the oldest version's place again without a mark, so that the look sees nothing.
 */
 #include "tmwatch_bench.h"
 #include <sched.h>
@@ -16,7 +17,7 @@ version that is kept, if the one it needs isn't. By AGAIN it doesn't look whethe
 #endif
 
 enum { REGISTERS = 8, KEPT = 4 };
-enum fault { NONE, CLOCK, DROPPED, AGAIN };
+enum fault { NONE, CLOCK, DROPPED, AGAIN, RECYCLED };
 
 /* A version: the clock of its commit, and the value. */
 struct version {
@@ -104,9 +105,11 @@ static bool is_valid(const struct tx *tx)
 static void add_version(struct word *word, uint64_t value, uint64_t now)
 {
     struct version *version = &word->versions[(word->newest + 1) % KEPT];
-    version->ticks = UINT64_MAX;
+    if (fault != RECYCLED)
+        version->ticks = UINT64_MAX;
     TMWATCH_PAUSE();
     version->value = value;
+    TMWATCH_PAUSE();
     version->ticks = now;
     word->newest++;
 }

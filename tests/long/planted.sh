@@ -34,12 +34,12 @@ compiled() {
 draws() {
     compiled memory "$top/examples/c/norec.c"
     timeout 60 "$folder/memory" --schedule rounds --rounds 300 --seed 7 --trace "$folder/trace" >"$folder/printed"
-    "$top/tests/draws.py" "$folder/trace" 300 7 4 3 50 20 12 50
+    "$top/tests/draws.py" "$folder/trace" 300 7 4 3 50 20 12 50 10
 }
 start() {
     compiled start "$top/tests/c/bench_start.c"
     "$folder/start" >"$folder/trace"
-    "$top/tests/draws.py" "$folder/trace" 20 1 1 3 100 20 0 50
+    "$top/tests/draws.py" "$folder/trace" 20 1 1 3 100 20 0 50 10
 }
 plans() {
     compiled plans "$top/tests/c/bench_plans.c"

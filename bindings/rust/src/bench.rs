@@ -113,6 +113,10 @@ pub struct Plan {
     pub orders: Option<Orders>,
     /// Whether plain accesses of such a memory are steps too.
     pub plain: bool,
+    /// Of 100 transactions, how many do nothing but write (10).
+    pub blinds: u64,
+    /// With `round`: `tmwatch_break` is called before this event of the round instead. 0: before the round.
+    pub event: u64,
 }
 
 impl Default for Plan {
@@ -137,6 +141,8 @@ impl Default for Plan {
             round: 0,
             orders: None,
             plain: false,
+            blinds: DRAWN,
+            event: 0,
         }
     }
 }
@@ -166,6 +172,8 @@ pub struct Benched {
     pub again: String,
     /// Whether that is certain, if the memory decides nothing by time, address or chance.
     pub is_certain: bool,
+    /// By steps: which event of its round the wrong one is, from 1 on; 0 if none is.
+    pub event: u64,
     /// By the orders of C++20, lines: which loads of a violated round did not return the newest value, where in the program, and which
     /// stores they missed; the first race on plain data; what is not seen.
     pub shown: String,
@@ -349,9 +357,11 @@ pub(crate) unsafe fn run_table(table: &ffi::Memory, plan: &Plan) -> Result<Bench
     let again = words_of(&benched.again)?;
     // SAFETY: the bench has ended these bytes by a 0.
     let shown = unsafe { CStr::from_ptr(benched.shown.as_ptr()) }.to_string_lossy().into_owned();
-    let ffi::Benched { told, counts, rounds, from, foreign, stores, steps, switches, rescues, is_certain, .. } = benched;
+    // (there are no words for a start)
+    let is_certain = benched.is_certain && plan.start == [0; 8];
+    let ffi::Benched { told, counts, rounds, from, foreign, stores, steps, switches, rescues, event, .. } = benched;
     let (told, trace) = (told.into(), trace?);
-    Ok(Benched { told, counts, rounds, from, foreign, stores, steps, switches, rescues, again, is_certain, shown, trace })
+    Ok(Benched { told, counts, rounds, from, foreign, stores, steps, switches, rescues, again, is_certain, event, shown, trace })
 }
 
 impl Plan {
@@ -379,6 +389,10 @@ impl Plan {
             // A bench that is given up would leave threads behind that use the memory.
             patience: 0,
             progress: null_mut(),
+            blinds: self.blinds,
+            event: self.event,
+            legs: null_mut(),
+            listing: null_mut(),
         }
     }
 }

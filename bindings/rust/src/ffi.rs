@@ -71,6 +71,10 @@ pub struct Plan {
     pub plain: u64,
     pub patience: u64,
     pub progress: *mut c_void,
+    pub blinds: u64,
+    pub event: u64,
+    pub legs: *mut c_void,
+    pub listing: *mut c_void,
 }
 
 /// How many bytes tell what the orders of C++20 have shown.
@@ -89,6 +93,10 @@ pub struct Benched {
     pub rescues: u64,
     pub again: Plan,
     pub is_certain: bool,
+    pub event: u64,
+    pub rejected: u64,
+    pub leg: Plan,
+    pub is_undelayed: bool,
     pub shown: [c_char; MOST_SHOWN],
 }
 
@@ -151,10 +159,11 @@ mod tests {
         layout!(to, Memory, "tmwatch_memory", memory tx_size begin read write add commit abort run);
         layout!(
             to, Plan, "tmwatch_plan", rounds seed threads registers calls attempts writes adds aborts pause seconds schedule start trace
-            mixes round orders plain patience progress
+            mixes round orders plain patience progress blinds event legs listing
         );
         layout!(
-            to, Benched, "tmwatch_benched", told counts rounds from foreign stores steps switches rescues again is_certain shown
+            to, Benched, "tmwatch_benched", told counts rounds from foreign stores steps switches rescues again is_certain event rejected
+            leg is_undelayed shown
         );
         to
     }
@@ -163,7 +172,7 @@ mod tests {
     fn statuses(to: &mut String) {
         let names = "NO_HANDLE FULL_HANDLE BAD_REGISTERS BAD_START BAD_BOUNDS BAD_SIZE BAD_LIMIT MEMORY FULL SPENT BAD_KIND BAD_REGISTER \
                      MISSING CLOSING OUT_OF_TURN NOT_CALL MISFIT";
-        for (name, number) in names.split(' ').zip(1..) {
+        for (name, number) in names.split(' ').zip(1..).chain([("NO_PROGRESS", Status::NoProgress as u32)]) {
             let status = Status::check(number).unwrap_err();
             assert_eq!(status as u32, number);
             assert_eq!(format!("{status:?}").to_uppercase(), name.replace('_', ""));
@@ -192,6 +201,8 @@ mod tests {
             ("round", plan.round),
             ("orders", plan.orders.map_or(crate::DRAWN, |orders| orders as u64)),
             ("plain", u64::from(plan.plain)),
+            ("blinds", plan.blinds),
+            ("event", plan.event),
         ] {
             same(&format!("plan.{name}"), number);
         }

@@ -41,9 +41,11 @@ pub enum Status {
     NotCall = 16,
     /// A memory's `run` has returned true, but the attempt's `calls` has not.
     Misfit = 17,
+    /// The memory has lost progress: a transaction that ran alone was rolled back again and again. Standard error says which.
+    NoProgress = 33,
 }
 
-const STATUSES: [(Status, &str); 17] = [
+const STATUSES: [(Status, &str); 18] = [
     (Status::NoHandle, "the watch has been closed"),
     (Status::FullHandle, "a handle is not empty"),
     (Status::BadRegisters, "not 1 to 8 registers"),
@@ -61,6 +63,7 @@ const STATUSES: [(Status, &str); 17] = [
     (Status::OutOfTurn, "a memory's `run` has made an attempt's calls twice"),
     (Status::NotCall, "what is to be a transaction's next call is none"),
     (Status::Misfit, "a memory's `run` has returned true, but its attempt's `calls` has not"),
+    (Status::NoProgress, "a transaction that ran alone was rolled back again and again"),
 ];
 
 impl Status {
@@ -68,14 +71,15 @@ impl Status {
     pub(crate) fn check(number: u32) -> Result<(), Status> {
         match number {
             0 => Ok(()),
-            _ => Err(STATUSES[number as usize - 1].0),
+            _ => Err(STATUSES.iter().find(|(status, _)| *status as u32 == number).expect("a status of the library").0),
         }
     }
 }
 
 impl fmt::Display for Status {
     fn fmt(&self, to: &mut fmt::Formatter<'_>) -> fmt::Result {
-        to.write_str(STATUSES[*self as usize - 1].1)
+        let text = STATUSES.iter().find(|(status, _)| status == self).map_or("", |(_, text)| text);
+        to.write_str(text)
     }
 }
 

@@ -282,7 +282,7 @@ fn a_plan_out_of_range_is_refused() {
     assert_eq!(refused(Plan { rounds: 0, ..Plan::default() }), Status::BadBounds);
     assert_eq!(refused(Plan { mixes: 101, ..Plan::default() }), Status::BadBounds);
     assert_eq!(refused(Plan { orders: Some(Orders::X86), ..Plan::default() }), Status::BadBounds);
-    assert_eq!(refused(Plan { round: 5001, ..Plan::default() }), Status::BadBounds);
+    assert_eq!(refused(Plan { round: 20001, ..Plan::default() }), Status::BadBounds);
     // One by permits is never out of range; in rounds, eight attempts are.
     assert_eq!(refused(Plan { attempts: 8, ..Plan::default() }), Status::BadBounds);
     assert!(bench(&Sequence::new(false), &Plan { rounds: 5, attempts: 8, schedule: Schedule::Permits, ..Plan::default() }).is_ok());
