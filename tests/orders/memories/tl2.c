@@ -1,7 +1,7 @@
 /*
 TL2 (Dice, Shalev and Shavit, DISC 2006) with the weakest orders that are right in C11, reads as Boehm's seqlocks (MSPC 2012). By -DLOADS
-it has an acquire load and release stores of the data in place of two fences. By -DFREE the lock is taken by a relaxed operation, which is
-right here: each register is read before it is written, so that its last commit is known.
+it has an acquire load and release stores of the data in place of two fences. By -DFREE the lock is taken relaxed: a
+blind write may then come before the one that it follows.
 
 WRONG: 1 the clock is loaded relaxed (wrong with LOADS alone: else a fence follows before the second look); 2 the first look at a lock is
 relaxed; 3 no acquire fence between data and second look; 5 no release fence between lock and data; 6, 7, 8 the clock is raised relaxed, by
