@@ -33,7 +33,7 @@ by_steps() {
         --release --example lock --target x86_64-unknown-linux-gnu "${@:2}"
 }
 if by_steps build >"$folder/output" 2>&1; then
-    ends 'each access a step' 0 by_steps run -- --schedule steps --rounds 500 --buffers
+    ends 'each access a step' 0 by_steps run -- --schedule steps --rounds 500 --orders x86
     has_told 'each access a step: no rescue' '"rescues":0,"rounds":500,'
 else
     echo "each access a step: skipped, since the compiler has it not: $(tail -n 1 "$folder/output")"

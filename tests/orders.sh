@@ -21,15 +21,15 @@ compile_model() {
         "${@:2}" -o "$1/$test" "$folder/tests/orders/$test.c" || return
     done
 }
-mkdir -p "$folder/tests" "$folder/bench-c" "$folder/right" "$folder/wrong"
+mkdir -p "$folder/tests" "$folder/bench-c" "$folder/models"
 cp -r "$top/tests/orders" "$top/tests/c" "$folder/tests"
 cp -r "$top/bench-c/instrumented" "$folder/bench-c"
 last=true
-ends 'the tests of the model compile' 0 compile_model "$folder/right" "${strict[@]}"
-ends 'litmus tests' 0 "$folder/right/litmus" 50000
-ends 'random runs' 0 "$folder/right/random" 100000
-ends 'all executions of small programs' 0 "$folder/right/complete" 100 20000
-ends 'plain accesses, and others that are not simulated' 0 "$folder/right/plain"
+ends 'the tests of the model compile' 0 compile_model "$folder/models" "${strict[@]}"
+ends 'litmus tests' 0 "$folder/models/litmus" 50000
+ends 'random runs' 0 "$folder/models/random" 100000
+ends 'all executions of small programs' 0 "$folder/models/complete" 100 20000
+ends 'plain accesses, and others that are not simulated' 0 "$folder/models/plain"
 unset last
 
 # Whether one of the model's tests fails, which stand in the order of their time.
@@ -37,8 +37,8 @@ is_noticed() {
     local test words
     for test in 'litmus 5000' plain 'random 50000' complete; do
         read -r -a words <<<"$test"
-        "$cc" -std=c11 -O1 -w "-I$top/include" -o "$folder/wrong/test" "$folder/tests/orders/${words[0]}.c"
-        timeout 60 "$folder/wrong/test" "${words[@]:1}" >"$folder/printed" 2>&1 || { echo "by ${words[0]}" && return; }
+        "$cc" -std=c11 -O1 -w "-I$top/include" -o "$folder/models/test" "$folder/tests/orders/${words[0]}.c"
+        timeout 60 "$folder/models/test" "${words[@]:1}" >"$folder/printed" 2>&1 || { echo "by ${words[0]}" && return; }
     done
     return 1
 }
@@ -107,4 +107,74 @@ mistake 'a plain load races with an atomic one' races.c 's/(is_made || is_store(
 mistake 'a plain access races with no atomic one' races.c 's/it->at < end \&\&/it->at > end \&\&/'
 mistake 'a race across words is not seen' races.c 's/i < MOST_WORDS \&\&/i < 1 \&\&/'
 mistake 'what is freed races' races.c '/^static void forget_cells/,/^}/s/        if (it)/        if (false)/'
+
+# Memories by --orders c++, over the bench of this folder. Each is compiled with marks: its program's name, its file, and further words.
+use_library
+build_bench "$cc" -std=c11 -O2 -pthread "-I$top/include"
+link=("$waits" "$blocks" "$folder/lib/libtmwatch_steps.a" "$folder/lib/libtmwatch_bench.a" "$built/lib/libtmwatch.a")
+marked() {
+    ends "$1 compiles" 0 "$cc" -std=c11 -O2 -g -Wall -Wextra -fsanitize=thread -Wno-tsan -Wno-unknown-warning-option "-I$top/include" "${@:3}" \
+        -c -o "$folder/memory.o" "$top/tests/orders/$2.c"
+    ends "$1 is linked" 0 "$cc" -pthread -o "$folder/$1" "$folder/memory.o" "${link[@]}"
+}
+
+# Of each memory the right one stays so, and one that is too weak is found. What it lacks is no matter to sequential steps.
+for name in tl2:5 norec:7 sequence:2 undo:2 versions:1 readers:3 two_phase:2 root:1 tml:3 ring:7 hazards:5 owners:5 sides:4; do
+    memory=${name%:*}
+    marked right "memories/$memory"
+    ends "$memory" 0 "$folder/right" --schedule steps --orders c++ --rounds 1000
+    has_told "$memory: rescues" '"rescues":0,'
+    marked wrong "memories/$memory" "-DWRONG=${name#*:}"
+    ends "$memory, too weak" 1 "$folder/wrong" --schedule steps --orders c++
+    ends "$memory, too weak, by sequential steps" 0 "$folder/wrong" --schedule steps --orders sequential --rounds 500
+done
+
+# By default too. A violation comes again by its words, on one processor and on several, and says which loads were stale, and where.
+marked wrong memories/sequence -DWRONG=4
+ends 'a weak order, by default' 1 "$folder/wrong" --trace "$folder/one"
+cp "$folder/output" "$folder/told"
+read -r -a words < <(sed -n 's/^{"again":"\(.*\)","certain":true}$/\1/p' "$folder/told") || true
+ends 'a weak order: the words that make it again' 0 test "${#words[@]}" -ge 4
+for processors in 0 "0-$(($(nproc) - 1))"; do
+    ends "a weak order, again on $processors" 1 taskset -c "$processors" "$folder/wrong" "${words[@]}" --trace "$folder/two"
+    has_told "a weak order, again on $processors: the same line" -F "$(grep -m 1 'stale load' "$folder/told")"
+    ends "a weak order, again on $processors: the same trace" 0 cmp "$folder/one" "$folder/two"
+done
+line_of() {
+    grep -n -m 1 "$1" "$top/tests/orders/memories/sequence.c" | cut -d : -f 1
+}
+mkdir -p "$folder/none"
+if has addr2line 'lines of the source'; then
+    ends 'a weak order: the lines' 0 grep -qE "^  stale load: thread [0-3] at sequence.c:$(line_of 'DATA_LOAD)') \(read\) does not see the \
+store of thread [0-3] at sequence.c:$(line_of 'it->written.reg., DATA_STORE') \(commit\)" "$folder/told"
+fi
+ends 'a weak order, without addr2line' 1 env "PATH=$folder/none" "$folder/wrong" "${words[@]}"
+has_told 'a weak order, without addr2line: the address' -E '^  stale load: thread [0-3] at 0x[0-9a-f]+ does not see the store of thread [0-3]'
+
+# Plain data races where the lock that guards it is too weak; a right one does not.
+marked right memories/global -DLOCK=MCS -DPLAIN
+ends 'plain data under a lock' 0 "$folder/right" --schedule steps --orders c++ --rounds 500
+cp "$folder/output" "$folder/told"
+ends 'plain data under a lock: no race' 1 grep race "$folder/told"
+marked wrong memories/global -DLOCK=MCS -DWRONG=4 -DPLAIN
+ends 'plain data under a weak lock' 0 "$folder/wrong" --schedule steps --orders c++ --rounds 500
+has_told 'plain data under a weak lock: the race' -E '^a race, .*: thread [0-3] (loads|stores) plainly at [^ ]+ \([a-z]+\), thread [0-3] (loads|stores) plainly at'
+
+# What isn't marked is named, where it is met.
+marked unmarked unmarked -DKIND=STORES
+ends 'an unlock by inline assembly' 1 "$folder/unmarked" --schedule steps --orders c++
+has_told 'an unlock by inline assembly: what is told' '^code that the compiler has not marked stores to what is loaded at .*may be false$'
+marked unmarked unmarked -DKIND=FUTEX
+ends 'a lock by inline assembly' 1 "$folder/unmarked" --schedule steps --orders c++
+has_told 'a lock by inline assembly: what is told' '^a lock or a wait of code that the compiler has not marked, in .*may be false$'
+link=("${link[@]:1}")
+marked unseen memories/global -DLOCK=MUTEX
+ends 'a mutex that is not wrapped' 1 "$folder/unseen" --schedule steps --orders c++
+has_told 'a mutex that is not wrapped: what is told' 'without the words --wrap='
+
+marked two two_benches
+ends 'two benches at once' 0 "$folder/two"
+ends 'orders by rounds' 4 "$folder/wrong" --schedule rounds --orders c++
+has_told 'orders by rounds: why' '^--orders c++: by steps alone$'
+ends 'other orders' 4 "$folder/wrong" --orders arm
 end_rows

@@ -160,7 +160,7 @@ rows 'undo log' right bench undo_NONE
 rows 'a lock for each register' right bench locks_NONE
 rows 'NOrec that restarts by longjmp' right bench jumping
 rows 'one sequence' right bench sequence_NONE
-rows 'visible readers, delayed stores' right bench readers_NONE --buffers
+rows 'visible readers, delayed stores' right bench readers_NONE --orders x86
 if has "$cxx" 'memories in C++'; then
     in_cpp lock tests/c/bench_lock.cpp NONE
     in_cpp class tests/c/bench_class.cpp NONE
@@ -198,5 +198,5 @@ rows 'undo log, an abort keeps the version' broken bench undo_VERSION
 rows 'undo log, clock by load and store' broken bench undo_CLOCK
 rows 'a lock given back early' broken bench locks_EARLY
 rows 'one sequence, wraps after 4 commits' broken bench sequence_WRAP
-rows 'visible readers, no fence' broken bench readers_FENCE --buffers
+rows 'visible readers, no fence' broken bench readers_FENCE --orders x86
 end_rows

@@ -51,12 +51,15 @@ static FILE *start_addr2line(const struct loaded *it, pid_t *child)
     return printed;
 }
 
-/* Reads a line without its end: whether there is one. */
+/* Reads a line without its end, and without what addr2line says of parts of a line: whether there is one. */
 static bool read_line(FILE *file, char line[MOST_LINE])
 {
     if (!fgets(line, MOST_LINE, file))
         return false;
     line[strcspn(line, "\n")] = '\0';
+    char *part = strstr(line, " (discriminator ");
+    if (part)
+        *part = '\0';
     return true;
 }
 

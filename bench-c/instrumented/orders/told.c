@@ -49,7 +49,7 @@ void tmwatch_orders_tell(const tmwatch_simulation *o, FILE *file, uint64_t from,
         if (found != i)
             continue;
         if (told++ == 0)
-            fputs("what C++20 allows and no lock, acquire, release or fence forbids, in this round before the violation:\n", file);
+            fputs("the orders of C++20 allow this, in this round before the violation:\n", file);
         tell_deviation(it, count, file);
     }
     if (told == 0 && first > 0 && o->deviations[first % KEPT_DEVIATIONS].event >= from)

@@ -1,6 +1,6 @@
 /*
 One lock over all, held from the first call to the end; the words are relaxed. -DLOCK: TICKET, MCS (Mellor-Crummey and Scott, TOCS 1991),
-BAKERY (Lamport, CACM 1974), MUTEX (of pthread).
+BAKERY (Lamport, CACM 1974), MUTEX (of pthread). By -DPLAIN the words are plain.
 
 WRONG: ticket: 1 the wait is relaxed, 2 the unlock. MCS: 3 the wait is relaxed, 4 the hand-over, 5 the unlock without a successor, 6 taking a
 free lock, 12 the link to the next. Bakery: 7 the number is stored by release and without a fence, 9 the unlock is relaxed, 11 no fence after
@@ -10,7 +10,15 @@ the choice has begun; 8 numbers are loaded by acquire, 10 the choice is ended re
 #include <pthread.h>
 
 enum lock { TICKET, MCS, BAKERY, MUTEX };
+#ifdef PLAIN
+static uint64_t words[REGISTERS];
+#define LOAD_WORD(reg) words[reg]
+#define STORE_WORD(reg, value) words[reg] = value
+#else
 static _Atomic uint64_t words[REGISTERS];
+#define LOAD_WORD(reg) LOAD(words[reg], relaxed)
+#define STORE_WORD(reg, value) STORE(words[reg], value, relaxed)
+#endif
 
 static _Atomic uint64_t next, serving;
 
@@ -110,13 +118,13 @@ static void cancel(void *memory, void *tx)
     struct tx *it = tx;
     for (unsigned reg = 0; reg < REGISTERS; reg++)
         if (it->writes[reg])
-            STORE(words[reg], it->before[reg], relaxed);
+            STORE_WORD(reg, it->before[reg]);
     commit(memory, tx);
 }
 
 static bool read(void *memory UNUSED, void *tx UNUSED, unsigned reg, uint64_t *value)
 {
-    *value = LOAD(words[reg], relaxed);
+    *value = LOAD_WORD(reg);
     return true;
 }
 
@@ -124,9 +132,9 @@ static bool write(void *memory UNUSED, void *tx, unsigned reg, uint64_t value)
 {
     struct tx *it = tx;
     if (!it->writes[reg])
-        it->before[reg] = LOAD(words[reg], relaxed);
+        it->before[reg] = LOAD_WORD(reg);
     it->writes[reg] = true;
-    STORE(words[reg], value, relaxed);
+    STORE_WORD(reg, value);
     return true;
 }
 
