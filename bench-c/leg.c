@@ -56,7 +56,7 @@ static void tell_orders(const struct bench *b, tmwatch_benched *out)
         tmwatch_orders_tell(b->orders, file, b->steps.starts[out->rounds % STARTS], out->told.at);
     tmwatch_orders_tell_unseen(b->orders, file, is_violated);
     if (is_violated && !tmwatch_step_sees_waits())
-        fputs("what locks of pthread order is not seen: the program is linked without the words --wrap=..\n", file);
+        fputs("if the memory has locks of pthread: what they order is not seen, since the program is linked without --wrap=.. (tmwatch_steps.pc)\n", file);
     fclose(file);
 }
 

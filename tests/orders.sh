@@ -170,7 +170,7 @@ has_told 'a lock by inline assembly: what is told' '^a lock or a wait of code th
 link=("${link[@]:1}")
 marked unseen memories/global -DLOCK=MUTEX
 ends 'a mutex that is not wrapped' 1 "$folder/unseen" --schedule steps --orders c++
-has_told 'a mutex that is not wrapped: what is told' 'without the words --wrap='
+has_told 'a mutex that is not wrapped: what is told' 'without --wrap='
 
 marked two two_benches
 ends 'two benches at once' 0 "$folder/two"
