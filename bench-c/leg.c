@@ -45,17 +45,23 @@ static void count_threads(struct bench *b, tmwatch_benched *out)
     }
 }
 
-/* Tells what the orders of C++20 have shown: of the violated round, and of what they don't see. */
-static void tell_orders(const struct bench *b, tmwatch_benched *out)
+/* How long an access takes at most that is under way, in microseconds. */
+enum { MOST_ACCESS = 10000 };
+
+/* Tells what the orders of C++20 have shown: of the round that is violated or stuck, and of what they don't see. */
+static void tell_orders(struct bench *b, tmwatch_benched *out)
 {
     FILE *file = fmemopen(out->shown, sizeof out->shown, "w");
-    bool is_violated = out->told.verdict == TMWATCH_VIOLATED;
+    bool is_wrong = out->told.verdict == TMWATCH_VIOLATED || b->is_stuck;
     if (!file)
         return;
-    if (is_violated)
-        tmwatch_orders_tell(b->orders, file, b->steps.starts[out->rounds % STARTS], out->told.at);
-    tmwatch_orders_tell_unseen(b->orders, file, is_violated);
-    if (is_violated && !tmwatch_step_sees_waits())
+    b->is_told = true;
+    if (b->is_stuck)
+        nap(MOST_ACCESS);
+    if (is_wrong)
+        tmwatch_orders_tell(b->orders, file, b->steps.starts[out->rounds % STARTS], b->is_stuck ? UINT64_MAX : out->told.at);
+    tmwatch_orders_tell_unseen(b->orders, file, is_wrong);
+    if (is_wrong && !tmwatch_step_sees_waits())
         fputs("if the memory has locks of pthread: what they order is not seen, since the program is linked without --wrap=.. (tmwatch_steps.pc)\n", file);
     fclose(file);
 }
@@ -76,7 +82,7 @@ static uint32_t run_watched(struct bench *b, tmwatch_benched *out)
     b->session->has_steps = b->session->has_steps || b->steps.inner > 0;
     b->session->looked = b->looked;
     count_threads(b, out);
-    if (b->orders && !b->is_stuck)
+    if (b->orders)
         tell_orders(b, out);
     if (status == TMWATCH_DONE && (b->is_stuck || out->rejected > 0))
         tell_lost(b);

@@ -47,9 +47,10 @@ static void tell_status(uint32_t status, const tmwatch_benched *benched)
     if (is_lost)
         print_again(stdout, benched);
     fflush(stdout);
-    if (is_lost)
+    if (is_lost) {
         tell_again(benched);
-    else if (status == TMWATCH_MISFIT)
+        fputs(benched->shown, stderr);
+    } else if (status == TMWATCH_MISFIT)
         fputs("`run` has answered true, and tmwatch_calls has not\n", stderr);
     else if (status == TMWATCH_OUT_OF_TURN)
         fputs("`run` has called tmwatch_calls twice in one attempt\n", stderr);

@@ -40,7 +40,8 @@ bool tmwatch_step_is_run(void)
 
 tmwatch_simulation *tmwatch_step_orders(void)
 {
-    return this_thread && this_thread->how.orders && tmwatch_step_is_run() ? this_thread->how.orders : NULL;
+    bool is_simulated = this_thread && this_thread->how.orders && !this_thread->bench->is_told && tmwatch_step_is_run();
+    return is_simulated ? this_thread->how.orders : NULL;
 }
 
 enum tmwatch_step_waited tmwatch_step_wait(const void *lock)

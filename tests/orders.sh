@@ -6,13 +6,16 @@
 #
 # A line for each row. The last one is 'N passed, M failed', and the exit status is 1 if a row failed. Without a C compiler nothing is
 # tested: a line says so, and the status is 0.
-# Environment: CC (cc), BUILT (tests/common.sh).
+# Environment: CC (cc), BUILT (tests/common.sh), FLAGS (further flags of the compiler: no mistake is then planted, and by -fsanitize=thread no
+# memory runs).
 set -eu
 # shellcheck source=tests/common.sh
 . "$(dirname "${BASH_SOURCE[0]}")/common.sh"
 cc=${CC:-cc}
 has "$cc" tests/orders.sh || exit 0
-strict=("$cc" -std=c11 -Wall -Wextra -Wconversion -Werror -g -O2 -pthread "-I$top/include")
+read -r -a flags <<<"${FLAGS:-}"
+strict=("$cc" -std=c11 -Wall -Wextra -Wconversion -Werror -g -O2 -pthread "-I$top/include" "${flags[@]}")
+[ "${FLAGS:-}" != -fsanitize=thread ] || strict+=(-Wno-tsan)
 
 # The model's tests, over the model in this folder: where the programs go, and the words for the compiler.
 compile_model() {
@@ -46,6 +49,7 @@ is_noticed() {
 # A mistake: its name, the file, and the change.
 mistake() {
     local file=bench-c/instrumented/orders/$2
+    [ ${#flags[@]} -eq 0 ] || return 0
     sed "$3" "$top/$file" >"$folder/$file"
     ends "$1: planted" 1 cmp -s "$top/$file" "$folder/$file"
     last=true ends "$1: noticed" 0 is_noticed
@@ -109,13 +113,17 @@ mistake 'a race across words is not seen' races.c 's/i < MOST_WORDS \&\&/i < 1 \
 mistake 'what is freed races' races.c '/^static void forget_cells/,/^}/s/        if (it)/        if (false)/'
 
 # Memories by --orders c++, over the bench of this folder. Each is compiled with marks: its program's name, its file, and further words.
+if [ "${FLAGS:-}" = -fsanitize=thread ]; then
+    end_rows
+    exit
+fi
 use_library
-build_bench "$cc" -std=c11 -O2 -pthread "-I$top/include"
+build_bench "$cc" -std=c11 -O2 -g -pthread "-I$top/include" "${flags[@]}"
 link=("$waits" "$blocks" "$folder/lib/libtmwatch_steps.a" "$folder/lib/libtmwatch_bench.a" "$built/lib/libtmwatch.a")
 marked() {
     ends "$1 compiles" 0 "$cc" -std=c11 -O2 -g -Wall -Wextra -fsanitize=thread -Wno-tsan -Wno-unknown-warning-option "-I$top/include" "${@:3}" \
         -c -o "$folder/memory.o" "$top/tests/orders/$2.c"
-    ends "$1 is linked" 0 "$cc" -pthread -o "$folder/$1" "$folder/memory.o" "${link[@]}"
+    ends "$1 is linked" 0 "$cc" "${flags[@]}" -pthread -o "$folder/$1" "$folder/memory.o" "${link[@]}"
 }
 
 # Of each memory the right one stays so, and one that is too weak is found. What it lacks is no matter to sequential steps.
@@ -160,10 +168,15 @@ marked wrong memories/global -DLOCK=MCS -DWRONG=4 -DPLAIN
 ends 'plain data under a weak lock' 0 "$folder/wrong" --schedule steps --orders c++ --rounds 500
 has_told 'plain data under a weak lock: the race' -E '^a race, .*: thread [0-3] (loads|stores) plainly at [^ ]+ \([a-z]+\), thread [0-3] (loads|stores) plainly at'
 
+# A memory that never returns tells it too.
+marked wrong memories/global -DLOCK=MCS -DWRONG=12
+ends 'a lost hand-over' 4 "$folder/wrong" --schedule steps --orders c++ --patience 1
+has_told 'a lost hand-over: the order' -E '^  (stale load|late store): thread [0-3] at '
+
 # What isn't marked is named, where it is met.
 marked unmarked unmarked -DKIND=STORES
 ends 'an unlock by inline assembly' 1 "$folder/unmarked" --schedule steps --orders c++
-has_told 'an unlock by inline assembly: what is told' '^code that the compiler has not marked stores to what is loaded at .*may be false$'
+has_told 'an unlock by inline assembly: what is told' '^code that the compiler has not marked, or .* stores to what is loaded at .*may be false$'
 marked unmarked unmarked -DKIND=FUTEX
 ends 'a lock by inline assembly' 1 "$folder/unmarked" --schedule steps --orders c++
 has_told 'a lock by inline assembly: what is told' '^a lock or a wait of code that the compiler has not marked, in .*may be false$'

@@ -73,7 +73,7 @@ WEAK void tmwatch_orders_futex(tmwatch_simulation *orders, const volatile void *
 /* Tells where in the program loads did not return the newest value, from this length of the record to that, and what they missed. */
 WEAK void tmwatch_orders_tell(const tmwatch_simulation *orders, FILE *file, uint64_t from, uint64_t to);
 
-/* Tells the first race of plain accesses; and, of a run that is violated, what was met that isn't simulated. */
-WEAK void tmwatch_orders_tell_unseen(const tmwatch_simulation *orders, FILE *file, bool is_violated);
+/* Tells the first race of plain accesses; and, of a run that is wrong, what was met that isn't simulated. */
+WEAK void tmwatch_orders_tell_unseen(const tmwatch_simulation *orders, FILE *file, bool is_wrong);
 #undef WEAK
 #endif

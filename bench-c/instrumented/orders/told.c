@@ -49,7 +49,7 @@ void tmwatch_orders_tell(const tmwatch_simulation *o, FILE *file, uint64_t from,
         if (found != i)
             continue;
         if (told++ == 0)
-            fputs("the orders of C++20 allow this, in this round before the violation:\n", file);
+            fputs("the orders of C++20 allow this, in this round before what went wrong:\n", file);
         tell_deviation(it, count, file);
     }
     if (told == 0 && first > 0 && o->deviations[first % KEPT_DEVIATIONS].event >= from)
@@ -62,9 +62,9 @@ static const char *name_of(enum access_kind kind)
     return names[kind];
 }
 
-void tmwatch_orders_tell_unseen(const tmwatch_simulation *o, FILE *file, bool is_violated)
+void tmwatch_orders_tell_unseen(const tmwatch_simulation *o, FILE *file, bool is_wrong)
 {
-    static const char *const unseen[] = {"code that the compiler has not marked stores to what is loaded at ",
+    static const char *const unseen[] = {"code that the compiler has not marked, or a thread of the memory's own, stores to what is loaded at ",
                                          "a lock or a wait of code that the compiler has not marked, in "};
     if (o->has_race) {
         fprintf(file, "a race, which C++20 leaves undefined: thread %u %s at ", o->race.thread, name_of(o->race.kind));
@@ -76,7 +76,7 @@ void tmwatch_orders_tell_unseen(const tmwatch_simulation *o, FILE *file, bool is
         }
         fputc('\n', file);
     }
-    for (unsigned i = 0; i < UNSEEN_KINDS && is_violated; i++) {
+    for (unsigned i = 0; i < UNSEEN_KINDS && is_wrong; i++) {
         if (o->unseen[i] == 0)
             continue;
         fputs(unseen[i], file);
