@@ -6,16 +6,19 @@
 #
 # A line for each row. The last one is 'N passed, M failed', and the exit status is 1 if a row failed. Without a C compiler nothing is
 # tested: a line says so, and the status is 0.
-# Environment: CC (cc), BUILT (tests/common.sh), FLAGS (further flags of the compiler: no mistake is then planted, and by -fsanitize=thread no
-# memory runs).
+# Environment: CC (cc), BUILT (tests/common.sh), FLAGS (further flags of the compiler: no mistake is then planted, and by -fsanitize=thread
+# nothing runs: the model goes by one thread, and memories are compiled so already).
 set -eu
 # shellcheck source=tests/common.sh
 . "$(dirname "${BASH_SOURCE[0]}")/common.sh"
 cc=${CC:-cc}
 has "$cc" tests/orders.sh || exit 0
+if [ "${FLAGS:-}" = -fsanitize=thread ]; then
+    echo 'tests/orders.sh: skipped, by -fsanitize=thread'
+    exit 0
+fi
 read -r -a flags <<<"${FLAGS:-}"
 strict=("$cc" -std=c11 -Wall -Wextra -Wconversion -Werror -g -O2 -pthread "-I$top/include" "${flags[@]}")
-[ "${FLAGS:-}" != -fsanitize=thread ] || strict+=(-Wno-tsan)
 
 # The model's tests, over the model in this folder: where the programs go, and the words for the compiler.
 compile_model() {
@@ -113,10 +116,6 @@ mistake 'a race across words is not seen' races.c 's/i < MOST_WORDS \&\&/i < 1 \
 mistake 'what is freed races' races.c '/^static void forget_cells/,/^}/s/        if (it)/        if (false)/'
 
 # Memories by --orders c++, over the bench of this folder. Each is compiled with marks: its program's name, its file, and further words.
-if [ "${FLAGS:-}" = -fsanitize=thread ]; then
-    end_rows
-    exit
-fi
 use_library
 build_bench "$cc" -std=c11 -O2 -g -pthread "-I$top/include" "${flags[@]}"
 link=("$waits" "$blocks" "$folder/lib/libtmwatch_steps.a" "$folder/lib/libtmwatch_bench.a" "$built/lib/libtmwatch.a")
