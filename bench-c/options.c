@@ -121,14 +121,23 @@ static const char *read_words(struct given *given, char **words)
     return wrong;
 }
 
+/* Whether a plan has the same number without this option. */
+static bool is_left_out(const tmwatch_plan *plan, size_t to)
+{
+    if (to == TO(rounds))
+        return plan->round > 0 || plan->rounds == UINT64_MAX;
+    if (to == TO(orders))
+        return plan->schedule != TMWATCH_ALL && plan->orders == TMWATCH_SEQUENTIAL;
+    return to == TO(patience);
+}
+
 void tmwatch_bench_words(FILE *file, const tmwatch_plan *given)
 {
     tmwatch_plan plan = *given, usual = TMWATCH_PLAN;
     const char *before = "";
     for (const struct option *option = options; option->to != SIZE_MAX; option++) {
         uint64_t number = *number_of(&plan, option->to);
-        bool is_left_out = option->to == TO(rounds) ? plan.round > 0 || number == UINT64_MAX : option->to == TO(patience);
-        if (is_left_out || (number == *number_of(&usual, option->to) && option->to != TO(seed)))
+        if (is_left_out(&plan, option->to) || (number == *number_of(&usual, option->to) && option->to != TO(seed)))
             continue;
         fprintf(file, "%s%s", before, option->name);
         if (choices_of(option->to))

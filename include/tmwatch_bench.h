@@ -13,7 +13,8 @@ That is a whole program, or by one call from a program of your own:
     if (tmwatch_bench(&memory, &plan, &benched) == TMWATCH_DONE)
         tmwatch_bench_print(stdout, &benched);
 
-Link libtmwatch_bench.a before libtmwatch.a. No proof covers the bench; the verdict is the watch's.
+Link libtmwatch_bench.a before libtmwatch.a; pkg-config has the words (tmwatch_bench, tmwatch_steps). No proof covers the bench; the verdict
+is the watch's.
 
 In a round each thread makes its share of transactions, and then all wait for one another. A transaction that is rolled back is attempted
 again, and a round has at most eight attempts, so that its run is decided. In an even round each thread makes one transaction; in a mixed
@@ -22,26 +23,30 @@ one, one thread makes a long transaction, and others several short ones.
 By steps, one thread runs at a time. Beside each call, and at each TMWATCH_PAUSE, it may hand over to another: the seed says when and to
 which. A round goes by walk, which hands over often, or by priorities, which starve a thread for long (PCT, by Burckhardt, Kothari,
 Musuvathi and Nagarakatte, ASPLOS 2010). If the memory decides nothing by time, address or chance, the same plan gives the same trace if
-`rescues` is 0. A thread that waits for another has TMWATCH_PAUSE in its loop, or the program is linked with
--Wl,--wrap=pthread_mutex_lock,--wrap=pthread_mutex_unlock,--wrap=sched_yield. Else a rescue lets another thread go too, once the one that
-runs has made no step for fifty milliseconds of a processor, or has slept as long; after ten rescues, for five.
+`rescues` is 0. A thread that waits for another has TMWATCH_PAUSE in its loop; or it waits by a mutex, a spin or read-write lock or a condition
+variable of pthread, by sched_yield or a futex, and the program is linked with the words of pkg-config, which wrap these. Else a rescue lets
+another thread go too, once the one that runs has made no step for fifty milliseconds of a processor, or has slept as long; after ten
+rescues, for five.
 
 By permits, the threads run freely, each attempt takes one of eight permits (tmwatch_permits.h), and a transaction is attempted as often
-as it takes: one that never commits, until plan.seconds are over.
+as it takes.
 
-By all, legs of up to 1000 rounds follow one another: five by steps, then in turn in rounds and by permits, and by steps after each. One
-in rounds or by permits takes half a second at most. In each leg but the first, what the plan leaves to be drawn is drawn anew. If the
-last look of a leg is rolled back, no other follows.
+By all, legs of up to 1000 rounds follow one another: twenty by steps, and then of twenty one in rounds, one by permits, and all others by
+steps. One in rounds or by permits takes a tenth of a second at most. If the memory has no step of its own, three of four go in rounds or by
+permits. In half of the legs but the first, what the plan leaves to be drawn is drawn anew. The threads are the same in all legs.
 
 No pause has to be placed by hand if the memory is compiled with -fsanitize=thread and linked without it, with libtmwatch_steps.a first:
 each atomic access is then a step, and by plan.plain each other one. By plan.orders an atomic store that isn't sequentially consistent
-may be delayed, as in the store buffers of x86; or each atomic load returns what C++20 lets it return, as the seed draws. What inline
-assembly and code compiled elsewhere does isn't seen. By all, legs that go by steps take these orders in turn.
+may be delayed, as in the store buffers of x86; or each atomic load returns what C++20 lets it return, as the seed draws; by all, each in one
+leg by steps of four. Stores to a thread's own bytes, its stack and `tx`, are never delayed, and those to a block only if the program is
+linked with the words of tmwatch_steps, which show when it is given back. What inline assembly and code compiled elsewhere do isn't seen.
 
 A call is recorded before the memory is asked, and its answer after it has answered; a transaction's first call, before the memory begins
 it. Each is recorded by turns (tmwatch_next, tmwatch_answered), so that no record is malformed. No two writes have the same value, and
-values have all 64 bits; a register is read before it is written, and an addend is any number below 2^64 - 1. Each 64th round and at the
-end, one thread reads all registers while the others wait; by permits, some time after each 512 attempts, and at the end.
+values have all 64 bits; a register is read before it is written, but in blind transactions, which do nothing but write; an addend is any
+number below 2^64 - 1. At first, after each 64th round and at the end, one thread looks: it reads all registers while the others wait; by
+permits, some time after each 512 attempts, and at the end. If no attempt to write a register has committed since the last look, it is
+written then, alone. A look that is rolled back is tried again, up to tens of thousands of times: then the memory has lost progress.
 
 What the program owes beside the duties of tmwatch.h. Nothing of it is tested:
 
@@ -93,7 +98,7 @@ enum tmwatch_schedule {
     TMWATCH_ROUNDS = 0,  /* in rounds, each thread with its share of at most eight attempts */
     TMWATCH_PERMITS = 1, /* freely, each attempt by one of eight permits */
     TMWATCH_STEPS = 2,   /* in rounds, one thread at a time: at each step the seed says which */
-    TMWATCH_ALL = 3      /* in legs: first by steps, then by each of these in turn */
+    TMWATCH_ALL = 3      /* in legs: mostly by steps, and by each of these in turn */
 };
 
 /* How the atomic accesses are ordered of a memory that is compiled for libtmwatch_steps.a. */
@@ -131,7 +136,7 @@ typedef struct tmwatch_plan {
     uint64_t plain;     /* 1: plain accesses are steps too (libtmwatch_steps.a); or 0 */
     uint64_t patience;  /* after so many seconds without an event the run is given up; 0: never */
     FILE *progress;     /* or null: here a line says twice a second how far the run is */
-    uint64_t blinds;    /* ** (10) of 100 transactions that write, how many do nothing but write, and read nothing before */
+    uint64_t blinds;    /* ** (10) of 100 transactions, how many do nothing but write, unless `writes` is 0 */
     uint64_t event;     /* with `round`: tmwatch_break is called before this event of the round instead; 0: before the round */
     FILE *legs;         /* or null: here a line for each leg has the words of its plan */
     FILE *listing;      /* or null: here the steps of the round that is wrong are listed: how many events of it precede the step, the
@@ -172,18 +177,20 @@ enum { TMWATCH_STUCK = 32, TMWATCH_NO_PROGRESS = 33 };
 
 /*
 Runs the plan's rounds on the memory, and tells in *benched what came out. Once the verdict is another than opaque so far, no further
-round begins, and by permits no attempt; some may have been run by then. The statuses come in this order; but for TMWATCH_DONE and
-TMWATCH_STUCK, *benched stays.
+round begins, and by permits no attempt; some may have been run by then. The statuses come in this order; but for TMWATCH_DONE,
+TMWATCH_STUCK and TMWATCH_NO_PROGRESS, *benched stays.
 
 TMWATCH_MISSING: a function that the memory has to have is null. TMWATCH_BAD_SIZE: not 1 to 8 threads. TMWATCH_BAD_REGISTERS: not 1 to 8.
-TMWATCH_BAD_START: as in tmwatch_open. TMWATCH_BAD_BOUNDS: the rounds, the calls, the attempts, a part of 100, the pause, the schedule or
-the round are out of their range; or orders are asked for, and the memory isn't compiled for libtmwatch_steps.a. TMWATCH_MEMORY: a growth
-of memory or a thread was refused, before or while the rounds ran. TMWATCH_MISFIT: `run` has answered true where tmwatch_calls has not.
-TMWATCH_OUT_OF_TURN: `run` has called tmwatch_calls twice in one attempt. TMWATCH_STUCK: no event came for plan.patience seconds. Standard
-error then tells where each thread is; the threads go on, so that neither they nor what they use is given back. Another status: as the
-watch answered.
+TMWATCH_BAD_START: as in tmwatch_open. TMWATCH_BAD_BOUNDS: the rounds, the calls, the attempts, a part of 100, the pause, the schedule, the
+round or the event are out of their range; or orders are asked for, and the memory isn't compiled for libtmwatch_steps.a. TMWATCH_MEMORY: a
+growth of memory or a thread was refused, before or while the rounds ran. TMWATCH_MISFIT: `run` has answered true where tmwatch_calls has not.
+TMWATCH_OUT_OF_TURN: `run` has called tmwatch_calls twice in one attempt. TMWATCH_STUCK: no event came for plan.patience seconds, or for half
+a second after tmwatch_bench_end. Standard error then tells where each thread is; the threads go on, so that neither they nor what they use
+is given back. TMWATCH_NO_PROGRESS: nothing was wrong, and a look was rolled back again and again; standard error says which transaction.
+Another status: as the watch answered.
 
-The trace ends with the event at length `at`, or with the last one if nothing is wrong. If something is, it begins after the last reading
+The trace ends with the event at length `at`, or with the last one if nothing is wrong, or with the first attempts of the look that was
+rolled back again and again. If something is, it begins after the last reading
 of all registers, whose values are its start; else with the leg, or with the earliest such reading among the last 131,072 events. Its `at`
 is the run's less benched->from.
 
@@ -197,8 +204,9 @@ TMWATCH_PURE bool tmwatch_calls(tmwatch_attempt *attempt);
 
 /*
 Prints lines of JSON: the report as `tmwatch judge` prints it; how the rounds went; the counts as `judge --summary` prints them; and, if
-something is wrong, the words that make it again. docs/FORMATS.md has them. Standard error then says those too, or, if nothing is wrong,
-why the run can't show much; and if the very first transaction is wrong, as from another start.
+something is wrong, the words that make it again, which are certain only if the plan has no start of its own. docs/FORMATS.md has them.
+Standard error then says those too, and the words of the leg; or, if nothing is wrong, why the run can't show much; if the very first
+transaction is wrong, as from another start; and what the bench hasn't seen.
 */
 void tmwatch_bench_print(FILE *file, const tmwatch_benched *benched);
 
@@ -214,7 +222,8 @@ TMWATCH_PURE unsigned tmwatch_thread(void);
 /* Ends all benches of the process, and those that begin later, as if their time were over. A signal handler may call it. */
 void tmwatch_bench_end(void);
 
-/* Does nothing. By steps it is called before the round plan.round, so that a debugger may stop there. */
+/* Does nothing. By steps it is called before the round plan.round, or before event plan.event of it, so that a debugger may stop there. The
+   first look is of round 1. */
 void tmwatch_break(void);
 
 /* Stands in the memory between two of its own steps, where threads are to meet under test. It is nothing unless TMWATCH_PAUSES is defined
@@ -227,9 +236,11 @@ void tmwatch_break(void);
 
 /*
 Runs the bench by a program's words, prints what came out, and answers with the exit status of `tmwatch judge`: the verdict's number, or 4
-where the words are wrong, something was refused, no event came for long, or a file can't be written. Standard error then says what.
---help and --version alone print what they say, with 0. Beside a trace, a file with .run after its name gets what is printed, and the
-words. The first SIGINT or SIGTERM ends the rounds, and a second one the program. The memory's registers hold 0 at first.
+where the words are wrong, something was refused, no event came for long, progress was lost, or a file can't be written. Standard error then
+says what. --help and --version alone print what they say, with 0. Beside a trace, a file with .run after its name gets what is printed, and
+the words, and one with .steps the steps of the round that is wrong. The first SIGINT or SIGTERM that isn't ignored ends the rounds, and a
+second one the program; what was set for them before is so again at the end. After TMWATCH_STUCK the program ends at once, by _Exit, since
+threads still use what it would destroy. The memory's registers hold 0 at first.
 */
 int tmwatch_bench_main(const tmwatch_memory *memory, int count, char **words);
 

@@ -53,6 +53,13 @@ paused jumping tests/c/bench_jumping.c NONE
 paused mutex tests/c/bench_stuck.c NONE "$waits"
 paused mutex_unseen tests/c/bench_stuck.c NONE
 
+# The time that a run by default takes, which is all that it has.
+timed_legs() {
+    local began=$EPOCHREALTIME
+    "$folder/$1" --seconds 3 >"$folder/printed"
+    since "$began" | awk '{ exit !($1 >= 2.9 && $1 < 5) }'
+}
+
 # The same seed gives the same trace, on one processor and on several; another seed another one.
 few=0 many=0-$(($(nproc) - 1))
 run_by_steps() {
@@ -93,6 +100,156 @@ if [ ${#flags[@]} -eq 0 ] && has gdb 'a stop before the round'; then
     ends 'a stop before the round: the same trace' 0 cmp "$folder/one" "$folder/two"
 fi
 
+# Each of these ends with words that repeat it for certain, or says that they need not: by further words, its status, and whether they do.
+repeats() {
+    local name=$1 status=$2 certain=$3 given
+    read -r -a given <<<"$4"
+    ends "$name $4" "$status" "$folder/$name" "${given[@]}" --trace "$folder/one"
+    cp "$folder/output" "$folder/told"
+    ends "$name $4: certain" 0 grep -q '^{"again":".*","certain":'"$certain"'}$' "$folder/told"
+    [ "$certain" = true ] || return 0
+    read -r -a given < <(again "$folder/told") || true
+    ends "$name $4, again" "$status" "$folder/$name" "${given[@]}" --trace "$folder/two"
+    ends "$name $4: the same trace" 0 cmp "$folder/one" "$folder/two"
+}
+sed 's/words\[8\];/words[8] = {0, 5};/' "$top/examples/c/norec.c" >"$folder/wrong_start.c"
+ends 'a wrong start compiles' 0 "$cc" "${strict[@]}" "-I$top/examples/c" -o "$folder/wrong_start" "$folder/wrong_start.c" "${bench[@]}"
+for words in '' '--schedule steps' '--schedule steps --seed 7 --seconds 9'; do
+    repeats wrong_start 1 true "$words"
+done
+repeats wrong_start 1 false '--schedule rounds'
+repeats wrong_start 1 false '--schedule permits'
+repeats norec_READS 1 true '--attempts 1 --seconds 9'
+repeats norec_READS 1 true '--schedule steps --blinds 60 --mixes 0 --plain'
+repeats norec_READS 1 true '--event 3 --round 900'
+repeats norec_READS 1 false '--schedule rounds'
+paused unlocked tests/c/bench_stuck.c UNLOCKED
+until_rescued() {
+    local seed
+    for seed in {1..20}; do
+        "$folder/unlocked" --schedule steps --seed "$seed" || [ $? -eq 1 ] || return
+        ! "$folder/unlocked" --schedule steps --seed "$seed" 2>&1 | grep -q '"rescues":[1-9]' || break
+    done
+    "$folder/unlocked" --schedule steps --seed "$seed"
+}
+ends 'a violation after a rescue' 1 until_rescued
+has_told 'a violation after a rescue is not certain' '"certain":false}$'
+# What a later leg finds is told by that leg's plan: without a mark, only threads that run at once find it.
+ends 'a memory without a mark compiles' 0 "$cc" "${strict[@]}" -DFAULT=BEFORE -o "$folder/unmarked" "$top/tests/c/bench_tl2.c" "${bench[@]}"
+repeats unmarked 1 false '--adds 0 --pause 1000 --seconds 60'
+ends 'a memory without a mark: by which schedule' 0 grep -q '"again":"--schedule [rp]' "$folder/told"
+
+# The round of the words is that of the wrong event: without it all is well. A right run ends with its round.
+read -r -a words < <("$folder/versions_AGAIN" --schedule steps --seed 3 2>/dev/null | sed -n 's/^{"again":"\(.*\)","certain":true}$/\1/p') || true
+round=${words[-1]:-1}
+ends 'one round less' 0 "$folder/versions_AGAIN" --schedule steps --seed 3 --round $((round - 1))
+# The wrong event is one of its round, also if it ends that.
+paused norec_COMMIT examples/c/norec.c COMMIT
+has_events() {
+    local seed
+    for seed in {1..40}; do
+        "$folder/norec_COMMIT" --schedule steps --seed "$seed" --threads 2 >"$folder/printed" 2>&1 || [ $? -eq 1 ]
+        grep -q 'with --event [1-9][0-9]* before its wrong event$' "$folder/printed"
+    done
+}
+ends 'a wrong event in its round' 0 has_events
+ends 'to a round' 0 "$folder/norec" --round 1234
+has_told 'to a round: no further' '"rounds":1234,'
+
+# A seed decides on the schedule too: here all else is the same.
+alike() {
+    "$folder/norec" --schedule steps --rounds 100 --threads 2 --registers 1 --calls 1 --writes 0 --adds 0 --aborts 0 --mixes 0 --blinds 0 \
+        --seed "$1" --trace "$folder/$2"
+}
+ends 'calls that are alike' 0 alike 1 one
+ends 'calls that are alike, by another seed' 0 alike 2 two
+ends 'calls that are alike: another trace' 1 cmp -s "$folder/one" "$folder/two"
+
+# What comes out of several legs is the sum of what comes out of each. (This memory goes the same way from any values.)
+sums() {
+    local of words
+    for of in aborted committed cuts overlapping transactions unasked steps switches; do
+        sed -n "s/.*\"$of\":\([0-9]*\)[,}].*/$of \1/p" "$1"
+    done
+}
+summed() {
+    "$folder/norec" --rounds 3000 --legs >"$folder/three" 2>"$folder/legs"
+    : >"$folder/each"
+    while read -r -a words; do
+        "$folder/norec" "${words[@]:2}" >"$folder/printed"
+        sums "$folder/printed" >>"$folder/each"
+    done <"$folder/legs"
+    diff <(sums "$folder/three" | sort) <(awk '{ sum[$1] += $2 } END { for (it in sum) print it, sum[it] }' "$folder/each" | sort)
+}
+ends 'what comes out of three legs' 0 summed
+# A last leg in which nothing overlaps doesn't say so of the run.
+overlapped() {
+    local seed words given=(--threads 2 --registers 8 --calls 1 --mixes 0 --aborts 0)
+    for seed in {1..60}; do
+        "$folder/norec" --rounds 1001 --seed "$seed" --legs "${given[@]}" >"$folder/whole" 2>"$folder/legs"
+        read -r -a words < <(sed -n 's/^leg 2: //p' "$folder/legs")
+        "$folder/norec" "${words[@]}" >"$folder/printed" 2>/dev/null
+        ! grep -q '"lacks":\[.*"overlap"' "$folder/printed" || break
+    done
+    grep -q '"lacks":\[.*"overlap"' "$folder/printed" && ! grep -q '"lacks":\[.*"overlap"' "$folder/whole"
+}
+ends 'a last leg without overlap' 0 overlapped
+# The place of what is wrong in the run is that in its trace, and what precedes the trace, also in a later leg.
+later() {
+    local seed
+    for seed in {1..40}; do
+        "$folder/versions_AGAIN" --seed "$seed" --trace "$folder/one" >"$folder/printed" || [ $? -eq 1 ]
+        ! grep -q '"rounds":[0-9]\{4,\}' "$folder/printed" || break
+    done
+    grep -q '"rounds":[0-9]\{4,\}' "$folder/printed"
+    "$folder/replay" <"$folder/one" >"$folder/judged" 2>/dev/null || [ $? -eq 1 ]
+    sed 's/[^0-9]*\([0-9]*\).*"from":\([0-9]*\).*/\1 \2/' <(tr -d '\n' <"$folder/printed") >"$folder/places"
+    diff <(awk '{ print $1 - $2 }' "$folder/places") <(sed -n '1s/^{"at":\([0-9]*\),.*/\1/p' "$folder/judged")
+}
+ends 'a violation in a later leg' 0 later
+
+# A round may starve a thread for long: what only that shows is found within few rounds.
+paused sequence_WRAP tests/c/bench_sequence.c WRAP
+for seed in 1 2 3; do
+    ends "a starved thread, seed $seed" 1 "$folder/sequence_WRAP" --schedule steps --rounds 300 --seed $seed
+done
+
+# Which leg goes by which plan, drawn by another program.
+legs_drawn() {
+    "$folder/$1" --legs --seed "$2" --seconds 4 >"$folder/printed" 2>"$folder/legs"
+    "$top/tests/legs.py" "$folder/legs" "$2" "$3" "$4"
+}
+ends 'the legs of a marked memory' 0 legs_drawn norec 3 1 0
+ends 'a memory without marks compiles' 0 "$cc" "${strict[@]}" -o "$folder/unmarked" "$top/examples/c/norec.c" "${bench[@]}"
+ends 'the legs of an unmarked memory' 0 legs_drawn unmarked 4 0 0
+ends 'a run by default has all its time' 0 timed_legs norec
+ends 'a run by default has all its time, without marks' 0 timed_legs unmarked
+# The steps of the round lead to their lines, and a report that CI systems read says what came out.
+lists_steps() {
+    rm -f "$folder/one.steps"
+    "$folder/versions_AGAIN" "${words[@]}" --trace "$folder/one" --junit "$folder/junit" >"$folder/printed" || [ $? -eq 1 ]
+    cut -d' ' -f3 "$folder/one.steps" | addr2line -spe "$folder/versions_AGAIN" | paste -d' ' "$folder/one.steps" - >"$folder/lines"
+    awk '$1 < before { exit 1 } { before = $1 }' "$folder/lines"
+    [ "$(grep -cv '^[0-9]* [0-3] 0x[0-9a-f]* bench_versions.c:[0-9]*' "$folder/lines")" -eq 0 ]
+    # (each pause that is reached stands in one of the lines of the source)
+    sed 's/.*bench_versions.c:\([0-9]*\).*/\1/' "$folder/lines" | sort -un | while read -r line; do
+        sed -n "${line}p" "$top/tests/c/bench_versions.c" | grep -q 'TMWATCH_PAUSE\|sched_yield'
+    done
+    [ "$(wc -l <"$folder/lines")" -gt 10 ]
+}
+read -r -a words < <("$folder/versions_AGAIN" 2>/dev/null | again /dev/stdin) || true
+if has addr2line 'the steps of a round'; then
+    ends 'the steps of a round' 0 lists_steps
+    ends 'what came out, for CI systems' 0 grep -q '<failure message="violated">' "$folder/junit"
+fi
+reports() {
+    "$folder/$1" --rounds 9 --junit "$folder/junit" >"$folder/printed" || [ $? -eq "$3" ]
+    python3 -c 'import sys, xml.etree.ElementTree as t; it = t.parse(sys.argv[1]).getroot()
+sys.exit([it.get("tests"), it.get("failures"), it.get("errors")] != sys.argv[2].split())' "$folder/junit" "$2"
+}
+ends 'a report of a right memory' 0 reports norec '1 0 0' 0
+ends 'a report of a wrong one' 0 reports wrong_start '1 1 0' 1
+
 # What is drawn: by a plan, and by one in which all differs.
 drawn() {
     local name=$1 schedule=$2 rounds=$3
@@ -106,7 +263,14 @@ for schedule in steps rounds; do
         ends "what $name draws, in $schedule" 0 drawn $name $schedule 1000 7 4 3 3 50 20 12 50 10
         ends "what $name draws, in $schedule, by another plan" 0 drawn $name $schedule 300 9 7 2 5 90 30 40 100 40
         ends "what $name draws, in $schedule, without a mixed round" 0 drawn $name $schedule 500 3 3 8 2 60 50 0 0 0
+        ends "what $name draws, in $schedule, of two attempts" 0 drawn $name $schedule 300 5 3 4 3 60 20 12 100 10 --attempts 2
     done
+done
+ends 'what is drawn of long transactions' 0 drawn undo steps 300 9 4 4 16 90 30 12 100 10
+for words in '--attempts 2 --mixes 100' '--calls 16 --mixes 100 --writes 100'; do
+    read -r -a given <<<"$words"
+    ends "eight attempts in a round, $words" 0 "$folder/undo" --schedule rounds --rounds 1000 "${given[@]}"
+    has_told "eight attempts in a round, $words: no more" '"widest":[1-8]}'
 done
 ends 'a start that is written first, compiled' 0 "$cc" "${strict[@]}" -o "$folder/start" "$top/tests/c/bench_start.c" "${bench[@]}"
 ends 'a start that is written first' 0 sh -c '"$1" >"$2"' sh "$folder/start" "$folder/one"
@@ -183,13 +347,20 @@ for compiler in "${compilers[@]}"; do
             has_told "$lock by $compiler, $orders: rescues" '"rescues":0,'
         done
     done
-    for kind in TX LOCAL HEAP GROWN; do
+    unpaused litmus $compiler tests/c/bench_litmus.c NONE
+    ends "litmus tests by $compiler" 0 "$folder/litmus"
+    for kind in TX LOCAL HEAP GROWN REGISTERED; do
         unpaused "own_$kind" $compiler tests/c/bench_own.c NONE -DKIND=$kind
         ends "own bytes, $kind, by $compiler" 0 "$folder/own_$kind" --schedule steps --rounds 2000 --orders x86
+        ends "own bytes, $kind, by $compiler, in several legs" 0 "$folder/own_$kind" --rounds 3000
     done
 done
 for compiler in g++ clang++; do
     [ ${#flags[@]} -eq 0 ] && has $compiler "a class without a pause, by $compiler" || continue
+    ends "a class that never returns, by $compiler, compiles" 0 $compiler -std=c++17 -O2 "-I$top/include" -pthread -o "$folder/exit" \
+        "$top/tests/c/bench_exit.cpp" "${bench[@]}"
+    ends "a class that never returns, by $compiler" 4 "$folder/exit" --writes 0 --patience 1
+    has_told "a class that never returns, by $compiler: the fault" -x '{"fault":"stuck"}'
     for fault in NONE READS; do
         ends "a class without a pause, by $compiler, $fault, compiles" 0 $compiler -std=c++17 -O2 -fsanitize=thread "-I$top/include" \
             "-DFAULT=$fault" -c -o "$folder/memory.o" "$top/tests/c/bench_class.cpp"
@@ -202,10 +373,10 @@ done
 ends 'buffers of a memory that is not compiled for them' 4 "$folder/norec" --orders x86
 has_told 'buffers of a memory that is not compiled for them: why' 'libtmwatch_steps.a$'
 
-# An interrupt: a verdict, and a trace that is judged so.
+# An interrupt: a verdict, and a trace that is judged so. (What runs beside a shell ignores SIGINT.)
 interrupted() {
     local signal=$1 schedule=$2 status=0
-    "$folder/norec" --schedule "$schedule" --seconds 60 --trace "$folder/one" >"$folder/printed" 2>&1 &
+    env --default-signal=INT "$folder/norec" --schedule "$schedule" --seconds 60 --trace "$folder/one" >"$folder/printed" 2>&1 &
     sleep 1
     kill "-$signal" $!
     wait $! || status=$?
@@ -220,7 +391,7 @@ for schedule in rounds permits steps all; do
 done
 
 # A memory that never returns is named, with the call and the register.
-for fault in SPIN MUTEX READ; do
+for fault in SPIN MUTEX READ ADD; do
     paused "stuck_$fault" tests/c/bench_stuck.c $fault "$waits"
     for schedule in rounds permits steps; do
         ends "a memory that never returns, $fault, $schedule" 4 "$folder/stuck_$fault" --schedule $schedule --patience 1 \
@@ -229,13 +400,119 @@ for fault in SPIN MUTEX READ; do
         ends "a memory that never returns, $fault, $schedule: the fault" 0 grep -qx '{"fault":"stuck"}' "$folder/told"
         case $fault in
         READ) line="thread 1: \`read\` of register 2 has not returned" ;;
+        ADD) line="thread 1: \`add\` of register 2 has not returned" ;;
         *) line="thread [0-3]: \`begin\` has not returned" ;;
         esac
         ends "a memory that never returns, $fault, $schedule: where" 0 grep -qx "$line" "$folder/told"
         ends "a memory that never returns, $fault, $schedule: its trace" 0 sh -c 'test "$(wc -l <"$1")" -gt 20' sh "$folder/one"
         ends "a memory that never returns, $fault, $schedule: its trace, judged" 0 sh -c '"$1" <"$2"' sh "$folder/replay" "$folder/one"
+        ends "a memory that never returns, $fault, $schedule: the run" 0 grep -q '^{"again":' "$folder/one.run"
     done
 done
+repeats stuck_SPIN 4 true '--schedule steps --patience 1'
+repeats stuck_READ 4 true '--patience 1'
+repeats stuck_SPIN 4 false '--schedule rounds --patience 1'
+# A second of patience is a second, if the machine has time once in three runs.
+is_patient() {
+    local began _
+    for _ in 1 2 3; do
+        began=$EPOCHREALTIME
+        "$folder/stuck_SPIN" --schedule steps --patience 1 >"$folder/printed" || [ $? -eq 4 ]
+        ! since "$began" | awk '{ exit !($1 >= 1 && $1 < 1.9) }' || return 0
+    done
+    return 1
+}
+ends 'a second of patience' 0 is_patient
+paused stuck_BOTH tests/c/bench_stuck.c BOTH
+ends 'a wrong memory that never returns' 1 "$folder/stuck_BOTH" --schedule rounds --patience 1 --adds 0
+has_told 'a wrong memory that never returns: the verdict' '"verdict":"violated"'
+# A memory that waits without a step, and a bench that doesn't see it.
+ends 'a lock without a mark compiles' 0 "$cc" "${strict[@]}" -DPERCENT=0 -o "$folder/spins" "$top/tests/c/bench_spurious.c" "${bench[@]}"
+ends 'a lock without a mark' 0 "$folder/spins" --schedule steps --rounds 20 --patience 60
+has_told 'a lock without a mark: rescues' '"rescues":[1-9]'
+ends 'rescues are told of' 0 grep -q "rescues: the memory waits for what the bench doesn't see" <("$folder/mutex_unseen" --schedule steps \
+    --rounds 20 2>&1)
+
+# A first interrupt ends a memory that never returns within a second, and a second one the program.
+interrupts() {
+    local began status=0
+    env --default-signal=INT "$folder/stuck_SPIN" --schedule "$1" --patience 0 --trace "$folder/one" >"$folder/printed" 2>&1 &
+    sleep 1
+    began=$EPOCHREALTIME
+    kill -INT $!
+    [ -z "${2:-}" ] || { sleep 0.1 && kill -INT $!; }
+    wait $! || status=$?
+    since "$began" | awk '{ exit !($1 < 1) }'
+    cat "$folder/printed"
+    return $status
+}
+for schedule in rounds permits steps; do
+    ends "an interrupt of a memory that never returns, $schedule" 4 interrupts $schedule
+    has_told "an interrupt of a memory that never returns, $schedule: where" 'has not returned$'
+    ends "two interrupts, $schedule" 130 interrupts $schedule twice
+done
+for fault in 1 2; do
+    paused "jumping_$fault" tests/c/bench_jumping.c NONE "-DWRONG=$fault"
+    ends "a run that breaks its promise, $fault" 4 "$folder/jumping_$fault"
+    reasons=('' '`run` has answered true, and tmwatch_calls has not' '`run` has called tmwatch_calls twice in one attempt')
+    has_told "a run that breaks its promise, $fault: which" -xF "${reasons[fault]}"
+done
+paused apart tests/c/bench_apart.c NONE
+ends 'two benches at once, and signals' 0 "$folder/apart"
+
+# A memory that has lost progress is told so, by each schedule and within ten seconds, and repeats by steps; one that is rolled back by chance
+# isn't.
+lost() {
+    local began=$EPOCHREALTIME status=0
+    "$folder/$1" --schedule "$2" --trace "$folder/one" || status=$?
+    since "$began" | awk '{ exit !($1 < 10) }' && return $status
+}
+for file in tl2:LEAK tl2:WRAP readers:LEAK; do
+    name=${file/:/_}
+    paused "$name" "tests/c/bench_${file%:*}.c" "${file#*:}"
+    for schedule in rounds permits steps all; do
+        ends "lost progress, $file, $schedule" 4 lost "$name" $schedule
+        cp "$folder/output" "$folder/told"
+        ends "lost progress, $file, $schedule: the fault" 0 grep -qx '{"fault":"stuck"}' "$folder/told"
+        ends "lost progress, $file, $schedule: why" 0 grep -q '^a transaction that ran alone was rolled back [0-9]* times: ' "$folder/told"
+        ends "lost progress, $file, $schedule: its trace" 0 sh -c 'test "$(grep -c "A$" "$1")" -ge 8' sh "$folder/one"
+        ends "lost progress, $file, $schedule: its trace, judged" 0 sh -c '"$1" <"$2"' sh "$folder/replay" "$folder/one"
+        ends "lost progress, $file, $schedule: what lacks" 0 grep -q '"lacks":\[.*"progress"' "$folder/one.run"
+    done
+    repeats "$name" 4 true '--schedule steps --seed 2'
+    repeats "$name" 4 true '--seed 2'
+    repeats "$name" 4 false '--schedule rounds'
+done
+for each in 0 50; do
+    paused "spurious_$each" tests/c/bench_spurious.c NONE -DPERCENT=50 -DEACH=$each
+    for schedule in rounds permits steps all; do
+        ends "rolled back by chance, $each, $schedule" 0 "$folder/spurious_$each" --schedule $schedule --rounds 3000 --registers 8 \
+            --trace "$folder/one"
+        has_told "rolled back by chance, $each, $schedule: all rounds" '"rounds":3000[,}]'
+        ends "rolled back by chance, $each, $schedule: its trace, judged" 0 sh -c '"$1" <"$2"' sh "$folder/replay" "$folder/one"
+    done
+done
+paused spurious_99 tests/c/bench_spurious.c NONE -DPERCENT=99
+ends 'nearly all are rolled back' 0 "$folder/spurious_99" --rounds 500
+has_told 'nearly all are rolled back: it is told' '"lacks":\[.*"progress"'
+
+# A file that can't be written hides no verdict.
+mkdir "$folder/three.run" "$folder/four.steps"
+unwritten() {
+    local name=$1 status=$2 words
+    read -r -a words <<<"$4"
+    ends "$name $4" 4 "$folder/$name" --trace "$3" "${words[@]}"
+    cp "$folder/output" "$folder/told"
+    ends "$name $4: the fault" 0 grep -qx '{"fault":"io"}' "$folder/told"
+    ends "$name $4: the verdict" 0 grep -q "$status" "$folder/told"
+}
+unwritten norec 'opaque so far' /dev/full '--rounds 9'
+unwritten norec 'opaque so far' /dev/full '--rounds 3000'
+unwritten norec 'opaque so far' "$folder/three" '--rounds 9'
+unwritten norec_READS violated "$folder/three" ''
+unwritten norec_READS violated "$folder/four" ''
+unwritten norec_READS violated "$folder/one" '--junit /dev/full'
+unwritten stuck_SPIN stuck "$folder/three" '--patience 1'
 
 # On a terminal, and there alone, a line says twice a second how far all legs are. Each is cleared, also before other words.
 on_terminal() {
@@ -265,6 +542,8 @@ lacking() {
 lacking '--threads 1' threads norec
 lacking '--writes 0 --adds 0' stores norec
 lacking '--registers 8 --calls 1 --schedule steps' aborts mutex
+ends 'a run that only adds' 0 "$folder/norec" --rounds 50 --writes 0 --adds 100
+ends 'a run that only adds: it stores' 1 grep -q '"lacks":\[.*"stores"' "$folder/output"
 ends 'a run that shows much' 0 "$folder/norec" --rounds 3000
 has_told 'a run that shows much: nothing lacks' '^{"foreign":[4-7],"rescues":0,"rounds":3000,'
 end_rows

@@ -1,8 +1,8 @@
 /*
 A memory after TL2 (Dice, Shalev and Shavit, DISC 2006) as a class on the bench. It keeps what it writes in a vector until it commits.
 
--DFAULT=READS: a read takes any version. LOOP: right, and it attempts again by itself, in a loop. THROW, THROW_INT: a read throws. If not
-each Tx is destroyed once, or none has added, or a memory that never begins is told as another, the exit status is 9.
+-DFAULT=READS: a read takes any version. LOOP: right, and it attempts again by itself, in a loop. ABORTS: right, and some writes abort. THROW,
+THROW_INT: a read throws. If not each Tx is destroyed once, or none has added, or a memory that never begins is told as another, the exit status is 9.
 */
 #include "tmwatch_bench.hpp"
 #include <atomic>
@@ -15,11 +15,12 @@ each Tx is destroyed once, or none has added, or a memory that never begins is t
 
 namespace {
 
-enum Fault { NONE, READS, LOOP, THROW, THROW_INT };
+enum Fault { NONE, READS, LOOP, ABORTS, THROW, THROW_INT };
 constexpr Fault fault = FAULT;
 
 std::atomic<long> live_count{0};
 std::atomic<bool> has_added{false};
+std::atomic<unsigned> writes{0};
 
 struct Tl2 {
     /* `lock` is the version doubled, and odd while a commit holds it. */
@@ -36,10 +37,15 @@ struct Tl2 {
         uint64_t snapshot = 0;
         std::vector<unsigned> reads;
         std::vector<Written> writes;
+        volatile bool is_alive = true;
         Tx() { live_count++; }
         Tx(const Tx &) = delete;
         Tx &operator=(const Tx &) = delete;
-        ~Tx() { live_count--; }
+        ~Tx()
+        {
+            is_alive = false;
+            live_count--;
+        }
     };
 
     Word words[8];
@@ -75,7 +81,7 @@ struct Tl2 {
     bool write(Tx &tx, unsigned reg, uint64_t value)
     {
         tx.writes.push_back({reg, value});
-        return true;
+        return fault != ABORTS || ++writes % 5 > 0;
     }
 
     bool add(Tx &tx, unsigned reg, uint64_t addend, uint64_t &before)
@@ -134,7 +140,11 @@ struct Tl2 {
 struct Stepped : Tl2 {
     bool begin(Tx &tx) { return start(tx); }
     bool commit(Tx &tx) { return end(tx); }
-    void abort(Tx &) {}
+    void abort(Tx &tx)
+    {
+        if (!tx.is_alive)
+            std::abort();
+    }
 };
 
 struct Looping : Tl2 {

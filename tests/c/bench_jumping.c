@@ -1,6 +1,7 @@
 /*
 The little memory behind calls that don't come back when the transaction is rolled back: it begins again by longjmp, as GCC's libitm does.
-Bench: `run`. By -DFAULT=READS the validation of reads is left out.
+Bench: `run`. By -DFAULT=READS the validation of reads is left out. By -DWRONG=1 `run` tells that what was to abort has committed, and by 2
+it makes the calls twice.
 */
 #include "tmwatch_bench.h"
 #include "../../examples/recorders/memory.h"
@@ -8,6 +9,10 @@ Bench: `run`. By -DFAULT=READS the validation of reads is left out.
 
 #ifndef FAULT
 #define FAULT NONE
+#endif
+
+#ifndef WRONG
+#define WRONG 0
 #endif
 
 static enum fault fault = FAULT;
@@ -51,9 +56,9 @@ static bool run(void *memory, void *tx, tmwatch_attempt *attempt)
     if (!tmwatch_begins(attempt))
         return false;
     memory_begin(&it->tx);
-    if (!tmwatch_calls(attempt)) {
+    if (!tmwatch_calls(attempt) || (WRONG == 2 && !tmwatch_calls(attempt))) {
         memory_undo(&it->tx);
-        return false;
+        return WRONG == 1;
     }
     if (!memory_commit(&it->tx))
         restart(it);

@@ -1,7 +1,8 @@
 /*
 A memory of one lock on the bench, whose threads store by relaxed atomic stores what no other thread sees, and then use the bytes for other
 things without a mark: a delayed store must not come out later. By -DKIND= the bytes are the transaction's own (TX), a local variable's
-(LOCAL), a block's of the heap (HEAP), or such a block's that is made larger (GROWN).
+(LOCAL), a block's of the heap (HEAP), or such a block's that is made larger (GROWN). By REGISTERED each thread has a block of its own,
+which it makes where the transaction's bytes say that it has none: they are all 0 before its first transaction, and then as it left them.
 */
 #include "tmwatch_bench.h"
 #include <pthread.h>
@@ -14,9 +15,10 @@ things without a mark: a delayed store must not come out later. By -DKIND= the b
 #endif
 
 enum { REGISTERS = 8, WRONG = 0xbad };
-enum kind { TX, LOCAL, HEAP, GROWN };
+enum kind { TX, LOCAL, HEAP, GROWN, REGISTERED };
 
 struct tx {
+    bool is_registered;
     uint64_t before[REGISTERS];
     _Atomic uint64_t status;
 };
@@ -26,6 +28,7 @@ struct node {
 };
 
 static const enum kind kind = KIND;
+static _Thread_local uint64_t *own;
 static uint64_t words[REGISTERS];
 static pthread_mutex_t mutex = PTHREAD_MUTEX_INITIALIZER;
 
@@ -67,10 +70,13 @@ static bool begin(void *memory, void *tx)
 {
     struct tx *it = tx;
     (void)memory;
+    if (kind == REGISTERED && !it->is_registered)
+        own = calloc(1, sizeof words);
     atomic_store_explicit(&it->status, 1, memory_order_relaxed);
     memset(it, 0, sizeof *it);
+    it->is_registered = true;
     pthread_mutex_lock(&mutex);
-    memcpy(it->before, words, sizeof words);
+    memcpy(kind == REGISTERED ? own : it->before, words, sizeof words);
     return true;
 }
 
@@ -106,7 +112,7 @@ static bool commit(void *memory, void *tx)
 
 static void cancel(void *memory, void *tx)
 {
-    memcpy(words, ((struct tx *)tx)->before, sizeof words);
+    memcpy(words, kind == REGISTERED ? own : ((struct tx *)tx)->before, sizeof words);
     commit(memory, tx);
 }
 

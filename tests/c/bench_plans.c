@@ -189,7 +189,7 @@ static void run_one_thread(void)
         plan.seed = seed;
         plan.adds = seed * 5;
         tmwatch_benched out = run(&memory, plan);
-        CHECK(out.told.verdict == TMWATCH_OPAQUE_SO_FAR && out.rounds == 300 && out.from == 0);
+        CHECK(out.told.verdict == TMWATCH_OPAQUE_SO_FAR && out.rounds == 300 && out.from == 0 && out.foreign == 0);
         CHECK(out.counts.transactions == 306 && out.counts.widest == 1 && out.counts.overlapping == 0 && !out.counts.none_overlapped);
         CHECK(out.counts.unasked == 0 && out.counts.aborted > 10 && out.counts.aborted + out.counts.committed == 306);
     }
@@ -307,7 +307,8 @@ static bool store_nothing(void *memory, void *tx, unsigned reg, uint64_t value)
     return false;
 }
 
-/* By permits, as many rounds are told as the thread has begun that has begun the fewest. */
+/* By permits, as many rounds are told as the thread has begun that has begun the fewest. Within one of its attempts the other one commits
+   what eight permits allow, but for its own and one that may have begun before. */
 static void begin_rarely(void)
 {
     tmwatch_memory it = memory;
@@ -321,6 +322,7 @@ static void begin_rarely(void)
     plan.schedule = TMWATCH_PERMITS;
     tmwatch_benched out = run(&it, plan);
     CHECK(out.told.verdict == TMWATCH_OPAQUE_SO_FAR && out.rounds > 0 && 3 * out.rounds < out.counts.committed);
+    CHECK(out.foreign >= 5 && out.foreign <= 7);
 }
 
 /* A time ends the rounds, and a pause outside of a bench is none. */

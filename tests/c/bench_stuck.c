@@ -1,6 +1,7 @@
 /*
 A memory of one lock on the bench, in which thread 1 forgets to unlock: by -DFAULT=SPIN the next transaction spins at its begin; by MUTEX
-it waits for a mutex; by READ thread 1 never returns from a read of register 2. By NONE nothing is forgotten.
+it waits for a mutex; by READ thread 1 never returns from a read of register 2, and by ADD from an add to it. By UNLOCKED thread 2 takes no
+lock, so that the memory isn't opaque, and by BOTH thread 1 forgets to unlock besides. By NONE nothing is forgotten.
 */
 #include "tmwatch_bench.h"
 #include <pthread.h>
@@ -11,7 +12,7 @@ it waits for a mutex; by READ thread 1 never returns from a read of register 2. 
 #endif
 
 enum { REGISTERS = 8 };
-enum fault { NONE, SPIN, MUTEX, READ };
+enum fault { NONE, SPIN, MUTEX, READ, ADD, UNLOCKED, BOTH };
 
 struct tx {
     uint64_t before[REGISTERS];
@@ -23,8 +24,16 @@ static pthread_mutex_t mutex = PTHREAD_MUTEX_INITIALIZER;
 static atomic_bool is_locked;
 static unsigned begun[REGISTERS];
 
+/* Whether this thread takes no lock. */
+static bool is_unlocked(void)
+{
+    return (fault == UNLOCKED || fault == BOTH) && tmwatch_thread() == 2;
+}
+
 static void lock(void)
 {
+    if (is_unlocked())
+        return;
     if (fault == SPIN)
         while (atomic_exchange(&is_locked, true))
             TMWATCH_PAUSE();
@@ -34,7 +43,9 @@ static void lock(void)
 
 static void unlock(void)
 {
-    bool forgets = tmwatch_thread() == 1 && ++begun[1] > 20 && (fault == SPIN || fault == MUTEX);
+    bool forgets = tmwatch_thread() == 1 && ++begun[1] > 20 && (fault == SPIN || fault == MUTEX || fault == BOTH);
+    if (is_unlocked())
+        return;
     if (fault == SPIN && !forgets)
         is_locked = false;
     else if (!forgets)
@@ -67,6 +78,16 @@ static bool write(void *memory, void *tx, unsigned reg, uint64_t value)
     return true;
 }
 
+static bool add(void *memory, void *tx, unsigned reg, uint64_t addend, uint64_t *before)
+{
+    (void)memory, (void)tx;
+    while (fault == ADD && reg == 2 && tmwatch_thread() == 1 && begun[1] > 20)
+        TMWATCH_PAUSE();
+    *before = words[reg];
+    words[reg] += addend;
+    return true;
+}
+
 static bool commit(void *memory, void *tx)
 {
     (void)memory, (void)tx;
@@ -82,6 +103,6 @@ static void cancel(void *memory, void *tx)
     unlock();
 }
 
-static const tmwatch_memory memory = {NULL, sizeof(struct tx), begin, read, write, NULL, commit, cancel, NULL};
+static const tmwatch_memory memory = {NULL, sizeof(struct tx), begin, read, write, add, commit, cancel, NULL};
 
 TMWATCH_BENCH_MAIN(memory)

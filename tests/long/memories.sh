@@ -3,22 +3,21 @@
 #
 #   tests/long/memories.sh
 #
-# A row for each memory and schedule says how many seeds came out opaque so far, violated, undecided, malformed and other; the median of the
-# rounds of the violated ones; how many rounds a second were run; and the seconds of all. A run is other if it ends without a verdict, if it
-# takes 300 seconds, or if it is opaque so far and shows little: not all rounds were run, no two transactions overlapped, or a thread that
-# the bench should see waited unseen (a rescue).
-# A right memory passes if all its seeds are opaque so far. A broken one has 60 seconds by all, and passes if nine seeds in ten are violated
-# there, and the others opaque so far; by a single schedule its row only tells. Standard error has a line for each seed that came out
+# A row for each memory and schedule says how many seeds came out opaque so far, violated, undecided, malformed, stuck and other; the median
+# of the rounds of the violated ones; how many rounds a second were run; and the seconds of all. A run is stuck if the bench says so within
+# ten seconds. It is other if it ends without a verdict otherwise, if it takes 300 seconds, or if it is opaque so far and shows little: not all
+# rounds were run, no two transactions overlapped, or a thread that the bench should see waited unseen (a rescue).
+# A right memory passes if all its seeds are opaque so far, and one that loses progress if all are stuck. A broken one has 20 seconds, and
+# passes by all if all seeds are violated; by a single schedule its row only tells. Standard error has a line for each seed that came out
 # otherwise.
 # What can't be built here is skipped, and a line says so. The last line is 'N passed, M failed', and the exit status is 1 if one failed.
-# Environment: BUILT (tests/common.sh), SEEDS (10), ROUNDS (100000, at most, of a broken memory by a single schedule), RIGHT_ROUNDS (20000;
-# libitm: a tenth), ONLY (a pattern: the rows whose kind and name have it), SCHEDULES (all steps rounds permits), CC (cc), CXX (c++), CARGO
+# Environment: BUILT (tests/common.sh), SEEDS (10), SECONDS_OF_BROKEN (20), RIGHT_ROUNDS (20000; libitm: a tenth), ONLY (a pattern: the rows whose kind and name have it), SCHEDULES (all steps rounds permits), CC (cc), CXX (c++), CARGO
 # (cargo).
 set -eu
 # shellcheck source=tests/common.sh
 . "$(dirname "${BASH_SOURCE[0]}")/../common.sh"
 only=${ONLY:-.} schedules=${SCHEDULES:-all steps rounds permits}
-seeds=${SEEDS:-10} broken_rounds=${ROUNDS:-100000} right_rounds=${RIGHT_ROUNDS:-20000}
+seeds=${SEEDS:-10} broken_seconds=${SECONDS_OF_BROKEN:-20} right_rounds=${RIGHT_ROUNDS:-20000}
 cc=${CC:-cc} cxx=${CXX:-c++} cargo=${CARGO:-cargo} waits_unseen=
 use_library
 flags=(-O2 -Wall -Wextra -pthread -DTMWATCH_PAUSES "-I$top/include")
@@ -36,7 +35,7 @@ in_c() {
 
 # Compiles a memory in C without its pauses: each atomic access is a step.
 without_pauses() {
-    "$cc" -std=c11 -O2 -fsanitize=thread -Wno-tsan "-I$top/include" "-DFAULT=$3" -c -o "$folder/memory.o" "$top/$2"
+    "$cc" -std=c11 -O2 -fsanitize=thread -Wno-tsan "-I$top/include" "-DFAULT=$3" "${@:4}" -c -o "$folder/memory.o" "$top/$2"
     "$cc" -pthread -o "$folder/$1" "$folder/memory.o" "${link[@]}"
 }
 
@@ -59,7 +58,7 @@ rust() {
     bench target/release/examples/lock
 }
 
-# Prints the place of a run's outcome among the five that a row has, by its exit status and by what it has printed.
+# Prints the place of a run's outcome among the six that a row has, by its exit status, what it has printed, and its seconds.
 outcome() {
     local line
     line=$(head -n 1 "$folder/output")
@@ -67,12 +66,13 @@ outcome() {
     '0 {'*'"verdict":"opaque so far"}')
         [ -z "$seconds" ] || { echo 0 && return; }
         grep -q "\"rounds\":${rounds}[,}]" "$folder/output" && grep -q '"overlapping":[1-9]' "$folder/output" &&
-            { [ -n "$waits_unseen" ] || ! grep -q '"rescues":[1-9]' "$folder/output"; } && echo 0 || echo 4
+            { [ -n "$waits_unseen" ] || ! grep -q '"rescues":[1-9]' "$folder/output"; } && echo 0 || echo 5
         ;;
     '1 {"at":'*'"verdict":"violated"}') echo 1 ;;
     '2 {"at":'*'"verdict":"undecided"'*) echo 2 ;;
     '3 {"at":'*'"verdict":"malformed"}') echo 3 ;;
-    *) echo 4 ;;
+    '4 {"fault":"stuck"}') awk "BEGIN { print $2 < 10 ? 4 : 5 }" ;;
+    *) echo 5 ;;
     esac
 }
 
@@ -81,7 +81,8 @@ is_wanted() {
     local opaque=$2 violated=$3
     case $1 in
     right) [ "$opaque" -eq "$seeds" ] ;;
-    broken) [ $((10 * violated)) -ge $((9 * seeds)) ] && [ $((opaque + violated)) -eq "$seeds" ] ;;
+    broken) [ "$violated" -eq "$seeds" ] ;;
+    lost) [ "$6" -eq "$seeds" ] ;;
     told) [ $((opaque + violated)) -eq "$seeds" ] ;;
     esac
 }
@@ -91,18 +92,18 @@ number_of() {
     sed -n "s/.*\"$1\":\([0-9]*\).*/\1/p" "$folder/output" | head -n 1
 }
 
-# A row: its name, whether the memory is right, broken, or only told of, the schedule, and how a run is made.
+# A row: its name, whether the memory is right, broken, loses progress, or is only told of, the schedule, and how a run is made.
 row() {
-    local name=$1 kind=$2 schedule=$3 of_each=(0 0 0 0 0) passes=passed began=$EPOCHREALTIME seed status found run
-    local rounds=$broken_rounds usual=1 seconds='' all=0 took
-    [ "$kind" != right ] || rounds=$right_rounds usual=0
-    [ "$kind" != broken ] || seconds=60 rounds=100000000
+    local name=$1 kind=$2 schedule=$3 of_each=(0 0 0 0 0 0) passes=passed began=$EPOCHREALTIME seed status found run
+    local rounds=100000000 usual=1 seconds=$broken_seconds all=0 took started
+    [ "$kind" != right ] || rounds=$right_rounds usual=0 seconds=''
+    [ "$kind" != lost ] || usual=4
     shift 3
     : >"$folder/found"
     for seed in $(seq "$seeds"); do
-        status=0
+        status=0 started=$EPOCHREALTIME
         "$@" >"$folder/output" 2>"$folder/told" || status=$?
-        found=$(outcome $status)
+        found=$(outcome $status "$(since "$started")")
         of_each[found]=$((of_each[found] + 1))
         run=$(number_of rounds)
         all=$((all + ${run:-0}))
@@ -112,35 +113,38 @@ row() {
     done
     took=$(since "$began")
     counts is_wanted "$kind" "${of_each[@]}" || passes=FAILED
-    printf '%-36s %-8s %6d %8d %9d %9d %5d %8s %8.0f %7s  %s\n' "$name" "$schedule" "${of_each[@]}" \
+    printf '%-36s %-8s %6d %8d %9d %9d %5d %5d %8s %8.0f %7s  %s\n' "$name" "$schedule" "${of_each[@]}" \
         "$(sort -n "$folder/found" | awk '{ it[NR] = $1 } END { print NR ? it[int((NR + 1) / 2)] : "-" }')" \
         "$(echo "$all $took" | awk '{ print $1 / $2 }')" "$took" $passes
 }
 
-# The rows of a memory: its name, whether it is right or broken, and how a run is made.
+# The rows of a memory: its name, whether it is right, broken, or loses progress, and how a run is made.
 rows() {
     local schedule kind
     [[ "$2 $1" =~ $only ]] || return 0
     for schedule in $schedules; do
         kind=$2
-        [ "$schedule" = all ] || [ "$kind" = right ] || kind=told
+        [ "$schedule" = all ] || [ "$kind" != broken ] || kind=told
         row "$1" $kind "$schedule" "${@:3}"
     done
 }
 
-printf '%-36s %-8s %6s %8s %9s %9s %5s %8s %8s %7s\n' memory schedule opaque violated undecided malformed other median /second seconds
+printf '%-36s %-8s %6s %8s %9s %9s %5s %5s %8s %8s %7s\n' memory schedule opaque violated undecided malformed stuck other median /second seconds
 
 for fault in NONE READS COMMIT PLACE; do
     in_c norec_$fault examples/c/norec.c $fault
 done
-for fault in NONE BEFORE AFTER LOCKED HALF; do
+for fault in NONE BEFORE AFTER LOCKED HALF LEAK WRAP; do
     in_c tl2_$fault tests/c/bench_tl2.c $fault
 done
-for fault in NONE CLOCK DROPPED AGAIN; do
+for fault in NONE CLOCK DROPPED AGAIN RECYCLED; do
     in_c versions_$fault tests/c/bench_versions.c $fault
 done
 for fault in NONE UNLOCK VERSION CLOCK; do
     in_c undo_$fault tests/c/bench_undo.c $fault
+done
+for fault in NONE INCARNATION LATE EXTENSION SHORTCUT; do
+    in_c tiny_$fault tests/c/bench_tiny.c $fault
 done
 for fault in NONE EARLY; do
     in_c locks_$fault tests/c/bench_locks.c $fault
@@ -148,7 +152,11 @@ done
 for fault in NONE WRAP; do
     in_c sequence_$fault tests/c/bench_sequence.c $fault
 done
-for fault in NONE FENCE; do
+for lock in MUTEX SPIN READ_WRITE CONDITION; do
+    without_pauses waits_$lock tests/c/bench_waits.c NONE -DLOCK=$lock
+done
+in_c spurious tests/c/bench_spurious.c NONE
+for fault in NONE FENCE LEAK; do
     without_pauses readers_$fault tests/c/bench_readers.c $fault
 done
 in_c jumping tests/c/bench_jumping.c NONE
@@ -158,6 +166,11 @@ rows 'TL2' right bench tl2_NONE
 rows 'versions' right bench versions_NONE
 rows 'undo log' right bench undo_NONE
 rows 'a lock for each register' right bench locks_NONE
+rows 'snapshots that are extended' right bench tiny_NONE
+rows 'a lock, half of commits rolled back' right bench spurious
+for lock in MUTEX SPIN READ_WRITE CONDITION; do
+    rows "one lock, $lock, delayed stores" right bench waits_$lock --orders x86
+done
 rows 'NOrec that restarts by longjmp' right bench jumping
 rows 'one sequence' right bench sequence_NONE
 rows 'visible readers, delayed stores' right bench readers_NONE --orders x86
@@ -193,10 +206,18 @@ rows 'TL2, upper half after the release' broken bench tl2_HALF --adds 0
 rows 'versions, the clock first' broken bench versions_CLOCK
 rows 'versions, a dropped one returned' broken bench versions_DROPPED
 rows 'versions, overwritten, no second look' broken bench versions_AGAIN
+rows 'versions, a place used again' broken bench versions_RECYCLED
+rows 'snapshots, incarnations of a bit' broken bench tiny_INCARNATION
+rows 'snapshots, unlocks before it undoes' broken bench tiny_LATE
+rows 'snapshots, extended too far' broken bench tiny_EXTENSION
+rows 'snapshots, shortcut of the clock' broken bench tiny_SHORTCUT
 rows 'undo log, unlocks before it undoes' broken bench undo_UNLOCK
 rows 'undo log, an abort keeps the version' broken bench undo_VERSION
 rows 'undo log, clock by load and store' broken bench undo_CLOCK
 rows 'a lock given back early' broken bench locks_EARLY
 rows 'one sequence, wraps after 4 commits' broken bench sequence_WRAP
 rows 'visible readers, no fence' broken bench readers_FENCE --orders x86
+rows 'TL2, a lock that is left held' lost bench tl2_LEAK
+rows 'TL2, a clock of eight bits' lost bench tl2_WRAP
+rows 'visible readers, a flag that stays' lost bench readers_LEAK
 end_rows

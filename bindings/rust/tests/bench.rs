@@ -321,3 +321,109 @@ impl Memory for Aligned {
 fn a_wide_transaction_is_refused() {
     let _ = bench(&Aligned, &Plan { rounds: 1, ..Plan::default() });
 }
+
+/// A lock that is tried, and that thread 1 keeps after some commits.
+#[derive(Default)]
+struct Leaking {
+    is_locked: AtomicBool,
+    words: [AtomicU64; 8],
+    commits: AtomicU64,
+}
+
+impl Memory for Leaking {
+    type Transaction<'m> = [u64; 8];
+
+    fn begin(&self) -> Result<[u64; 8], Aborted> {
+        pause();
+        let is_taken = self.is_locked.swap(true, SeqCst);
+        (!is_taken).then(|| std::array::from_fn(|k| self.words[k].load(SeqCst))).ok_or(Aborted)
+    }
+
+    fn read(&self, _: &mut [u64; 8], register: usize) -> Result<u64, Aborted> {
+        pause();
+        Ok(self.words[register].load(SeqCst))
+    }
+
+    fn write(&self, _: &mut [u64; 8], register: usize, value: u64) -> Result<(), Aborted> {
+        self.words[register].store(value, SeqCst);
+        Ok(())
+    }
+
+    fn commit(&self, _: [u64; 8]) -> Result<(), Aborted> {
+        let keeps = thread() == 1 && self.commits.fetch_add(1, SeqCst) > 20;
+        self.is_locked.store(keeps, SeqCst);
+        Ok(())
+    }
+
+    fn abort(&self, before: [u64; 8]) {
+        self.words.iter().zip(before).for_each(|(word, value)| word.store(value, SeqCst));
+        self.is_locked.store(false, SeqCst);
+    }
+}
+
+#[test]
+fn a_memory_that_loses_progress_is_told_so() {
+    for schedule in [Schedule::Rounds, Schedule::Permits, Schedule::Steps, Schedule::All] {
+        let began = std::time::Instant::now();
+        let plan = Plan { schedule, ..Plan::default() };
+        assert_eq!(bench(&Leaking::default(), &plan).unwrap_err(), Status::NoProgress);
+        assert!(began.elapsed().as_secs() < 10);
+    }
+}
+
+#[test]
+fn a_mutex_of_the_standard_library_is_seen() {
+    let plan = Plan { rounds: 500, schedule: Schedule::Steps, ..Plan::default() };
+    let benched = bench(&OneLock::default(), &plan).unwrap();
+    assert_eq!((benched.told.verdict, benched.rescues), (Verdict::OpaqueSoFar, 0));
+    // A pause is a step: this memory has one in each read and write, beside those at the ends of calls.
+    assert!(benched.steps > 3 * benched.stores, "{benched:?}");
+}
+
+#[test]
+fn each_number_is_passed_on() {
+    let numbers =
+        Plan { writes: 77, adds: 11, aborts: 9, mixes: 33, blinds: 5, calls: 2, pause: 7, plain: true, seed: 6, ..Plan::default() };
+    let benched = bench(&Racing::default(), &Plan { threads: 3, registers: 2, attempts: 1, ..numbers }).unwrap();
+    let words = "--threads 3 --registers 2 --calls 2 --writes 77 --adds 11 --aborts 9 --pause 7 --mixes 33 --blinds 5 --attempts 1 --plain";
+    assert_eq!(benched.again, format!("--seed 6 --round {} {words}", benched.rounds));
+    assert!(benched.is_certain && benched.event > 0);
+    // There are no words for a start.
+    let start = [7, 0, 0, 0, 0, 0, 0, 0];
+    let memory = Racing(std::array::from_fn(|k| AtomicU64::new(start[k])));
+    assert!(!bench(&memory, &Plan { start, registers: 2, ..Plan::default() }).unwrap().is_certain);
+}
+
+/// Adds by a write that aborts, after its read.
+#[derive(Default)]
+struct Refusing(OneLock);
+
+impl Memory for Refusing {
+    type Transaction<'m> = Locked<'m>;
+
+    fn begin(&self) -> Result<Locked<'_>, Aborted> {
+        self.0.begin()
+    }
+
+    fn read<'m>(&'m self, it: &mut Locked<'m>, register: usize) -> Result<u64, Aborted> {
+        Ok(it.words[register])
+    }
+
+    fn write<'m>(&'m self, it: &mut Locked<'m>, _: usize, _: u64) -> Result<(), Aborted> {
+        *it.words = it.before;
+        Err(Aborted)
+    }
+
+    fn commit<'m>(&'m self, _: Locked<'m>) -> Result<(), Aborted> {
+        Ok(())
+    }
+
+    fn abort<'m>(&'m self, _: Locked<'m>) {}
+}
+
+#[test]
+fn an_add_aborts_if_its_write_does() {
+    let plan = Plan { rounds: 60, threads: 2, adds: 100, blinds: 0, schedule: Schedule::Steps, trace: true, ..Plan::default() };
+    let Err(status) = bench(&Refusing::default(), &plan) else { panic!("no register can be added to") };
+    assert_eq!(status, Status::NoProgress);
+}

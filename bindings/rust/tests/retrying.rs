@@ -274,3 +274,33 @@ fn a_run_that_breaks_its_promise_is_told() {
     assert_eq!(status(Wrong::CommitsAll), Status::Misfit);
     assert_eq!(status(Wrong::CallsTwice), Status::OutOfTurn);
 }
+
+/// Adds by a write that aborts, after its read.
+struct Refusing;
+
+impl RetryingMemory for Refusing {
+    type Transaction<'t> = ();
+
+    fn run(&self, attempt: &Attempt<'_, Self>) -> bool {
+        while attempt.begins() {
+            if attempt.calls(&mut ()) {
+                return true;
+            }
+        }
+        false
+    }
+
+    fn read(&self, _: &mut (), _: usize) -> Result<u64, Aborted> {
+        Ok(0)
+    }
+
+    fn write(&self, _: &mut (), _: usize, _: u64) -> Result<(), Aborted> {
+        Err(Aborted)
+    }
+}
+
+#[test]
+fn an_add_aborts_if_its_write_does() {
+    let plan = Plan { rounds: 60, adds: 100, blinds: 0, schedule: Schedule::Steps, ..Plan::default() };
+    assert_eq!(bench_retrying(&Refusing, &plan).unwrap_err(), Status::NoProgress);
+}
