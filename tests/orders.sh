@@ -32,18 +32,18 @@ cp -r "$top/tests/orders" "$top/tests/c" "$folder/tests"
 cp -r "$top/bench-c/instrumented" "$folder/bench-c"
 last=true
 ends 'the tests of the model compile' 0 compile_model "$folder/models" "${strict[@]}"
-ends 'litmus tests' 0 "$folder/models/litmus" 50000
-ends 'random runs' 0 "$folder/models/random" 100000
-ends 'all executions of small programs' 0 "$folder/models/complete" 100 20000
+ends 'litmus tests' 0 "$folder/models/litmus" 30000
+ends 'random runs' 0 "$folder/models/random" 50000
+ends 'all executions of small programs' 0 "$folder/models/complete" 60 20000
 ends 'plain accesses, and others that are not simulated' 0 "$folder/models/plain"
 unset last
 
 # Whether one of the model's tests fails, which stand in the order of their time.
 is_noticed() {
     local test words
-    for test in 'litmus 5000' plain 'random 50000' complete; do
+    for test in 'litmus 2000' plain 'random 50000' complete; do
         read -r -a words <<<"$test"
-        "$cc" -std=c11 -O1 -w "-I$top/include" -o "$folder/models/test" "$folder/tests/orders/${words[0]}.c"
+        "$cc" -std=c11 -O0 -w "-I$top/include" -o "$folder/models/test" "$folder/tests/orders/${words[0]}.c"
         timeout 60 "$folder/models/test" "${words[@]:1}" >"$folder/printed" 2>&1 || { echo "by ${words[0]}" && return; }
     done
     return 1

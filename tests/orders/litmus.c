@@ -64,6 +64,7 @@ static const struct litmus all[] = {
     {"MP fence before data", ALLOWED, READS(1, 0, ANY, ANY), {{F(REL), W(X, 1, RLX), W(Y, 1, RLX)}, {R(Y, ACQ, 0), R(X, RLX, 1)}}},
     {"MP acquire fence before the flag", ALLOWED, READS(1, 0, ANY, ANY), {{W(X, 1, RLX), W(Y, 1, REL)}, {F(ACQ), R(Y, RLX, 0), R(X, RLX, 1)}}},
     {"MP by an add", FORBIDDEN, READS(2, 0, ANY, ANY), {{W(X, 1, RLX), W(Y, 1, REL)}, {A(Y, 1, RLX, 2)}, {R(Y, ACQ, 0), R(X, RLX, 1)}}},
+    {"MP from an acq_rel add", FORBIDDEN, READS(1, 0, ANY, ANY), {{W(X, 1, RLX), A(Y, 1, AR, 2)}, {R(Y, ACQ, 0), R(X, RLX, 1)}}},
     {"MP to an add", FORBIDDEN, READS(1, 0, ANY, ANY), {{W(X, 1, RLX), W(Y, 1, REL)}, {A(Y, 1, ACQ, 0), R(X, RLX, 1)}}},
     {"MP to an add that is relaxed", ALLOWED, READS(1, 0, ANY, ANY), {{W(X, 1, RLX), W(Y, 1, REL)}, {A(Y, 1, REL, 0), R(X, RLX, 1)}}},
     {"MP, an add of old data", ALLOWED, READS(1, 0, ANY, ANY), {{W(X, 1, RLX), W(Y, 1, RLX)}, {R(Y, RLX, 0), A(X, 4, RLX, 1)}}},
