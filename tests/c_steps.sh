@@ -216,7 +216,7 @@ done
 
 # Which leg goes by which plan, drawn by another program.
 legs_drawn() {
-    "$folder/$1" --legs --seed "$2" --seconds 4 >"$folder/printed" 2>"$folder/legs"
+    "$folder/$1" --legs --seed "$2" --rounds 42000 >"$folder/printed" 2>"$folder/legs"
     "$top/tests/legs.py" "$folder/legs" "$2" "$3" "$4"
 }
 ends 'the legs of a marked memory' 0 legs_drawn norec 3 1 0
@@ -319,6 +319,7 @@ for compiler in "${compilers[@]}"; do
         name=${file%:*} fault=${file#*:} path=tests/c/bench_${file%:*}.c
         [ "$name" != norec ] || path=examples/c/norec.c
         unpaused "plain_$name" $compiler "$path" NONE
+        [ "$name" != norec ] || ends "the legs of norec by $compiler" 0 legs_drawn plain_norec 5 1 1
         ends "$name by $compiler, with buffers" 0 "$folder/plain_$name" --schedule steps --rounds 2000 --orders x86 --plain
         has_told "$name by $compiler, with buffers: rescues" '"rescues":0,'
         [ "$fault" != NONE ] || continue

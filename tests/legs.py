@@ -3,10 +3,11 @@
 
     tests/legs.py LEGS SEED MARKED INSTRUMENTED
 
-LEGS is what the bench has written by --legs, of a run by default with this seed and more than 1000 rounds left in each leg. MARKED is 1 if
-the memory has steps of its own, and INSTRUMENTED 1 if it is linked with libtmwatch_steps.a. Prints how many legs went by each schedule.
-Exit status: 0 all is so; 1 it is not.
+LEGS is what the bench has written by --legs, of a run by default with this seed. MARKED is 1 if the memory has steps of its own, and
+INSTRUMENTED 1 if it is linked with libtmwatch_steps.a. Prints how many legs went by each schedule. Exit status: 0 all is so, and there are
+more than 40; 1 it is not.
 """
+import re
 import sys
 
 from draws import Draws
@@ -50,7 +51,8 @@ def main(words):
         due = f"--schedule steps --rounds 1000 --seed {seed} {usual}"
         if leg > 0:
             due = plan_of(draws, schedule, is_instrumented and schedule == "steps")
-        if found != due:
+        # (the last one may have fewer rounds)
+        if re.sub("--rounds [0-9]+", "--rounds 1000", found) != due:
             print(f"leg {leg + 1}:\n{found}, and its plan\n{due}")
             return 1
     print(*(f"{count} {schedule}" for schedule, count in sorted(counts.items())))

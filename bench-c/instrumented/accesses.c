@@ -69,7 +69,7 @@ static bool is_own(const tmwatch_step_how *how, const volatile void *at)
 }
 
 /* Where the program's own variables begin and end, as the linker says. They are never given back. */
-extern char __data_start, _end;
+extern char __data_start __attribute__((weak)), _end __attribute__((weak));
 
 static bool is_lasting(const volatile void *at)
 {
