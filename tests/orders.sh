@@ -155,6 +155,13 @@ if has addr2line 'lines of the source'; then
     ends 'a weak order: the lines' 0 grep -qE "^  stale load: thread [0-3] at sequence.c:$(line_of 'DATA_LOAD)') \(read\) does not see the \
 store of thread [0-3] at sequence.c:$(line_of 'it->written.reg., DATA_STORE') \(commit\)" "$folder/told"
 fi
+marked fenceless memories/sequence -DWRONG=2
+ends 'a fence that is missing' 1 "$folder/fenceless" --schedule steps --orders c++
+cp "$folder/output" "$folder/lines"
+if has addr2line 'lines of the source'; then
+    ends 'a fence that is missing: between which lines' 0 grep -qE "^    though it has read, at sequence.c:$(line_of 'DATA_LOAD)') \\(read\\), what \
+that thread stored later, at sequence.c:$(line_of 'it->written.reg., DATA_STORE') \\(commit\\)" "$folder/lines"
+fi
 ends 'a weak order, without addr2line' 1 env "PATH=$folder/none" "$folder/wrong" "${words[@]}"
 has_told 'a weak order, without addr2line: the address' -E '^  stale load: thread [0-3] at 0x[0-9a-f]+ does not see the store of thread [0-3]'
 

@@ -51,6 +51,7 @@ static uint64_t read_store(const tmwatch_access *a, struct place *it, unsigned f
     struct store *store = &it->stores[found];
     it->stale[a->thread] = found + 1 < it->count ? (uint8_t)(it->stale[a->thread] + 1) : 0;
     keep_deviation(a, it, found, kind);
+    meet(a, store);
     see(a, store);
     join(&view->loaded, &store->releases);
     if (acquires(a->order))

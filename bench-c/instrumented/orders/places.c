@@ -36,10 +36,18 @@ enum unseen { UNMARKED_STORE, UNMARKED_LOCK, UNSEEN_KINDS };
 
 enum deviation_kind { STALE_LOAD, LATE_STORE, LATE_CHANGE };
 
-/* An access that wasn't of the newest store: by whom and where, who has made the store after it, and how many events preceded. */
+/* The last store of another thread that a thread has read: at which step of the other it was made, where, and where it was loaded. */
+struct met {
+    uint32_t step;
+    const void *stored, *loaded;
+};
+
+/* An access that wasn't of the newest store: by whom and where, who has made the store after it, how many events preceded; and what was read
+   before of that thread, if that was stored later. */
 struct deviation {
     uint64_t event;
     const void *caller, *other;
+    struct met met;
     uint8_t kind, thread, other_thread;
     uint8_t newer; /* how many stores are newer */
 };
@@ -70,6 +78,7 @@ struct tmwatch_simulation {
        have made known; how many operations of sequential consistency there were; the odds. */
     struct view views[THREADS];
     struct clock ended, fences, untracked;
+    struct met met[THREADS][THREADS];
     uint32_t sequence, stale, late;
     unsigned used, locks_used;
     uint16_t heads[HEADS];

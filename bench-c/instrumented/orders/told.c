@@ -7,8 +7,22 @@ static void keep_deviation(const tmwatch_access *a, const struct place *it, unsi
     if (found + 1 >= it->count)
         return;
     const struct store *next = &it->stores[found + 1];
-    o->deviations[o->deviated++ % KEPT_DEVIATIONS] = (struct deviation){
-        *o->recorded, a->caller, next->caller, (uint8_t)kind, (uint8_t)a->thread, next->thread, (uint8_t)(it->count - 1 - found)};
+    const struct met *met = &o->met[a->thread][next->thread];
+    struct deviation *kept = &o->deviations[o->deviated++ % KEPT_DEVIATIONS];
+    *kept = (struct deviation){*o->recorded,           a->caller,    next->caller,
+                               {0, NULL, NULL},        (uint8_t)kind, (uint8_t)a->thread,
+                               next->thread,           (uint8_t)(it->count - 1 - found)};
+    if (met->step > next->seen.at[next->thread])
+        kept->met = *met;
+}
+
+/* Keeps that a thread has read a store of another. */
+static void meet(const tmwatch_access *a, const struct store *it)
+{
+    struct met *met = &a->orders->met[a->thread][it->thread];
+    uint32_t step = it->seen.at[it->thread];
+    if (it->caller && it->thread != a->thread && step > met->step)
+        *met = (struct met){step, it->caller, a->caller};
 }
 
 /* The first of those kept that is the same one from this event on, and how many there are up to that event; this one if it is the first. */
@@ -17,7 +31,8 @@ static uint64_t count_same(const tmwatch_simulation *o, const struct deviation *
     uint64_t count = 0;
     for (uint64_t i = first; i < o->deviated; i++) {
         const struct deviation *other = &o->deviations[i % KEPT_DEVIATIONS];
-        if (other->event < from || other->event >= to || other->kind != it->kind || other->caller != it->caller || other->other != it->other)
+        if (other->event < from || other->event >= to || other->kind != it->kind || other->caller != it->caller || other->other != it->other ||
+            other->met.stored != it->met.stored || other->met.loaded != it->met.loaded)
             continue;
         if (count++ == 0)
             *found = i;
@@ -36,6 +51,13 @@ static void tell_deviation(const struct deviation *it, uint64_t count, FILE *fil
     if (it->newer > 1)
         fprintf(file, ", nor %u after it", (unsigned)it->newer - 1);
     fprintf(file, count > 1 ? " (and %llu like this)\n" : "\n", (unsigned long long)count - 1);
+    if (!it->met.stored)
+        return;
+    fputs("    though it has read, at ", file);
+    print_place(file, it->met.loaded);
+    fputs(", what that thread stored later, at ", file);
+    print_place(file, it->met.stored);
+    fputc('\n', file);
 }
 
 void tmwatch_orders_tell(const tmwatch_simulation *o, FILE *file, uint64_t from, uint64_t to)
