@@ -4,7 +4,8 @@ its last ones; a transaction reads the newest that is no younger than its clock;
 clock.
 
 WRONG: 1 the lock of commits is taken relaxed, 2 given back relaxed; 3 the clock is loaded relaxed, 4 stored relaxed; 6 no acquire fence
-between value and second look, 7 no release fence between mark and value; 8 an acquire load as the second look in place of fence 6.
+between value and second look, 7 no release fence between mark and value; 8 an acquire load as the second look in place of fence 6; 9 the
+number of the newest version is stored relaxed: a reader that has it may find the place as it was before.
 */
 #include "ordered.h"
 
@@ -33,7 +34,7 @@ static bool begin(void *memory UNUSED, void *tx)
 /* Reads the newest version that is no younger than the snapshot. False if it is no longer kept, or is overwritten meanwhile. */
 static bool read_version(struct word *word, uint64_t snapshot, uint64_t *value)
 {
-    uint64_t newest = LOAD(word->newest, relaxed);
+    uint64_t newest = LOAD(word->newest, memory_order_acquire);
     for (uint64_t i = 0; i < KEPT && i <= newest; i++) {
         struct version *version = &word->versions[(newest - i) % KEPT];
         uint64_t then = LOAD(version->ticks, relaxed);
@@ -78,7 +79,7 @@ static void add_version(struct word *word, uint64_t value, uint64_t now)
     FENCE(7, release);
     STORE(version->value, value, relaxed);
     STORE(version->ticks, now, memory_order_release);
-    STORE(word->newest, newest + 1, relaxed);
+    STORE(word->newest, newest + 1, ORDER(9, release, relaxed));
 }
 
 static void publish(const struct tx *tx)
