@@ -4,8 +4,9 @@ its last ones; a transaction reads the newest that is no younger than its clock;
 clock.
 
 WRONG: 1 the lock of commits is taken relaxed, 2 given back relaxed; 3 the clock is loaded relaxed, 4 stored relaxed; 6 no acquire fence
-between value and second look, 7 no release fence between mark and value; 8 an acquire load as the second look in place of fence 6; 9 the
-number of the newest version is stored relaxed: a reader that has it may find the place as it was before.
+between value and second look, 7 no release fence between mark and value; 8 an acquire load as the second look in place of fence 6; 9 a
+place is marked relaxed: a reader that meets the mark may find the place before it as it was; 10 the number of the newest version is stored
+relaxed: a reader that has it may find its place as it was.
 */
 #include "ordered.h"
 
@@ -37,7 +38,7 @@ static bool read_version(struct word *word, uint64_t snapshot, uint64_t *value)
     uint64_t newest = LOAD(word->newest, memory_order_acquire);
     for (uint64_t i = 0; i < KEPT && i <= newest; i++) {
         struct version *version = &word->versions[(newest - i) % KEPT];
-        uint64_t then = LOAD(version->ticks, relaxed);
+        uint64_t then = LOAD(version->ticks, memory_order_acquire);
         if (then > snapshot)
             continue;
         *value = LOAD(version->value, relaxed);
@@ -75,11 +76,11 @@ static void add_version(struct word *word, uint64_t value, uint64_t now)
 {
     uint64_t newest = LOAD(word->newest, relaxed);
     struct version *version = &word->versions[(newest + 1) % KEPT];
-    STORE(version->ticks, UINT64_MAX, relaxed);
+    STORE(version->ticks, UINT64_MAX, ORDER(9, release, relaxed));
     FENCE(7, release);
     STORE(version->value, value, relaxed);
     STORE(version->ticks, now, memory_order_release);
-    STORE(word->newest, newest + 1, ORDER(9, release, relaxed));
+    STORE(word->newest, newest + 1, ORDER(10, release, relaxed));
 }
 
 static void publish(const struct tx *tx)
