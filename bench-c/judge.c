@@ -106,7 +106,10 @@ static void judge(struct bench *b)
 static void tell_places(struct bench *b)
 {
     static const char *const places[] = {"none", "begin", "read", "write", "add", "commit", "abort", "run"};
-    fprintf(stderr, "no event for %llu seconds\n", (unsigned long long)(b->idle / SECOND));
+    if (b->idle < SECOND)
+        fputs("interrupted, and no event for half a second\n", stderr);
+    else
+        fprintf(stderr, "no event for %llu seconds\n", (unsigned long long)(b->idle / SECOND));
     for (unsigned i = 0; i < b->plan->threads; i++) {
         unsigned inside = b->parts[i].inside, place = inside % 256;
         /* What the trace is written from is kept. */

@@ -53,10 +53,10 @@ paused jumping tests/c/bench_jumping.c NONE
 paused mutex tests/c/bench_stuck.c NONE "$waits"
 paused mutex_unseen tests/c/bench_stuck.c NONE
 
-# The time that a run by default takes, which is all that it has.
+# The time that a run by default takes, which is all that it has. (Long pauses, which steps don't make, let each leg by permits end late.)
 timed_legs() {
     local began=$EPOCHREALTIME
-    "$folder/$1" --seconds 3 >"$folder/printed"
+    "$folder/$1" --seconds 3 --threads 2 --registers 1 --calls 1 --pause 1000000 >"$folder/printed"
     since "$began" | awk '{ exit !($1 >= 2.9 && $1 < 5) }'
 }
 
@@ -135,8 +135,8 @@ until_rescued() {
 ends 'a violation after a rescue' 1 until_rescued
 has_told 'a violation after a rescue is not certain' '"certain":false}$'
 # What a later leg finds is told by that leg's plan: without a mark, only threads that run at once find it.
-ends 'a memory without a mark compiles' 0 "$cc" "${strict[@]}" -DFAULT=BEFORE -o "$folder/unmarked" "$top/tests/c/bench_tl2.c" "${bench[@]}"
-repeats unmarked 1 false '--adds 0 --pause 1000 --seconds 60'
+ends 'a memory without a mark compiles' 0 "$cc" "${strict[@]}" -DFAULT=MEETS -o "$folder/unmarked" "$top/tests/c/bench_stuck.c" "${bench[@]}"
+repeats unmarked 1 false '--writes 0 --adds 0 --seconds 60'
 ends 'a memory without a mark: by which schedule' 0 grep -q '"again":"--schedule [rp]' "$folder/told"
 
 # The round of the words is that of the wrong event: without it all is well. A right run ends with its round.
@@ -437,20 +437,21 @@ ends 'rescues are told of' 0 grep -q "rescues: the memory waits for what the ben
 # A first interrupt ends a memory that never returns within a second, and a second one the program.
 interrupts() {
     local began status=0
-    env --default-signal=INT "$folder/stuck_SPIN" --schedule "$1" --patience 0 --trace "$folder/one" >"$folder/printed" 2>&1 &
+    env --default-signal=INT "$folder/stuck_$1" --schedule "$2" --patience 0 --trace "$folder/one" >"$folder/printed" 2>&1 &
     sleep 1
     began=$EPOCHREALTIME
     kill -INT $!
-    [ -z "${2:-}" ] || { sleep 0.1 && kill -INT $!; }
+    [ "$1" = SPIN ] || { sleep 0.3 && kill -INT $!; }
     wait $! || status=$?
     since "$began" | awk '{ exit !($1 < 1) }'
     cat "$folder/printed"
     return $status
 }
+paused stuck_SLOW tests/c/bench_stuck.c SLOW "$waits"
 for schedule in rounds permits steps; do
-    ends "an interrupt of a memory that never returns, $schedule" 4 interrupts $schedule
+    ends "an interrupt of a memory that never returns, $schedule" 4 interrupts SPIN $schedule
     has_told "an interrupt of a memory that never returns, $schedule: where" 'has not returned$'
-    ends "two interrupts, $schedule" 130 interrupts $schedule twice
+    ends "two interrupts, $schedule" 130 interrupts SLOW $schedule
 done
 for fault in 1 2; do
     paused "jumping_$fault" tests/c/bench_jumping.c NONE "-DWRONG=$fault"

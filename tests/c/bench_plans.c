@@ -7,10 +7,11 @@ Plans that the bench refuses, and what comes out of a memory for one thread, whi
 #define _GNU_SOURCE
 #include "tmwatch_bench.h"
 #include "check.h"
+#include <stdatomic.h>
 #include <time.h>
 
 static uint64_t words[8];
-static unsigned long calls;
+static atomic_ulong calls;
 
 static bool begin(void *memory, void *tx)
 {

@@ -1,18 +1,21 @@
 /*
 A memory of one lock on the bench, in which thread 1 forgets to unlock: by -DFAULT=SPIN the next transaction spins at its begin; by MUTEX
 it waits for a mutex; by READ thread 1 never returns from a read of register 2, and by ADD from an add to it. By UNLOCKED thread 2 takes no
-lock, so that the memory isn't opaque, and by BOTH thread 1 forgets to unlock besides. By NONE nothing is forgotten.
+lock, so that the memory isn't opaque, and by BOTH thread 1 forgets to unlock besides. By SLOW a read takes three tenths of a second. By MEETS
+there is no lock, and two reads at once return a wrong value. By NONE nothing is forgotten.
 */
+#define _GNU_SOURCE
 #include "tmwatch_bench.h"
 #include <pthread.h>
 #include <stdatomic.h>
+#include <time.h>
 
 #ifndef FAULT
 #define FAULT NONE
 #endif
 
 enum { REGISTERS = 8 };
-enum fault { NONE, SPIN, MUTEX, READ, ADD, UNLOCKED, BOTH };
+enum fault { NONE, SPIN, MUTEX, READ, ADD, UNLOCKED, BOTH, SLOW, MEETS };
 
 struct tx {
     uint64_t before[REGISTERS];
@@ -27,7 +30,7 @@ static unsigned begun[REGISTERS];
 /* Whether this thread takes no lock. */
 static bool is_unlocked(void)
 {
-    return (fault == UNLOCKED || fault == BOTH) && tmwatch_thread() == 2;
+    return fault == MEETS || ((fault == UNLOCKED || fault == BOTH) && tmwatch_thread() == 2);
 }
 
 static void lock(void)
@@ -61,17 +64,31 @@ static bool begin(void *memory, void *tx)
     return true;
 }
 
-static bool read(void *memory, void *tx, unsigned reg, uint64_t *value)
+/* Whether another thread is here meanwhile. */
+static bool meets_another(void)
 {
+    static atomic_int inside;
+    bool meets = ++inside > 1;
+    for (int turn = 0; turn < 5000 && !meets; turn++)
+        meets = inside > 1;
+    inside--;
+    return meets;
+}
+
+static bool read_value(void *memory, void *tx, unsigned reg, uint64_t *value)
+{
+    struct timespec time = {0, 300000000};
     (void)memory, (void)tx;
+    while (fault == SLOW && nanosleep(&time, &time) != 0)
+        ;
     while (fault == READ && reg == 2 && tmwatch_thread() == 1 && begun[1] > 20)
         TMWATCH_PAUSE();
-    *value = words[reg];
+    *value = words[reg] + (fault == MEETS && meets_another());
     TMWATCH_PAUSE();
     return true;
 }
 
-static bool write(void *memory, void *tx, unsigned reg, uint64_t value)
+static bool write_value(void *memory, void *tx, unsigned reg, uint64_t value)
 {
     (void)memory, (void)tx;
     words[reg] = value;
@@ -103,6 +120,6 @@ static void cancel(void *memory, void *tx)
     unlock();
 }
 
-static const tmwatch_memory memory = {NULL, sizeof(struct tx), begin, read, write, add, commit, cancel, NULL};
+static const tmwatch_memory memory = {NULL, sizeof(struct tx), begin, read_value, write_value, add, commit, cancel, NULL};
 
 TMWATCH_BENCH_MAIN(memory)
