@@ -136,6 +136,20 @@ for name in tl2:5 norec:7 sequence:2 undo:2 versions:1 readers:3 two_phase:2 roo
     ends "$memory, too weak, by sequential steps" 0 "$folder/wrong" --schedule steps --orders sequential --rounds 500
 done
 
+# The memories of this project.
+for path in examples/c/norec examples/c/sequence tests/c/bench_tl2 tests/c/bench_versions tests/c/bench_undo tests/c/bench_locks \
+    tests/c/bench_sequence tests/c/bench_readers; do
+    marked right "../../$path"
+    ends "$path" 0 "$folder/right" --schedule steps --orders c++ --rounds 1000
+done
+marked right ../../examples/c/bank
+ends 'examples/c/bank' 0 "$folder/right" 8000
+ends 'examples/c/bank, broken' 1 "$folder/right" 8000 broken
+marked wrong ../../examples/c/sequence -DFAULT=FENCE
+ends 'examples/c/sequence, without a fence' 1 "$folder/wrong" --schedule steps --orders c++
+marked wrong ../../tests/c/bench_readers -DFLAGS=memory_order_acquire
+ends 'tests/c/bench_readers, an acquire in place of seq_cst' 1 "$folder/wrong" --schedule steps --orders c++
+
 # By default too. A violation comes again by its words, on one processor and on several, and says which loads were stale, and where.
 marked wrong memories/sequence -DWRONG=4
 ends 'a weak order, by default' 1 "$folder/wrong" --trace "$folder/one"
@@ -190,6 +204,25 @@ link=("${link[@]:1}")
 marked unseen memories/global -DLOCK=MUTEX
 ends 'a mutex that is not wrapped' 1 "$folder/unseen" --schedule steps --orders c++
 has_told 'a mutex that is not wrapped: what is told' 'without --wrap='
+
+# What orders transactions, and what shows locks, is needed: without it right memories come out violated.
+planted() {
+    local name=$1 file=$2 memory=$3
+    mkdir -p "$folder/planted/lib"
+    cp -r "$top/bench-c" "$folder/planted"
+    sed -i "$4" "$folder/planted/bench-c/$file"
+    ends "$name: planted" 1 cmp -s "$top/bench-c/$file" "$folder/planted/bench-c/$file"
+    top=$folder/planted folder=$folder/planted build_bench "$cc" -std=c11 -O2 -pthread "-I$top/include"
+    link=("$waits" "$blocks" "$folder/planted/lib/libtmwatch_steps.a" "$folder/planted/lib/libtmwatch_bench.a" "$built/lib/libtmwatch.a")
+    marked planted_memory "memories/$memory" -DLOCK=MUTEX
+    ends "$name: a right memory is violated" 1 "$folder/planted_memory" --schedule steps --orders c++
+    rm -r "$folder/planted"
+}
+planted 'a beginning that knows no end' attempts.c sequence 's/tmwatch_orders_begins(.*);/(void)0;/'
+planted 'an end that nobody knows' attempts.c tl2 's/tmwatch_orders_ends(.*);/(void)0;/'
+planted 'a mutex that acquires nothing' instrumented/waits.c global 's/tmwatch_orders_locked(.*);/(void)is_shared, (void)lock;/'
+planted 'a mutex that releases nothing' instrumented/waits.c global 's/tmwatch_orders_unlocks(.*);/(void)lock;/'
+link=("$waits" "$blocks" "$folder/lib/libtmwatch_steps.a" "$folder/lib/libtmwatch_bench.a" "$built/lib/libtmwatch.a")
 
 marked two two_benches
 ends 'two benches at once' 0 "$folder/two"
