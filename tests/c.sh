@@ -237,7 +237,7 @@ for words in --rounds '--rounds x' '--rounds 0' '--mixes 101' '--schedule rounds
     esac
     ends "wrong words, $words: why" 0 grep -qxF -- "$reason" "$folder/told"
 done
-ends 'an empty word' 4 "${run[@]}" "$folder/norec_NONE" --rounds ''
+ends 'an empty word' 4 "${run[@]}" "$folder/norec_NONE" --rounds 9 --adds ''
 ends 'the words there are' 0 "${run[@]}" "$folder/norec_NONE" --help
 sed 's/ norec_commit, norec_abort/ NULL, norec_abort/; /^static bool norec_commit/,/^}/d' "$top/examples/c/norec.c" >"$folder/lacking.c"
 ends 'a memory without a function compiles' 0 "$cc" -std=c11 -O2 -pthread "-I$built/include" "-I$top/examples/c" "${flags[@]}" \

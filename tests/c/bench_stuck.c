@@ -1,7 +1,7 @@
 /*
 A memory of one lock on the bench, in which thread 1 forgets to unlock: by -DFAULT=SPIN the next transaction spins at its begin; by MUTEX
 it waits for a mutex; by READ thread 1 never returns from a read of register 2, and by ADD from an add to it. By UNLOCKED thread 2 takes no
-lock, so that the memory isn't opaque, and by BOTH thread 1 forgets to unlock besides. By SLOW a read takes three tenths of a second. By MEETS
+lock, so that the memory isn't opaque. By BOTH thread 1 reads a wrong value and then never returns. By SLOW a read takes three tenths of a second. By MEETS
 there is no lock, and two reads at once return a wrong value. By NONE nothing is forgotten.
 */
 #define _GNU_SOURCE
@@ -30,7 +30,7 @@ static unsigned begun[REGISTERS];
 /* Whether this thread takes no lock. */
 static bool is_unlocked(void)
 {
-    return fault == MEETS || ((fault == UNLOCKED || fault == BOTH) && tmwatch_thread() == 2);
+    return fault == MEETS || (fault == UNLOCKED && tmwatch_thread() == 2);
 }
 
 static void lock(void)
@@ -46,7 +46,7 @@ static void lock(void)
 
 static void unlock(void)
 {
-    bool forgets = tmwatch_thread() == 1 && ++begun[1] > 20 && (fault == SPIN || fault == MUTEX || fault == BOTH);
+    bool forgets = tmwatch_thread() == 1 && ++begun[1] > 20 && (fault == SPIN || fault == MUTEX);
     if (is_unlocked())
         return;
     if (fault == SPIN && !forgets)
@@ -75,6 +75,17 @@ static bool meets_another(void)
     return meets;
 }
 
+/* After a wrong value thread 1 doesn't return. */
+static bool lies(void)
+{
+    static bool has_lied;
+    bool is_due = fault == BOTH && tmwatch_thread() == 1 && begun[1] > 20;
+    while (is_due && has_lied)
+        TMWATCH_PAUSE();
+    has_lied = has_lied || is_due;
+    return is_due;
+}
+
 static bool read_value(void *memory, void *tx, unsigned reg, uint64_t *value)
 {
     struct timespec time = {0, 300000000};
@@ -83,7 +94,7 @@ static bool read_value(void *memory, void *tx, unsigned reg, uint64_t *value)
         ;
     while (fault == READ && reg == 2 && tmwatch_thread() == 1 && begun[1] > 20)
         TMWATCH_PAUSE();
-    *value = words[reg] + (fault == MEETS && meets_another());
+    *value = words[reg] + (fault == MEETS && meets_another()) + lies();
     TMWATCH_PAUSE();
     return true;
 }
@@ -108,6 +119,7 @@ static bool add(void *memory, void *tx, unsigned reg, uint64_t addend, uint64_t 
 static bool commit(void *memory, void *tx)
 {
     (void)memory, (void)tx;
+    lies();
     unlock();
     return true;
 }
