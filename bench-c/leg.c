@@ -45,6 +45,9 @@ static void count_threads(struct bench *b, tmwatch_benched *out)
     }
 }
 
+/* The C library's, in a program that wraps it. */
+extern int __real_pthread_mutex_lock(pthread_mutex_t *mutex) __attribute__((weak));
+
 /* How long an access takes at most that is under way, in microseconds. */
 enum { MOST_ACCESS = 10000 };
 
@@ -61,8 +64,9 @@ static void tell_orders(struct bench *b, tmwatch_benched *out)
     if (is_wrong)
         tmwatch_orders_tell(b->orders, file, b->steps.starts[out->rounds % STARTS], b->is_stuck ? UINT64_MAX : out->told.at);
     tmwatch_orders_tell_unseen(b->orders, file, is_wrong);
-    if (is_wrong && !tmwatch_step_sees_waits())
-        fputs("if the memory has locks of pthread: what they order is not seen, since the program is linked without --wrap=.. (tmwatch_steps.pc)\n", file);
+    if (is_wrong && !__real_pthread_mutex_lock)
+        fputs("what locks of pthread order, if the memory has any, is not seen: the program is linked without --wrap=.. (tmwatch_steps.pc)\n",
+              file);
     fclose(file);
 }
 

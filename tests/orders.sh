@@ -83,7 +83,8 @@ mistake 'a change is of the newest store alone' model.c 's/may_change(it, found)
 mistake 'a store may come before any' model.c '/^bool tmwatch_orders_store/,/^}/s/floor_of(o, it, view, a->order)/0/'
 mistake 'no store is late' model.c '/^bool tmwatch_orders_store/,/^}/s/o->late/0/'
 mistake 'a swap that fails has the order of one that succeeds' model.c 's/to_fail.order = failed;/(void)0;/'
-mistake 'a swap that succeeds reads as one that fails' model.c 's/is_equal ? found >= to_change \&\& may_change(it, found)/is_equal ? found >= to_fail \&\& may_change(it, found)/'
+mistake 'a swap that succeeds reads as one that fails' model.c \
+    's/is_equal ? found >= to_change \&\&/is_equal ? found >= to_fail \&\&/'
 mistake 'a swap fails by no old value' model.c '/^static unsigned draw_compared/,/^}/s/o->stale/0/'
 mistake 'a weak swap fails as a strong one' model.c 's/is_spurious = is_weak \&\&/is_spurious = false \&\&/'
 mistake 'a strong swap fails as a weak one' model.c 's/is_spurious = is_weak \&\&/is_spurious =/'
@@ -186,7 +187,8 @@ cp "$folder/output" "$folder/told"
 ends 'plain data under a lock: no race' 1 grep race "$folder/told"
 marked wrong memories/global -DLOCK=MCS -DWRONG=4 -DPLAIN
 ends 'plain data under a weak lock' 0 "$folder/wrong" --schedule steps --orders c++ --rounds 500
-has_told 'plain data under a weak lock: the race' -E '^a race, .*: thread [0-3] (loads|stores) plainly at [^ ]+ \([a-z]+\), thread [0-3] (loads|stores) plainly at'
+has_told 'plain data under a weak lock: the race' -E \
+    '^a race, .*: thread [0-3] (loads|stores) plainly at [^ ]+ \([a-z]+\), thread [0-3] (loads|stores) plainly at'
 
 # A memory that never returns tells it too.
 marked wrong memories/global -DLOCK=MCS -DWRONG=12

@@ -4,8 +4,10 @@
    With drawn buffers, an atomic store that isn't sequentially consistent may stay in its thread's buffer for some steps, as in the store
    buffers of x86 (Sewell, Sarkar, Owens, Zappa Nardelli and Myreen, CACM 2010): the stores of a thread come out in their order, a read of
    the thread sees them, and they are out before a read-modify-write, a sequentially consistent store or fence, a plain store to what other
-   threads may see, and each recorded event. Loads aren't reordered. By the orders of C++20, orders.c says what each access does. Of a thread's own bytes nothing is buffered, since what is stored to
-   them without a mark, as at the end of a function, would be overtaken; nor of a block that may be given back unseen. */
+   threads may see, and each recorded event. Loads aren't reordered. Of a thread's own bytes nothing is buffered, since what is stored to
+   them without a mark, as at the end of a function, would be overtaken; nor of a block that may be given back unseen.
+
+   By the orders of C++20, orders.c says what each access does. */
 #include "step.h"
 #include <string.h>
 

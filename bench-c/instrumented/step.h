@@ -29,9 +29,6 @@ extern void tmwatch_step_drain(void) __attribute__((weak));
 /* Whether blocks.c sees that a block is given back. */
 bool tmwatch_step_sees_free(void);
 
-/* Whether waits.c sees locks. */
-bool tmwatch_step_sees_waits(void);
-
 /* Whether this thread is one of a bench by steps, and not in a look or beside a round. Those below are for such a thread. */
 bool tmwatch_step_is_run(void);
 

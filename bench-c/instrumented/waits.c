@@ -100,11 +100,6 @@ WRAPPED(int, sem_wait, sem_t *semaphore)
     return has_locked(status != 0 ? __real_sem_wait(semaphore) : status, semaphore, false);
 }
 
-bool tmwatch_step_sees_waits(void)
-{
-    return __real_pthread_mutex_lock;
-}
-
 /* The same for a lock of another language: it was tried, and the answer says whether the thread goes by steps; others run until it may be
    free, and the answer says whether to try again; it was taken; it is about to be given back; it was given back. */
 bool tmwatch_lock_tried(void)

@@ -1,5 +1,7 @@
 /*
-Two-phase locking (Eswaran, Gray, Lorie and Traiger, CACM 1976), a lock for each word; who meets one aborts. WRONG: 1 a lock is taken relaxed; 2 given back relaxed.
+Two-phase locking (Eswaran, Gray, Lorie and Traiger, CACM 1976), a lock for each word; who meets one aborts.
+
+WRONG: 1 a lock is taken relaxed; 2 given back relaxed.
 */
 #include "ordered.h"
 
