@@ -190,6 +190,20 @@ ends 'plain data under a weak lock' 0 "$folder/wrong" --schedule steps --orders 
 has_told 'plain data under a weak lock: the race' -E \
     '^a race, .*: thread [0-3] (loads|stores) plainly at [^ ]+ \([a-z]+\), thread [0-3] (loads|stores) plainly at'
 
+# Of a block that is given back and taken by another thread nothing is left, whether or not that is shown.
+whole=("${link[@]}")
+for words in "${whole[1]}" -pthread; do
+    link=("${whole[0]}" "$words" "${whole[@]:2}")
+    marked right memories/global -DLOCK=MCS -DHEAP
+    ends 'blocks of the heap' 0 "$folder/right" --schedule steps --orders c++ --rounds 500
+    cp "$folder/output" "$folder/told"
+    ends 'blocks of the heap: no race' 1 grep race "$folder/told"
+done
+link=("${whole[@]}")
+marked wrong memories/global -DLOCK=MCS -DWRONG=4 -DHEAP
+ends 'blocks of the heap under a weak lock' 0 "$folder/wrong" --schedule steps --orders c++ --rounds 500
+has_told 'blocks of the heap under a weak lock: the race' '^a race, '
+
 # A memory that never returns tells it too.
 marked wrong memories/global -DLOCK=MCS -DWRONG=12
 ends 'a lost hand-over' 4 "$folder/wrong" --schedule steps --orders c++ --patience 1

@@ -124,7 +124,7 @@ TMWATCH_PART bool is_simulated(tmwatch_access *to, const volatile void *at, unsi
     return orders;
 }
 
-/* Before a plain load of so many bytes. */
+/* Before a plain load of so many bytes. Where nothing shows when a block is given back, no race is looked for in it. */
 TMWATCH_PART void before_load(const void *at, size_t bytes, bool is_volatile)
 {
     uint64_t value;
@@ -134,7 +134,7 @@ TMWATCH_PART void before_load(const void *at, size_t bytes, bool is_volatile)
         return;
     if (is_volatile || how->has_plain)
         at_step();
-    if (is_simulated(&access, at, 0, 0))
+    if (is_simulated(&access, at, 0, 0) && is_lasting(at))
         tmwatch_orders_plain_load(&access, bytes);
     if (is_forwarded(at, (unsigned)bytes, &value))
         tmwatch_step_drain();
@@ -149,7 +149,7 @@ TMWATCH_PART void before_store(const void *at, size_t bytes, bool is_volatile)
     if (is_stepped && (is_volatile || how->has_plain))
         at_step();
     if (is_simulated(&access, at, 0, 0))
-        tmwatch_orders_plain_store(&access, bytes, !is_stepped);
+        tmwatch_orders_plain_store(&access, bytes, !is_stepped || !is_lasting(at));
     if (is_stepped)
         tmwatch_step_drain();
 }

@@ -40,9 +40,9 @@ void tmwatch_orders_change(const tmwatch_access *access, uint64_t value);
 
 void tmwatch_orders_fence(const tmwatch_access *access);
 
-/* A plain access: whether it races, unless its bytes are the thread's own. A store ends the history of its places. */
+/* A plain access: whether it races, unless its bytes may be given back unseen. A store ends the history of its places. */
 void tmwatch_orders_plain_load(const tmwatch_access *access, size_t bytes);
-void tmwatch_orders_plain_store(const tmwatch_access *access, size_t bytes, bool is_own);
+void tmwatch_orders_plain_store(const tmwatch_access *access, size_t bytes, bool is_passing);
 
 /* An access of 16 bytes: it acquires and releases, also what its halves do, and their histories end. */
 void tmwatch_orders_wide(const tmwatch_access *access);

@@ -228,9 +228,9 @@ void tmwatch_orders_plain_load(const tmwatch_access *a, size_t bytes)
     look_for_race(a, bytes, PLAIN_LOAD);
 }
 
-void tmwatch_orders_plain_store(const tmwatch_access *a, size_t bytes, bool is_own)
+void tmwatch_orders_plain_store(const tmwatch_access *a, size_t bytes, bool is_passing)
 {
-    if (!is_own)
+    if (!is_passing)
         look_for_race(a, bytes, PLAIN_STORE);
     forget_places(a->orders, (uintptr_t)a->at, bytes);
 }

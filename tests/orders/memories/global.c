@@ -1,6 +1,7 @@
 /*
 One lock over all, held from the first call to the end; the words are relaxed. -DLOCK: TICKET, MCS (Mellor-Crummey and Scott, TOCS 1991),
-BAKERY (Lamport, CACM 1974), MUTEX (of pthread). By -DPLAIN the words are plain.
+BAKERY (Lamport, CACM 1974), MUTEX (of pthread). By -DPLAIN the words are plain; by
+-DHEAP each is a block of the heap, and another one after each write.
 
 WRONG: ticket: 1 the wait is relaxed, 2 the unlock. MCS: 3 the wait is relaxed, 4 the hand-over, 5 the unlock without a successor, 6 taking a
 free lock, 12 the link to the next. Bakery: 7 the number is stored by release and without a fence, 9 the unlock is relaxed, 11 no fence after
@@ -8,12 +9,26 @@ the choice has begun; 8 numbers are loaded by acquire, 10 the choice is ended re
 */
 #include "ordered.h"
 #include <pthread.h>
+#include <stdlib.h>
 
 enum lock { TICKET, MCS, BAKERY, MUTEX };
 #ifdef PLAIN
 static uint64_t words[REGISTERS];
 #define LOAD_WORD(reg) words[reg]
 #define STORE_WORD(reg, value) words[reg] = value
+#elif defined HEAP
+static uint64_t *words[REGISTERS];
+
+static void put(unsigned reg, uint64_t value)
+{
+    free(words[reg]);
+    words[reg] = malloc(sizeof *words[reg]);
+    if (words[reg])
+        *words[reg] = value;
+}
+
+#define LOAD_WORD(reg) (words[reg] ? *words[reg] : 0)
+#define STORE_WORD(reg, value) put(reg, value)
 #else
 static _Atomic uint64_t words[REGISTERS];
 #define LOAD_WORD(reg) LOAD(words[reg], relaxed)
