@@ -14,6 +14,7 @@ enum { REGISTERS = 3, BENCHES = 2 };
 /* A memory of one lock, of which each bench has its own. */
 struct locked {
     atomic_bool is_locked;
+    unsigned commits;
     uint64_t words[REGISTERS];
 };
 
@@ -51,6 +52,7 @@ static bool store(void *memory, void *tx, unsigned reg, uint64_t value)
 static bool commit(void *memory, void *tx)
 {
     (void)tx;
+    ((struct locked *)memory)->commits++;
     ((struct locked *)memory)->is_locked = false;
     return true;
 }
@@ -117,6 +119,7 @@ static void keep_signals(void)
     signal(SIGTERM, SIG_IGN);
     signal(SIGINT, count_interrupt);
     CHECK(tmwatch_bench_main(&memory, 6, given) == 0);
+    CHECK(words.commits > 100);
     CHECK(interrupts == 0 && raise(SIGINT) == 0 && interrupts == 1);
     CHECK(signal(SIGTERM, SIG_DFL) == SIG_IGN);
 }

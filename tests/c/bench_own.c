@@ -70,6 +70,8 @@ static bool begin(void *memory, void *tx)
 {
     struct tx *it = tx;
     (void)memory;
+    if (kind == REGISTERED && it->is_registered != (own != NULL))
+        abort();
     if (kind == REGISTERED && !it->is_registered)
         own = calloc(1, sizeof words);
     atomic_store_explicit(&it->status, 1, memory_order_relaxed);
