@@ -87,8 +87,11 @@ static void note_call(tmwatch_attempt *a)
         keep(a, place, call->letter, call->register_number, call->value);
     } else
         stop(a->bench, status);
-    if (a->turn.place == 0)
+    if (a->turn.place == 0) {
         a->before = a->bench->asked;
+        if (a->bench->orders)
+            tmwatch_orders_begins(a->bench->orders, a->thread);
+    }
     pause_sometimes(a, 0);
 }
 
@@ -120,6 +123,8 @@ static void end_attempt(tmwatch_attempt *a, bool has_committed)
     b->asked += has_committed;
     note_answer(a, has_committed ? 'C' : 'A', 0);
     b->committed += has_committed;
+    if (b->orders)
+        tmwatch_orders_ends(b->orders, a->thread);
     a->is_done = has_committed || a->has_asked;
     if (a->is_done)
         a->made = a->most;

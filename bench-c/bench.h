@@ -157,6 +157,8 @@ struct bench {
     tmwatch_permits permits;
     atomic_uint_least64_t attempted, next_look; /* by permits: how many attempts were begun, and at how many a look is due */
     struct steps steps;
+    tmwatch_simulation *orders; /* by the orders of C++20: the memory that is simulated; or null */
+    atomic_bool is_told;        /* of that memory is told: no access is simulated any more */
     struct watchdog watchdog;
     atomic_uint_least32_t fault; /* the first status of the watch that wasn't to be */
     atomic_bool stops, is_late;  /* no round is to follow, since something is wrong, or since the time is up */

@@ -45,6 +45,31 @@ static void count_threads(struct bench *b, tmwatch_benched *out)
     }
 }
 
+/* The C library's, in a program that wraps it. */
+extern int __real_pthread_mutex_lock(pthread_mutex_t *mutex) __attribute__((weak));
+
+/* How long an access takes at most that is under way, in microseconds. */
+enum { MOST_ACCESS = 10000 };
+
+/* Tells what the orders of C++20 have shown: of the round that is violated or stuck, and of what they don't see. */
+static void tell_orders(struct bench *b, tmwatch_benched *out)
+{
+    FILE *file = fmemopen(out->shown, sizeof out->shown, "w");
+    bool is_wrong = out->told.verdict == TMWATCH_VIOLATED || b->is_stuck;
+    if (!file)
+        return;
+    b->is_told = true;
+    if (b->is_stuck)
+        nap(MOST_ACCESS);
+    if (is_wrong)
+        tmwatch_orders_tell(b->orders, file, b->steps.starts[out->rounds % STARTS], b->is_stuck ? UINT64_MAX : out->told.at);
+    tmwatch_orders_tell_unseen(b->orders, file, is_wrong);
+    if (is_wrong && !__real_pthread_mutex_lock)
+        fputs("what locks of pthread order, if the memory has any, is not seen: the program is linked without --wrap=.. (tmwatch_steps.pc)\n",
+              file);
+    fclose(file);
+}
+
 /* Runs a leg under a watch that is open, and closes it. */
 static uint32_t run_watched(struct bench *b, tmwatch_benched *out)
 {
@@ -61,6 +86,8 @@ static uint32_t run_watched(struct bench *b, tmwatch_benched *out)
     b->session->has_steps = b->session->has_steps || b->steps.inner > 0;
     b->session->looked = b->looked;
     count_threads(b, out);
+    if (b->orders)
+        tell_orders(b, out);
     if (status == TMWATCH_DONE && (b->is_stuck || out->rejected > 0))
         tell_lost(b);
     return status;
@@ -93,10 +120,16 @@ static uint32_t run_leg(struct bench *b, struct session *session, const tmwatch_
     b->plan = &b->own_plan;
     b->looked = session->looked;
     set_bounds(b);
+    if (plan->orders == TMWATCH_CXX && by_steps(b) && !(b->orders = tmwatch_orders_new(plan->seed, &b->steps.recorded)))
+        return TMWATCH_MEMORY;
     if (!start_threads(b) || !set_steps(b))
         return TMWATCH_MEMORY;
     tmwatch_settings settings = TMWATCH_SETTINGS(plan->registers);
     memcpy(settings.start, plan->start, sizeof settings.start);
     uint32_t status = tmwatch_open(&b->watch, b->recorders, plan->threads, &settings);
-    return status == TMWATCH_DONE ? run_watched(b, out) : status;
+    if (status == TMWATCH_DONE)
+        status = run_watched(b, out);
+    if (b->orders && !b->is_stuck)
+        tmwatch_orders_discard(b->orders);
+    return status;
 }

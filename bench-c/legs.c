@@ -7,9 +7,9 @@
 
    One leg in two has the usual numbers and another seed. In the others all is drawn, since what one memory needs another doesn't.
 
-   With libtmwatch_steps.a one leg by steps in four has delayed stores, and one in eight plain accesses that are steps too: each finds what
-   the others can't, and finds all else more slowly. */
-enum { CYCLE = 20, FEW_STEPS_CYCLE = 4, LEG_MICROSECONDS = SECOND / 10, USUAL_LEGS = 2, BUFFERED_LEGS = 4, PLAIN_LEGS = 8 };
+   With libtmwatch_steps.a one leg by steps in four has delayed stores, one in four the orders of C++20, and one in eight plain accesses that
+   are steps too: each finds what the others can't, and finds all else more slowly. */
+enum { CYCLE = 20, FEW_STEPS_CYCLE = 4, LEG_MICROSECONDS = SECOND / 10, USUAL_LEGS = 2, ORDERED_LEGS = 4, PLAIN_LEGS = 8 };
 
 /* Draws the plan of a leg that isn't the first. */
 static void draw_plan(tmwatch_plan *plan, uint64_t *draws)
@@ -21,13 +21,15 @@ static void draw_plan(tmwatch_plan *plan, uint64_t *draws)
     uint64_t threads = 2 + draw(draws, 3 + more), registers = 1 + draw(draws, 4), calls = 1 + draw(draws, 5);
     uint64_t writes = 30 + 20 * draw(draws, 4), adds = 20 * draw(draws, 2);
     uint64_t aborts = draw(draws, 4) == 0 ? 52 : 12, pause = pauses[draw(draws, 4)];
-    bool has_buffers = draw(draws, BUFFERED_LEGS) == 0, has_plain = draw(draws, PLAIN_LEGS) == 0;
-    const uint64_t numbers[DRAWN] = {threads, registers, calls, writes, adds, aborts, pause, 50, 10};
+    uint64_t drawn_orders = draw(draws, ORDERED_LEGS);
+    bool has_plain = draw(draws, PLAIN_LEGS) == 0, draws_orders = plan->orders == TMWATCH_DRAWN;
+    const uint64_t numbers[DRAWN] = {threads, registers, calls, writes, adds, aborts, pause, 50, 10, TMWATCH_SEQUENTIAL};
     if (is_usual)
         *plan = usual_plan(plan);
     fill_in(plan, numbers);
     if (tmwatch_step_drain && plan->schedule == TMWATCH_STEPS) {
-        plan->buffers |= has_buffers;
+        if (draws_orders && drawn_orders <= TMWATCH_CXX)
+            plan->orders = drawn_orders;
         plan->plain |= has_plain;
     }
 }
@@ -80,6 +82,8 @@ static void add_leg(tmwatch_benched *all, const tmwatch_benched *leg)
     to->transactions += of->transactions;
     to->unasked += of->unasked;
     to->widest = of->widest > to->widest ? of->widest : to->widest;
+    if (leg->shown[0])
+        memcpy(all->shown, leg->shown, sizeof all->shown);
     all->rounds += leg->rounds;
     all->steps += leg->steps;
     all->switches += leg->switches;

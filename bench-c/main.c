@@ -28,8 +28,10 @@ static int tell_usage(const char *wrong, const tmwatch_memory *memory, const tmw
         fprintf(stderr, "the memory's function `%s` is null\n", missing);
     else if (wrong)
         fprintf(stderr, "wrong, or without its value: %s\n", wrong);
-    else if (plan->buffers > 0 && !tmwatch_step_drain)
-        fputs("--buffers: the memory isn't compiled with -fsanitize=thread and linked with libtmwatch_steps.a\n", stderr);
+    else if (plan->orders != TMWATCH_DRAWN && !tmwatch_step_drain && !has_orders(plan))
+        fputs("--orders: the memory isn't compiled with -fsanitize=thread and linked with libtmwatch_steps.a\n", stderr);
+    else if (plan->orders == TMWATCH_CXX && !has_orders(plan))
+        fputs("--orders c++: by steps alone\n", stderr);
     else
         fputs("a number is out of its range\n", stderr);
     if (!missing)
@@ -45,9 +47,10 @@ static void tell_status(uint32_t status, const tmwatch_benched *benched)
     if (is_lost)
         print_again(stdout, benched);
     fflush(stdout);
-    if (is_lost)
+    if (is_lost) {
         tell_again(benched);
-    else if (status == TMWATCH_MISFIT)
+        fputs(benched->shown, stderr);
+    } else if (status == TMWATCH_MISFIT)
         fputs("`run` has answered true, and tmwatch_calls has not\n", stderr);
     else if (status == TMWATCH_OUT_OF_TURN)
         fputs("`run` has called tmwatch_calls twice in one attempt\n", stderr);

@@ -1,7 +1,13 @@
 /* The options of a program: read into a plan, and printed from one. */
 
-static const char *const schedules[] = {"rounds", "permits", "steps", "all"};
-enum { SCHEDULES = sizeof schedules / sizeof schedules[0] };
+static const char *const schedules[] = {"rounds", "permits", "steps", "all", NULL};
+static const char *const orders[] = {"sequential", "x86", "c++", NULL};
+
+/* The words for the numbers that stand there in a plan, or null. */
+static const char *const *choices_of(size_t to)
+{
+    return to == TO(schedule) ? schedules : to == TO(orders) ? orders : NULL;
+}
 
 /* An option: its name, what it takes, or nothing, where its number goes in a plan, and what it is for, with its default. */
 struct option {
@@ -28,7 +34,7 @@ static const struct option options[] = {
     {"--mixes", "0-100", TO(mixes), "percent of rounds with a long transaction (50)"},
     {"--blinds", "0-100", TO(blinds), "percent of transactions that do nothing but write (10)"},
     {"--attempts", "N", TO(attempts), "of each transaction, at most (as many as are decided)"},
-    {"--buffers", "", TO(buffers), "stores are delayed (libtmwatch_steps.a)"},
+    {"--orders", "WORD", TO(orders), "sequential, x86, c++ (libtmwatch_steps.a; by all, drawn)"},
     {"--plain", "", TO(plain), "plain accesses are steps too (libtmwatch_steps.a)"},
     {"--patience", "N", TO(patience), "seconds without an event until the run is given up (5)"},
     {"--trace", "FILE", SIZE_MAX, "the run's end; FILE.run: of which run; FILE.steps: its steps"},
@@ -49,15 +55,16 @@ static bool read_number(const char *word, uint64_t *number)
     return errno == 0;
 }
 
-/* The word's number, or that of the schedule which it names. */
-static bool read_value(const char *name, const char *word, uint64_t *number)
+/* The word's number, or that of the choice which it names. */
+static bool read_value(const struct option *option, const char *word, uint64_t *number)
 {
-    if (strcmp(name, "--schedule") != 0)
+    const char *const *choices = choices_of(option->to);
+    if (!choices)
         return read_number(word, number);
-    *number = 0;
-    while (*number < SCHEDULES && strcmp(word, schedules[*number]) != 0)
-        ++*number;
-    return *number < SCHEDULES;
+    for (*number = 0; choices[*number]; ++*number)
+        if (strcmp(word, choices[*number]) == 0)
+            return true;
+    return false;
 }
 
 static const struct option *find_option(const char *word)
@@ -89,7 +96,7 @@ static const char *read_option(struct given *given, const struct option *option,
         given->plan.progress = NULL;
     else if (!option->takes[0])
         *number_of(&given->plan, option->to) = 1;
-    else if (!read_value(option->name, words[1], number_of(&given->plan, option->to)))
+    else if (!read_value(option, words[1], number_of(&given->plan, option->to)))
         return words[1];
     return NULL;
 }
@@ -114,18 +121,27 @@ static const char *read_words(struct given *given, char **words)
     return wrong;
 }
 
+/* Whether a plan has the same number without this option. */
+static bool is_left_out(const tmwatch_plan *plan, size_t to)
+{
+    if (to == TO(rounds))
+        return plan->round > 0 || plan->rounds == UINT64_MAX;
+    if (to == TO(orders))
+        return plan->schedule != TMWATCH_ALL && plan->orders == TMWATCH_SEQUENTIAL;
+    return to == TO(patience);
+}
+
 void tmwatch_bench_words(FILE *file, const tmwatch_plan *given)
 {
     tmwatch_plan plan = *given, usual = TMWATCH_PLAN;
     const char *before = "";
     for (const struct option *option = options; option->to != SIZE_MAX; option++) {
         uint64_t number = *number_of(&plan, option->to);
-        bool is_left_out = option->to == TO(rounds) ? plan.round > 0 || number == UINT64_MAX : option->to == TO(patience);
-        if (is_left_out || (number == *number_of(&usual, option->to) && option->to != TO(seed)))
+        if (is_left_out(&plan, option->to) || (number == *number_of(&usual, option->to) && option->to != TO(seed)))
             continue;
         fprintf(file, "%s%s", before, option->name);
-        if (option->to == TO(schedule))
-            fprintf(file, " %s", schedules[number]);
+        if (choices_of(option->to))
+            fprintf(file, " %s", choices_of(option->to)[number]);
         else if (option->takes[0])
             fprintf(file, " %llu", (unsigned long long)number);
         before = " ";

@@ -23,7 +23,8 @@ static const struct drawn {
     size_t to;
     uint64_t usual;
 } drawn[] = {{TO(threads), 4}, {TO(registers), 3}, {TO(calls), 3},   {TO(writes), 50},
-             {TO(adds), 20},   {TO(aborts), 12},   {TO(pause), 100}, {TO(mixes), 50}, {TO(blinds), 10}};
+             {TO(adds), 20},   {TO(aborts), 12},   {TO(pause), 100}, {TO(mixes), 50},
+             {TO(blinds), 10}, {TO(orders), TMWATCH_SEQUENTIAL}};
 enum { DRAWN = sizeof drawn / sizeof drawn[0] };
 
 /* Fills in what the plan leaves to be drawn, with these numbers. */
@@ -56,6 +57,14 @@ static const char *missing_function(const tmwatch_memory *m)
     return !m->begin ? "begin" : !m->commit ? "commit" : !m->abort ? "abort" : NULL;
 }
 
+/* Whether the memory is compiled for the plan's orders, and goes by them by this schedule. */
+static bool has_orders(const tmwatch_plan *plan)
+{
+    if (plan->orders == TMWATCH_CXX)
+        return tmwatch_orders_new && (plan->schedule == TMWATCH_STEPS || plan->schedule == TMWATCH_ALL);
+    return plan->orders == TMWATCH_SEQUENTIAL || (plan->orders == TMWATCH_X86 && tmwatch_step_drain);
+}
+
 /* Whether a number of the plan is out of its range, besides those of threads and registers. */
 static bool is_out_of_range(const tmwatch_plan *plan)
 {
@@ -63,7 +72,7 @@ static bool is_out_of_range(const tmwatch_plan *plan)
     uint64_t most_round = plan->schedule == TMWATCH_STEPS ? UINT64_MAX : plan->schedule == TMWATCH_ALL ? STEPS_LEGS * LEG_ROUNDS : 0;
     if (plan->calls < 1 || plan->calls > MOST_USES || plan->schedule > TMWATCH_ALL || plan->attempts > most_attempts)
         return true;
-    if (plan->rounds == 0 || plan->round > most_round || (plan->buffers > 0 && !tmwatch_step_drain))
+    if (plan->rounds == 0 || plan->round > most_round || !has_orders(plan))
         return true;
     if (plan->writes > 100 || plan->adds > 100 || plan->aborts > 100 || plan->mixes > 100 || plan->blinds > 100)
         return true;

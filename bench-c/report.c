@@ -172,4 +172,5 @@ void tmwatch_bench_print(FILE *file, const tmwatch_benched *benched)
     if (is_wrong)
         tell_again(benched);
     warn_of_unseen(benched, is_wrong);
+    fputs(benched->shown, stderr);
 }

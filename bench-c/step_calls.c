@@ -11,7 +11,8 @@ static void set_accesses(tmwatch_attempt *a)
     pthread_attr_t of;
     void *stack;
     size_t size;
-    how->has_buffers = plan->buffers > 0;
+    how->has_buffers = plan->orders == TMWATCH_X86;
+    how->orders = a->bench->orders;
     how->has_plain = plan->plain > 0;
     how->draws = ~a->pauses;
     how->own[1] = (uintptr_t)a->tx;
@@ -35,6 +36,12 @@ tmwatch_step_how *tmwatch_step_accesses(void)
 bool tmwatch_step_is_run(void)
 {
     return this_thread && by_steps(this_thread->bench) && this_thread->bench->steps.awake == (int)this_thread->thread;
+}
+
+tmwatch_simulation *tmwatch_step_orders(void)
+{
+    bool is_simulated = this_thread && this_thread->how.orders && !this_thread->bench->is_told && tmwatch_step_is_run();
+    return is_simulated ? this_thread->how.orders : NULL;
 }
 
 enum tmwatch_step_waited tmwatch_step_wait(const void *lock)

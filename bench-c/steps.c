@@ -7,6 +7,20 @@ enum { MOST_SPIN = 128 };
 /* What a round's length is taken for at first. */
 enum { FIRST_LENGTH = 64 };
 
+/* The C library's semaphores, also in a program that wraps them. */
+extern int __real_sem_wait(sem_t *semaphore) __attribute__((weak));
+extern int __real_sem_post(sem_t *semaphore) __attribute__((weak));
+
+static void await(sem_t *semaphore)
+{
+    (__real_sem_wait ? __real_sem_wait : sem_wait)(semaphore);
+}
+
+static void post(sem_t *semaphore)
+{
+    (__real_sem_post ? __real_sem_post : sem_post)(semaphore);
+}
+
 static void lock_steps(struct steps *s)
 {
     while (atomic_exchange_explicit(&s->is_locked, true, memory_order_acquire))
@@ -47,7 +61,7 @@ static void wait_turn(tmwatch_attempt *a)
 {
     struct steps *s = &a->bench->steps;
     while (s->runner != (int)a->thread && !s->is_over)
-        sem_wait(&s->go[a->thread]);
+        await(&s->go[a->thread]);
     s->awake = (int)a->thread;
 }
 
@@ -58,7 +72,7 @@ static void let_go(struct steps *s, int next)
     s->runner = next;
     unlock_steps(s);
     if (next != NOBODY)
-        sem_post(&s->go[next]);
+        post(&s->go[next]);
 }
 
 /* Locks the steps as the runner. A thread that a rescue held for stuck waits for its turn first, as all others. */
@@ -186,12 +200,14 @@ static void break_at_event(const struct bench *b)
 static void begin_round(struct bench *b)
 {
     struct steps *s = &b->steps;
+    if (b->orders)
+        tmwatch_orders_round(b->orders);
     lock_steps(s);
     draw_round(b);
     s->is_over = b->is_over;
     let_go(s, choose(s, ~0u));
     for (unsigned i = 0; i < b->plan->threads && s->is_over; i++)
-        sem_post(&s->go[i]);
+        post(&s->go[i]);
 }
 
 /* Ends the thread's part of a round, and waits for its turn in the next one, if there is any. */

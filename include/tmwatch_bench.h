@@ -36,10 +36,10 @@ steps. One in rounds or by permits takes a tenth of a second at most. If the mem
 permits. In half of the legs but the first, what the plan leaves to be drawn is drawn anew. The threads are the same in all legs.
 
 No pause has to be placed by hand if the memory is compiled with -fsanitize=thread and linked without it, with libtmwatch_steps.a first:
-each atomic access is then a step, and by plan.plain each other one. By plan.buffers an atomic store that isn't sequentially consistent
-may be delayed, as in the store buffers of x86; by all, in one leg by steps of four. Stores to a thread's own bytes, its stack and `tx`, are
-never delayed, and those to a block only if the program is linked with the words of tmwatch_steps, which show when it is given back. Loads
-aren't reordered, and what inline assembly does isn't seen.
+each atomic access is then a step, and by plan.plain each other one. By plan.orders an atomic store that isn't sequentially consistent
+may be delayed, as in the store buffers of x86; or each atomic load returns what C++20 lets it return, as the seed draws; by all, each in one
+leg by steps of four. Stores to a thread's own bytes, its stack and `tx`, are never delayed, and those to a block only if the program is
+linked with the words of tmwatch_steps, which show when it is given back. What inline assembly and code compiled elsewhere do isn't seen.
 
 A call is recorded before the memory is asked, and its answer after it has answered; a transaction's first call, before the memory begins
 it. Each is recorded by turns (tmwatch_next, tmwatch_answered), so that no record is malformed. No two writes have the same value, and
@@ -101,6 +101,13 @@ enum tmwatch_schedule {
     TMWATCH_ALL = 3      /* in legs: mostly by steps, and by each of these in turn */
 };
 
+/* How the atomic accesses are ordered of a memory that is compiled for libtmwatch_steps.a. */
+enum tmwatch_orders {
+    TMWATCH_SEQUENTIAL = 0, /* all in the order of the steps */
+    TMWATCH_X86 = 1,        /* stores are delayed, as in the store buffers of x86 */
+    TMWATCH_CXX = 2         /* by steps: a load returns what C++20 lets it return */
+};
+
 /* A number of a plan that is the usual one, or, by TMWATCH_ALL, another one in each leg but the first. */
 #define TMWATCH_DRAWN UINT64_MAX
 
@@ -125,7 +132,7 @@ typedef struct tmwatch_plan {
     uint64_t mixes;     /* ** (50) of 100 rounds, how many are mixed: one thread makes one long transaction, others several short
                            ones, of eight attempts in all */
     uint64_t round;     /* by steps: before this round tmwatch_break is called; by all, one of the first 20000; 0: never */
-    uint64_t buffers;   /* 1: stores are delayed, as drawn (libtmwatch_steps.a); or 0 */
+    uint64_t orders;    /* ** (0) a tmwatch_orders; by rounds and by permits not TMWATCH_CXX */
     uint64_t plain;     /* 1: plain accesses are steps too (libtmwatch_steps.a); or 0 */
     uint64_t patience;  /* after so many seconds without an event the run is given up; 0: never */
     FILE *progress;     /* or null: here a line says twice a second how far the run is */
@@ -138,7 +145,10 @@ typedef struct tmwatch_plan {
 
 #define TMWATCH_PLAN                                                                                                                     \
     {100000, 1, TMWATCH_DRAWN, TMWATCH_DRAWN, TMWATCH_DRAWN, 0, TMWATCH_DRAWN, TMWATCH_DRAWN, TMWATCH_DRAWN, TMWATCH_DRAWN, 0,             \
-     TMWATCH_ALL, {0, 0, 0, 0, 0, 0, 0, 0}, NULL, TMWATCH_DRAWN, 0, 0, 0, 5, NULL, TMWATCH_DRAWN, 0, NULL, NULL}
+     TMWATCH_ALL, {0, 0, 0, 0, 0, 0, 0, 0}, NULL, TMWATCH_DRAWN, 0, TMWATCH_DRAWN, 0, 5, NULL, TMWATCH_DRAWN, 0, NULL, NULL}
+
+/* How many bytes tell what the orders of C++20 have shown. */
+enum { TMWATCH_MOST_SHOWN = 4096 };
 
 /* What came out. */
 typedef struct tmwatch_benched {
@@ -157,7 +167,9 @@ typedef struct tmwatch_benched {
     uint64_t event;        /* by steps: which event of its round the wrong one is, from 1 on */
     uint64_t rejected;     /* how many times a transaction that ran alone was rolled back, if the memory has lost progress; or 0 */
     tmwatch_plan leg;      /* the plan of the last leg */
-    bool is_undelayed;     /* by plan.buffers, a store wasn't delayed, since nothing shows when its block is given back */
+    bool is_undelayed;     /* by TMWATCH_X86, a store wasn't delayed, since nothing shows when its block is given back */
+    char shown[TMWATCH_MOST_SHOWN]; /* by the orders of C++20, lines: which loads of a violated round did not return the newest value, where
+                                       in the program, and which stores they missed; the first race on plain data; what isn't seen */
 } tmwatch_benched;
 
 /* Further statuses of the bench: no event came for plan.patience seconds; a transaction that ran alone was rolled back again and again. */
@@ -170,7 +182,7 @@ TMWATCH_STUCK and TMWATCH_NO_PROGRESS, *benched stays.
 
 TMWATCH_MISSING: a function that the memory has to have is null. TMWATCH_BAD_SIZE: not 1 to 8 threads. TMWATCH_BAD_REGISTERS: not 1 to 8.
 TMWATCH_BAD_START: as in tmwatch_open. TMWATCH_BAD_BOUNDS: the rounds, the calls, the attempts, a part of 100, the pause, the schedule, the
-round or the event are out of their range; or buffers are asked for, and the memory isn't compiled for libtmwatch_steps.a. TMWATCH_MEMORY: a
+round or the event are out of their range; or orders are asked for, and the memory isn't compiled for libtmwatch_steps.a. TMWATCH_MEMORY: a
 growth of memory or a thread was refused, before or while the rounds ran. TMWATCH_MISFIT: `run` has answered true where tmwatch_calls has not.
 TMWATCH_OUT_OF_TURN: `run` has called tmwatch_calls twice in one attempt. TMWATCH_STUCK: no event came for plan.patience seconds, or for half
 a second after tmwatch_bench_end. Standard error then tells where each thread is; the threads go on, so that neither they nor what they use

@@ -32,7 +32,7 @@ HEADERS = ("tmwatch.h", "tmwatch_bench.h", "tmwatch_bench.hpp", "tmwatch_permits
 WAITS = """
 pthread_mutex_lock pthread_mutex_trylock pthread_mutex_unlock pthread_spin_lock pthread_spin_trylock pthread_spin_unlock
 pthread_rwlock_rdlock pthread_rwlock_tryrdlock pthread_rwlock_wrlock pthread_rwlock_trywrlock pthread_rwlock_unlock
-pthread_cond_wait pthread_cond_timedwait pthread_cond_clockwait pthread_cond_signal pthread_cond_broadcast sched_yield syscall
+pthread_cond_wait pthread_cond_timedwait pthread_cond_clockwait pthread_cond_signal pthread_cond_broadcast sem_wait sem_trywait sem_post sched_yield syscall
 _ZNSt18condition_variable4waitERSt11unique_lockISt5mutexE _ZNSt18condition_variable10notify_oneEv
 _ZNSt18condition_variable10notify_allEv
 """
@@ -60,7 +60,7 @@ PACKAGES = {
 # What the archives of the bench are made from, in bench-c.
 ARCHIVES = {
     "libtmwatch_bench.a": ("tmwatch_bench", "instrumented/waits"),
-    "libtmwatch_steps.a": ("instrumented/accesses", "instrumented/accesses_16", "instrumented/blocks"),
+    "libtmwatch_steps.a": ("instrumented/accesses", "instrumented/accesses_16", "instrumented/blocks", "instrumented/orders"),
 }
 PACKAGE = """prefix={prefix}
 includedir=${{prefix}}/include

@@ -22,10 +22,31 @@ has_told 'a library that is not there: what is told' 'set TMWATCH_LIB to FOLDER/
 ends 'the tests' 0 env TMWATCH_LIB="$library" "$cargo" test --offline --locked
 grep '^test ' "$folder/output" || true
 ends 'the tests, optimized' 0 env TMWATCH_LIB="$library" "$cargo" test --offline --locked --release
+ends 'the tests, each access a step' 0 env TMWATCH_LIB="$library" "$cargo" test --offline --locked --release --features steps
+ends 'the pages, each access a step' 0 env TMWATCH_LIB="$library" "$cargo" doc --offline --locked --features steps
 ends 'the pages' 0 env TMWATCH_LIB="$library" "$cargo" doc --offline --locked
 ends 'a program on the bench' 0 env TMWATCH_LIB="$library" "$cargo" run --offline --locked --release --example lock -- --schedule steps \
     --rounds 500
 has_told 'a program on the bench: no rescue' '"rescues":0,"rounds":500,'
+# A memory that uses tmwatch::sync, by the orders of C++20: the right one, and ones with an order too weak, whose lines are told.
+in_order() {
+    TMWATCH_LIB=$library CARGO_PROFILE_RELEASE_DEBUG=1 "$cargo" run --offline --locked --release --example sequence --features steps -- \
+        --schedule steps --orders c++ "$@"
+}
+ends 'a sequence lock by the orders of C++20' 0 in_order --rounds 2000
+has_told 'a sequence lock by the orders of C++20: no rescue' '"rescues":0,"rounds":2000,'
+cp -r "$top/bindings/rust" "$folder/rust"
+cd "$folder/rust"
+for change in 's/sequence.load(Acquire)/sequence.load(Relaxed)/' 's/^        fence(Acquire);//' 's/^        fence(Release);//' \
+    's/snapshot + 2, Release/snapshot + 2, Relaxed/'; do
+    sed "$change" "$top/bindings/rust/examples/sequence.rs" >examples/sequence.rs
+    ends "$change: planted" 1 cmp -s "$top/bindings/rust/examples/sequence.rs" examples/sequence.rs
+    ends "$change: found" 1 in_order
+    if has addr2line 'lines of the source'; then
+        has_told "$change: the lines" -E '^  stale load: thread [0-3] at sequence.rs:[0-9]+ .* does not see the store of thread [0-3] at sequence.rs:'
+    fi
+done
+cd "$top/bindings/rust"
 # Each atomic access as a step, which a nightly compiler can do, or this one if it is told to be one.
 steps="-Zsanitizer=thread -Zexternal-clangrt -Cunsafe-allow-abi-mismatch=sanitizer -Clink-arg=$library/libtmwatch_steps.a"
 by_steps() {
@@ -33,7 +54,7 @@ by_steps() {
         --release --example lock --target x86_64-unknown-linux-gnu "${@:2}"
 }
 if by_steps build >"$folder/output" 2>&1; then
-    ends 'each access a step' 0 by_steps run -- --schedule steps --rounds 500 --buffers
+    ends 'each access a step' 0 by_steps run -- --schedule steps --rounds 500 --orders x86
     has_told 'each access a step: no rescue' '"rescues":0,"rounds":500,'
 else
     echo "each access a step: skipped, since the compiler has it not: $(tail -n 1 "$folder/output")"
@@ -46,5 +67,7 @@ if "$cargo" fmt --version >/dev/null 2>&1; then
 fi
 if "$cargo" clippy --version >/dev/null 2>&1; then
     ends 'no hint of clippy' 0 env TMWATCH_LIB="$library" "$cargo" clippy --offline --locked --all-targets -- -D warnings
+    ends 'no hint of clippy, each access a step' 0 env TMWATCH_LIB="$library" "$cargo" clippy --offline --locked --all-targets \
+        --features steps -- -D warnings
 fi
 end_rows

@@ -1,6 +1,6 @@
 #!/usr/bin/env bash
-# Compiles the programs of tests/c and examples/c over the library for C, without a warning, and runs them; then runs tests/c_steps.sh and
-# tests/bindings.sh over the same library.
+# Compiles the programs of tests/c and examples/c over the library for C, without a warning, and runs them; then runs tests/c_steps.sh,
+# tests/orders.sh and tests/bindings.sh over the same library.
 #
 #   tests/c.sh
 #
@@ -260,5 +260,6 @@ if command -v pkg-config >/dev/null; then
     ends 'the package' 0 env PKG_CONFIG_PATH="$built/lib/pkgconfig" sh -c "$cc -std=c11 ${FLAGS:-} -o '$folder/package' '$top/tests/c/misuse.c' \$(pkg-config --cflags --libs tmwatch)"
 fi
 ends 'the bench by steps' 0 "$top/tests/c_steps.sh"
+ends 'the orders of C++20' 0 "$top/tests/orders.sh"
 ends 'the bindings' 0 "$top/tests/bindings.sh"
 end_rows

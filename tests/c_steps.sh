@@ -320,7 +320,7 @@ for compiler in "${compilers[@]}"; do
         [ "$name" != norec ] || path=examples/c/norec.c
         unpaused "plain_$name" $compiler "$path" NONE
         [ "$name" != norec ] || ends "the legs of norec by $compiler" 0 legs_drawn plain_norec 5 1 1
-        ends "$name by $compiler, with buffers" 0 "$folder/plain_$name" --schedule steps --rounds 2000 --buffers --plain
+        ends "$name by $compiler, with buffers" 0 "$folder/plain_$name" --schedule steps --rounds 2000 --orders x86 --plain
         has_told "$name by $compiler, with buffers: rescues" '"rescues":0,'
         [ "$fault" != NONE ] || continue
         unpaused "plain_$file" $compiler "$path" "$fault"
@@ -329,7 +329,7 @@ for compiler in "${compilers[@]}"; do
     unpaused plain_FENCE $compiler tests/c/bench_readers.c FENCE
     ends "a fence that is missing, by $compiler" 0 "$folder/plain_FENCE" --schedule steps --rounds 2000
     for seed in 1 2 3; do
-        ends "a fence that is missing, by $compiler, with buffers, seed $seed" 1 "$folder/plain_FENCE" --buffers --seed $seed \
+        ends "a fence that is missing, by $compiler, with buffers, seed $seed" 1 "$folder/plain_FENCE" --orders x86 --seed $seed \
             --trace "$folder/one"
         cp "$folder/output" "$folder/told"
         read -r -a words < <(again "$folder/told") || true
@@ -341,16 +341,18 @@ done
 # to its own bytes, or to a block that is given back, is not overtaken.
 for compiler in "${compilers[@]}"; do
     has $compiler "locks, by $compiler" || continue
-    for lock in MUTEX TRY SPIN SPIN_TRY READ_WRITE READ_WRITE_TRY CONDITION TIMED CLOCKED BROADCAST; do
+    for lock in MUTEX TRY SPIN SPIN_TRY READ_WRITE READ_WRITE_TRY CONDITION TIMED CLOCKED BROADCAST SEMAPHORE; do
         unpaused "waits_$lock" $compiler tests/c/bench_waits.c NONE -DLOCK=$lock
-        ends "$lock by $compiler" 0 "$folder/waits_$lock" --schedule steps --rounds 1000 --buffers
-        has_told "$lock by $compiler: rescues" '"rescues":0,'
+        for orders in x86 c++; do
+            ends "$lock by $compiler, $orders" 0 "$folder/waits_$lock" --schedule steps --rounds 1000 --orders $orders
+            has_told "$lock by $compiler, $orders: rescues" '"rescues":0,'
+        done
     done
     unpaused litmus $compiler tests/c/bench_litmus.c NONE
     ends "litmus tests by $compiler" 0 "$folder/litmus"
     for kind in TX LOCAL HEAP GROWN REGISTERED; do
         unpaused "own_$kind" $compiler tests/c/bench_own.c NONE -DKIND=$kind
-        ends "own bytes, $kind, by $compiler" 0 "$folder/own_$kind" --schedule steps --rounds 2000 --buffers
+        ends "own bytes, $kind, by $compiler" 0 "$folder/own_$kind" --schedule steps --rounds 2000 --orders x86
         ends "own bytes, $kind, by $compiler, in several legs" 0 "$folder/own_$kind" --rounds 3000
     done
 done
@@ -366,10 +368,10 @@ for compiler in g++ clang++; do
         ends "a class without a pause, by $compiler, $fault, is linked" 0 $compiler -pthread -o "$folder/class" "$folder/memory.o" \
             "$waits" "$blocks" "${bench[@]}"
         ends "a class without a pause, by $compiler, $fault" "$([ $fault = NONE ] && echo 0 || echo 1)" "$folder/class" --schedule steps \
-            --rounds 2000 --buffers
+            --rounds 2000 --orders x86
     done
 done
-ends 'buffers of a memory that is not compiled for them' 4 "$folder/norec" --buffers
+ends 'buffers of a memory that is not compiled for them' 4 "$folder/norec" --orders x86
 has_told 'buffers of a memory that is not compiled for them: why' 'libtmwatch_steps.a$'
 
 # An interrupt: a verdict, and a trace that is judged so. (What runs beside a shell ignores SIGINT.)

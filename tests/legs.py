@@ -32,10 +32,11 @@ def plan_of(draws, schedule, is_instrumented):
     more = 4 * draws.below(2)
     numbers = [2 + draws.below(3 + more), 1 + draws.below(4), 1 + draws.below(5), 30 + 20 * draws.below(4), 20 * draws.below(2)]
     numbers += [52 if draws.below(4) == 0 else 12, (0, 10, 100, 1000)[draws.below(4)], 50, 10]
-    flags = [draws.below(4) == 0, draws.below(8) == 0]
+    orders, is_plain = draws.below(4), draws.below(8) == 0
     words = [f"--schedule {schedule} --rounds 1000 --seed {seed}"]
     words += [f"--{name} {number}" for name, number in zip(NAMES, USUAL if is_usual else numbers)]
-    return " ".join(words + [flag for flag, is_set in zip(("--buffers", "--plain"), flags) if is_set and is_instrumented])
+    marked = [{1: "--orders x86", 2: "--orders c++"}.get(orders), "--plain" if is_plain else None]
+    return " ".join(words + [word for word in marked if word and is_instrumented])
 
 
 def main(words):

@@ -5,7 +5,9 @@
    buffers of x86 (Sewell, Sarkar, Owens, Zappa Nardelli and Myreen, CACM 2010): the stores of a thread come out in their order, a read of
    the thread sees them, and they are out before a read-modify-write, a sequentially consistent store or fence, a plain store to what other
    threads may see, and each recorded event. Loads aren't reordered. Of a thread's own bytes nothing is buffered, since what is stored to
-   them without a mark, as at the end of a function, would be overtaken; nor of a block that may be given back unseen. */
+   them without a mark, as at the end of a function, would be overtaken; nor of a block that may be given back unseen.
+
+   By the orders of C++20, orders.c says what each access does. */
 #include "step.h"
 #include <string.h>
 
@@ -113,28 +115,43 @@ static bool is_forwarded(const volatile void *at, unsigned bytes, uint64_t *valu
     return false;
 }
 
-/* Before a plain load of so many bytes. */
-TMWATCH_PART void before_load(const void *at, unsigned bytes, bool is_volatile)
+/* Whether an access is simulated, which is made there in the program. */
+TMWATCH_PART bool is_simulated(tmwatch_access *to, const volatile void *at, unsigned bytes, int order)
+{
+    tmwatch_simulation *orders = tmwatch_step_orders();
+    if (orders)
+        *to = (tmwatch_access){orders, tmwatch_thread(), TMWATCH_CALLER, at, bytes, order};
+    return orders;
+}
+
+/* Before a plain load of so many bytes. Where nothing shows when a block is given back, no race is looked for in it. */
+TMWATCH_PART void before_load(const void *at, size_t bytes, bool is_volatile)
 {
     uint64_t value;
+    tmwatch_access access;
     const tmwatch_step_how *how = tmwatch_step_accesses();
     if (!how || (!is_volatile && is_own(how, at)))
         return;
     if (is_volatile || how->has_plain)
         at_step();
-    if (is_forwarded(at, bytes, &value))
+    if (is_simulated(&access, at, 0, 0) && is_lasting(at))
+        tmwatch_orders_plain_load(&access, bytes);
+    if (is_forwarded(at, (unsigned)bytes, &value))
         tmwatch_step_drain();
 }
 
 /* Before a plain store, whose value isn't known. */
-TMWATCH_PART void before_store(const void *at, bool is_volatile)
+TMWATCH_PART void before_store(const void *at, size_t bytes, bool is_volatile)
 {
+    tmwatch_access access;
     const tmwatch_step_how *how = tmwatch_step_accesses();
-    if (!how || (!is_volatile && is_own(how, at)))
-        return;
-    if (is_volatile || how->has_plain)
+    bool is_stepped = how && (is_volatile || !is_own(how, at));
+    if (is_stepped && (is_volatile || how->has_plain))
         at_step();
-    tmwatch_step_drain();
+    if (is_simulated(&access, at, 0, 0))
+        tmwatch_orders_plain_store(&access, bytes, !is_stepped || !is_lasting(at));
+    if (is_stepped)
+        tmwatch_step_drain();
 }
 
 #define UNUSED __attribute__((unused))
@@ -156,8 +173,8 @@ NOTHING(__tsan_atomic_signal_fence, int order UNUSED)
     }
 #define PLAIN(infix, bytes, is_volatile)                                                       \
     CALLED(__tsan_##infix##read##bytes, before_load(at, bytes, is_volatile), const void *at)   \
-    CALLED(__tsan_##infix##write##bytes, before_store(at, is_volatile), const void *at)
-#define READ_WRITE(infix, bytes) CALLED(__tsan_##infix##read_write##bytes, before_store(at, false), const void *at)
+    CALLED(__tsan_##infix##write##bytes, before_store(at, bytes, is_volatile), const void *at)
+#define READ_WRITE(infix, bytes) CALLED(__tsan_##infix##read_write##bytes, before_store(at, bytes, false), const void *at)
 #define PLAINS(bytes)                    \
     PLAIN(, bytes, false)                \
     PLAIN(unaligned_, bytes, false)      \
@@ -170,8 +187,8 @@ PLAINS(2)
 PLAINS(4)
 PLAINS(8)
 PLAINS(16)
-CALLED(__tsan_read_range, before_load(at, (unsigned)bytes, false), const void *at, unsigned long bytes)
-CALLED(__tsan_write_range, before_store(at, false), const void *at, unsigned long bytes UNUSED)
+CALLED(__tsan_read_range, before_load(at, bytes, false), const void *at, unsigned long bytes)
+CALLED(__tsan_write_range, before_store(at, bytes, false), const void *at, unsigned long bytes)
 
 void *__tsan_memcpy(void *to, const void *from, size_t bytes);
 void *__tsan_memmove(void *to, const void *from, size_t bytes);
@@ -179,21 +196,21 @@ void *__tsan_memset(void *to, int byte, size_t bytes);
 
 void *__tsan_memcpy(void *to, const void *from, size_t bytes)
 {
-    before_load(from, (unsigned)bytes, false);
-    before_store(to, false);
+    before_load(from, bytes, false);
+    before_store(to, bytes, false);
     return memcpy(to, from, bytes);
 }
 
 void *__tsan_memmove(void *to, const void *from, size_t bytes)
 {
-    before_load(from, (unsigned)bytes, false);
-    before_store(to, false);
+    before_load(from, bytes, false);
+    before_store(to, bytes, false);
     return memmove(to, from, bytes);
 }
 
 void *__tsan_memset(void *to, int byte, size_t bytes)
 {
-    before_store(to, false);
+    before_store(to, bytes, false);
     return memset(to, byte, bytes);
 }
 
@@ -204,34 +221,74 @@ TMWATCH_PART void at_change(void)
     tmwatch_step_drain();
 }
 
-/* An atomic access, as declared for the compiler: its type, what it is called, its parameters, and what it does. */
+/* An atomic access, as declared for the compiler: its type, what it is called, its parameters, and what it does. One that isn't simulated is
+   sequentially consistent; one that is, and changes an older store than the newest, leaves memory alone. */
 #define ATOMIC(type, name, ...) \
     type name(__VA_ARGS__);     \
     type name(__VA_ARGS__)
 #define CHANGE(bits, type, name, op)                                                              \
-    ATOMIC(type, __tsan_atomic##bits##_##name, volatile type *at, type value, int order UNUSED)   \
+    ATOMIC(type, __tsan_atomic##bits##_##name, volatile type *at, type value, int order)          \
     {                                                                                             \
+        tmwatch_access access;                                                                    \
+        uint64_t held;                                                                            \
+        volatile type older, *to = at;                                                            \
         at_change();                                                                              \
-        return op(at, value, SEQUENTIAL);                                                         \
+        bool has_orders = is_simulated(&access, at, sizeof(type), order);                 \
+        if (has_orders && !tmwatch_orders_take(&access, &held)) {                                 \
+            older = (type)held;                                                                   \
+            to = &older;                                                                          \
+        }                                                                                         \
+        type read = op(to, value, SEQUENTIAL);                                                    \
+        if (has_orders)                                                                           \
+            tmwatch_orders_change(&access, *to);                                                  \
+        return read;                                                                              \
     }
-#define COMPARE(bits, type, name)                                                                                              \
-    ATOMIC(int, __tsan_atomic##bits##_compare_exchange_##name, volatile type *at, type *held, type value, int order UNUSED,    \
-           int failed UNUSED)                                                                                                  \
+#define COMPARES(bits, type)                                                                                                   \
+    TMWATCH_PART bool compare_##bits(volatile type *at, type *held, type value, int order, int failed, bool is_weak)           \
     {                                                                                                                          \
+        tmwatch_access access;                                                                                                 \
+        uint64_t loaded = *held;                                                                                               \
+        enum tmwatch_compared how = TMWATCH_TAKES_NEWEST;                                                                      \
         at_change();                                                                                                           \
-        return __atomic_compare_exchange_n(at, held, value, 0, SEQUENTIAL, SEQUENTIAL);                                        \
+        bool has_orders = is_simulated(&access, at, sizeof(type), order);                                                      \
+        if (has_orders)                                                                                                        \
+            how = tmwatch_orders_compare(&access, &loaded, failed, is_weak);                                                   \
+        bool is_done = how != TMWATCH_FAILS;                                                                                   \
+        if (how == TMWATCH_TAKES_NEWEST)                                                                                       \
+            is_done = __atomic_compare_exchange_n(at, held, value, 0, SEQUENTIAL, SEQUENTIAL);                                 \
+        else                                                                                                                   \
+            *held = (type)loaded;                                                                                              \
+        if (has_orders && is_done)                                                                                             \
+            tmwatch_orders_change(&access, value);                                                                             \
+        return is_done;                                                                                                        \
+    }                                                                                                                          \
+    ATOMIC(type, __tsan_atomic##bits##_compare_exchange_val, volatile type *at, type held, type value, int order, int failed)  \
+    {                                                                                                                          \
+        compare_##bits(at, &held, value, order, failed, false);                                                                \
+        return held;                                                                                                           \
+    }
+#define COMPARE(bits, type, name, is_weak)                                                                                     \
+    ATOMIC(int, __tsan_atomic##bits##_compare_exchange_##name, volatile type *at, type *held, type value, int order, int failed) \
+    {                                                                                                                          \
+        return compare_##bits(at, held, value, order, failed, is_weak);                                                        \
     }
 #define ATOMICS(bits, type)                                                                                                    \
-    ATOMIC(type, __tsan_atomic##bits##_load, const volatile type *at, int order UNUSED)                                        \
+    ATOMIC(type, __tsan_atomic##bits##_load, const volatile type *at, int order)                                               \
     {                                                                                                                          \
         uint64_t value;                                                                                                        \
+        tmwatch_access access;                                                                                                 \
         at_step();                                                                                                             \
+        if (is_simulated(&access, at, sizeof(type), order))                                                            \
+            return (type)tmwatch_orders_load(&access);                                                                         \
         return is_forwarded(at, sizeof(type), &value) ? (type)value : __atomic_load_n(at, SEQUENTIAL);                         \
     }                                                                                                                          \
     ATOMIC(void, __tsan_atomic##bits##_store, volatile type *at, type value, int order)                                        \
     {                                                                                                                          \
+        tmwatch_access access;                                                                                                 \
         at_step();                                                                                                             \
-        if (is_buffered(at, order)) {                                                                                              \
+        if (is_simulated(&access, at, sizeof(type), order) && !tmwatch_orders_store(&access, value))                   \
+            return;                                                                                                            \
+        if (is_buffered(at, order)) {                                                                                          \
             store_later((void *)(uintptr_t)at, value, sizeof(type));                                                           \
             return;                                                                                                            \
         }                                                                                                                      \
@@ -245,15 +302,9 @@ TMWATCH_PART void at_change(void)
     CHANGE(bits, type, fetch_or, __atomic_fetch_or)                                                                            \
     CHANGE(bits, type, fetch_xor, __atomic_fetch_xor)                                                                          \
     CHANGE(bits, type, fetch_nand, __atomic_fetch_nand)                                                                        \
-    COMPARE(bits, type, strong)                                                                                                \
-    COMPARE(bits, type, weak)                                                                                                  \
-    ATOMIC(type, __tsan_atomic##bits##_compare_exchange_val, volatile type *at, type held, type value, int order UNUSED,       \
-           int failed UNUSED)                                                                                                  \
-    {                                                                                                                          \
-        at_change();                                                                                                           \
-        __atomic_compare_exchange_n(at, &held, value, 0, SEQUENTIAL, SEQUENTIAL);                                              \
-        return held;                                                                                                           \
-    }
+    COMPARES(bits, type)                                                                                                       \
+    COMPARE(bits, type, strong, false)                                                                                         \
+    COMPARE(bits, type, weak, true)
 ATOMICS(8, uint8_t)
 ATOMICS(16, uint16_t)
 ATOMICS(32, uint32_t)
@@ -262,7 +313,10 @@ ATOMICS(64, uint64_t)
 /* All comes out at a sequentially consistent fence, and at no weaker one. */
 ATOMIC(void, __tsan_atomic_thread_fence, int order)
 {
+    tmwatch_access access;
     at_step();
+    if (is_simulated(&access, NULL, 0, order))
+        tmwatch_orders_fence(&access);
     if (order == SEQUENTIAL)
         tmwatch_step_drain();
 }

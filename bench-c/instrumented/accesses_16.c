@@ -5,9 +5,12 @@
 __extension__ typedef unsigned __int128 wide;
 #define CX16 __attribute__((target("cx16")))
 
-TMWATCH_PART void at_wide(void)
+TMWATCH_PART void at_wide(const volatile wide *at)
 {
     tmwatch_step_at(TMWATCH_CALLER);
+    tmwatch_simulation *orders = tmwatch_step_orders();
+    if (orders)
+        tmwatch_orders_wide(&(tmwatch_access){orders, tmwatch_thread(), TMWATCH_CALLER, at, sizeof *at, __ATOMIC_ACQ_REL});
     tmwatch_step_drain();
 }
 
@@ -18,13 +21,13 @@ TMWATCH_PART void at_wide(void)
 
 WIDE(wide, load, const volatile wide *at, int order UNUSED)
 {
-    at_wide();
+    at_wide(at);
     return __sync_val_compare_and_swap((volatile wide *)(uintptr_t)at, (wide)0, (wide)0);
 }
 
 WIDE(wide, compare_exchange_val, volatile wide *at, wide held, wide value, int order UNUSED, int failed UNUSED)
 {
-    at_wide();
+    at_wide(at);
     return __sync_val_compare_and_swap(at, held, value);
 }
 
@@ -33,7 +36,7 @@ WIDE(wide, compare_exchange_val, volatile wide *at, wide held, wide value, int o
     WIDE(wide, name, volatile wide *at, wide value, int order UNUSED)      \
     {                                                                      \
         wide seen, then = 0;                                               \
-        at_wide();                                                         \
+        at_wide(at);                                                         \
         do {                                                               \
             seen = then;                                                   \
             then = __sync_val_compare_and_swap(at, seen, (wide)(stored));  \

@@ -1,9 +1,13 @@
 /* What the bench (step_calls.c) has for the objects that are linked with the memory: those of this folder. */
+#ifndef STEP_H
+#define STEP_H
+#include "orders.h"
 #include "tmwatch_bench.h"
 
 /* How a thread's accesses are made. */
 typedef struct tmwatch_step_how {
     bool has_buffers, has_plain; /* stores are buffered; plain accesses are steps too */
+    tmwatch_simulation *orders;  /* by the orders of C++20: the memory that is simulated; or null */
     bool is_undelayed;           /* a store wasn't buffered, since nothing says when its block is given back */
     uint64_t draws;
     uintptr_t own[2], own_end[2]; /* the thread's stack, and its transaction's bytes */
@@ -31,6 +35,9 @@ bool tmwatch_step_is_run(void);
 /* How a wait has ended: no other thread is able to run; others have run, and none is able to any more; or what is waited for is free. */
 enum tmwatch_step_waited { TMWATCH_STEP_ALONE, TMWATCH_STEP_OTHERS, TMWATCH_STEP_FREED };
 
+/* The memory that is simulated, if such a thread's is; or null. */
+tmwatch_simulation *tmwatch_step_orders(void);
+
 /* Lets others run until this lock or condition, which one of them has to free, is free. */
 enum tmwatch_step_waited tmwatch_step_wait(const void *lock);
 
@@ -38,5 +45,14 @@ enum tmwatch_step_waited tmwatch_step_wait(const void *lock);
 void tmwatch_step_free(const void *lock);
 void tmwatch_step_wake(const void *condition);
 
+/* For a lock that isn't one of C, in any thread (waits.c); and a block of a type that isn't one of C is given back (blocks.c). */
+bool tmwatch_lock_tried(void);
+bool tmwatch_lock_awaited(const void *lock);
+void tmwatch_lock_taken(const void *lock);
+void tmwatch_lock_returning(const void *lock);
+void tmwatch_lock_returned(const void *lock);
+void tmwatch_step_gives_back(const void *block, size_t size);
+
 /* A wait that yields: several pauses at once. */
 void tmwatch_step_yield(const void *caller);
+#endif

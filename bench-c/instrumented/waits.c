@@ -1,12 +1,13 @@
 /* By steps, what a thread waits for: a lock that another holds, a condition, a yield, and a futex, as of the locks of Rust. Without these,
    only the watchdog sees that it waits. A program calls them in place of the C library's if it is linked with -Wl,--wrap= and the name.
-   Each of them is a step, and what the thread has stored is out before it. */
+   Each of them is a step, and what the thread has stored is out before it. By the orders of C++20 a lock acquires what it released. */
 #define _GNU_SOURCE
 #include "step.h"
 #include <errno.h>
 #include <linux/futex.h>
 #include <pthread.h>
 #include <sched.h>
+#include <semaphore.h>
 #include <sys/syscall.h>
 
 /* A function that the linker wraps. The C library's is null in a program that is linked without the name. */
@@ -26,14 +27,31 @@ TMWATCH_PART bool is_stepped(void)
     return is_run;
 }
 
+/* A lock was tried or taken, by this status. */
+static int has_locked(int status, const volatile void *lock, bool is_shared)
+{
+    tmwatch_simulation *orders = tmwatch_step_orders();
+    if (status == 0 && orders)
+        tmwatch_orders_locked(orders, tmwatch_thread(), lock, is_shared);
+    return status;
+}
+
+/* A lock is about to be given back. */
+static void unlocks(const volatile void *lock)
+{
+    tmwatch_simulation *orders = tmwatch_step_orders();
+    if (orders)
+        tmwatch_orders_unlocks(orders, tmwatch_thread(), lock);
+}
+
 /* A lock is tried, taken, or given back: those that wait for it are able to run then. */
-#define TRY(name, lock_type)               \
-    WRAPPED(int, name, lock_type *lock)    \
-    {                                      \
-        is_stepped();                      \
-        return __real_##name(lock);        \
+#define TRY(name, lock_type, is_shared)                          \
+    WRAPPED(int, name, lock_type *lock)                          \
+    {                                                            \
+        is_stepped();                                            \
+        return has_locked(__real_##name(lock), lock, is_shared); \
     }
-#define LOCK(name, try_name, lock_type)                                                                          \
+#define LOCK(name, try_name, lock_type, is_shared)                                                               \
     WRAPPED(int, name, lock_type *lock)                                                                          \
     {                                                                                                            \
         int status;                                                                                              \
@@ -42,12 +60,13 @@ TMWATCH_PART bool is_stepped(void)
         while ((status = (__real_##try_name ? __real_##try_name : try_name)(lock)) == EBUSY &&                    \
                tmwatch_step_wait((const void *)lock))                                                            \
             ;                                                                                                    \
-        return status == EBUSY ? __real_##name(lock) : status;                                                   \
+        return has_locked(status == EBUSY ? __real_##name(lock) : status, lock, is_shared);                      \
     }
 #define UNLOCK(name, lock_type)                       \
     WRAPPED(int, name, lock_type *lock)               \
     {                                                 \
         bool is_run = is_stepped();                   \
+        unlocks(lock);                                \
         int status = __real_##name(lock);             \
         if (is_run) {                                 \
             tmwatch_step_free((const void *)lock);    \
@@ -55,21 +74,66 @@ TMWATCH_PART bool is_stepped(void)
         }                                             \
         return status;                                \
     }
-TRY(pthread_mutex_trylock, pthread_mutex_t)
-LOCK(pthread_mutex_lock, pthread_mutex_trylock, pthread_mutex_t)
+TRY(pthread_mutex_trylock, pthread_mutex_t, false)
+LOCK(pthread_mutex_lock, pthread_mutex_trylock, pthread_mutex_t, false)
 UNLOCK(pthread_mutex_unlock, pthread_mutex_t)
-TRY(pthread_spin_trylock, pthread_spinlock_t)
-LOCK(pthread_spin_lock, pthread_spin_trylock, pthread_spinlock_t)
+TRY(pthread_spin_trylock, pthread_spinlock_t, false)
+LOCK(pthread_spin_lock, pthread_spin_trylock, pthread_spinlock_t, false)
 UNLOCK(pthread_spin_unlock, pthread_spinlock_t)
-TRY(pthread_rwlock_tryrdlock, pthread_rwlock_t)
-TRY(pthread_rwlock_trywrlock, pthread_rwlock_t)
-LOCK(pthread_rwlock_rdlock, pthread_rwlock_tryrdlock, pthread_rwlock_t)
-LOCK(pthread_rwlock_wrlock, pthread_rwlock_trywrlock, pthread_rwlock_t)
+TRY(pthread_rwlock_tryrdlock, pthread_rwlock_t, true)
+TRY(pthread_rwlock_trywrlock, pthread_rwlock_t, false)
+LOCK(pthread_rwlock_rdlock, pthread_rwlock_tryrdlock, pthread_rwlock_t, true)
+LOCK(pthread_rwlock_wrlock, pthread_rwlock_trywrlock, pthread_rwlock_t, false)
 UNLOCK(pthread_rwlock_unlock, pthread_rwlock_t)
+
+/* A semaphore: who has waited knows what was posted before. */
+TRY(sem_trywait, sem_t, false)
+UNLOCK(sem_post, sem_t)
+WRAPPED(int, sem_wait, sem_t *semaphore)
+{
+    int status;
+    if (!is_stepped())
+        return __real_sem_wait(semaphore);
+    while ((status = (__real_sem_trywait ? __real_sem_trywait : sem_trywait)(semaphore)) != 0 && errno == EAGAIN &&
+           tmwatch_step_wait(semaphore))
+        ;
+    return has_locked(status != 0 ? __real_sem_wait(semaphore) : status, semaphore, false);
+}
+
+/* The same for a lock of another language: it was tried, and the answer says whether the thread goes by steps; others run until it may be
+   free, and the answer says whether to try again; it was taken; it is about to be given back; it was given back. */
+bool tmwatch_lock_tried(void)
+{
+    return is_stepped();
+}
+
+bool tmwatch_lock_awaited(const void *lock)
+{
+    return tmwatch_step_wait(lock) != TMWATCH_STEP_ALONE;
+}
+
+void tmwatch_lock_taken(const void *lock)
+{
+    has_locked(0, lock, false);
+}
+
+void tmwatch_lock_returning(const void *lock)
+{
+    unlocks(lock);
+}
+
+void tmwatch_lock_returned(const void *lock)
+{
+    if (!tmwatch_step_is_run())
+        return;
+    tmwatch_step_free(lock);
+    tmwatch_pause();
+}
 
 /* Waits for a condition: whether it was signalled. Nobody else runs between the unlocking and the wait. */
 static bool is_signalled(pthread_cond_t *condition, pthread_mutex_t *mutex)
 {
+    unlocks(mutex);
     __real_pthread_mutex_unlock(mutex);
     tmwatch_step_free(mutex);
     bool is_freed = tmwatch_step_wait(condition) == TMWATCH_STEP_FREED;
@@ -132,6 +196,9 @@ long __wrap_syscall(long number, long first, long what, long third, long fourth,
     long command = what & FUTEX_CMD_MASK;
     if (tmwatch_step_drain)
         tmwatch_step_drain();
+    tmwatch_simulation *orders = tmwatch_step_orders();
+    if (number == SYS_futex && orders)
+        tmwatch_orders_futex(orders, (const volatile void *)first, __builtin_return_address(0));
     if (number != SYS_futex || (command != FUTEX_WAIT && command != FUTEX_WAIT_BITSET) || !tmwatch_step_is_run())
         return __real_syscall(number, first, what, third, fourth, fifth, sixth);
     tmwatch_step_yield(TMWATCH_CALLER);

@@ -20,8 +20,16 @@ fn find() -> Option<PathBuf> {
     folder.canonicalize().ok()
 }
 
+/// The libraries in the order in which the linker takes them: each calls those after it.
+fn libraries() -> &'static [&'static str] {
+    match std::env::var_os("CARGO_FEATURE_STEPS") {
+        Some(_) => &["tmwatch_steps", "tmwatch_bench", "tmwatch"],
+        None => &["tmwatch_bench", "tmwatch"],
+    }
+}
+
 fn has_archives(folder: &Path) -> bool {
-    ["libtmwatch_bench.a", "libtmwatch.a"].iter().all(|name| folder.join(name).is_file())
+    libraries().iter().all(|name| folder.join(format!("lib{name}.a")).is_file())
 }
 
 fn main() {
@@ -32,9 +40,9 @@ fn main() {
     };
     println!("cargo:rerun-if-changed={}", folder.display());
     println!("cargo:rustc-link-search=native={}", folder.display());
-    // The bench calls the watch, so that it comes first.
-    println!("cargo:rustc-link-lib=static=tmwatch_bench");
-    println!("cargo:rustc-link-lib=static=tmwatch");
+    for name in libraries() {
+        println!("cargo:rustc-link-lib=static={name}");
+    }
     // So that the bench sees by steps that a thread waits for a lock of the standard library, in what is built here.
     for kind in ["tests", "examples"] {
         println!("cargo:rustc-link-arg-{kind}=-Wl,--wrap=syscall,--wrap=sched_yield,--wrap=pthread_mutex_lock,--wrap=pthread_mutex_unlock");

@@ -202,7 +202,8 @@ static void run(unsigned long counts[VALUES][VALUES])
     plan.registers = plan.calls = 1;
     plan.writes = plan.adds = plan.aborts = plan.mixes = 0;
     plan.schedule = TMWATCH_STEPS;
-    plan.buffers = plan.plain = 1;
+    plan.orders = TMWATCH_X86;
+    plan.plain = 1;
     stores_at_commit = test->part == answer;
     for (plan.seed = 1; plan.seed <= SEEDS; plan.seed++) {
         memset(rounds, 0, sizeof rounds);

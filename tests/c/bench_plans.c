@@ -152,7 +152,9 @@ static void refuse_plans(void)
     REFUSES(TMWATCH_BAD_BOUNDS, round, 20001);
     REFUSES(TMWATCH_BAD_BOUNDS, event, 1);
     REFUSES(TMWATCH_BAD_BOUNDS, blinds, 101);
-    REFUSES(TMWATCH_BAD_BOUNDS, buffers, 1);
+    REFUSES(TMWATCH_BAD_BOUNDS, orders, TMWATCH_X86);
+    REFUSES(TMWATCH_BAD_BOUNDS, orders, TMWATCH_CXX);
+    REFUSES(TMWATCH_BAD_BOUNDS, orders, TMWATCH_CXX + 1);
     REFUSES(TMWATCH_BAD_BOUNDS, writes, 101);
     REFUSES(TMWATCH_BAD_BOUNDS, adds, 101);
     REFUSES(TMWATCH_BAD_BOUNDS, aborts, 101);
@@ -352,7 +354,7 @@ static const tmwatch_benched results[] = {
      .switches = 4,
      .rescues = 2,
      .again = {.schedule = TMWATCH_STEPS, .seed = 5, .rounds = 3, .round = 3, .threads = 2, .registers = TMWATCH_DRAWN, .calls = 1,
-               .writes = TMWATCH_DRAWN, .adds = 0, .aborts = TMWATCH_DRAWN, .pause = TMWATCH_DRAWN, .mixes = TMWATCH_DRAWN, .buffers = 1,
+               .writes = TMWATCH_DRAWN, .adds = 0, .aborts = TMWATCH_DRAWN, .pause = TMWATCH_DRAWN, .mixes = TMWATCH_DRAWN, .orders = TMWATCH_X86,
                .patience = 10, .attempts = 2, .blinds = 0}},
     {.told = {12, 7, TMWATCH_VIOLATED, 0}, .rounds = 3, .steps = 20, .again = TMWATCH_PLAN, .is_certain = true, .event = 5,
      .leg = {.schedule = TMWATCH_STEPS, .seed = 8, .rounds = 3, .threads = 2, .registers = 3, .calls = 1, .plain = 1}},

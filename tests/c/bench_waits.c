@@ -2,11 +2,13 @@
 A memory of one lock on the bench, which a thread holds from a transaction's beginning to its end. It writes in place, with no order but
 the lock's. By -DLOCK= the lock is a MUTEX, a mutex that is tried again and again (TRY), a lock that spins (SPIN), or is tried so
 (SPIN_TRY), a read-write lock that only one transaction in two takes for writing (READ_WRITE), or is tried (READ_WRITE_TRY), a condition
-variable (CONDITION), one that is waited for with a time (TIMED, CLOCKED), or one of which all are woken (BROADCAST).
+variable (CONDITION), one that is waited for with a time (TIMED, CLOCKED), or one of which all are woken (BROADCAST), or a semaphore
+(SEMAPHORE).
 */
 #define _GNU_SOURCE
 #include "tmwatch_bench.h"
 #include <pthread.h>
+#include <semaphore.h>
 #include <stdatomic.h>
 #include <time.h>
 
@@ -15,7 +17,7 @@ variable (CONDITION), one that is waited for with a time (TIMED, CLOCKED), or on
 #endif
 
 enum { REGISTERS = 8 };
-enum lock { MUTEX, TRY, SPIN, SPIN_TRY, READ_WRITE, READ_WRITE_TRY, CONDITION, TIMED, CLOCKED, BROADCAST };
+enum lock { MUTEX, TRY, SPIN, SPIN_TRY, READ_WRITE, READ_WRITE_TRY, CONDITION, TIMED, CLOCKED, BROADCAST, SEMAPHORE };
 
 struct tx {
     bool only_reads;
@@ -28,6 +30,7 @@ static pthread_mutex_t mutex = PTHREAD_MUTEX_INITIALIZER;
 static pthread_cond_t is_free = PTHREAD_COND_INITIALIZER;
 static pthread_rwlock_t shared = PTHREAD_RWLOCK_INITIALIZER;
 static pthread_spinlock_t spin;
+static sem_t semaphore;
 static bool is_taken;
 
 /* Waits for the condition, a second at most. */
@@ -90,6 +93,8 @@ static void take(bool only_reads)
             ;
     else if (kind == READ_WRITE || kind == READ_WRITE_TRY)
         take_shared(only_reads);
+    else if (kind == SEMAPHORE)
+        sem_wait(&semaphore);
     else
         take_condition();
 }
@@ -102,6 +107,8 @@ static void give(void)
         pthread_spin_unlock(&spin);
     else if (kind == READ_WRITE || kind == READ_WRITE_TRY)
         pthread_rwlock_unlock(&shared);
+    else if (kind == SEMAPHORE)
+        sem_post(&semaphore);
     else
         give_condition();
 }
@@ -159,5 +166,6 @@ static const tmwatch_memory memory = {NULL, sizeof(struct tx), begin, read, writ
 int main(int count, char **given)
 {
     pthread_spin_init(&spin, PTHREAD_PROCESS_PRIVATE);
+    sem_init(&semaphore, 0, 1);
     return tmwatch_bench_main(&memory, count, given);
 }

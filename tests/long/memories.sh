@@ -169,11 +169,11 @@ rows 'a lock for each register' right bench locks_NONE
 rows 'snapshots that are extended' right bench tiny_NONE
 rows 'a lock, half of commits rolled back' right bench spurious
 for lock in MUTEX SPIN READ_WRITE CONDITION; do
-    rows "one lock, $lock, delayed stores" right bench waits_$lock --buffers
+    rows "one lock, $lock, delayed stores" right bench waits_$lock --orders x86
 done
 rows 'NOrec that restarts by longjmp' right bench jumping
 rows 'one sequence' right bench sequence_NONE
-rows 'visible readers, delayed stores' right bench readers_NONE --buffers
+rows 'visible readers, delayed stores' right bench readers_NONE --orders x86
 if has "$cxx" 'memories in C++'; then
     in_cpp lock tests/c/bench_lock.cpp NONE
     in_cpp class tests/c/bench_class.cpp NONE
@@ -216,7 +216,7 @@ rows 'undo log, an abort keeps the version' broken bench undo_VERSION
 rows 'undo log, clock by load and store' broken bench undo_CLOCK
 rows 'a lock given back early' broken bench locks_EARLY
 rows 'one sequence, wraps after 4 commits' broken bench sequence_WRAP
-rows 'visible readers, no fence' broken bench readers_FENCE --buffers
+rows 'visible readers, no fence' broken bench readers_FENCE --orders x86
 rows 'TL2, a lock that is left held' lost bench tl2_LEAK
 rows 'TL2, a clock of eight bits' lost bench tl2_WRAP
 rows 'visible readers, a flag that stays' lost bench readers_LEAK

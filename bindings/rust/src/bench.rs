@@ -60,6 +60,17 @@ pub enum Schedule {
     All = 3,
 }
 
+/// How the atomic accesses of a memory are ordered.
+#[derive(Clone, Copy, Debug, PartialEq, Eq)]
+pub enum Orders {
+    /// All in the order of the steps.
+    Sequential = 0,
+    /// Stores are delayed, as in the store buffers of x86.
+    X86 = 1,
+    /// By steps: a load returns what C++20 lets it return. The orders of Rust are the same.
+    Cxx = 2,
+}
+
 /// What is run. include/tmwatch_bench.h says more of each. The numbers with a usual one in brackets may be [`DRAWN`].
 #[derive(Clone, Copy, Debug, PartialEq, Eq)]
 pub struct Plan {
@@ -97,8 +108,9 @@ pub struct Plan {
     pub mixes: u64,
     /// By steps, the C function `tmwatch_break` is called before this round, for a debugger. 0: never.
     pub round: u64,
-    /// Whether stores are delayed, of a memory that is compiled for libtmwatch_steps.a.
-    pub buffers: bool,
+    /// How atomic accesses are ordered (sequentially), of a memory that uses `tmwatch::sync` with the feature `steps`, or that is compiled
+    /// for libtmwatch_steps.a. `None`: the usual one, or, with [`Schedule::All`], one after another.
+    pub orders: Option<Orders>,
     /// Whether plain accesses of such a memory are steps too.
     pub plain: bool,
     /// Of 100 transactions, how many do nothing but write (10).
@@ -127,7 +139,7 @@ impl Default for Plan {
             trace: false,
             mixes: DRAWN,
             round: 0,
-            buffers: false,
+            orders: None,
             plain: false,
             blinds: DRAWN,
             event: 0,
@@ -162,6 +174,9 @@ pub struct Benched {
     pub is_certain: bool,
     /// By steps: which event of its round the wrong one is, from 1 on; 0 if none is.
     pub event: u64,
+    /// By the orders of C++20, lines: which loads of a violated round did not return the newest value, where in the program, and which
+    /// stores they missed; the first race on plain data; what is not seen.
+    pub shown: String,
     /// The run's end, for `tmwatch show`, if the plan asked for it.
     pub trace: Option<String>,
 }
@@ -340,11 +355,13 @@ pub(crate) unsafe fn run_table(table: &ffi::Memory, plan: &Plan) -> Result<Bench
     // SAFETY: the status says that it was written.
     let benched: ffi::Benched = unsafe { benched.assume_init() };
     let again = words_of(&benched.again)?;
+    // SAFETY: the bench has ended these bytes by a 0.
+    let shown = unsafe { CStr::from_ptr(benched.shown.as_ptr()) }.to_string_lossy().into_owned();
     // (there are no words for a start)
     let is_certain = benched.is_certain && plan.start == [0; 8];
     let ffi::Benched { told, counts, rounds, from, foreign, stores, steps, switches, rescues, event, .. } = benched;
     let (told, trace) = (told.into(), trace?);
-    Ok(Benched { told, counts, rounds, from, foreign, stores, steps, switches, rescues, again, is_certain, event, trace })
+    Ok(Benched { told, counts, rounds, from, foreign, stores, steps, switches, rescues, again, is_certain, event, shown, trace })
 }
 
 impl Plan {
@@ -367,7 +384,7 @@ impl Plan {
             trace,
             mixes: self.mixes,
             round: self.round,
-            buffers: u64::from(self.buffers),
+            orders: self.orders.map_or(DRAWN, |orders| orders as u64),
             plain: u64::from(self.plain),
             // A bench that is given up would leave threads behind that use the memory.
             patience: 0,

@@ -67,7 +67,7 @@ pub struct Plan {
     pub trace: *mut c_void,
     pub mixes: u64,
     pub round: u64,
-    pub buffers: u64,
+    pub orders: u64,
     pub plain: u64,
     pub patience: u64,
     pub progress: *mut c_void,
@@ -76,6 +76,9 @@ pub struct Plan {
     pub legs: *mut c_void,
     pub listing: *mut c_void,
 }
+
+/// How many bytes tell what the orders of C++20 have shown.
+pub const MOST_SHOWN: usize = 4096;
 
 #[repr(C)]
 pub struct Benched {
@@ -94,6 +97,7 @@ pub struct Benched {
     pub rejected: u64,
     pub leg: Plan,
     pub is_undelayed: bool,
+    pub shown: [c_char; MOST_SHOWN],
 }
 
 extern "C" {
@@ -155,11 +159,11 @@ mod tests {
         layout!(to, Memory, "tmwatch_memory", memory tx_size begin read write add commit abort run);
         layout!(
             to, Plan, "tmwatch_plan", rounds seed threads registers calls attempts writes adds aborts pause seconds schedule start trace
-            mixes round buffers plain patience progress blinds event legs listing
+            mixes round orders plain patience progress blinds event legs listing
         );
         layout!(
             to, Benched, "tmwatch_benched", told counts rounds from foreign stores steps switches rescues again is_certain event rejected
-            leg is_undelayed
+            leg is_undelayed shown
         );
         to
     }
@@ -195,7 +199,7 @@ mod tests {
             ("schedule", plan.schedule as u64),
             ("mixes", plan.mixes),
             ("round", plan.round),
-            ("buffers", u64::from(plan.buffers)),
+            ("orders", plan.orders.map_or(crate::DRAWN, |orders| orders as u64)),
             ("plain", u64::from(plan.plain)),
             ("blinds", plan.blinds),
             ("event", plan.event),

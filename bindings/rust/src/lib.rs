@@ -14,10 +14,11 @@
 mod bench;
 mod ffi;
 mod retrying;
+pub mod sync;
 mod told;
 mod watch;
 
-pub use bench::{bench, bench_main, pause, thread, Aborted, Benched, Memory, Plan, Schedule, DRAWN};
+pub use bench::{bench, bench_main, pause, thread, Aborted, Benched, Memory, Orders, Plan, Schedule, DRAWN};
 pub use retrying::{bench_retrying, bench_retrying_main, Attempt, RetryingMemory};
 pub use told::{Counts, Status, Told, Verdict, Why};
 pub use watch::{Event, Recorder, Settings, Watch};

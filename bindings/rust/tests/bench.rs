@@ -2,7 +2,7 @@
 
 use std::sync::atomic::{AtomicBool, AtomicI64, AtomicU64, Ordering::SeqCst};
 use std::sync::{Mutex, MutexGuard};
-use tmwatch::{bench, pause, thread, Aborted, Memory, Plan, Schedule, Status, Verdict};
+use tmwatch::{bench, pause, thread, Aborted, Memory, Orders, Plan, Schedule, Status, Verdict};
 
 /// How many transactions were made and not yet dropped.
 static LIVE: AtomicI64 = AtomicI64::new(0);
@@ -281,7 +281,7 @@ fn a_plan_out_of_range_is_refused() {
     assert_eq!(refused(Plan { threads: 9, ..Plan::default() }), Status::BadSize);
     assert_eq!(refused(Plan { rounds: 0, ..Plan::default() }), Status::BadBounds);
     assert_eq!(refused(Plan { mixes: 101, ..Plan::default() }), Status::BadBounds);
-    assert_eq!(refused(Plan { buffers: true, ..Plan::default() }), Status::BadBounds);
+    assert_eq!(refused(Plan { orders: Some(Orders::X86), ..Plan::default() }), Status::BadBounds);
     assert_eq!(refused(Plan { round: 20001, ..Plan::default() }), Status::BadBounds);
     // One by permits is never out of range; in rounds, eight attempts are.
     assert_eq!(refused(Plan { attempts: 8, ..Plan::default() }), Status::BadBounds);

@@ -1,0 +1,79 @@
+/* What the instrumented library, waits.c and the bench call of orders.c: the orders of C++20 by simulation. */
+#ifndef ORDERS_H
+#define ORDERS_H
+#include <stdatomic.h>
+#include <stdbool.h>
+#include <stddef.h>
+#include <stdint.h>
+#include <stdio.h>
+
+/* The simulated memory of one bench. */
+typedef struct tmwatch_simulation tmwatch_simulation;
+
+/* An access: in whose memory, by which of its threads, where it is in the program, and by what order. */
+typedef struct tmwatch_access {
+    tmwatch_simulation *orders;
+    unsigned thread;
+    const void *caller;
+    const volatile void *at;
+    unsigned bytes;
+    int order;
+} tmwatch_access;
+
+/* What a compare-and-swap does: it fails; or it succeeds, and stores after the newest store or after an older one. */
+enum tmwatch_compared { TMWATCH_FAILS, TMWATCH_TAKES_OLDER, TMWATCH_TAKES_NEWEST };
+
+/* A load, as drawn: what it returns. */
+uint64_t tmwatch_orders_load(const tmwatch_access *access);
+
+/* A store: whether it is the newest of its place, and so goes to memory. */
+bool tmwatch_orders_store(const tmwatch_access *access, uint64_t value);
+
+/* A read-modify-write has loaded, as drawn, *held: whether from the newest store. tmwatch_orders_change follows at once. */
+bool tmwatch_orders_take(const tmwatch_access *access, uint64_t *held);
+
+/* A compare-and-swap that looks for *held: what it does, and what it has loaded. If it succeeds, tmwatch_orders_change follows at once. */
+enum tmwatch_compared tmwatch_orders_compare(const tmwatch_access *access, uint64_t *held, int failed, bool is_weak);
+
+/* The read-modify-write stores this. */
+void tmwatch_orders_change(const tmwatch_access *access, uint64_t value);
+
+void tmwatch_orders_fence(const tmwatch_access *access);
+
+/* A plain access: whether it races, unless its bytes may be given back unseen. A store ends the history of its places. */
+void tmwatch_orders_plain_load(const tmwatch_access *access, size_t bytes);
+void tmwatch_orders_plain_store(const tmwatch_access *access, size_t bytes, bool is_passing);
+
+/* An access of 16 bytes: it acquires and releases, also what its halves do, and their histories end. */
+void tmwatch_orders_wide(const tmwatch_access *access);
+
+/* For the bench and waits.c, which may be linked without it. A memory for a bench that draws from this seed, and whose record has *recorded
+   events; or null. */
+#define WEAK __attribute__((weak))
+WEAK tmwatch_simulation *tmwatch_orders_new(uint64_t seed, const atomic_uint_least64_t *recorded);
+WEAK void tmwatch_orders_discard(tmwatch_simulation *orders);
+
+/* Between two rounds: all threads know all. */
+WEAK void tmwatch_orders_round(tmwatch_simulation *orders);
+
+/* An attempt's first call has been recorded, or its end: what has ended before it began happens before it. */
+WEAK void tmwatch_orders_begins(tmwatch_simulation *orders, unsigned thread);
+WEAK void tmwatch_orders_ends(tmwatch_simulation *orders, unsigned thread);
+
+/* A lock has been taken, or is about to be given back: a shared one orders nothing among those that share it. */
+WEAK void tmwatch_orders_locked(tmwatch_simulation *orders, unsigned thread, const volatile void *lock, bool is_shared);
+WEAK void tmwatch_orders_unlocks(tmwatch_simulation *orders, unsigned thread, const volatile void *lock);
+
+/* These bytes are about to be another object's, or to be stored by code that isn't marked: nothing of them is kept. */
+WEAK void tmwatch_orders_forget(tmwatch_simulation *orders, const volatile void *at, size_t bytes);
+
+/* The system is asked to wait for this word, or to wake who does: if no marked access is of it, a lock orders threads unseen. */
+WEAK void tmwatch_orders_futex(tmwatch_simulation *orders, const volatile void *word, const void *caller);
+
+/* Tells where in the program loads did not return the newest value, from this length of the record to that, and what they missed. */
+WEAK void tmwatch_orders_tell(const tmwatch_simulation *orders, FILE *file, uint64_t from, uint64_t to);
+
+/* Tells the first race of plain accesses; and, of a run that is wrong, what was met that isn't simulated. */
+WEAK void tmwatch_orders_tell_unseen(const tmwatch_simulation *orders, FILE *file, bool is_wrong);
+#undef WEAK
+#endif

@@ -1,0 +1,311 @@
+/* The model: what a load may return, where a store goes, and what is known then. */
+
+/* Of 16, how many choices are not the newest, if they may be; a thread that has loaded so many stale values in a row from one place gets the
+   newest. */
+enum { ODDS = 16, LATE_ODDS = 4, MOST_STALE = 8 };
+
+/* This thread at its next step. */
+static struct view *next_step(tmwatch_simulation *o, unsigned thread)
+{
+    struct view *it = &o->views[thread];
+    it->knows.at[thread]++;
+    return it;
+}
+
+/* The oldest store that an access of this order may read, or after which it may store. */
+static unsigned floor_of(const tmwatch_simulation *o, const struct place *it, const struct view *view, int order)
+{
+    struct clock knows = view->knows;
+    if (order == SEQUENTIAL) {
+        join(&knows, &o->fences);
+        knows.at[SEQUENCE] = o->sequence;
+    }
+    for (unsigned i = it->count - 1; i > 0; i--)
+        for (unsigned k = 0; k < CLOCKS; k++)
+            if (it->stores[i].seen.at[k] > 0 && it->stores[i].seen.at[k] <= knows.at[k])
+                return i;
+    return 0;
+}
+
+/* The thread has read or written this store. */
+static void see(const tmwatch_access *a, struct store *it)
+{
+    tmwatch_simulation *o = a->orders;
+    if (it->seen.at[a->thread] == 0)
+        it->seen.at[a->thread] = o->views[a->thread].knows.at[a->thread];
+    if (a->order == SEQUENTIAL && ++o->sequence && it->seen.at[SEQUENCE] == 0)
+        it->seen.at[SEQUENCE] = o->sequence;
+}
+
+/* An access beside the table: as if by one that acquires and releases, whatever its order. */
+static void pass(tmwatch_simulation *o, struct view *view)
+{
+    join(&view->knows, &o->untracked);
+    o->untracked = view->knows;
+}
+
+/* Reads a store of the place. */
+static uint64_t read_store(const tmwatch_access *a, struct place *it, unsigned found, enum deviation_kind kind)
+{
+    struct view *view = &a->orders->views[a->thread];
+    struct store *store = &it->stores[found];
+    it->stale[a->thread] = found + 1 < it->count ? (uint8_t)(it->stale[a->thread] + 1) : 0;
+    keep_deviation(a, it, found, kind);
+    meet(a, store);
+    see(a, store);
+    join(&view->loaded, &store->releases);
+    if (acquires(a->order))
+        join(&view->knows, &store->releases);
+    return store->value;
+}
+
+/* Draws one of the stores from the lowest on: the newest, or by these odds any older one. */
+static unsigned draw_store(const tmwatch_access *a, const struct place *it, unsigned lowest, uint32_t odds)
+{
+    uint64_t *draws = &a->orders->draws;
+    unsigned newest = it->count - 1;
+    if (lowest == newest || it->stale[a->thread] >= MOST_STALE || draw_below(draws, ODDS) >= odds)
+        return newest;
+    return lowest + draw_below(draws, newest - lowest);
+}
+
+/* Whether a read-modify-write may come after this store. */
+static bool may_change(const struct place *it, unsigned found)
+{
+    return found + 1 == it->count || !it->stores[found + 1].is_change;
+}
+
+uint64_t tmwatch_orders_load(const tmwatch_access *a)
+{
+    tmwatch_simulation *o = a->orders;
+    struct view *view = next_step(o, a->thread);
+    struct place *it = find_place(a);
+    look_for_race(a, a->bytes, ATOMIC_LOAD);
+    if (it)
+        return read_store(a, it, draw_store(a, it, floor_of(o, it, view, a->order), o->stale), STALE_LOAD);
+    pass(o, view);
+    return in_memory(a->at, a->bytes);
+}
+
+bool tmwatch_orders_take(const tmwatch_access *a, uint64_t *held)
+{
+    tmwatch_simulation *o = a->orders;
+    struct view *view = next_step(o, a->thread);
+    struct place *it = find_place(a);
+    o->taken = it;
+    *held = in_memory(a->at, a->bytes);
+    if (!it) {
+        pass(o, view);
+        return true;
+    }
+    unsigned found = draw_store(a, it, floor_of(o, it, view, a->order), o->late);
+    o->taken_store = may_change(it, found) ? found : it->count - 1;
+    *held = read_store(a, it, o->taken_store, STALE_LOAD);
+    return o->taken_store + 1 == it->count;
+}
+
+/* Draws the store that a compare-and-swap reads: of an older one it may fail, or succeed if nothing has changed that. */
+static unsigned draw_compared(const tmwatch_access *a, const struct place *it, uint64_t looked_for, int failed)
+{
+    const tmwatch_simulation *o = a->orders;
+    const struct view *view = &o->views[a->thread];
+    unsigned newest = it->count - 1, to_fail = floor_of(o, it, view, failed), to_change = floor_of(o, it, view, a->order);
+    unsigned found = draw_store(a, it, to_fail < to_change ? to_fail : to_change, o->stale);
+    bool is_equal = it->stores[found].value == looked_for;
+    if (is_equal ? found >= to_change && may_change(it, found) : found >= to_fail)
+        return found;
+    return newest;
+}
+
+enum tmwatch_compared tmwatch_orders_compare(const tmwatch_access *a, uint64_t *held, int failed, bool is_weak)
+{
+    tmwatch_simulation *o = a->orders;
+    struct view *view = next_step(o, a->thread);
+    struct place *it = find_place(a);
+    uint64_t newest = in_memory(a->at, a->bytes), looked_for = *held;
+    tmwatch_access to_fail = *a;
+    to_fail.order = failed;
+    o->taken = it;
+    if (!it) {
+        pass(o, view);
+        *held = newest;
+        return newest == looked_for ? TMWATCH_TAKES_NEWEST : TMWATCH_FAILS;
+    }
+    unsigned found = draw_compared(a, it, looked_for, failed);
+    bool is_spurious = is_weak && draw_below(&o->draws, ODDS) == 0;
+    if (it->stores[found].value != looked_for || is_spurious) {
+        if (is_spurious && found < floor_of(o, it, view, failed))
+            found = it->count - 1;
+        *held = read_store(&to_fail, it, found, STALE_LOAD);
+        look_for_race(a, a->bytes, ATOMIC_LOAD);
+        return TMWATCH_FAILS;
+    }
+    o->taken_store = found;
+    read_store(a, it, found, STALE_LOAD);
+    return found + 1 == it->count ? TMWATCH_TAKES_NEWEST : TMWATCH_TAKES_OLDER;
+}
+
+/* Stores after this many of the place's stores. */
+static struct store *add_store(const tmwatch_access *a, struct place *it, unsigned at, uint64_t value)
+{
+    const struct view *view = &a->orders->views[a->thread];
+    struct store *store = make_room(it, at);
+    store->value = value;
+    store->thread = (uint8_t)a->thread;
+    store->caller = a->caller;
+    store->releases = releases(a->order) ? view->knows : view->fenced;
+    see(a, store);
+    look_for_race(a, a->bytes, ATOMIC_STORE);
+    return store;
+}
+
+bool tmwatch_orders_store(const tmwatch_access *a, uint64_t value)
+{
+    tmwatch_simulation *o = a->orders;
+    struct view *view = next_step(o, a->thread);
+    struct place *it = find_place(a);
+    if (!it) {
+        pass(o, view);
+        return true;
+    }
+    unsigned after = draw_store(a, it, floor_of(o, it, view, a->order), o->late);
+    while (!may_change(it, after))
+        after++;
+    bool is_newest = after + 1 == it->count;
+    keep_deviation(a, it, after, LATE_STORE);
+    add_store(a, it, after + 1, value);
+    return is_newest;
+}
+
+void tmwatch_orders_change(const tmwatch_access *a, uint64_t value)
+{
+    struct place *it = a->orders->taken;
+    if (!it)
+        return;
+    struct clock released = it->stores[a->orders->taken_store].releases;
+    struct store *store = add_store(a, it, a->orders->taken_store + 1, value);
+    join(&store->releases, &released);
+    store->is_change = true;
+}
+
+void tmwatch_orders_fence(const tmwatch_access *a)
+{
+    tmwatch_simulation *o = a->orders;
+    struct view *view = next_step(o, a->thread);
+    if (acquires(a->order))
+        join(&view->knows, &view->loaded);
+    if (a->order == SEQUENTIAL) {
+        join(&view->knows, &o->fences);
+        view->knows.at[SEQUENCE] = ++o->sequence;
+        o->fences = view->knows;
+    }
+    if (releases(a->order))
+        view->fenced = view->knows;
+}
+
+/* Ends the histories of places that overlap these bytes. */
+static void forget_places(tmwatch_simulation *o, uintptr_t at, size_t bytes)
+{
+    uintptr_t end = at + bytes;
+    struct clock released = {{0}};
+    if (bytes <= (size_t)FEW_WORDS * WORD_BYTES)
+        for (uintptr_t word = at; word < end; word = (word | (WORD_BYTES - 1)) + 1)
+            drop_places(o, word, end - word, &released);
+    else
+        for (unsigned i = 0; i < o->used; i++)
+            if (o->places[i].at < end && at < o->places[i].at + o->places[i].bytes)
+                o->places[i].bytes = 0;
+}
+
+void tmwatch_orders_forget(tmwatch_simulation *o, const volatile void *at, size_t bytes)
+{
+    forget_places(o, (uintptr_t)at, bytes);
+    forget_cells(o, (uintptr_t)at, bytes);
+}
+
+void tmwatch_orders_plain_load(const tmwatch_access *a, size_t bytes)
+{
+    look_for_race(a, bytes, PLAIN_LOAD);
+}
+
+void tmwatch_orders_plain_store(const tmwatch_access *a, size_t bytes, bool is_passing)
+{
+    if (!is_passing)
+        look_for_race(a, bytes, PLAIN_STORE);
+    forget_places(a->orders, (uintptr_t)a->at, bytes);
+}
+
+void tmwatch_orders_wide(const tmwatch_access *a)
+{
+    tmwatch_simulation *o = a->orders;
+    struct view *view = next_step(o, a->thread);
+    uintptr_t at = (uintptr_t)a->at;
+    look_for_race(a, a->bytes, ATOMIC_STORE);
+    for (uintptr_t word = at; word < at + a->bytes; word += WORD_BYTES)
+        drop_places(o, word, WORD_BYTES, &view->knows);
+    pass(o, view);
+    for (uintptr_t word = at; word < at + a->bytes; word += WORD_BYTES) {
+        struct place *it = add_place(o, word, WORD_BYTES);
+        if (it)
+            it->stores[0].releases = view->knows;
+    }
+}
+
+void tmwatch_orders_begins(tmwatch_simulation *o, unsigned thread)
+{
+    join(&o->views[thread].knows, &o->ended);
+}
+
+void tmwatch_orders_ends(tmwatch_simulation *o, unsigned thread)
+{
+    join(&o->ended, &next_step(o, thread)->knows);
+}
+
+void tmwatch_orders_locked(tmwatch_simulation *o, unsigned thread, const volatile void *at, bool is_shared)
+{
+    struct lock *it = find_lock(o, at);
+    join(&next_step(o, thread)->knows, is_shared ? &it->alone : &it->all);
+    if (is_shared)
+        it->sharers |= 1u << thread;
+}
+
+void tmwatch_orders_unlocks(tmwatch_simulation *o, unsigned thread, const volatile void *at)
+{
+    struct lock *it = find_lock(o, at);
+    const struct clock *knows = &next_step(o, thread)->knows;
+    join(&it->all, knows);
+    if (!(it->sharers >> thread & 1))
+        join(&it->alone, knows);
+    it->sharers &= ~(1u << thread);
+}
+
+void tmwatch_orders_futex(tmwatch_simulation *o, const volatile void *word, const void *caller)
+{
+    if (!look_up(o, (uintptr_t)word, sizeof(uint32_t)))
+        meet_unseen(o, UNMARKED_LOCK, caller);
+}
+
+tmwatch_simulation *tmwatch_orders_new(uint64_t seed, const atomic_uint_least64_t *recorded)
+{
+    tmwatch_simulation *o = calloc(1, sizeof *o);
+    if (!o)
+        return NULL;
+    o->draws = seed;
+    o->recorded = recorded;
+    tmwatch_orders_round(o);
+    return o;
+}
+
+void tmwatch_orders_discard(tmwatch_simulation *o)
+{
+    free(o);
+}
+
+void tmwatch_orders_round(tmwatch_simulation *o)
+{
+    static const uint8_t stale_odds[] = {2, 8, 8, 14};
+    memset(o, 0, offsetof(tmwatch_simulation, locks));
+    o->round++;
+    o->stale = stale_odds[draw_below(&o->draws, sizeof stale_odds)];
+    o->late = draw_below(&o->draws, 2) == 0 ? 0 : LATE_ODDS;
+}

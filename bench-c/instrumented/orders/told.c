@@ -1,0 +1,108 @@
+/* What is told of the orders: which accesses were not of the newest store, the first race, and what orders threads unseen. */
+
+/* Keeps that an access has found this store, or stores after it, if that isn't the newest. */
+static void keep_deviation(const tmwatch_access *a, const struct place *it, unsigned found, enum deviation_kind kind)
+{
+    tmwatch_simulation *o = a->orders;
+    if (found + 1 >= it->count)
+        return;
+    const struct store *next = &it->stores[found + 1];
+    const struct met *met = &o->met[a->thread][next->thread];
+    struct deviation *kept = &o->deviations[o->deviated++ % KEPT_DEVIATIONS];
+    *kept = (struct deviation){*o->recorded,           a->caller,    next->caller,
+                               {0, NULL, NULL},        (uint8_t)kind, (uint8_t)a->thread,
+                               next->thread,           (uint8_t)(it->count - 1 - found)};
+    if (met->step > next->seen.at[next->thread])
+        kept->met = *met;
+}
+
+/* Keeps that a thread has read a store of another. */
+static void meet(const tmwatch_access *a, const struct store *it)
+{
+    struct met *met = &a->orders->met[a->thread][it->thread];
+    uint32_t step = it->seen.at[it->thread];
+    if (it->caller && it->thread != a->thread && step > met->step)
+        *met = (struct met){step, it->caller, a->caller};
+}
+
+/* The first of those kept that is the same one from this event on, and how many there are up to that event; this one if it is the first. */
+static uint64_t count_same(const tmwatch_simulation *o, const struct deviation *it, uint64_t first, uint64_t from, uint64_t to, uint64_t *found)
+{
+    uint64_t count = 0;
+    for (uint64_t i = first; i < o->deviated; i++) {
+        const struct deviation *other = &o->deviations[i % KEPT_DEVIATIONS];
+        if (other->event < from || other->event >= to || other->kind != it->kind || other->caller != it->caller || other->other != it->other ||
+            other->met.stored != it->met.stored || other->met.loaded != it->met.loaded)
+            continue;
+        if (count++ == 0)
+            *found = i;
+    }
+    return count;
+}
+
+/* Tells one, and how many others are like it. */
+static void tell_deviation(const struct deviation *it, uint64_t count, FILE *file)
+{
+    fprintf(file, it->kind == STALE_LOAD ? "  stale load: thread %u at " : "  late store: thread %u at ", (unsigned)it->thread);
+    print_place(file, it->caller);
+    fprintf(file, it->kind == STALE_LOAD ? " does not see the store of thread %u at " : " comes before the store of thread %u at ",
+            (unsigned)it->other_thread);
+    print_place(file, it->other);
+    if (it->newer > 1)
+        fprintf(file, ", nor %u after it", (unsigned)it->newer - 1);
+    fprintf(file, count > 1 ? " (and %llu like this)\n" : "\n", (unsigned long long)count - 1);
+    if (!it->met.stored)
+        return;
+    fputs("    though it has read, at ", file);
+    print_place(file, it->met.loaded);
+    fputs(", what that thread stored later, at ", file);
+    print_place(file, it->met.stored);
+    fputc('\n', file);
+}
+
+void tmwatch_orders_tell(const tmwatch_simulation *o, FILE *file, uint64_t from, uint64_t to)
+{
+    uint64_t first = o->deviated > KEPT_DEVIATIONS ? o->deviated - KEPT_DEVIATIONS : 0, told = 0, found = 0;
+    for (uint64_t i = first; i < o->deviated; i++) {
+        const struct deviation *it = &o->deviations[i % KEPT_DEVIATIONS];
+        if (it->event < from || it->event >= to)
+            continue;
+        uint64_t count = count_same(o, it, first, from, to, &found);
+        if (found != i)
+            continue;
+        if (told++ == 0)
+            fputs("the orders of C++20 allow this, in this round before what went wrong:\n", file);
+        tell_deviation(it, count, file);
+    }
+    if (told == 0 && first > 0 && o->deviations[first % KEPT_DEVIATIONS].event >= from)
+        fputs("which loads were stale is told if the words above are run again\n", file);
+}
+
+static const char *name_of(enum access_kind kind)
+{
+    static const char *const names[] = {"loads plainly", "stores plainly", "loads", "stores"};
+    return names[kind];
+}
+
+void tmwatch_orders_tell_unseen(const tmwatch_simulation *o, FILE *file, bool is_wrong)
+{
+    static const char *const unseen[] = {"code that the compiler has not marked, or a thread of the memory's own, stores to what is loaded at ",
+                                         "a lock or a wait of code that the compiler has not marked, in "};
+    if (o->has_race) {
+        fprintf(file, "a race, which C++20 leaves undefined: thread %u %s at ", o->race.thread, name_of(o->race.kind));
+        print_place(file, o->race.caller);
+        fprintf(file, ", thread %u %s", o->race.other, name_of(o->race.other_kind));
+        if (o->race.other_caller) {
+            fputs(" at ", file);
+            print_place(file, o->race.other_caller);
+        }
+        fputc('\n', file);
+    }
+    for (unsigned i = 0; i < UNSEEN_KINDS && is_wrong; i++) {
+        if (o->unseen[i] == 0)
+            continue;
+        fputs(unseen[i], file);
+        print_place(file, o->unseen_caller[i]);
+        fputs(": what that orders is not seen, so a violation may be false\n", file);
+    }
+}

@@ -1,0 +1,75 @@
+#!/usr/bin/env bash
+# Runs the memories of tests/orders/memories by --orders c++, each with its weakest right orders and with each one too weak; and the model
+# alone for longer than tests/orders.sh does.
+#
+#   tests/long/orders.sh
+#
+# A row for each of tests/orders/memories/variants: what it has to be, the memory and its words for the compiler, in how many seeds it was
+# violated, and stuck; after how many rounds it was found: the least, the median and the most; and what is weaker. A right one passes if no
+# seed is violated or stuck, and none has a rescue; a wrong one if nine in ten are violated, a stuck one if nine in ten are stuck. The rows
+# of rare and delayed ones only tell. The last line is 'N passed, M failed', and the exit status is 1 if one failed.
+# Environment: BUILT (tests/common.sh), SEEDS (20), ROUNDS (20000), ORDERS (c++; sequential and x86 only tell), ONLY (a pattern: the rows
+# that have it), CC (cc), RUNS (1000000 random runs of the model, 0: none).
+set -eu
+# shellcheck source=tests/common.sh
+. "$(dirname "${BASH_SOURCE[0]}")/../common.sh"
+seeds=${SEEDS:-20} rounds=${ROUNDS:-20000} orders=${ORDERS:-c++} only=${ONLY:-.} cc=${CC:-cc} runs=${RUNS:-1000000}
+use_library
+build_bench "$cc" -std=c11 -O2 -pthread "-I$top/include"
+link=("$waits" "$blocks" "$folder/lib/libtmwatch_steps.a" "$folder/lib/libtmwatch_bench.a" "$built/lib/libtmwatch.a")
+
+# The least, the median and the most of what stands in $folder/found.
+spread() {
+    sort -n "$folder/found" | awk '{ it[NR] = $1 } END { print NR ? it[1] "/" it[int((NR + 1) / 2)] "/" it[NR] : "-" }'
+}
+
+# Whether the seeds came out as such a memory's have to.
+is_wanted() {
+    case $1 in
+    right) [ "$violated" -eq 0 ] && [ "$stuck" -eq 0 ] && [ "$rescued" -eq 0 ] ;;
+    wrong) [ $((10 * violated)) -ge $((9 * seeds)) ] ;;
+    stuck) [ $((10 * (violated + stuck))) -ge $((9 * seeds)) ] ;;
+    esac
+}
+
+# A row, of its fields.
+row() {
+    local kind=$1 words seed status violated=0 stuck=0 rescued=0
+    read -r -a words <<<"$3"
+    "$cc" -std=c11 -O2 -g -fsanitize=thread -Wno-tsan "-I$top/include" "${words[@]}" -c -o "$folder/memory.o" \
+        "$top/tests/orders/memories/$2.c"
+    "$cc" -pthread -o "$folder/memory" "$folder/memory.o" "${link[@]}"
+    : >"$folder/found"
+    for seed in $(seq "$seeds"); do
+        status=0
+        "$folder/memory" --schedule steps --orders "$orders" --rounds "$rounds" --seed "$seed" --patience 3 >"$folder/output" 2>&1 ||
+            status=$?
+        violated=$((violated + (status == 1))) stuck=$((stuck + (status == 4)))
+        ! grep -q '"rescues":[1-9]' "$folder/output" || rescued=$((rescued + 1))
+        [ "$status" -ne 1 ] || sed -n 's/.*"rounds":\([0-9]*\).*/\1/p' "$folder/output" >>"$folder/found"
+    done
+    local passes=told
+    [ "$orders" != c++ ] || case $kind in
+        right | wrong | stuck) passes=passed && counts is_wanted "$kind" || passes=FAILED ;;
+    esac
+    printf '%-7s %-9s %-24s %3d %3d %18s  %-6s %s\n' "$kind" "$2" "$3" "$violated" "$stuck" "$(spread)" $passes "$4"
+}
+
+printf '%-7s %-9s %-24s %3s %3s %18s\n' kind memory words of$seeds stk rounds
+while IFS='|' read -r kind file words text; do
+    case $kind in
+    right | wrong | stuck | rare | delayed)
+        if [[ "$kind|$file|$words|$text" =~ $only ]]; then row "$kind" "$file" "$words" "$text"; fi
+        ;;
+    esac
+done <"$top/tests/orders/memories/variants"
+if [ "$runs" -gt 0 ]; then
+    for test in litmus random complete; do
+        "$cc" -std=c11 -O2 "-I$top/include" -o "$folder/$test" "$top/tests/orders/$test.c"
+    done
+    last=true
+    ends 'litmus tests' 0 "$folder/litmus" $((runs / 3))
+    ends 'random runs' 0 "$folder/random" "$runs" 11
+    ends 'all executions of small programs' 0 "$folder/complete" 300 $((runs / 10)) 5
+fi
+end_rows

@@ -1,0 +1,100 @@
+/*
+TLRW's visible readers (Dice and Shavit, SPAA 2010) with the weakest orders that are right in C11: a reader raises its flag and looks at the
+lock; a writer locks and looks at the flags. Each has a fence between.
+
+WRONG: 1 no fence of the reader; 2 its look at the lock is relaxed; 3 no fence of the writer; 4 its look at the flags is relaxed; 5 unlocked
+relaxed; 6 a flag is lowered relaxed. 4 and 6 take loads that are delayed past later stores.
+*/
+#include "ordered.h"
+
+struct word {
+    _Atomic uint64_t value;
+    atomic_bool is_locked, is_read[MOST_THREADS];
+};
+
+static struct word words[REGISTERS];
+
+static bool begin(void *memory UNUSED, void *tx)
+{
+    *(struct tx *)tx = (struct tx){0};
+    return true;
+}
+
+static bool commit(void *memory UNUSED, void *tx)
+{
+    struct tx *it = tx;
+    for (unsigned reg = 0; reg < REGISTERS; reg++) {
+        if (it->holds[reg])
+            STORE(words[reg].is_locked, false, ORDER(5, release, relaxed));
+        if (it->has_read[reg])
+            STORE(words[reg].is_read[tmwatch_thread()], false, ORDER(6, release, relaxed));
+    }
+    return true;
+}
+
+static void cancel(void *memory, void *tx)
+{
+    struct tx *it = tx;
+    for (unsigned reg = 0; reg < REGISTERS; reg++)
+        if (it->writes[reg])
+            STORE(words[reg].value, it->before[reg], relaxed);
+    commit(memory, tx);
+}
+
+static bool undo_unless(bool is_done, void *tx)
+{
+    if (!is_done)
+        cancel(NULL, tx);
+    return is_done;
+}
+
+static bool raise_flag(struct tx *tx, unsigned reg)
+{
+    if (tx->has_read[reg] || tx->holds[reg])
+        return true;
+    tx->has_read[reg] = true;
+    STORE(words[reg].is_read[tmwatch_thread()], true, relaxed);
+    FENCE(1, seq_cst);
+    return !LOAD(words[reg].is_locked, ORDER(2, acquire, relaxed));
+}
+
+static bool read(void *memory UNUSED, void *tx, unsigned reg, uint64_t *value)
+{
+    if (!undo_unless(raise_flag(tx, reg), tx))
+        return false;
+    *value = LOAD(words[reg].value, relaxed);
+    return true;
+}
+
+static bool has_readers(unsigned reg)
+{
+    for (unsigned i = 0; i < MOST_THREADS; i++)
+        if (i != tmwatch_thread() && LOAD(words[reg].is_read[i], ORDER(4, acquire, relaxed)))
+            return true;
+    return false;
+}
+
+static bool take_lock(struct tx *tx, unsigned reg)
+{
+    if (tx->holds[reg])
+        return true;
+    if (atomic_exchange_explicit(&words[reg].is_locked, true, memory_order_acquire))
+        return false;
+    tx->holds[reg] = true;
+    FENCE(3, seq_cst);
+    return !has_readers(reg);
+}
+
+static bool write(void *memory UNUSED, void *tx, unsigned reg, uint64_t value)
+{
+    struct tx *it = tx;
+    if (!undo_unless(take_lock(it, reg), tx))
+        return false;
+    if (!it->writes[reg])
+        it->before[reg] = LOAD(words[reg].value, relaxed);
+    it->writes[reg] = true;
+    STORE(words[reg].value, value, relaxed);
+    return true;
+}
+
+BENCH(begin, read, write, commit, cancel)
