@@ -43,7 +43,7 @@ end_field() {
 
 # The version of a package, or of the last that fits a pattern, without Debian's own part.
 version_of() {
-    dpkg-query -W -f '${Version}\n' "$1" 2>/dev/null | sed 's/^[0-9]*://; s/[-+].*//' | grep . | tail -n 1
+    dpkg-query -W -f '${Version}\n' "$1" 2>/dev/null | sed 's/^[0-9]*://; s/[-+].*//; s/\.ds[0-9]*$//' | grep . | tail -n 1
 }
 
 # Begins the rows of a system, if it is wanted: its folder, its name and its version.
@@ -124,7 +124,7 @@ row() {
             return
         fi
         [ $status -eq 0 ] || early=$((early + 1))
-        [ $status -eq 0 ] || grep -m 1 -E 'Error|Exception' "$folder/told" || tail -n 5 "$folder/told"
+        [ $status -eq 0 ] || grep -m 1 -E '^[[:alnum:]_.]*(Error|Exception)' "$folder/told" || tail -n 5 "$folder/told"
         judge_run >>"$folder/judged"
         [ "$seed" -ne 1 ] || agrees || { other=1 && echo "$system, $level: whole.py finds another length"; }
         [ -z "${DRAWN:-}" ] || keep_drawing "$level"
@@ -256,7 +256,7 @@ if system firebird Firebird "$(version_of libfbclient2)"; then
     row 'READ COMMITTED, no record version' all all 300 "$field/firebird/run" 'READ COMMITTED, NO RECORD VERSION'
     row SNAPSHOT all all 300 "$field/firebird/run" SNAPSHOT
     row 'SNAPSHOT (1)' none none 300 env REGISTERS=1 "$field/firebird/run" SNAPSHOT
-    # (both have to begin before either touches the table: rare)
+    # (another has to commit between a begin and its first call: rare)
     row 'SNAPSHOT TABLE STABILITY' some some 1000 "$field/firebird/run" 'TABLE STABILITY'
     row 'SNAPSHOT TABLE STABILITY (1)' none none 1000 env REGISTERS=1 "$field/firebird/run" 'TABLE STABILITY'
     ends 'Firebird, write skew without chance' 1 "$field/firebird/run" skew 'TABLE STABILITY'

@@ -5,7 +5,8 @@
     firebird.py skew LEVEL
 
 With --level and other options of tmwatch_recorder it writes the trace. `skew` shows in one thread, without chance, whether two transactions
-that both begin before either touches the table may each overwrite what the other has read; the status is 1 if they may.
+may each overwrite what the other has read, if one begins before the other's commit and makes its first call after it. The status is 1 if
+they may.
 """
 import argparse
 import ctypes
@@ -116,11 +117,11 @@ def show_skew(level):
     one.begin()
     other.begin()
     try:
-        print(f"both begin; other reads register 0: {other.read(0)}, sets 1 to 7, and commits")
+        print(f"both begin; the other reads register 0: {other.read(0)}, sets 1 to 7, and commits")
         other.write(1, 7)
         other.commit()
         seen = one.read(1)
-        print(f"one reads register 1: {seen}, sets 0 to 9, and commits")
+        print(f"the one makes its first call: it reads register 1: {seen}, sets 0 to 9, and commits")
         one.write(0, 9)
         one.commit()
     except Refused:
