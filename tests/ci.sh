@@ -1,5 +1,5 @@
 #!/usr/bin/env bash
-# Runs memories by examples/ci/bench.sh, right and wrong ones, and programs that end otherwise; then the commands of docs/CI.md for traces.
+# Runs memories by examples/ci/bench.sh, right and wrong ones, and programs that end otherwise; then a command of docs/CI.md for traces.
 #
 #   tests/ci.sh
 #
@@ -17,8 +17,8 @@ cd "$folder"
 
 # Compiles the little memory, with a fault: norec-FAULT.
 compile() {
-    ends "norec, $1, compiles" 0 "$cc" -O2 -pthread -DTMWATCH_PAUSES "-DFAULT=$1" "-I$built/include" -o "norec-$1" "$top/examples/c/norec.c" \
-        "$built/lib/libtmwatch_bench.a" "$built/lib/libtmwatch.a"
+    ends "norec, $1, compiles" 0 "$cc" -O2 -pthread -DTMWATCH_PAUSES "-DFAULT=$1" "-I$built/include" -o "norec-$1" \
+        "$top/examples/c/norec.c" "$built/lib/libtmwatch_bench.a" "$built/lib/libtmwatch.a"
 }
 
 # Writes a program that prints this line and ends with this status: its name, the line and the status.

@@ -3,8 +3,8 @@
 
     tests/import.py PROGRAM HISTORIES
 
-PROGRAM is the built tmwatch. Each history goes through intervals.py and through jepsen.py. The last line counts the histories and those that
-were violated. Exit status: 0 all agree; 1 one does not, which is printed.
+PROGRAM is the built tmwatch. Each history goes through intervals.py and through jepsen.py. The last line counts the histories and those
+that were violated. Exit status: 0 all agree; 1 one does not, which is printed.
 """
 import contextlib
 import io
@@ -72,7 +72,8 @@ def is_strict(ts):
 
 def write_edn(ts):
     def words(t, knows):
-        return " ".join(f"[:{kind} {key} {'nil' if value is None or kind == 'r' and not knows else value}]" for kind, key, value in t["calls"])
+        known = [(kind, key, value if knows or kind == "w" else None) for kind, key, value in t["calls"]]
+        return " ".join(f"[:{kind} {key} {'nil' if value is None else value}]" for kind, key, value in known)
 
     moments = [(t["begin"], "invoke", n) for n, t in enumerate(ts)] + [(t["end"], t["result"], n) for n, t in enumerate(ts)]
     lines = [f"{{:type :{kind}, :process {n}, :f :txn, :value [{words(ts[n], kind == 'ok')}]}}" for _, kind, n in sorted(moments)]

@@ -4,8 +4,8 @@
 #
 #   tests/import.sh
 #
-# The last line is 'N passed, M failed', and the exit status is 1 if a row failed. Without python3 nothing is tested: a line says so, and the
-# status is 0.
+# The last line is 'N passed, M failed', and the exit status is 1 if a row failed. Without python3 nothing is tested: a line says so, and
+# the status is 0.
 # Environment: HISTORIES (300), how many are random.
 set -eu
 # shellcheck source=tests/common.sh

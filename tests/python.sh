@@ -3,9 +3,9 @@
 #
 #   tests/python.sh
 #
-# A row fails if a verdict is another, or if transactions did not overlap, so that the verdict would say nothing. Then come processes, stores
-# that fail while others wait for what they hold, a reader that ends early, and words that are refused. The last line is 'N passed, M failed', and the exit status is 1 if a row
-# failed. Without python3 nothing is tested: a line says so, and the status is 0.
+# A row fails if a verdict is another, or if transactions did not overlap, so that the verdict would say nothing. Then come processes,
+# stores that fail while others wait for what they hold, a reader that ends early, and words that are refused. The last line is
+# 'N passed, M failed', and the exit status is 1 if a row failed. Without python3 nothing is tested: a line says so, and the status is 0.
 # Environment: ROUNDS (300).
 set -eu
 # shellcheck source=tests/common.sh

@@ -7,8 +7,8 @@
 # words that repeat it, as `./norec --seed 1 --round 7`. Comments begin with #. A test passes if its run is opaque so far and shows enough:
 # the bench says by `lacks` if it doesn't.
 #
-# OUT gets, of test N: N.json, what the bench printed; N.log, its standard error; N.trace, and N.trace.run beside it; N.html, the window of a
-# violation as a page, if tmwatch is there. junit.xml has all tests, as CI systems read them. Standard output has them as TAP.
+# OUT gets, of test N: N.json, what the bench printed; N.log, its standard error; N.trace, and N.trace.run beside it; N.html, the window of
+# a violation as a page, if tmwatch is there. junit.xml has all tests, as CI systems read them. Standard output has them as TAP.
 #
 # Exit status: 0 all pass; 1 a run is violated; 2 another failure, and none violated; 4 wrong words.
 # Environment: EACH (60), the seconds of a test; SEED (today, as 20261128); AGAIN, a file; TMWATCH (tmwatch), the program.

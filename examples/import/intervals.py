@@ -7,9 +7,10 @@ A line is a transaction, in any order:
 
     {"begin": 10, "end": 25, "result": "ok", "calls": [["r", "x", null], ["w", "y", 7]]}
 
-`r` is a read of a key and what it found, `w` a write; null is what a key holds at first. Results are Jepsen's: `ok` has committed, `fail`
-has not, and of `info` nobody knows, nor when it ended. A `fail` is left out, and an `info` of whose writes no `ok` has read any. Another
-`info` ends with its first reader: that asks nothing more of an order, since whoever begins later comes after that reader.
+Keys and values are strings or numbers, and null is what a key holds at first. `r` is a read of a key and what it found, `w` a write.
+Results are Jepsen's: `ok` has committed, `fail` has not, and of `info` nobody knows, nor when it ended. A `fail` is left out, and an
+`info` of whose writes no `ok` has read any. Another `info` ends with its first reader: that asks nothing more of an order, since whoever
+begins later comes after that reader.
 
 Limits:
 - Calls have no times of their own. All, and the request to commit, are placed at the begin, and the commit at the end. So only

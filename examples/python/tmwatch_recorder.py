@@ -15,6 +15,9 @@
 the function that makes the stores, which runs before all threads. These make one transaction a round, then wait for one another, so that a
 round's transactions are few enough to be judged.
 
+If a store fails, the program ends with the store's own error, though other threads may wait in the store. Without an event for --wait
+seconds it ends and says which calls wait. What was recorded is written before.
+
 If a store belongs to a process, as its locks may, use `main_of_processes` in place of `main`: examples/field/tdb has such a store.
 """
 import argparse
@@ -110,8 +113,8 @@ class Worker:
 
 
 def wait_for(workers, progress, has_failed, seconds):
-    """Waits until all workers have ended. Returns False once nothing has changed in `progress` for so many seconds, or, after a failure, for
-    GRACE: they may be waiting in the store for what the failed one holds."""
+    """Waits until all workers have ended. Returns False once nothing has changed in `progress` for so many seconds, or, after a failure,
+    for GRACE: they may be waiting in the store for what the failed one holds."""
     seen, since = progress(), time.monotonic()
     while alive := [worker for worker in workers if worker.is_alive()]:
         alive[0].join(0.05)
@@ -217,8 +220,9 @@ def run_processes(make_store, options, output):
         for process in processes:
             process.terminate()
             process.join()
-        placed = sorted((int(place), event) for name in names if os.path.exists(name) for line in open(name) for place, event in [line.split(" ", 1)])
+        lines = [line.split(" ", 1) for name in names if os.path.exists(name) for line in open(name, encoding="utf-8")]
     # (a process that was ended may lack the event of a place that it took: what follows is left out)
+    placed = sorted((int(place), event) for place, event in lines)
     events = [event for number, (place, event) in enumerate(placed, 1) if place == number]
     output.write(f"opacity-trace 1 {options.registers}\n")
     output.writelines(events)

@@ -85,7 +85,8 @@ agrees() {
         report=$("$program" judge --criterion $criterion <"$folder/trace" 2>/dev/null) || true
         case $report in
         *'"violated"'*)
-            [ "$(python3 "$top/tests/long/whole.py" $criterion <"$folder/trace")" = "$(sed 's/.*"at":\([0-9]*\).*/\1/' <<<"$report")" ] || return
+            report=${report#*'"at":'}
+            [ "$(python3 "$top/tests/long/whole.py" $criterion <"$folder/trace")" = "${report%%,*}" ] || return
             ;;
         esac
     done

@@ -18,8 +18,8 @@ import org.multiverse.api.references.TxnLong;
  *
  *     Longs LEVEL LOCK REGISTERS ROUNDS SEED
  *
- * LEVEL is a name of IsolationLevel, and LOCK one of LockMode, for what is read. The trace is written to standard output, and what Multiverse
- * says of the level to standard error.
+ * LEVEL is a name of IsolationLevel, and LOCK one of LockMode, for what is read. The trace is written to standard output, and what
+ * Multiverse says of the level to standard error.
  */
 class Longs {
     static final int THREADS = 4, STEPS = 3, ATTEMPTS = 2;

@@ -66,7 +66,8 @@ local function transaction(space, thread, number)
     end
 end
 
-box.cfg{memtx_dir = folder, vinyl_dir = folder, wal_dir = folder, log = folder .. '/log', wal_mode = engine == 'vinyl' and 'write' or 'none'}
+box.cfg{memtx_dir = folder, vinyl_dir = folder, wal_dir = folder, log = folder .. '/log',
+        wal_mode = engine == 'vinyl' and 'write' or 'none'}
 local space = box.schema.space.create('registers', {engine = engine})
 space:create_index('primary')
 for register = 0, registers - 1 do space:replace{register, 0} end
