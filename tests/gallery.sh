@@ -1,7 +1,7 @@
 #!/usr/bin/env bash
 # Judges each trace of examples/ by each criterion, and compares the lines and the exit status with its row in examples/verdicts.txt. Then
 # it draws each trace that docs/GALLERY.md shows, with the reason if it is violated, and compares that with the page; and compares the
-# window that `show` draws, and the part that `show --why` draws, with both. What docs/FIELD.md draws is compared, too.
+# window that `show` draws, and the part that `show --why` draws, with both. What docs/FIELD.md and README.md draw is compared, too.
 #
 #   tests/gallery.sh
 #   tests/gallery.sh draw NAME
@@ -83,6 +83,12 @@ for name in $(sed -n 's/^    \$ .* examples\/\(.*\)\.trace$/\1/p' "$top/docs/GAL
         count "$words of $name" "$how"
     done
 done
+
+drawn=$("$top/tmwatch" show --why <"$top/examples/norec_reads.trace" | sed 's/^/    /')
+case $(<"$top/README.md") in
+*$'\n    $ ./tmwatch show --why < bad.trace\n'"$drawn"$'\n\n'*) count 'norec_reads in README.md' right ;;
+*) count 'norec_reads in README.md' 'is not drawn as there' ;;
+esac
 
 page=$(<"$top/docs/FIELD.md")
 for trace in $(sed -n 's/^    \$ .* < \(.*\.trace\)$/\1/p' "$top/docs/FIELD.md"); do

@@ -95,8 +95,8 @@ tells 'nobody else may write there' '' 0 find "$root/usr" ! -type l -perm /022
 ends 'links of the pages' 0 python3 "$top/tests/links.py" "$pages"
 ends 'links of the README' 0 grep -q '](docs/C-BENCH.md)' "$pages/README.md"
 installed=$root/usr/bin/tmwatch examples=$pages/examples
-# The README's first example, where it is installed.
-sed -n '/^    \$ /,/^$/s/^    \(\$ \)\?//p' "$pages/README.md" | sed -n 1,2p >"$folder/example"
+# The README's first example of a trace, where it is installed.
+sed -n '/^    \$ tmwatch judge /,/^$/s/^    \(\$ \)\?//p' "$pages/README.md" | sed -n 1,2p >"$folder/example"
 tells 'the first example of the README' "$(sed -n 2p "$folder/example")" 1 env PATH="$root/usr/bin:$PATH" \
     sh -c 'cd "$1" && eval "$2"' sh "$pages" "$(sed -n 1p "$folder/example")"
 

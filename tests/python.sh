@@ -3,9 +3,9 @@
 #
 #   tests/python.sh
 #
-# A row fails if a verdict is another, or if transactions did not overlap, so that the verdict would say nothing. Then come a reader that
-# ends early, a store that fails, and words that are refused. The last line is 'N passed, M failed', and the exit status is 1 if a row
-# failed. Without python3 nothing is tested: a line says so, and the status is 0.
+# A row fails if a verdict is another, or if transactions did not overlap, so that the verdict would say nothing. Then come processes,
+# stores that fail while others wait for what they hold, a reader that ends early, and words that are refused. The last line is
+# 'N passed, M failed', and the exit status is 1 if a row failed. Without python3 nothing is tested: a line says so, and the status is 0.
 # Environment: ROUNDS (300).
 set -eu
 # shellcheck source=tests/common.sh
@@ -80,6 +80,127 @@ ends_with_write() {
     "$program" judge <"$folder/trace" | grep -q '"opaque so far"'
 }
 
+# Writes a program whose stores hold one lock. Thread 0's store fails at its second call of the one that POINT names, or never comes back
+# from it; it keeps the lock, for which the others wait.
+write_holding() {
+    cat >"$folder/holding.py" <<'END'
+import os
+import threading
+from tmwatch_recorder import Store, main
+
+lock, values = threading.Lock(), [0] * 3
+
+class Holding(Store):
+    def __init__(self, thread):
+        self.is_first, self.calls = thread == 0, 0
+
+    def at(self, point):
+        if not self.is_first or os.environ["POINT"] != point:
+            return
+        self.calls += 1
+        if self.calls == 2 and os.environ["HOW"] == "fails":
+            raise OSError(f"the store fails at {point}")
+        if self.calls == 2:
+            threading.Event().wait()
+
+    def begin(self):
+        lock.acquire()
+        self.kept = values[:]
+        self.at("begin")
+
+    def read(self, register):
+        self.at("read")
+        return values[register]
+
+    def write(self, register, value):
+        self.at("write")
+        values[register] = value
+
+    def commit(self):
+        self.at("commit")
+        lock.release()
+
+    def abort(self):
+        self.at("abort")
+        values[:] = self.kept
+        lock.release()
+
+main(lambda options: [Holding(thread) for thread in range(options.threads)])
+END
+}
+
+# Runs it: the point, and how it ends there. It may not take for ever.
+holding() {
+    timeout 20 env PYTHONPATH="$source" "POINT=$1" "HOW=$2" python3 "$folder/holding.py" --aborts 0.3 --wait 2 --output "$folder/trace" \
+        2>"$folder/error"
+}
+
+# Whether this is the last line of standard error, and what was recorded has an order.
+has_error() {
+    tail -n 1 "$folder/error" | grep "$1"
+    "$program" judge <"$folder/trace" | grep '"opaque so far"'
+}
+
+# Writes a program whose processes share a file of SQLite. Process 0 fails if FAILS is set.
+write_processes() {
+    cat >"$folder/processes.py" <<'END'
+import os
+import sqlite3
+from tmwatch_recorder import Store, main_of_processes, new_parser
+
+class Mine(Store):
+    def __init__(self, name):
+        self.link, self.reads = sqlite3.connect(name, timeout=60, isolation_level=None), 0
+
+    def begin(self):
+        self.link.execute("BEGIN IMMEDIATE")
+
+    def read(self, register):
+        self.reads += 1
+        if self.reads == 50 and os.environ.get("FAILS"):
+            raise OSError("the store fails")
+        return self.link.execute("SELECT value FROM registers WHERE number = ?", [register]).fetchone()[0]
+
+    def write(self, register, value):
+        self.link.execute("UPDATE registers SET value = ? WHERE number = ?", [value, register])
+
+    def commit(self):
+        self.link.execute("COMMIT")
+
+    def abort(self):
+        self.link.execute("ROLLBACK")
+
+def prepare(options):
+    with sqlite3.connect(options.name) as link:
+        link.execute("PRAGMA synchronous = off")
+        link.execute("CREATE TABLE registers (number INTEGER PRIMARY KEY, value INTEGER)")
+        link.executemany("INSERT INTO registers VALUES (?, 0)", [[register] for register in range(options.registers)])
+
+parser = new_parser("Records processes.")
+parser.add_argument("name")
+main_of_processes(prepare, lambda options: Mine(options.name), parser)
+END
+}
+
+processes() {
+    timeout 100 env PYTHONPATH="$source" python3 "$folder/processes.py" --rounds 40 --output "$folder/trace" "$1" 2>"$folder/error"
+}
+
+write_processes
+ends 'processes, recorded' 0 processes "$folder/one.db"
+"$program" judge --criterion both --summary <"$folder/trace" >"$folder/report" || true
+ends 'processes, judged' 0 has_verdicts 'opaque so far' 'strict so far'
+FAILS=1 ends 'processes, of which one fails' 1 processes "$folder/other.db"
+ends 'its error, and what was recorded' 0 has_error '^OSError: the store fails$'
+write_holding
+for point in begin read write commit abort; do
+    ends "a store that fails at $point while others wait" 1 holding $point fails
+    ends "its own error, at $point" 0 has_error "^OSError: the store fails at $point\$"
+done
+for point in begin read commit; do
+    ends "a store that never comes back from $point" 1 holding $point waits
+    ends "what waits, at $point" 0 has_error '^TimeoutError: no event for 2 seconds; calls without an answer: [0-3] [RWTX]'
+done
 write_failing
 ends 'a reader that ends early' 0 into_head
 ends 'a store that fails' 1 env PYTHONPATH="$source" python3 "$folder/failing.py" --threads 1 --aborts 0 --output "$folder/trace"

@@ -14,16 +14,24 @@
 `begin`, `read`, `write` and `commit` raise Refused if the store refuses the transaction. Each register has to hold 0 at first: set it in
 the function that makes the stores, which runs before all threads. These make one transaction a round, then wait for one another, so that a
 round's transactions are few enough to be judged.
+
+If a store fails, the program ends with the store's own error, though other threads may wait in the store. Without an event for --wait
+seconds it ends and says which calls wait. What was recorded is written before.
+
+If a store belongs to a process, as its locks may, use `main_of_processes` in place of `main`: examples/field/tdb has such a store.
 """
 import argparse
+import multiprocessing
 import os
 import random
 import sys
+import tempfile
 import threading
 import time
 
 MOST_ATTEMPTS = 8  # that `judge` weighs at once, so that a round has no more
 SLOW = 4           # one transaction in so many is slower by so many, so that others begin and end inside it
+GRACE = 1          # seconds without an event until the others of a failed store are left to themselves
 
 
 class Refused(Exception):
@@ -104,13 +112,41 @@ class Worker:
         return is_done
 
 
+def wait_for(workers, progress, has_failed, seconds):
+    """Waits until all workers have ended. Returns False once nothing has changed in `progress` for so many seconds, or, after a failure,
+    for GRACE: they may be waiting in the store for what the failed one holds."""
+    seen, since = progress(), time.monotonic()
+    while alive := [worker for worker in workers if worker.is_alive()]:
+        alive[0].join(0.05)
+        if seen != progress():
+            seen, since = progress(), time.monotonic()
+        elif time.monotonic() - since > (GRACE if has_failed() else seconds):
+            return False
+    return True
+
+
+def say_waiting(lines, seconds):
+    """Returns the error that no event has come for so long, with the calls that wait for their answers."""
+    last = {line[0]: line.rstrip() for line in lines}
+    pending = [event for event in last.values() if event[2] in "RWTX"]
+    return TimeoutError(f"no event for {seconds} seconds; calls without an answer: {', '.join(pending) or 'none'}")
+
+
 def run(stores, options, output):
-    """Makes `options.rounds` rounds of one transaction a store, and writes the trace. If a store fails, so does this."""
-    events, failures = [], []
+    """Makes `options.rounds` rounds of one transaction a store, and writes the trace. If a store fails, so does this, with the store's own
+    error, though others may wait in the store forever: their threads end with the program."""
+    events, failures, rounds, is_writing = [], [], 0, False
 
     def write_events():
+        nonlocal rounds, is_writing
+        is_writing = True
         output.writelines(events)
         events.clear()
+        rounds, is_writing = rounds + 1, False
+
+    def progress():
+        # (a reader of the trace may take its time)
+        return rounds, len(events), time.monotonic() if is_writing else 0
 
     barrier = threading.Barrier(len(stores), write_events)
 
@@ -127,17 +163,74 @@ def run(stores, options, output):
 
     output.write(f"opacity-trace 1 {options.registers}\n")
     workers = [Worker(thread, store, events, options) for thread, store in enumerate(stores)]
-    threads = [threading.Thread(target=work, args=(worker,)) for worker in workers]
+    threads = [threading.Thread(target=work, args=(worker,), daemon=True) for worker in workers]
     for thread in threads:
         thread.start()
-    for thread in threads:
-        thread.join()
-    if failures and not isinstance(failures[0], BrokenPipeError):
-        write_events()
-        output.flush()
+    has_ended = wait_for(threads, progress, lambda: failures, options.wait)
+    if failures and isinstance(failures[0], BrokenPipeError):
+        raise failures[0]
+    left = list(events)
+    output.writelines(left)
+    output.flush()
     if failures:
         raise failures[0]
+    if not has_ended:
+        raise say_waiting(left, options.wait)
+
+
+class Places:
+    """A process's list of events: lines `PLACE EVENT` in a file, with the place from one counter that all processes share."""
+
+    def __init__(self, counter, file):
+        self.counter, self.file = counter, file
+
+    def append(self, event):
+        with self.counter.get_lock():
+            self.counter.value += 1
+            place = self.counter.value
+        self.file.write(f"{place} {event}")
+
+
+def run_processes(make_store, options, output):
+    """Does what `run` does, with a process for each store, which makes it. The events are written at the end."""
+    forked = multiprocessing.get_context("fork")
+    counter, barrier, failed = forked.Value("Q", 0), forked.Barrier(options.threads), forked.Event()
+
+    def work(thread, name):
+        # (a line at a time, since the process may be ended)
+        with open(name, "w", buffering=1) as file:
+            try:
+                worker = Worker(thread, make_store(options), Places(counter, file), options)
+                for number in range(options.rounds):
+                    worker.transaction(number)
+                    barrier.wait()
+            except threading.BrokenBarrierError:
+                pass
+            except BaseException:
+                failed.set()
+                barrier.abort()
+                raise
+
+    with tempfile.TemporaryDirectory() as folder:
+        names = [f"{folder}/{thread}.log" for thread in range(options.threads)]
+        processes = [forked.Process(target=work, args=it, daemon=True) for it in enumerate(names)]
+        for process in processes:
+            process.start()
+        has_ended = wait_for(processes, lambda: counter.value, failed.is_set, options.wait)
+        for process in processes:
+            process.terminate()
+            process.join()
+        lines = [line.split(" ", 1) for name in names if os.path.exists(name) for line in open(name, encoding="utf-8")]
+    # (a process that was ended may lack the event of a place that it took: what follows is left out)
+    placed = sorted((int(place), event) for place, event in lines)
+    events = [event for number, (place, event) in enumerate(placed, 1) if place == number]
+    output.write(f"opacity-trace 1 {options.registers}\n")
+    output.writelines(events)
     output.flush()
+    if failed.is_set():
+        raise SystemExit(1)
+    if not has_ended:
+        raise say_waiting(events, options.wait)
 
 
 def between(least, most):
@@ -160,6 +253,7 @@ def new_parser(description):
     add("--steps", type=between(1, 100), default=3, help="registers that a transaction reads; it writes one in two of them")
     add("--pause", type=between(0, 10**6), default=150, help="longest sleep between two calls, in microseconds")
     add("--aborts", type=float, default=0.12, help="share of transactions that ask to abort")
+    add("--wait", type=between(1, 10**6), default=60, help="seconds without an event until the run is given up")
     add("--output", type=argparse.FileType("w"), default="-", help="file of the trace, or - for standard output")
     return parser
 
@@ -167,7 +261,18 @@ def new_parser(description):
 def main(make_stores, description=None, parser=None):
     """Reads the command line, makes the stores, one a thread, and runs them."""
     options = (parser or new_parser(description)).parse_args()
+    end_with(lambda: run(make_stores(options), options, options.output))
+
+
+def main_of_processes(prepare, make_store, parser):
+    """Reads the command line, and runs a process for each store. `prepare` runs before all, and sets 0 in each register."""
+    options = parser.parse_args()
+    prepare(options)
+    end_with(lambda: run_processes(make_store, options, options.output))
+
+
+def end_with(act):
     try:
-        run(make_stores(options), options, options.output)
+        act()
     except BrokenPipeError:  # the reader has seen enough, as `judge --first`
         os.dup2(os.open(os.devnull, os.O_WRONLY), sys.stdout.fileno())

@@ -8,8 +8,8 @@
 # runs were violated by opacity and by strict serializability; of a hundred transactions judged, how many overlapped another thread's and
 # how many were rolled back unasked; all events; the least length at which opacity was violated; the seconds; and how many runs an error of
 # the system ended early, which a line above tells: what was written before is judged. A row fails if other runs are violated than is
-# wanted, if one is undecided or malformed, if in one no transactions overlapped, or if all ended early. A system is skipped if a package of
-# Debian is missing: a line names it.
+# wanted, if one is undecided or malformed, if in one no transactions overlapped, if all ended early, or if the plain definitions
+# (whole.py) do not find the first run violated where `judge` does. A system is skipped if a package of Debian is missing: a line names it.
 #
 # The last line is 'N passed, M failed'. The exit status is 1 if a row failed, and 2 for another name.
 # Environment: RUNS (10), PERCENT (100, of each row's rounds), CC (gcc); DRAWN, a folder for each row's shortest drawing by `show --why`,
@@ -20,7 +20,7 @@ set -eu
 . "$(dirname "${BASH_SOURCE[0]}")/../common.sh"
 [ -x "$program" ] || "$top/build"
 runs=${RUNS:-10} percent=${PERCENT:-100} field=$top/examples/field
-systems=' ghc clojure postgres redis lmdb rocksdb bdb jdbc mariadb sqlite '
+systems=' ghc clojure postgres redis lmdb rocksdb bdb jdbc mariadb sqlite firebird mnesia multiverse tarantool prolog tdb '
 for name; do
     case $systems in *" $name "*) ;; *) echo "$name: no system" >&2 && exit 2 ;; esac
 done
@@ -43,7 +43,7 @@ end_field() {
 
 # The version of a package, or of the last that fits a pattern, without Debian's own part.
 version_of() {
-    dpkg-query -W -f '${Version}\n' "$1" 2>/dev/null | sed 's/^[0-9]*://; s/[-+].*//' | grep . | tail -n 1
+    dpkg-query -W -f '${Version}\n' "$1" 2>/dev/null | sed 's/^[0-9]*://; s/[-+].*//; s/\.ds[0-9]*$//' | grep . | tail -n 1
 }
 
 # Begins the rows of a system, if it is wanted: its folder, its name and its version.
@@ -78,6 +78,20 @@ keep_drawing() {
     "$program" show --trace <"$folder/trace" >"$kept.trace" || true
 }
 
+# Whether the plain definitions find the run violated, by each criterion, at the length where `judge` does.
+agrees() {
+    local criterion report
+    for criterion in opacity strict; do
+        report=$("$program" judge --criterion $criterion <"$folder/trace" 2>/dev/null) || true
+        case $report in
+        *'"violated"'*)
+            report=${report#*'"at":'}
+            [ "$(python3 "$top/tests/long/whole.py" $criterion <"$folder/trace")" = "${report%%,*}" ] || return
+            ;;
+        esac
+    done
+}
+
 # Sums up the lines of $folder/judged: what a row prints, and whether it passes.
 sum_up() {
     awk -v opacity="$1" -v strict="$2" -v runs="$runs" '
@@ -100,7 +114,7 @@ sum_up() {
 # A row: the level, how many runs have to be violated by opacity and by strict serializability (all, some, none, any), the rounds of a run,
 # and the command that records one, which gets the rounds and a seed.
 row() {
-    local level=$1 wanted=$2 wanted_strict=$3 rounds=$(($4 * percent / 100)) began=$SECONDS early=0 status summed
+    local level=$1 wanted=$2 wanted_strict=$3 rounds=$(($4 * percent / 100)) began=$SECONDS early=0 other=0 status summed
     shift 4
     : >"$folder/judged"
     for seed in $(seq "$runs"); do
@@ -111,12 +125,13 @@ row() {
             return
         fi
         [ $status -eq 0 ] || early=$((early + 1))
-        [ $status -eq 0 ] || grep -m 1 -E 'Error|Exception' "$folder/told" || tail -n 5 "$folder/told"
+        [ $status -eq 0 ] || grep -m 1 -E '^[[:alnum:]_.]*(Error|Exception)' "$folder/told" || tail -n 5 "$folder/told"
         judge_run >>"$folder/judged"
+        [ "$seed" -ne 1 ] || agrees || { other=1 && echo "$system, $level: whole.py finds another length"; }
         [ -z "${DRAWN:-}" ] || keep_drawing "$level"
     done
     summed=$(sum_up "$wanted" "$wanted_strict")
-    counts [ "${summed##* }" = passed -a $early -lt "$runs" ] || true
+    counts [ "${summed##* }" = passed -a $early -lt "$runs" -a $other -eq 0 ] || true
     printf '%-20s %-34s %s in %d s, %d ended early\n' "$system" "$level" "$summed" $((SECONDS - began)) $early
 }
 
@@ -174,6 +189,7 @@ END
 }
 
 ends readers.awk 0 filters
+printf '%-20s %-34s %17s\n' '' '' 'violated in'
 printf '%-20s %-34s %8s %8s %4s %4s %9s %7s\n' system level opacity strict met back events least
 if system ghc 'GHC STM' "$(version_of ghc)"; then
     row atomically all none 3000 "$field/ghc/run"
@@ -235,5 +251,42 @@ if system sqlite SQLite "$(python3 -c 'import sqlite3; print(sqlite3.sqlite_vers
     row journal none none 1000 sqlite --journal delete
     row WAL none none 1000 sqlite --journal wal
     row read_uncommitted all all 500 sqlite --uncommitted
+fi
+if system firebird Firebird "$(version_of libfbclient2)"; then
+    row 'READ COMMITTED' all all 300 "$field/firebird/run" 'READ COMMITTED'
+    row 'READ COMMITTED, no record version' all all 300 "$field/firebird/run" 'READ COMMITTED, NO RECORD VERSION'
+    row SNAPSHOT all all 300 "$field/firebird/run" SNAPSHOT
+    row 'SNAPSHOT (1)' none none 300 env REGISTERS=1 "$field/firebird/run" SNAPSHOT
+    # (another has to commit between a begin and its first call: rare)
+    row 'SNAPSHOT TABLE STABILITY' some some 1000 "$field/firebird/run" 'TABLE STABILITY'
+    row 'SNAPSHOT TABLE STABILITY (1)' none none 1000 env REGISTERS=1 "$field/firebird/run" 'TABLE STABILITY'
+    ends 'Firebird, write skew without chance' 1 "$field/firebird/run" skew 'TABLE STABILITY'
+fi
+if system mnesia Mnesia "$(version_of erlang-mnesia)"; then
+    row transaction none none 500 "$field/mnesia/run" transaction
+    row sync_transaction none none 500 "$field/mnesia/run" sync_transaction
+    row 'transaction, dirty_read' all all 500 "$field/mnesia/run" dirty_read
+    row async_dirty all all 500 "$field/mnesia/run" async_dirty
+    row ets all all 500 "$field/mnesia/run" ets
+fi
+if system multiverse Multiverse "$(version_of libmultiverse-core-java)"; then
+    row Serializable none none 500 "$field/multiverse/run" Serializable
+    row Snapshot all all 500 "$field/multiverse/run" Snapshot
+    row 'Snapshot, read locks' none none 500 env LOCK=Read "$field/multiverse/run" Snapshot
+    row RepeatableRead all all 500 "$field/multiverse/run" RepeatableRead
+    row 'RepeatableRead, read locks' none none 500 env LOCK=Read "$field/multiverse/run" RepeatableRead
+fi
+if system tarantool Tarantool "$(version_of tarantool)"; then
+    row vinyl none none 1000 "$field/tarantool/run" vinyl
+    row 'memtx, yielding' all none 1000 "$field/tarantool/run" memtx
+fi
+if system prolog SWI-Prolog "$(version_of swi-prolog-nox)"; then
+    row transaction/1 all all 500 "$field/prolog/run" unchecked
+    row 'transaction/3, reads checked' none none 500 "$field/prolog/run" checked
+fi
+if system tdb TDB "$(version_of libtdb1)"; then
+    row transaction none none 500 "$field/tdb/run" transaction
+    row 'reads outside' all all 500 "$field/tdb/run" outside
+    row 'no transaction' all all 500 "$field/tdb/run" none
 fi
 end_rows

@@ -1,6 +1,6 @@
 """Random histories, and the plain definitions of a serial order: each permutation with each completion is tried.
 
-For parts.py and verdicts.py.
+For parts.py, verdicts.py and whole.py.
 """
 from collections import namedtuple
 from functools import lru_cache

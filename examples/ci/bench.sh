@@ -1,0 +1,82 @@
+#!/usr/bin/env bash
+# Runs memories on the bench in C as the tests of a pipeline, each for so many seconds, by a seed that is another each day.
+#
+#   bench.sh OUT PROGRAM..
+#
+# A PROGRAM is a memory on the bench (examples/c/norec.c). First come the lines of AGAIN, which found a violation once: a program and the
+# words that repeat it, as `./norec --seed 1 --round 7`. Comments begin with #. A test passes if its run is opaque so far and shows enough:
+# the bench says by `lacks` if it doesn't.
+#
+# OUT gets, of test N: N.json, what the bench printed; N.log, its standard error; N.trace, and N.trace.run beside it; N.html, the window of
+# a violation as a page, if tmwatch is there. junit.xml has all tests, as CI systems read them. Standard output has them as TAP.
+#
+# Exit status: 0 all pass; 1 a run is violated; 2 another failure, and none violated; 4 wrong words.
+# Environment: EACH (60), the seconds of a test; SEED (today, as 20261128); AGAIN, a file; TMWATCH (tmwatch), the program.
+set -eu
+if [ $# -lt 2 ]; then
+    echo 'usage: bench.sh OUT PROGRAM..' >&2
+    exit 4
+fi
+out=$1 each=${EACH:-60} seed=${SEED:-$(date -u +%Y%m%d)} tmwatch=${TMWATCH:-tmwatch}
+shift
+mkdir -p "$out"
+tests=()
+if [ -n "${AGAIN:-}" ]; then
+    mapfile -t tests < <(sed 's/ *\(#.*\)\?$//; /^$/d' "$AGAIN")
+fi
+for program; do
+    tests+=("$program --seed $seed --seconds $each")
+done
+
+# What is wrong with a run, by its exit status and what the bench printed; nothing if the test passes.
+failure_of() {
+    case $1:$(<"$out/$2.json") in
+    0:*'"lacks"'*) echo 'nothing is wrong, but the run shows little: see lacks' ;;
+    0:*'"opaque so far"'*) ;;
+    1:*'"violated"'*) echo violated ;;
+    2:*'"undecided"'*) echo undecided ;;
+    3:*'"malformed"'*) echo 'malformed: the record fits no run' ;;
+    4:*'"fault"'*) echo "no verdict: $(head -n 1 "$out/$2.json")" ;;
+    124:* | 137:*) echo 'no verdict: the program did not end' ;;
+    *) echo "no verdict: the program ended with status $1" ;;
+    esac
+}
+
+# A text within quotes of XML.
+quote() {
+    sed 's/&/\&amp;/g; s/</\&lt;/g; s/"/\&quot;/g' <<<"$1"
+}
+
+# A test's case in JUnit's words: its number, its words, its seconds, and what is wrong.
+report() {
+    printf '<testcase classname="tmwatch" name="%s" time="%d">' "$(quote "$2")" "$3"
+    [ -z "$4" ] || printf '<failure message="%s">see %s.json, %s.log and %s.trace</failure>' "$(quote "$4")" "$1" "$1" "$1"
+    echo '</testcase>'
+}
+
+echo "1..${#tests[@]}"
+number=0 failures=0 status=0
+for words in "${tests[@]}"; do
+    number=$((number + 1)) ended=0 began=$SECONDS
+    read -r -a command <<<"$words"
+    # (a run ends by itself, also if it is stuck: this is for one that does not)
+    timeout -k 10 $((each + 60)) "${command[@]}" --quiet --trace "$out/$number.trace" >"$out/$number.json" 2>"$out/$number.log" || ended=$?
+    why=$(failure_of $ended $number)
+    echo "${why:+not }ok $number - $words"
+    if [ -n "$why" ]; then
+        failures=$((failures + 1))
+        printf '# %s\n' "$why" "$(grep '"again"' "$out/$number.json" || echo "see $number.log")"
+        [ "$why" = violated ] && status=1 || status=$((status == 1 ? 1 : 2))
+    fi
+    if [ "$why" = violated ] && command -v "$tmwatch" >/dev/null; then
+        "$tmwatch" show --page --why <"$out/$number.trace" >"$out/$number.html" || true
+    fi
+    report $number "$words" $((SECONDS - began)) "$why" >>"$out/junit.new"
+done
+{
+    echo "<testsuite name=\"tmwatch\" tests=\"${#tests[@]}\" failures=\"$failures\">"
+    cat "$out/junit.new"
+    echo '</testsuite>'
+} >"$out/junit.xml"
+rm "$out/junit.new"
+exit $status

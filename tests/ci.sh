@@ -1,0 +1,93 @@
+#!/usr/bin/env bash
+# Runs memories by examples/ci/bench.sh, right and wrong ones, and programs that end otherwise; then a command of docs/CI.md for traces.
+#
+#   tests/ci.sh
+#
+# The last line is 'N passed, M failed', and the exit status is 1 if a row failed. Without a C compiler nothing is tested: a line says so,
+# and the status is 0.
+# Environment: CC (cc), BUILT (tests/common.sh).
+set -eu
+# shellcheck source=tests/common.sh
+. "$(dirname "${BASH_SOURCE[0]}")/common.sh"
+cc=${CC:-cc}
+has "$cc" tests/ci.sh || exit 0
+use_library
+export EACH=1 TMWATCH=$program
+cd "$folder"
+
+# Compiles the little memory, with a fault: norec-FAULT.
+compile() {
+    ends "norec, $1, compiles" 0 "$cc" -O2 -pthread -DTMWATCH_PAUSES "-DFAULT=$1" "-I$built/include" -o "norec-$1" \
+        "$top/examples/c/norec.c" "$built/lib/libtmwatch_bench.a" "$built/lib/libtmwatch.a"
+}
+
+# Writes a program that prints this line and ends with this status: its name, the line and the status.
+write_program() {
+    printf '%s\n' '#!/bin/sh' "echo '$2'" 'echo "$@" >words' "exit $3" >"$1"
+    chmod +x "$1"
+}
+
+# Runs these programs as tests: the row's name, the exit status, and the lines of TAP that begin with ok or not.
+tested() {
+    local name=$1 wanted=$2 lines=$3
+    shift 3
+    rm -rf out
+    ends "$name" "$wanted" "$top/examples/ci/bench.sh" out "$@"
+    cp output tap
+    ends "$name: its tests" 0 diff <(printf '%s\n' "$lines") <(sed -n '/^\(not \)\?ok/p' tap)
+    if has python3 "$name: junit.xml"; then
+        ends "$name: junit.xml" 0 counts_failures "$(grep -c '^not ok' tap)"
+    fi
+}
+
+# Whether junit.xml has so many failures, of as many tests as TAP has.
+counts_failures() {
+    python3 -c 'import sys, xml.etree.ElementTree as tree
+suite = tree.parse("out/junit.xml").getroot()
+failed = [it.find("failure") for it in suite.iter("testcase") if it.find("failure") is not None]
+assert len(list(suite)) == int(suite.get("tests")) == int(sys.argv[2]), suite.attrib
+assert len(failed) == int(suite.get("failures")) == int(sys.argv[1]), suite.attrib' "$1" "$(sed -n 's/^1\.\.//p' tap)"
+}
+
+compile NONE
+compile READS
+export SEED=7
+tested 'a right memory' 0 'ok 1 - ./norec-NONE --seed 7 --seconds 1' ./norec-NONE
+tested 'a wrong one beside it' 1 'ok 1 - ./norec-NONE --seed 7 --seconds 1
+not ok 2 - ./norec-READS --seed 7 --seconds 1' ./norec-NONE ./norec-READS
+ends 'its reason as a page' 0 grep -q 'so it stands\|had to find' out/2.html
+ends 'its trace' 1 "$program" judge <out/2.trace
+ends 'what its run was' 0 grep -q '"again"' out/2.trace.run
+again=$(sed -n 's/.*"again":"\([^"]*\)".*/\1/p' out/2.json)
+printf '%s\n' '# what was found once' "./norec-READS $again" '' "./norec-NONE $again # mended" >again
+AGAIN=again tested 'what was found once' 1 "not ok 1 - ./norec-READS $again
+ok 2 - ./norec-NONE $again
+ok 3 - ./norec-NONE --seed 7 --seconds 1" ./norec-NONE
+write_program opaque '{"events":9,"verdict":"opaque so far"}' 0
+write_program little '{"events":9,"verdict":"opaque so far"} {"lacks":["overlap"]}' 0
+write_program stuck '{"fault":"stuck"}' 4
+write_program 'undecided' '{"at":1,"events":1,"verdict":"undecided","why":"states"}' 2
+write_program crashed '{"events":9,"verdict":"opaque so far"}' 139
+write_program quoted '{"fault":"stu&<ck"}' 4
+tested 'other ends' 2 'ok 1 - ./opaque --seed 7 --seconds 1
+not ok 2 - ./little --seed 7 --seconds 1
+not ok 3 - ./stuck --seed 7 --seconds 1
+not ok 4 - ./undecided --seed 7 --seconds 1
+not ok 5 - ./crashed --seed 7 --seconds 1
+not ok 6 - ./quoted --seed 7 --seconds 1
+not ok 7 - ./none --seed 7 --seconds 1' ./opaque ./little ./stuck ./undecided ./crashed ./quoted ./none
+unset SEED
+ends 'a run of today' 0 "$top/examples/ci/bench.sh" out ./opaque
+ends 'its seed is the day' 0 grep -Eq "^--seed ($(date -u +%Y%m%d)|$(date -u -d '1 minute ago' +%Y%m%d)) --seconds 1 " words
+ends 'no program' 4 "$top/examples/ci/bench.sh" out
+
+# As docs/CI.md judges a trace whose transactions have to overlap.
+shows() {
+    set -o pipefail
+    "$program" judge --summary <"$1" | tee report && ! grep -q '"overlapping":0,' report
+}
+ends 'a run that overlaps' 0 shows "$top/examples/two_writers.trace"
+ends 'a run that is violated' 1 shows "$top/examples/zombie_read.trace"
+printf '%s\n' 'opacity-trace 1 1' '0 R 0' '0 V 0' '0 T' '0 C' >serial
+ends 'a run that shows nothing' 1 shows serial
+end_rows
