@@ -376,8 +376,43 @@ fn a_mutex_of_the_standard_library_is_seen() {
     let plan = Plan { rounds: 500, schedule: Schedule::Steps, ..Plan::default() };
     let benched = bench(&OneLock::default(), &plan).unwrap();
     assert_eq!((benched.told.verdict, benched.rescues), (Verdict::OpaqueSoFar, 0));
-    // A pause is a step: this memory has one in each read and write, beside those at the ends of calls.
-    assert!(benched.steps > 3 * benched.stores, "{benched:?}");
+}
+
+/// Holds zeros, and pauses in each read if it says so.
+struct Zeros(bool);
+
+impl Memory for Zeros {
+    type Transaction<'m> = ();
+
+    fn begin(&self) -> Result<(), Aborted> {
+        Ok(())
+    }
+
+    fn read(&self, _: &mut (), _: usize) -> Result<u64, Aborted> {
+        if self.0 {
+            pause();
+        }
+        Ok(0)
+    }
+
+    fn write(&self, _: &mut (), _: usize, _: u64) -> Result<(), Aborted> {
+        Ok(())
+    }
+
+    fn commit(&self, _: ()) -> Result<(), Aborted> {
+        Ok(())
+    }
+
+    fn abort(&self, _: ()) {}
+}
+
+#[test]
+fn a_pause_is_a_step() {
+    let steps = |pauses| {
+        let plan = Plan { rounds: 50, writes: 0, adds: 0, schedule: Schedule::Steps, ..Plan::default() };
+        bench(&Zeros(pauses), &plan).unwrap().steps
+    };
+    assert!(steps(true) > steps(false));
 }
 
 #[test]
