@@ -228,7 +228,7 @@ planted() {
     cp -r "$top/bench-c" "$folder/planted"
     sed -i "$4" "$folder/planted/bench-c/$file"
     ends "$name: planted" 1 cmp -s "$top/bench-c/$file" "$folder/planted/bench-c/$file"
-    top=$folder/planted folder=$folder/planted build_bench "$cc" -std=c11 -O2 -pthread "-I$top/include"
+    top=$folder/planted folder=$folder/planted build_bench "$cc" -std=c11 -O0 -pthread "-I$top/include"
     link=("$waits" "$blocks" "$folder/planted/lib/libtmwatch_steps.a" "$folder/planted/lib/libtmwatch_bench.a" "$built/lib/libtmwatch.a")
     marked planted_memory "memories/$memory" -DLOCK=MUTEX
     ends "$name: a right memory is violated" 1 "$folder/planted_memory" --schedule steps --orders c++
