@@ -4,7 +4,7 @@ kept until the commit. The commit locks what it writes, raises the clock, valida
 
 A read looks at the word's lock before it loads the value and afterwards. By -DFAULT=BEFORE it looks only before; by AFTER, only afterwards.
 By LOCKED the validation takes a locked word for a good one. By HALF a commit stores the upper halves of its values after it has unlocked.
-By LEAK a commit that fails keeps its locks, and by WRAP the clock has eight bits: after some commits no other one follows.
+By LEAK a commit that fails keeps its locks, and by WRAP a snapshot has eight bits of the clock: after some commits no other one follows.
 */
 #include "tmwatch_bench.h"
 #include <stdatomic.h>
@@ -134,7 +134,7 @@ static bool commit(void *memory, void *tx)
     TMWATCH_PAUSE();
     is_done = is_done && is_valid(it);
     if (is_done || fault != LEAK)
-        give_locks(it, is_done, fault == WRAP ? version % 256 : version);
+        give_locks(it, is_done, version);
     return is_done;
 }
 
