@@ -1,6 +1,6 @@
 #!/usr/bin/env bash
-# Shows that no lock can stand in the calls of the ring: a `Mutex` is locked through a value that may wait, and these calls have none.
-# Nothing is proved.
+# Shows that the calls of the ring can't wait for a `Mutex`: it is locked through a value that may wait, and these calls have none. (A loop
+# over `try_lock` has a last turn, and waits no longer.) Nothing is proved.
 #
 #   tests/locks.sh
 #
