@@ -215,8 +215,8 @@ ends 'the prototypes of libtmwatch.3' 0 "$cc" -std=c11 -Wall -Wextra -Werror "-I
     "$folder/prototypes.c"
 {
     nm -D --defined-only "$library/libtmwatch.so" | cut -d' ' -f3
-    # (those of tmwatch_step_ and __wrap_ are there for libtmwatch_steps.a and the linker)
-    nm -g --defined-only "$library/libtmwatch_bench.a" | sed -n 's/.* T //p' | grep -v '^tmwatch_step_\|^__wrap_'
+    # (those of tmwatch_step_, tmwatch_lock_ and __wrap_ are there for libtmwatch_steps.a, the package in Rust and the linker)
+    nm -g --defined-only "$library/libtmwatch_bench.a" | sed -n 's/.* T //p' | grep -v '^tmwatch_step_\|^tmwatch_lock_\|^__wrap_'
     # (two functions are there for the others)
     awk '/^static inline/ && !/_(look|enter)\(/ { sub(/\(.*/, ""); sub(/.*[ *]/, ""); print }' "$root/usr/include/tmwatch_permits.h"
 } | sort >"$folder/wanted"

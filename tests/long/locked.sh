@@ -27,7 +27,7 @@ replace orders.rt '            over: AtomicBool::new(false),' '            over:
 replace worker.rt '        let stop = work(' '        let held = stage.orders.lock.lock(rt); let stop = work('
 replace worker.rt '        if let Some(_) = stop {' '        drop(held); if let Some(_) = stop {'
 replace line.rt '        let pumped = pump.pump(ring, TURN)?;' \
-    '        let held = orders.lock.lock(rt); let pumped = pump.pump(ring, TURN); drop(held); let pumped = pumped?;'
+    '        let held = orders.lock.lock(rt); let pumped = pump.pump(ring, TURN)?; drop(held);'
 
 fails() {
     ! (cd "$folder/crates/test_memories" && rt test) >"$folder/tested" 2>&1
