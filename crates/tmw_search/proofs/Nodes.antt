@@ -1,0 +1,166 @@
+-- What the legal orders of a node are where more is known.
+use Rattle.std.proofs.Common.{◌≡◌, ◌⊎◌, ◌<◌, ℕ, List, Bool, false, IsTrue, refl, inl, inr, arith}
+use Rattle.std.specs.Prelude.{slice_index}
+use Rattle.tmw_defs.specs.Opaque.{State}
+use Rattle.tmw_search.specs.Choices.{IsRanking}
+use Rattle.tmw_search.specs.Order.{Has, IsOrder, Narrows, Before}
+use Rattle.tmw_search.specs.Settled.{IsBetween}
+use Rattle.tmw_search.specs.Chosen.{Sourced, SettledSource, Chosen, AllSettled, source_at, IsRead}
+use Rattle.tmw_search.specs.declared.sources.Choices.{Choices}
+use Rattle.tmw_search.specs.declared.sources.Source.{Source}
+use Rattle.tmw_search.specs.declared.sources.Source.TheVariants.{Open, Start, From}
+use Rattle.tmw_search.specs.declared.deed.Deed.{Deed}
+use Rattle.tmw_search.specs.declared.node.Node.{Node}
+use Rattle.tmw_search.specs.Legal.{In, Writes, Reads, IsLegal, IsSound, IsNode, IsFound, HasNone}
+use Rattle.tmw_search.proofs.Bits.{same_place}
+use Rattle.tmw_search.proofs.Passing.{Grows}
+use Rattle.tmw_search.proofs.Rooms.{rank_of, order-ranks}
+
+-- the node with this order
+abbrev pub ordered : Node → List ℕ → Node
+ordered node reach = record node { reach = reach }
+
+pub node-ordered : (xs : List Deed) (start : State) (node : Node) (reach : List ℕ) → IsOrder reach → IsNode xs start node
+    → IsNode xs start (ordered node reach)
+node-ordered xs start node reach o n = record {
+  order = o;
+  writers = n.writers;
+  reads = n.reads;
+  members = n.members;
+  agree = n.agree;
+  sound = n.sound;
+}
+
+-- a source that the ranking reads from is its last writer among those that are held
+reads-sourced : (xs : List Deed) (start : State) (held : ℕ) (rank : ℕ → ℕ) (j r writers : ℕ) (source : Source)
+    → ((k : ℕ) → k < 8 → In writers k → Writes xs held r k) → Reads xs held start rank j r source → Sourced writers j source rank
+reads-sourced xs start held rank j r writers Open some is = tt
+reads-sourced xs start held rank j r writers Start some is = λ k within one. is.others k (some k within one)
+reads-sourced xs start held rank j r writers (From i) some is = record {
+  before = is.below;
+  out = λ k within one. is.others k (some k within one);
+}
+
+pub legal-chosen : (xs : List Deed) (start : State) (may : ℕ) (node : Node) (held : ℕ) (rank : ℕ → ℕ) → IsNode xs start node
+    → IsLegal xs start may node held rank → Chosen node.choices rank
+legal-chosen xs start may node held rank n l = λ j within_j r within_r is.
+    let (member, needs) = (n.reads j r within_j within_r).0 is in
+    reads-sourced xs start held rank j r (slice_index node.choices.writers r) (source_at node.choices j r)
+    (λ k within one.
+    let (holds, leaves) = (n.writers r k within_r within).0 one in
+    (within, l.more k within holds, leaves))
+    (l.reads j r within_j within_r (inl member) needs)
+
+-- a legal order with more known, and with less
+pub legal-with : (xs : List Deed) (start : State) (may : ℕ) (node : Node) (reach : List ℕ) (held : ℕ) (rank : ℕ → ℕ) → IsRanking rank reach
+    → IsLegal xs start may node held rank → IsLegal xs start may (ordered node reach) held rank
+legal-with xs start may node reach held rank r l = record {
+  ranking = r;
+  more = l.more;
+  only = l.only;
+  agree = l.agree;
+  reads = l.reads;
+}
+
+pub ranking-less : (old new : List ℕ) (rank : ℕ → ℕ) → Grows old new → IsRanking rank new → IsRanking rank old
+ranking-less old new rank grows r = record {
+  apart = r.apart;
+  kept = λ i j within_i within_j has. r.kept i j within_i within_j (grows i j within_i within_j has);
+}
+
+pub legal-less : (xs : List Deed) (start : State) (may : ℕ) (node : Node) (reach : List ℕ) (held : ℕ) (rank : ℕ → ℕ)
+    → Grows node.reach reach → IsLegal xs start may (ordered node reach) held rank → IsLegal xs start may node held rank
+legal-less xs start may node reach held rank grows l = record {
+  ranking = ranking-less node.reach reach rank grows l.ranking;
+  more = l.more;
+  only = l.only;
+  agree = l.agree;
+  reads = l.reads;
+}
+
+pub none-settled : (xs : List Deed) (start : State) (may : ℕ) (node : Node) (reach : List ℕ) (alive : Bool) → IsNode xs start node
+    → Narrows (Chosen node.choices) node.reach reach alive → alive ≡ false → HasNone xs start may node
+none-settled xs start may node reach alive n s dead = λ held rank l.
+    absurd (let t = s.told rank l.ranking (legal-chosen xs start may node held rank n l) in cc)
+
+-- none where more is known, and so none
+pub none-with : (xs : List Deed) (start : State) (may : ℕ) (node : Node) (reach : List ℕ) (alive : Bool) → IsNode xs start node
+    → Narrows (Chosen node.choices) node.reach reach alive → HasNone xs start may (ordered node reach) → HasNone xs start may node
+none-with xs start may node reach alive n s none = λ held rank l.
+    none held rank (legal-with xs start may node reach held rank (s.all rank l.ranking (legal-chosen xs start may node held rank n l)) l)
+
+pub found-less : (xs : List Deed) (start : State) (may : ℕ) (node found : Node) (reach : List ℕ) → Grows node.reach reach
+    → IsFound xs start may (ordered node reach) found → IsFound xs start may node found
+found-less xs start may node found reach grows f = record {
+  order = f.order;
+  rank = f.rank;
+  ranking = f.ranking;
+  legal = λ rank r. legal-less xs start may node reach found.held rank grows (f.legal rank r);
+}
+
+-- all is settled, and so any order is legal
+before-of : (reach : List ℕ) (rank : ℕ → ℕ) (i j : ℕ) → i < 8 → j < 8 → IsRanking rank reach → Has reach i j → (i ≡ j → ⊥) → rank i < rank j
+before-of reach rank i j within_i within_j r has apart =
+    elim (same_place (rank i) (rank j)) [
+      | inl same ↦ absurd (apart (r.apart i j within_i within_j same))
+      | inr differ ↦ omega (arith, differ, r.kept i j within_i within_j has)
+    ]
+
+sourced-reads : (xs : List Deed) (start : State) (held : ℕ) (rank : ℕ → ℕ) (reach : List ℕ) (j r writers : ℕ) (source : Source) → j < 8
+    → (source ≡ Open → ⊥) → ((k : ℕ) → Writes xs held r k → In writers k) → IsSound xs start held j r source → IsRanking rank reach
+    → SettledSource writers j source reach → Reads xs held start rank j r source
+sourced-reads xs start held rank reach j r writers Open within closed all sound ranks s = absurd (closed refl)
+sourced-reads xs start held rank reach j r writers Start within closed all sound ranks s = record {
+  value = sound;
+  others = λ k w. ranks.kept j k within w.0 (s k w.0 (all k w));
+}
+sourced-reads xs start held rank reach j r writers (From i) within closed all sound ranks s =
+    let (w, value) = sound in
+    record {
+      writes = w;
+      value = value;
+      below = before-of reach rank i j w.0 within ranks s.has s.apart;
+      others = λ k v. elim (s.out k v.0 (all k v)) [
+        | inl before ↦ inl (ranks.kept k i v.0 w.0 before)
+        | inr after ↦ inr (ranks.kept j k within v.0 after)
+      ];
+    }
+
+abbrev pub NoneOpen : Choices → Type 0
+NoneOpen c = (j r : ℕ) → j < 8 → r < 8 → IsRead c j r → source_at c j r ≡ Open → ⊥
+
+pub found-clear : (xs : List Deed) (start : State) (may : ℕ) (node : Node) → IsNode xs start node → AllSettled node.choices node.reach
+    → NoneOpen node.choices → IsFound xs start may node node
+found-clear xs start may node n s closed =
+    let member : (j : ℕ) → j < 8 → In node.members j ⊎ In node.held j → In node.members j =
+    λ j within is. elim is [ inl here ↦ here | inr held ↦ n.members j within held ] in
+    record {
+      order = n.order;
+      rank = rank_of node.reach;
+      ranking = order-ranks node.reach n.order;
+      legal = λ rank ranks. record {
+        ranking = ranks;
+        more = λ i within is. is;
+        only = λ i within is. inl is;
+        agree = λ j within is. n.agree j within (member j within is);
+        reads = λ j r within_j within_r is needs.
+            let read = (n.reads j r within_j within_r).1 (member j within_j is, needs) in
+            sourced-reads xs start node.held rank node.reach j r (slice_index node.choices.writers r) (source_at node.choices j r) within_j
+            (closed j r within_j within_r read) (λ k w. (n.writers r k within_r w.0).1 (w.1, w.2)) (n.sound j r within_j within_r) ranks
+            (s j within_j r within_r read);
+      };
+    }
+
+-- one of the two sides of a pair
+pub none-sides : (xs : List Deed) (start : State) (may : ℕ) (node : Node) (i j k : ℕ) (one other : List ℕ) (alive_one alive_other : Bool)
+    → IsNode xs start node → IsBetween (Chosen node.choices) node.reach i j k → Narrows (Before k i) node.reach one alive_one
+    → Narrows (Before j k) node.reach other alive_other
+    → (IsTrue alive_one → HasNone xs start may (ordered node one)) → (IsTrue alive_other → HasNone xs start may (ordered node other))
+    → HasNone xs start may node
+none-sides xs start may node i j k one other alive_one alive_other n b m q none_one none_other = λ held rank l.
+    elim (b.out rank (legal-chosen xs start may node held rank n l)) [
+      | inl before ↦ none_one (m.told rank l.ranking before) held rank
+          (legal-with xs start may node one held rank (m.all rank l.ranking before) l)
+      | inr after ↦ none_other (q.told rank l.ranking after) held rank
+          (legal-with xs start may node other held rank (q.all rank l.ranking after) l)
+    ]
