@@ -16,17 +16,17 @@ use tmw_events::Ix;
 #[derive(Clone, Copy, Debug)]
 pub struct Effect {
     /// What each register that they need was answered first.
-    needs: [u64; 8],
+    pub needs: [u64; 8],
     /// What each register that they write or add to holds after them.
-    leaves: [u64; 8],
+    pub leaves: [u64; 8],
     /// Which registers they read or add to before they write or add to them, as a mask.
-    needed: u8,
+    pub needed: u8,
     /// Which registers they write or add to, as a mask.
-    left: u8,
+    pub left: u8,
     /// Whether each later answer is what the earlier operations tell of the register.
-    agrees: bool,
+    pub agrees: bool,
     /// Whether none of them reads or adds.
-    only_writes: bool,
+    pub only_writes: bool,
 }
 
 /// Whether the mask has the register.

@@ -10,6 +10,7 @@ mod states;
 mod txn;
 mod window;
 
+pub use effect::Effect;
 pub use kinds::{operation, status_after};
 pub use mark::Mark;
 pub use operations::Operations;

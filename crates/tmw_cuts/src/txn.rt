@@ -79,6 +79,14 @@ impl Txn {
         self.thread == thread && self.status == Status::Pending
     }
 
+    /// Returns what its operations need and leave.
+    #[inline(always)]
+    pub fn effect(&self) -> &Effect
+        ensures { result.now ≡ effect_of self.now }
+    {
+        &self.effect
+    }
+
     /// Tells whether each of its operations was answered what the registers held then.
     #[inline(always)]
     pub fn fits(&self, state: &State) -> bool

@@ -1,64 +1,200 @@
 -- What the search answers is what the criterion asks: where it finds a node some legal serial order ends somewhere, and else none does.
-use Rattle.std.proofs.Common.{◌≡◌, ◌⊎◌, ◌<◌, ◌≤◌, ℕ, List, length, refl, sym, ap, ◌∙◌, inl, inr, arith}
+use Rattle.std.proofs.Common.{◌≡◌, ◌==◌, ◌||◌, ◌&&◌, ◌⊎◌, ◌<◌, ◌≤◌, ◌^◌, ◌-◌, ℕ, Bool, true, false, not, List, length, map, Some, IsTrue, bit_or, refl, sym, ap, subst, ◌∙◌, inl, inr, arith}
 use Rattle.std.specs.Int.{bit_at}
+use Rattle.std.specs.Prelude.{◌↔◌, slice_get, slice_index}
+use Rattle.std.proofs.lemmas.Bool.{and_parts, and_from, cases_lt, eq-eqb, eqb-true}
+use Rattle.std.proofs.lemmas.List.{length-map}
+use Rattle.std.proofs.lemmas.Nat.Bits.{bit_at_ones, bit_at_ones_above}
+use Rattle.std.proofs.lemmas.Option.{slice_get_within}
+use Rattle.tmw_events.specs.declared.event.Event.{Event}
 use Rattle.tmw_defs.specs.declared.criterion.Criterion.{Criterion}
+use Rattle.tmw_defs.specs.declared.criterion.Criterion.TheVariants.{Opacity, Strict}
+use Rattle.tmw_defs.specs.declared.status.Status.{Status}
+use Rattle.tmw_defs.specs.declared.status.Status.TheVariants.{Live, Pending, Committed, Aborted}
 use Rattle.tmw_defs.specs.Criteria.{EndsBy}
-use Rattle.tmw_defs.specs.History.{Txn}
+use Rattle.tmw_defs.specs.Quiet.{is_pending}
+use Rattle.tmw_defs.specs.History.{Txn, transactions}
 use Rattle.tmw_defs.specs.Opaque.{State}
 use Rattle.tmw_defs.specs.Outcomes.{Only}
-use Rattle.tmw_search.specs.declared.sources.Source.TheVariants.{Open, Start, From}
-use Rattle.tmw_search.specs.declared.deed.Deed.{Deed}
+use Rattle.tmw_cuts.specs.declared.effect.Effect.{Effect}
+use Rattle.tmw_cuts.specs.declared.txn.Txn as cuts
+use Rattle.tmw_cuts.specs.Standing.{views_of}
+use Rattle.tmw_cuts.specs.Views.{View, view}
 use Rattle.tmw_search.specs.declared.node.Node as search
 use Rattle.tmw_search.specs.Chosen.{source_at}
+use Rattle.tmw_search.specs.ForcedTransactions.{is_committed}
+use Rattle.tmw_search.specs.Layers.{is_aside}
 use Rattle.tmw_search.specs.Legal as legal
-use Rattle.tmw_search.specs.Nodes.{IsLegal, IsClosed, TellStatus}
-use Rattle.tmw_search.specs.Polygraph.{ShowsDeeds, ShowsOrder, members_of, root}
-use Rattle.tmw_search.proofs.Extension.{some_ranking}
+use Rattle.tmw_search.specs.Legal.{effects, In}
+use Rattle.tmw_search.specs.Nodes.{IsLegal}
+use Rattle.tmw_search.specs.Polygraph.{members_of, root}
+use Rattle.tmw_search.specs.Rooted.{AreRising, Begins, IsRoot, orderly}
+use Rattle.tmw_search.specs.WindowLaws.{ShowsReach, ShowsStatus, Explains, Refutes}
+use Rattle.tmw_search.specs.ShownTransactions.{ShowsTransactions}
+use Rattle.tmw_search.proofs.Bits.{bit_cases, or-left, or-right, or_either}
+use Rattle.tmw_search.proofs.LayerSteps.{slice_get_some}
 use Rattle.tmw_search.proofs.Legal.{tells_legal}
+use Rattle.tmw_search.proofs.Rooms.{order-ranks, rank_of}
+use Rattle.tmw_search.proofs.Rooting.{rising-views}
+use Rattle.tmw_search.proofs.Shown.{HaveEight, act-as, order-of_reach}
+use Rattle.tmw_search.proofs.Windows.{status-of}
+use Rattle.tmw_search.proofs.WindowViews.{shows-views_of, none_before_itself}
 
--- The search begins with this node.
-pub record IsRoot (criterion : Criterion) (n : ℕ) (mat : List ℕ) (committed : ℕ) (node : search.Node) : Type 0 where
-  pub reach : node.reach ≡ mat
-  pub held : node.held ≡ committed
-  pub members : node.members ≡ members_of criterion n committed
-  pub free : (j r : ℕ) → j < 8 → r < 8 → source_at node.choices j r ≡ Open
+same-truth : (a b : Bool) → (IsTrue a → IsTrue b) → (IsTrue b → IsTrue a) → a ≡ b
+same-truth true true to from = refl
+same-truth true false to from = absurd (let t = to refl in cc)
+same-truth false true to from = absurd (let t = from refl in cc)
+same-truth false false to from = refl
 
-to-search : (criterion : Criterion) (xs : List Deed) (start : State) (n : ℕ) (mat : List ℕ) (committed may held : ℕ) (rank : ℕ → ℕ) (node : search.Node)
-    → IsRoot criterion n mat committed node → IsLegal xs start may (root criterion mat n committed) held rank
-    → legal.IsLegal xs start may node held rank
-to-search criterion xs start n mat committed may held rank node is l = record {
-  ranking = rw is.reach l.ranking;
+-- the mask has those that are not aside
+strict-has : (s : Status) → is_aside Strict s ≡ false → (s ≡ Committed) ⊎ (s ≡ Pending)
+strict-has Committed free = inl refl
+strict-has Pending free = inr refl
+strict-has Live free = absurd (cc)
+strict-has Aborted free = absurd (cc)
+
+in-orderly : (criterion : Criterion) (xs : List View) (committed pending i : ℕ) (x : View) → i < 8 → ShowsStatus xs committed pending
+    → slice_get xs i ≡ Some x → is_aside criterion x.status ≡ false → In (orderly criterion committed pending) i
+in-orderly Opacity xs committed pending i x within s at free = bit_at_ones 8 i within
+in-orderly Strict xs committed pending i x within s at free = elim (strict-has x.status free) [
+  | inl is ↦ or-left committed pending i (eqb-true (bit_at committed i) 1 (rw is at (s.committed_at i x at)))
+  | inr is ↦ or-right committed pending i (eqb-true (bit_at pending i) 1 (rw is at (s.pending_at i x at)))
+]
+
+in-free : (criterion : Criterion) (xs : List View) (committed pending i : ℕ) (x : View) → ShowsStatus xs committed pending
+    → slice_get xs i ≡ Some x → In (orderly criterion committed pending) i → is_aside criterion x.status ≡ false
+in-free Opacity xs committed pending i x s at has = refl
+in-free Strict xs committed pending i x s at has = elim (or_either committed pending i has) [
+  | inl one ↦ is-committed x.status (sym (s.committed_at i x at) ∙ eq-eqb (bit_at committed i) 1 one)
+  | inr one ↦ is-pending_at x.status (sym (s.pending_at i x at) ∙ eq-eqb (bit_at pending i) 1 one)
+]
+  where
+    is-committed : (t : Status) → is_committed t ≡ true → is_aside Strict t ≡ false
+    is-committed Committed is = refl
+    is-committed Pending is = refl
+    is-committed Live is = absurd (cc)
+    is-committed Aborted is = absurd (cc)
+
+    is-pending_at : (t : Status) → is_pending t ≡ true → is_aside Strict t ≡ false
+    is-pending_at Committed is = refl
+    is-pending_at Pending is = refl
+    is-pending_at Live is = absurd (cc)
+    is-pending_at Aborted is = absurd (cc)
+
+root-reach : (criterion : Criterion) (xs : List View) (committed pending : ℕ) (node : search.Node) → length xs ≤ 8 → AreRising xs
+    → ShowsStatus xs committed pending → IsRoot criterion xs committed pending node → ShowsReach criterion xs node.reach
+root-reach criterion xs committed pending node few rising status is =
+    let begins = is.begins rising in
+    record {
+      self = is.order.self;
+      each = λ i j x y at_x at_y apart.
+          let within_i : i < 8 = (let w = slice_get_within xs i x at_x in omega (arith, w, few)) in
+          let within_j : j < 8 = (let w = slice_get_within xs j y at_y in omega (arith, w, few)) in
+          let both = begins.each i j y within_i at_y apart in
+          same-truth (bit_at (slice_index node.reach j) i == 1) _
+          (λ has.
+          let (own, other, one) = both.0 (eqb-true (bit_at (slice_index node.reach j) i) 1 has) in
+          and_from (bit_at y.before i == 1) _ (eq-eqb (bit_at y.before i) 1 one)
+          (rw (in-free criterion xs committed pending i x status at_x other, in-free criterion xs committed pending j y status at_y own) refl))
+          (λ all.
+          let (one, rest) = and_parts (bit_at y.before i == 1) _ all in
+          let (free_x, free_y) = and_parts (not (is_aside criterion x.status)) _ rest in
+          eq-eqb (bit_at (slice_index node.reach j) i) 1
+          (both.1 (
+            in-orderly criterion xs committed pending j y within_j status at_y (not-is _ free_y),
+            in-orderly criterion xs committed pending i x within_i status at_x (not-is _ free_x),
+            eqb-true (bit_at y.before i) 1 one,
+          )));
+      none = λ i j within_i within_j apart out. elim (bit_cases (slice_index node.reach j) i) [
+        | inl none ↦ none
+        | inr has ↦ elim (cases_lt j (length xs)) [
+          | inr past ↦ absurd (begins.none i j within_i within_j apart past has)
+          | inl below ↦
+              let (y, at) = slice_get_some xs j below in
+              let (own, other, one) = (begins.each i j y within_i at apart).0 has in
+              let less = rising.earlier i j y at one in
+              elim out [
+                | inl past ↦ absurd (omega (arith, past, less, below))
+                | inr past ↦ absurd (omega (arith, past, below))
+              ]
+        ]
+      ];
+    }
+  where
+    not-is : (b : Bool) → IsTrue (not b) → b ≡ false
+    not-is true is = absurd (cc)
+    not-is false is = refl
+
+-- the root of the search is that of the law
+to-search : (criterion : Criterion) (xs : List Effect) (start : State) (views : List View) (committed pending held : ℕ) (rank : ℕ → ℕ)
+    (node : search.Node) → IsRoot criterion views committed pending node
+    → IsLegal xs start pending (root criterion node.reach (length views) committed) held rank
+    → legal.IsLegal xs start pending node held rank
+to-search criterion xs start views committed pending held rank node is l = record {
+  ranking = l.ranking;
   more = rw is.held l.more;
   only = rw is.held l.only;
   agree = rw is.members l.agree;
   reads = λ j r low few in_j needs. rw (is.free j r low few) (l.reads j r low few (rw is.members at in_j) needs);
 }
 
-of-search : (criterion : Criterion) (xs : List Deed) (start : State) (n : ℕ) (mat : List ℕ) (committed may held : ℕ) (rank : ℕ → ℕ) (node : search.Node)
-    → IsRoot criterion n mat committed node → legal.IsLegal xs start may node held rank
-    → IsLegal xs start may (root criterion mat n committed) held rank
-of-search criterion xs start n mat committed may held rank node is l = record {
-  ranking = rw is.reach at l.ranking;
+of-search : (criterion : Criterion) (xs : List Effect) (start : State) (views : List View) (committed pending held : ℕ) (rank : ℕ → ℕ)
+    (node : search.Node) → IsRoot criterion views committed pending node → legal.IsLegal xs start pending node held rank
+    → IsLegal xs start pending (root criterion node.reach (length views) committed) held rank
+of-search criterion xs start views committed pending held rank node is l = record {
+  ranking = l.ranking;
   more = rw is.held at l.more;
   only = rw is.held at l.only;
   agree = rw is.members at l.agree;
   reads = λ j r low few in_j needs. rw (is.free j r low few) at (l.reads j r low few (rw (is.members) in_j) needs);
 }
 
-pub none_found : (criterion : Criterion) (ts : List Txn) (xs : List Deed) (mat : List ℕ) (start : State) (committed pending : ℕ) (node : search.Node)
-    → ShowsDeeds xs ts → length ts ≤ 8 → ShowsOrder criterion ts mat → length start ≡ 8 → TellStatus ts committed pending
-    → IsRoot criterion (length ts) mat committed node → legal.HasNone xs start pending node
-    → (end : State) → EndsBy criterion (Only start) ts end → ⊥
-none_found criterion ts xs mat start committed pending node deeds few shows size tell is none end ends =
-    let (held, rank, l) = (tells_legal criterion ts xs mat start committed pending deeds few shows size tell).0 (end, ends) in
-    none held rank (to-search criterion xs start (length ts) mat committed pending held rank node is l)
+-- the law of these events, told by the root of the search
+pub law-of : (criterion : Criterion) (items : List cuts.Txn) (start : State) (events : List Event) (committed pending : ℕ) (node : search.Node)
+    → length items ≤ 8 → HaveEight items → length start ≡ 8 → ShowsStatus (map view items) committed pending
+    → IsRoot criterion (map view items) committed pending node → map view items ≡ views_of events
+    → ((end : State) × EndsBy criterion (Only start) (transactions events) end)
+    ↔ ((held : ℕ) × (rank : ℕ → ℕ) × legal.IsLegal (effects items) start pending node held rank)
+law-of criterion items start events committed pending node few eight size status is shown =
+    let ts = transactions events in
+    let xs = map view items in
+    let shows : ShowsTransactions xs ts = rw shown (shows-views_of events) in
+    let low : length xs ≤ 8 = omega (arith, few, length-map items view) in
+    let many : length ts ≤ 8 = omega (arith, low, shows.same_length) in
+    let rising : AreRising xs = rw shown (rising-views events) in
+    let reach = root-reach criterion xs committed pending node low rising status is in
+    let order = order-of_reach criterion xs ts node.reach shows (none_before_itself events) many reach in
+    let same : length ts ≡ length xs = sym shows.same_length in
+    let law = tells_legal criterion ts (effects items) node.reach start committed pending (act-as items ts shows eight) many order size
+    (status-of xs ts committed pending shows status) in (
+      λ ends.
+          let (held, rank, l) = law.0 ends in (
+            held,
+            rank,
+            to-search criterion (effects items) start xs committed pending held rank node is
+                (subst (λ (n : ℕ). IsLegal (effects items) start pending (root criterion node.reach n committed) held rank) same l),
+          ),
+      λ legals.
+          let (held, rank, l) = legals in
+          law.1 (
+            held,
+            rank,
+            subst (λ (n : ℕ). IsLegal (effects items) start pending (root criterion node.reach n committed) held rank) (sym same)
+                (of-search criterion (effects items) start xs committed pending held rank node is l),
+          ),
+    )
 
-pub one_found : (criterion : Criterion) (ts : List Txn) (xs : List Deed) (mat : List ℕ) (start : State) (committed pending : ℕ)
-    (node found : search.Node) → ShowsDeeds xs ts → length ts ≤ 8 → ShowsOrder criterion ts mat → length start ≡ 8 → TellStatus ts committed pending
-    → IsRoot criterion (length ts) mat committed node → legal.IsFound xs start pending node found
-    → (end : State) × EndsBy criterion (Only start) ts end
-one_found criterion ts xs mat start committed pending node found deeds few shows size tell is f =
-    let closed : IsClosed found.reach = record { self = f.order.self; through = f.order.closed; apart = f.order.apart } in
-    let (rank, ranking) = some_ranking found.reach closed in
-    (tells_legal criterion ts xs mat start committed pending deeds few shows size tell).1
-    (found.held, rank, of-search criterion xs start (length ts) mat committed pending found.held rank node is (f.legal rank ranking))
+pub refutes : (criterion : Criterion) (items : List cuts.Txn) (start : State) (committed pending : ℕ) (node : search.Node)
+    → length items ≤ 8 → HaveEight items → length start ≡ 8 → ShowsStatus (map view items) committed pending
+    → IsRoot criterion (map view items) committed pending node → legal.HasNone (effects items) start pending node
+    → Refutes criterion items start
+refutes criterion items start committed pending node few eight size status is none events shown end ends =
+    let (held, rank, l) = (law-of criterion items start events committed pending node few eight size status is shown).0 (end, ends) in
+    none held rank l
+
+pub explains : (criterion : Criterion) (items : List cuts.Txn) (start : State) (committed pending : ℕ) (node found : search.Node)
+    → length items ≤ 8 → HaveEight items → length start ≡ 8 → ShowsStatus (map view items) committed pending
+    → IsRoot criterion (map view items) committed pending node → legal.IsFound (effects items) start pending node found
+    → Explains criterion items start
+explains criterion items start committed pending node found few eight size status is f events shown =
+    (law-of criterion items start events committed pending node few eight size status is shown).1 (found.held, f.rank, f.legal f.rank f.ranking)

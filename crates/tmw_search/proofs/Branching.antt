@@ -10,24 +10,24 @@ use Rattle.tmw_search.specs.Order.{Has}
 use Rattle.tmw_search.specs.Chosen.{IsRead, source_at}
 use Rattle.tmw_search.specs.declared.sources.Source.TheVariants.{Open}
 use Rattle.tmw_search.specs.declared.sources.Source.{Source}
-use Rattle.tmw_search.specs.declared.deed.Deed.{Deed}
+use Rattle.tmw_cuts.specs.declared.effect.Effect.{Effect}
 use Rattle.tmw_search.specs.declared.node.Node.{Node}
 use Rattle.tmw_search.specs.Legal.{In, need_at, MayBe, IsNode, IsBranch, Reads, ReadsStart, ReadsFrom}
 use Rattle.tmw_search.proofs.Bits.{same_place, less_of, less_has, or-left, or-right, or_either}
 
-pub record Branches (xs : List Deed) (may : ℕ) (node : Node) (j r writers left : ℕ) : Type 0 where
+pub record Branches (xs : List Effect) (may : ℕ) (node : Node) (j r writers left : ℕ) : Type 0 where
   pub only : (i : ℕ) → i < 8 → In writers i → (In node.held i ⊎ In may i) × MayBe xs node j r i
   pub all : (i : ℕ) → i < 8 → (In node.held i ⊎ In may i) → In left i ⊎ (MayBe xs node j r i → In writers i)
   pub among : (i : ℕ) → i < 8 → In left i → In node.held i ⊎ In may i
 
-pub branches-none : (xs : List Deed) (may : ℕ) (node : Node) (j r : ℕ) → Branches xs may node j r 0 (bit_or node.held may)
+pub branches-none : (xs : List Effect) (may : ℕ) (node : Node) (j r : ℕ) → Branches xs may node j r 0 (bit_or node.held may)
 branches-none xs may node j r = record {
   only = λ i within is. absurd (omega (arith, is, bit_at-zero i));
   all = λ i within is. elim is [ inl held ↦ inl (or-left node.held may i held) | inr might ↦ inl (or-right node.held may i might) ];
   among = λ i within is. or_either node.held may i is;
 }
 
-pub branches-with : (xs : List Deed) (may : ℕ) (node : Node) (j r writers left i : ℕ) → i < 8 → In left i → MayBe xs node j r i
+pub branches-with : (xs : List Effect) (may : ℕ) (node : Node) (j r writers left i : ℕ) → i < 8 → In left i → MayBe xs node j r i
     → Branches xs may node j r writers left
     → Branches xs may node j r (bit_or writers (1 * 2 ^ i % 2 ^ 8)) (left - 1 * 2 ^ i % 2 ^ 8)
 branches-with xs may node j r writers left i within one is b =
@@ -47,7 +47,7 @@ branches-with xs may node j r writers left i within one is b =
       among = λ k few has. b.among k few (less_has left i _ k less has);
     }
 
-pub branches-without : (xs : List Deed) (may : ℕ) (node : Node) (j r writers left i : ℕ) → i < 8 → In left i → (MayBe xs node j r i → ⊥)
+pub branches-without : (xs : List Effect) (may : ℕ) (node : Node) (j r writers left i : ℕ) → i < 8 → In left i → (MayBe xs node j r i → ⊥)
     → Branches xs may node j r writers left → Branches xs may node j r writers (left - 1 * 2 ^ i % 2 ^ 8)
 branches-without xs may node j r writers left i within one not b =
     let less = less_of left i within one in
@@ -64,12 +64,12 @@ branches-without xs may node j r writers left i within one not b =
     }
 
 -- an open read reads from the start or from one of them
-open-reads : (xs : List Deed) (held : ℕ) (start : State) (rank : ℕ → ℕ) (j r : ℕ) (source : Source) → source ≡ Open
+open-reads : (xs : List Effect) (held : ℕ) (start : State) (rank : ℕ → ℕ) (j r : ℕ) (source : Source) → source ≡ Open
     → Reads xs held start rank j r source → ReadsStart xs held start rank j r ⊎ ((i : ℕ) × ReadsFrom xs held rank j r i)
 open-reads xs held start rank j r source free is = subst (λ (s : Source). Reads xs held start rank j r s) free is
 
-pub branches-all : (xs : List Deed) (start : State) (may : ℕ) (node : Node) (j r writers left : ℕ) (b : Bool) → j < 8 → r < 8
-    → IsRead node.choices j r → source_at node.choices j r ≡ Open → IsNode xs start node → left ≡ 0
+pub branches-all : (xs : List Effect) (start : State) (may : ℕ) (node : Node) (j r writers left : ℕ) (b : Bool) → j < 8 → r < 8
+    → IsRead node.choices j r → source_at node.choices j r ≡ Open → IsNode xs start may node → left ≡ 0
     → (IsTrue b → slice_index start r ≡ need_at xs j r)
     → (slice_index start r ≡ need_at xs j r → ((k : ℕ) → k < 8 → In (slice_index node.choices.writers r) k → Has node.reach k j → k ≡ j) → IsTrue b)
     → Branches xs may node j r writers left
@@ -84,7 +84,7 @@ branches-all xs start may node j r writers left b within_j within_r read free n 
       let (where_from, may_be) = bs.only i within is in
       (elim where_from [ inl held ↦ inl held | inr might ↦ inr (might, may_be.agrees) ], may_be.leaves, may_be.value);
   all = λ held rank l.
-      let (member, needs) = (n.reads j r within_j within_r).0 read in
+      let (member, needs) = n.reads j r within_j within_r read in
       elim (open-reads xs held start rank j r (source_at node.choices j r) free (l.reads j r within_j within_r (inl member) needs)) [
         | inl reads ↦ inl (
           from reads.value (λ k few is has.

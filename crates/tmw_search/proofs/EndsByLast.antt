@@ -10,12 +10,12 @@ use Rattle.tmw_search.specs.LastWrites.{ComeBefore}
 use Rattle.tmw_search.proofs.LayersProof.{same_place, bit_cases}
 use Rattle.tmw_search.specs.Polygraph.{Node, IsIn, EndsAt, EndsIn}
 use Rattle.tmw_search.specs.Legal.{Needs, left_at, Writes, ReadsStart, Reads}
-use Rattle.tmw_search.specs.declared.deed.Deed.{Deed}
+use Rattle.tmw_cuts.specs.declared.effect.Effect.{Effect}
 use Rattle.tmw_search.specs.declared.sources.Source.{Source}
 use Rattle.tmw_search.specs.Nodes.{IsClosed, EndsFrom, PutsLast}
 use Rattle.tmw_search.specs.declared.sources.Source.TheVariants.{Open, Start, From}
 
-pub all_ends : (xs : List Deed) (start : State) (node : Node) (end : State) → EndsIn xs start node end ↔ EndsFrom xs start node 0 start end
+pub all_ends : (xs : List Effect) (start : State) (node : Node) (end : State) → EndsIn xs start node end ↔ EndsFrom xs start node 0 start end
 all_ends xs start node end = (
   λ e. record {
     rank = e.rank;
@@ -28,7 +28,7 @@ all_ends xs start node end = (
 )
 
 -- all registers are settled: the state itself, where the node has a ranking
-pub no_more : (xs : List Deed) (start : State) (node : Node) (state end : State) → length state ≡ 8
+pub no_more : (xs : List Effect) (start : State) (node : Node) (state end : State) → length state ≡ 8
     → EndsFrom xs start node 8 state end ↔ ((end ≡ state) × (rank : ℕ → ℕ) × IsIn xs start node rank)
 no_more xs start node state end size = (
   λ e. (
@@ -48,7 +48,7 @@ no_more xs start node state end size = (
 )
 
 -- none writes the register
-pub none_writes : (xs : List Deed) (start : State) (node : Node) (register : ℕ) (state end : State)
+pub none_writes : (xs : List Effect) (start : State) (node : Node) (register : ℕ) (state end : State)
     → ((k : ℕ) → Writes xs node.held register k → ⊥) → slice_index state register ≡ slice_index start register → register < 8
     → EndsFrom xs start node register state end ↔ EndsFrom xs start node (register + 1) state end
 none_writes xs start node register state end none same low = (
@@ -74,7 +74,7 @@ none_writes xs start node register state end none same low = (
   },
 )
   where
-    rest_of : (xs : List Deed) (start : State) (node : Node) (register : ℕ) (state end : State)
+    rest_of : (xs : List Effect) (start : State) (node : Node) (register : ℕ) (state end : State)
         → ((k : ℕ) → Writes xs node.held register k → ⊥) → slice_index state register ≡ slice_index start register
         → (e : EndsFrom xs start node (register + 1) state end) → (r : ℕ) → register ≤ r → r < 8
         → EndsAt xs node.held e.rank r (slice_index start r) (slice_index end r)
@@ -89,7 +89,7 @@ abbrev pub with_mat : Node → List ℕ → Node
 with_mat node mat = record { mat = mat; members = node.members; held = node.held; source = node.source }
 
 -- one that writes it is the last
-pub last_first : (xs : List Deed) (start : State) (node : Node) (register : ℕ) (state end : State) (writer : ℕ) → Writes xs node.held register writer
+pub last_first : (xs : List Effect) (start : State) (node : Node) (register : ℕ) (state end : State) (writer : ℕ) → Writes xs node.held register writer
     → length state ≡ 8 → register < 8 → EndsFrom xs start node register state end
     → (i : ℕ) × Writes xs node.held register i × ((next : List ℕ) → PutsLast xs node.held register i node.mat next
     → EndsFrom xs start (with_mat node next) (register + 1) (slice_set state register (left_at xs i register)) end)
@@ -119,7 +119,7 @@ last_first xs start node register state end writer writes size low e =
           )
     ]
 
-pub first_last : (xs : List Deed) (start : State) (node : Node) (register : ℕ) (state end : State) (i : ℕ) (next : List ℕ)
+pub first_last : (xs : List Effect) (start : State) (node : Node) (register : ℕ) (state end : State) (i : ℕ) (next : List ℕ)
     → Writes xs node.held register i → PutsLast xs node.held register i node.mat next → length state ≡ 8 → register < 8
     → EndsFrom xs start (with_mat node next) (register + 1) (slice_set state register (left_at xs i register)) end
     → EndsFrom xs start node register state end
@@ -135,7 +135,7 @@ first_last xs start node register state end i next writes puts size low e =
       rest = λ r past few. rest_of xs start node register state end i next writes e both.1 size low r past few;
     }
   where
-    rest_of : (xs : List Deed) (start : State) (node : Node) (register : ℕ) (state end : State) (i : ℕ) (next : List ℕ)
+    rest_of : (xs : List Effect) (start : State) (node : Node) (register : ℕ) (state end : State) (i : ℕ) (next : List ℕ)
         → Writes xs node.held register i → (e : EndsFrom xs start (with_mat node next) (register + 1) (slice_set state register (left_at xs i register)) end)
         → ((k : ℕ) → Writes xs node.held register k → e.rank k ≤ e.rank i) → length state ≡ 8 → register < 8
         → (r : ℕ) → register ≤ r → r < 8 → EndsAt xs node.held e.rank r (slice_index start r) (slice_index end r)
@@ -153,7 +153,7 @@ first_last xs start node register state end i next writes puts size low e =
         ]
 
 -- another start that has the same in each register that is needed: the same rankings, and what none writes is the other's
-pub other_start : (xs : List Deed) (start other : State) (node : Node) (end too : State)
+pub other_start : (xs : List Effect) (start other : State) (node : Node) (end too : State)
     → ((j r : ℕ) → j < 8 → r < 8 → bit_at node.members j ≡ 1 → Needs xs j r → slice_index other r ≡ slice_index start r) → length too ≡ 8
     → ((r k : ℕ) → r < 8 → Writes xs node.held r k → slice_index too r ≡ slice_index end r)
     → ((r : ℕ) → r < 8 → ((k : ℕ) → Writes xs node.held r k → ⊥) → slice_index too r ≡ slice_index other r)
@@ -180,11 +180,11 @@ other_start xs start other node end too needed size written kept e = record {
   ];
 }
   where
-    start_other : (xs : List Deed) (held : ℕ) (start other : State) (rank : ℕ → ℕ) (j r : ℕ) → slice_index other r ≡ slice_index start r
+    start_other : (xs : List Effect) (held : ℕ) (start other : State) (rank : ℕ → ℕ) (j r : ℕ) → slice_index other r ≡ slice_index start r
         → ReadsStart xs held start rank j r → ReadsStart xs held other rank j r
     start_other xs held start other rank j r same st = record { value = same ∙ st.value; others = st.others }
 
-    reads_other : (xs : List Deed) (held : ℕ) (start other : State) (rank : ℕ → ℕ) (j r : ℕ) (source : Source)
+    reads_other : (xs : List Effect) (held : ℕ) (start other : State) (rank : ℕ → ℕ) (j r : ℕ) (source : Source)
         → slice_index other r ≡ slice_index start r → Reads xs held start rank j r source → Reads xs held other rank j r source
     reads_other xs held start other rank j r Open same (inl st) = inl (start_other xs held start other rank j r same st)
     reads_other xs held start other rank j r Open same (inr f) = inr f
@@ -198,7 +198,7 @@ or_either : (a b i : ℕ) → bit_at (bit_or a b) i ≡ 1 → (bit_at a i ≡ 1)
 or_either a b i one = elim (bit_cases a i) [ inl none ↦ inr (omega (arith, one, none, bit_at_or a b i)) | inr is ↦ inl is ]
 
 -- Who comes before one of the writers, or is one, comes before the one at the place and all behind it: then no writer is ranked above it.
-pub puts_last : (xs : List Deed) (held r i writers before : ℕ) (mat next : List ℕ) → i < 8 → IsClosed mat
+pub puts_last : (xs : List Effect) (held r i writers before : ℕ) (mat next : List ℕ) → i < 8 → IsClosed mat
     → ((k : ℕ) → k < 8 → bit_at writers k ≡ 1 ↔ Writes xs held r k) → ComeBefore mat writers before
     → Joins i (bit_or writers before) mat next → PutsLast xs held r i mat next
 puts_last xs held r i writers before mat next low closed are comes joins rank = (

@@ -11,7 +11,7 @@ use Rattle.tmw_search.specs.Choices.{IsRanking}
 use Rattle.tmw_search.proofs.LayersProof.{same_place, bit_cases}
 use Rattle.tmw_search.specs.Polygraph.{Node, IsIn, ShowsOrder}
 use Rattle.tmw_search.specs.Legal.{Reads}
-use Rattle.tmw_search.specs.declared.deed.Deed.{Deed}
+use Rattle.tmw_cuts.specs.declared.effect.Effect.{Effect}
 use Rattle.tmw_search.specs.declared.sources.Source.{Source}
 use Rattle.tmw_search.specs.Nodes.{IsClosed, IsSettled, AreSettled}
 use Rattle.tmw_search.specs.declared.sources.Source.TheVariants.{Open, Start, From}
@@ -83,7 +83,7 @@ below_of rank mat i j ranking low_i low_j apart one =
     let differ : rank i ≡ rank j → ⊥ = λ same. apart (ranking.apart i j low_i low_j same) in
     omega (arith, low, differ)
 
-settled-reads : (xs : List Deed) (start : State) (mat : List ℕ) (held : ℕ) (rank : ℕ → ℕ) (j r : ℕ) (source : Source) → j < 8 → IsRanking rank mat
+settled-reads : (xs : List Effect) (start : State) (mat : List ℕ) (held : ℕ) (rank : ℕ → ℕ) (j r : ℕ) (source : Source) → j < 8 → IsRanking rank mat
     → IsSettled xs start mat held j r source → Reads xs held start rank j r source
 settled-reads xs start mat held rank j r Open low ranking none = absurd none
 settled-reads xs start mat held rank j r Start low ranking (value, all) =
@@ -99,7 +99,7 @@ settled-reads xs start mat held rank j r (From i) low ranking (writes, value, ap
 }
 
 -- each ranking that keeps it is one of the node's
-pub settled_in : (xs : List Deed) (start : State) (node : Node) (rank : ℕ → ℕ) → AreSettled xs start node → IsRanking rank node.mat
+pub settled_in : (xs : List Effect) (start : State) (node : Node) (rank : ℕ → ℕ) → AreSettled xs start node → IsRanking rank node.mat
     → IsIn xs start node rank
 settled_in xs start node rank are ranking = record {
   ranking = ranking;

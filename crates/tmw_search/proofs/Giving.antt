@@ -13,10 +13,11 @@ use Rattle.tmw_search.specs.Opens.{count, is_open, opens}
 use Rattle.tmw_search.specs.declared.sources.Choices.{Choices}
 use Rattle.tmw_search.specs.declared.sources.Source.{Source}
 use Rattle.tmw_search.specs.declared.sources.Source.TheVariants.{Open, Start, From}
-use Rattle.tmw_search.specs.declared.deed.Deed.{Deed}
+use Rattle.tmw_cuts.specs.declared.effect.Effect.{Effect}
 use Rattle.tmw_search.specs.declared.node.Node.{Node}
 use Rattle.tmw_search.specs.Legal.{idle, In, Needs, Leaves, Reads, IsSound, IsNode, MayGive, Gives, Holds, FromIs, IsMid}
 use Rattle.tmw_search.proofs.Bits.{same_place, bit_cases}
+use Rattle.tmw_search.proofs.Nodes.{settles-with}
 
 abbrev pub with_writer : ℕ → ℕ → ℕ → ℕ → ℕ
 with_writer left i r mask = if bit_at left r == 1 then bit_or mask (1 * 2 ^ i % 2 ^ 8) else mask
@@ -95,19 +96,19 @@ opens-less old new j r within_j within_r free closed others =
     (λ a within. count-most (λ q. is_open (source_at old a q)) (λ q. is_open (source_at new a q)) 8 (λ q few. each a q within few))
     (count-less (λ q. is_open (source_at old j q)) (λ q. is_open (source_at new j q)) 8 r within_r (λ q few. each j q within_j few) here)
 
-given-closed : (xs : List Deed) (start : State) (may : ℕ) (node : Node) (j r : ℕ) (source : Source) → MayGive xs start may node j r source
+given-closed : (xs : List Effect) (start : State) (may : ℕ) (node : Node) (j r : ℕ) (source : Source) → MayGive xs start may node j r source
     → source ≡ Open → ⊥
 given-closed xs start may node j r Open may_give same = may_give
 given-closed xs start may node j r Start may_give same = absurd (cc)
 given-closed xs start may node j r (From i) may_give same = absurd (cc)
 
-pub opens-given : (xs : List Deed) (start : State) (may : ℕ) (node : Node) (old new : Choices) (j r : ℕ) (source : Source) → j < 8 → r < 8
+pub opens-given : (xs : List Effect) (start : State) (may : ℕ) (node : Node) (old new : Choices) (j r : ℕ) (source : Source) → j < 8 → r < 8
     → MayGive xs start may node j r source → source_at old j r ≡ Open → source_at new j r ≡ source
     → ((a q : ℕ) → q < 8 → ((a ≡ j) × (q ≡ r) → ⊥) → source_at new a q ≡ source_at old a q) → opens new < opens old
 opens-given xs start may node old new j r source within_j within_r may_give free is others =
     opens-less old new j r within_j within_r free (λ open_there. given-closed xs start may node j r source may_give (sym is ∙ open_there)) others
 
-sound-more : (xs : List Deed) (start : State) (old new j r : ℕ) (source : Source) → ((k : ℕ) → k < 8 → In old k → In new k)
+sound-more : (xs : List Effect) (start : State) (old new j r : ℕ) (source : Source) → ((k : ℕ) → k < 8 → In old k → In new k)
     → IsSound xs start old j r source → IsSound xs start new j r source
 sound-more xs start old new j r Open more is = tt
 sound-more xs start old new j r Start more is = is
@@ -115,15 +116,20 @@ sound-more xs start old new j r (From i) more is =
     let ((within, holds, leaves), value) = is in
     ((within, more i within holds, leaves), value)
 
+-- the reads that are looked at, where a transaction more is held
+pub record HasReads (xs : List Effect) (old new : Node) : Type 0 where
+  pub only : (a q : ℕ) → a < 8 → q < 8 → IsRead new.choices a q → In new.members a × Needs xs a q
+  pub kept : (a q : ℕ) → a < 8 → q < 8 → IsRead old.choices a q → IsRead new.choices a q
+  pub all : (a q : ℕ) → a < 8 → q < 8 → In new.members a → Needs xs a q → In old.members a ⊎ IsRead new.choices a q
+
 -- a transaction more is held
-pub held-with : (xs : List Deed) (start : State) (i : ℕ) (old new : Node) → i < 8 → (In old.held i ⊎ IsTrue (get_or xs i idle).agrees)
-    → IsNode xs start old → new.reach ≡ old.reach → new.choices.sources ≡ old.choices.sources
+pub held-with : (xs : List Effect) (start : State) (may i : ℕ) (old new : Node) → i < 8
+    → (In old.held i ⊎ (In may i × IsTrue (get_or xs i idle).agrees)) → IsNode xs start may old → new.reach ≡ old.reach → new.choices.sources ≡ old.choices.sources
     → ((k : ℕ) → k < 8 → In new.held k ↔ (In old.held k ⊎ (k ≡ i)))
     → ((k : ℕ) → k < 8 → In new.members k ↔ (In old.members k ⊎ (k ≡ i)))
     → ((r k : ℕ) → r < 8 → k < 8 → In (slice_index new.choices.writers r) k ↔ (In (slice_index old.choices.writers r) k ⊎ ((k ≡ i) × Leaves xs i r)))
-    → ((a q : ℕ) → a < 8 → q < 8 → IsRead new.choices a q ↔ (In new.members a × Needs xs a q))
-    → Holds xs start i old new
-held-with xs start i old new within may n reach sources held members writers reads = record {
+    → HasReads xs old new → Holds xs start may i old new
+held-with xs start may i old new within given n reach sources held members writers reads = record {
   is = record {
     order = subst (λ (m : List ℕ). IsOrder m) (sym reach) n.order;
     writers = λ r k within_r within_k. (
@@ -136,16 +142,31 @@ held-with xs start i old new within may n reach sources held members writers rea
         | inr same ↦ (writers r k within_r within_k).1 (inr (same, subst (λ (m : ℕ). Leaves xs m r) same leaves))
       ],
     );
-    reads = reads;
+    reads = reads.only;
+    rest = λ a q within_a within_q in_it needs. elim (reads.all a q within_a within_q in_it needs) [
+      | inr read ↦ inl read
+      | inl was ↦ elim (n.rest a q within_a within_q was needs) [
+        | inl read ↦ inl (reads.kept a q within_a within_q read)
+        | inr settles ↦ inr (settles-with xs start may old new a q (λ rank ranks. subst (λ (m : List ℕ). IsRanking rank m) reach ranks)
+            (ap (λ (s : List Source). get_or s (8 * a + q) Open) sources) (λ k few is. (held k few).1 (inl is))
+            (λ k few is. elim ((held k few).0 is) [
+              | inl own ↦ inl own
+              | inr same ↦ elim given [
+                | inl own ↦ inl (subst (λ (m : ℕ). In old.held m) (sym same) own)
+                | inr (might, agrees) ↦ inr (subst (λ (m : ℕ). In may m) (sym same) might)
+              ]
+            ]) settles)
+      ]
+    ];
     members = λ k within_k holds. elim ((held k within_k).0 holds) [
       | inl was ↦ (members k within_k).1 (inl (n.members k within_k was))
       | inr same ↦ (members k within_k).1 (inr same)
     ];
     agree = λ k within_k is. elim ((members k within_k).0 is) [
       | inl was ↦ n.agree k within_k was
-      | inr same ↦ subst (λ (m : ℕ). IsTrue (get_or xs m idle).agrees) (sym same) (elim may [
+      | inr same ↦ subst (λ (m : ℕ). IsTrue (get_or xs m idle).agrees) (sym same) (elim given [
         | inl holds ↦ n.agree i within (n.members i within holds)
-        | inr agrees ↦ agrees
+        | inr (might, agrees) ↦ agrees
       ])
     ];
     sound = λ j r within_j within_r.
@@ -156,10 +177,11 @@ held-with xs start i old new within may n reach sources held members writers rea
   sources = sources;
   held = held;
   members = members;
+  reads = reads.kept;
 }
 
-pub mid-same : (xs : List Deed) (start : State) (may : ℕ) (source : Source) (node : Node) (j r : ℕ) → IsNode xs start node
-    → ((k : ℕ) → FromIs source k → ⊥) → IsMid xs start source node node
+pub mid-same : (xs : List Effect) (start : State) (may : ℕ) (source : Source) (node : Node) (j r : ℕ) → IsNode xs start may node
+    → ((k : ℕ) → FromIs source k → ⊥) → IsMid xs start may source node node
 mid-same xs start may source node j r n none = record {
   is = n;
   reach = refl;
@@ -169,10 +191,12 @@ mid-same xs start may source node j r n none = record {
   members = λ k within is. is;
   members_only = λ k within is. inl is;
   has = λ k within is. absurd (none k is);
+  reads = λ a q within_a within_q is. is;
 }
 
-pub mid-held : (xs : List Deed) (start : State) (i : ℕ) (node mid : Node) → Holds xs start i node mid → IsMid xs start (From i) node mid
-mid-held xs start i node mid h = record {
+pub mid-held : (xs : List Effect) (start : State) (may i : ℕ) (node mid : Node) → Holds xs start may i node mid
+    → IsMid xs start may (From i) node mid
+mid-held xs start may i node mid h = record {
   is = h.is;
   reach = h.reach;
   sources = h.sources;
@@ -181,6 +205,7 @@ mid-held xs start i node mid h = record {
   members = λ k within is. (h.members k within).1 (inl is);
   members_only = λ k within is. (h.members k within).0 is;
   has = λ k within is. (h.held k within).1 (inr is);
+  reads = h.reads;
 }
 
 -- the other node has the source chosen
@@ -193,27 +218,27 @@ pub record Chooses (mid next : Node) (j r : ℕ) (source : Source) : Type 0 wher
   pub here : source_at next.choices j r ≡ source
   pub others : (a q : ℕ) → q < 8 → ((a ≡ j) × (q ≡ r) → ⊥) → source_at next.choices a q ≡ source_at mid.choices a q
 
-given-sound : (xs : List Deed) (start : State) (may held j r : ℕ) (node : Node) (source : Source) → ((k : ℕ) → k < 8 → FromIs source k → In held k)
+given-sound : (xs : List Effect) (start : State) (may held j r : ℕ) (node : Node) (source : Source) → ((k : ℕ) → k < 8 → FromIs source k → In held k)
     → MayGive xs start may node j r source → IsSound xs start held j r source
 given-sound xs start may held j r node Open has m = tt
 given-sound xs start may held j r node Start has m = m
 given-sound xs start may held j r node (From i) has m = let (within, where_from, leaves, value) = m in ((within, has i within refl, leaves), value)
 
 -- what is read from a source is read
-given-open : (xs : List Deed) (held : ℕ) (start : State) (rank : ℕ → ℕ) (j r : ℕ) (source : Source) → Reads xs held start rank j r source
+given-open : (xs : List Effect) (held : ℕ) (start : State) (rank : ℕ → ℕ) (j r : ℕ) (source : Source) → Reads xs held start rank j r source
     → Reads xs held start rank j r Open
 given-open xs held start rank j r Open is = is
 given-open xs held start rank j r Start is = inl is
 given-open xs held start rank j r (From i) is = inr (i, is)
 
 -- a source that is read from is held
-read-held : (xs : List Deed) (held : ℕ) (start : State) (rank : ℕ → ℕ) (j r : ℕ) (source : Source) → Reads xs held start rank j r source
+read-held : (xs : List Effect) (held : ℕ) (start : State) (rank : ℕ → ℕ) (j r : ℕ) (source : Source) → Reads xs held start rank j r source
     → (k : ℕ) → FromIs source k → In held k
 read-held xs held start rank j r Open is k from = absurd from
 read-held xs held start rank j r Start is k from = absurd from
 read-held xs held start rank j r (From i) is k from = subst (λ (m : ℕ). In held m) (sym from) is.writes.1
 
-may-from : (xs : List Deed) (start : State) (may : ℕ) (node : Node) (j r : ℕ) (source : Source) → MayGive xs start may node j r source → (k : ℕ)
+may-from : (xs : List Effect) (start : State) (may : ℕ) (node : Node) (j r : ℕ) (source : Source) → MayGive xs start may node j r source → (k : ℕ)
     → FromIs source k → In node.held k ⊎ In may k
 may-from xs start may node j r Open m k from = absurd from
 may-from xs start may node j r Start m k from = absurd from
@@ -221,16 +246,16 @@ may-from xs start may node j r (From i) m k from =
     let (within, where_from, leaves, value) = m in
     subst (λ (q : ℕ). In node.held q ⊎ In may q) (sym from) (elim where_from [ inl held ↦ inl held | inr (might, agrees) ↦ inr might ])
 
-is_pair : (a q j r : ℕ) → ((a ≡ j) × (q ≡ r)) ⊎ ((a ≡ j) × (q ≡ r) → ⊥)
+pub is_pair : (a q j r : ℕ) → ((a ≡ j) × (q ≡ r)) ⊎ ((a ≡ j) × (q ≡ r) → ⊥)
 is_pair a q j r = elim (same_place a j) [
   | inl same ↦ elim (same_place q r) [ inl here ↦ inl (same, here) | inr apart ↦ inr (λ both. apart both.1) ]
   | inr apart ↦ inr (λ both. apart both.0)
 ]
 
-pub gives-of : (xs : List Deed) (start : State) (may : ℕ) (node mid next : Node) (j r : ℕ) (source : Source) → j < 8 → r < 8
-    → source_at node.choices j r ≡ Open → IsNode xs start node → MayGive xs start may node j r source → IsMid xs start source node mid
-    → Chooses mid next j r source → Gives xs start may node j r source next
-gives-of xs start may node mid next j r source within_j within_r free n m d c =
+pub gives-of : (xs : List Effect) (start : State) (may : ℕ) (node mid next : Node) (j r : ℕ) (source : Source) → j < 8 → r < 8
+    → IsRead node.choices j r → source_at node.choices j r ≡ Open → IsNode xs start may node → MayGive xs start may node j r source
+    → IsMid xs start may source node mid → Chooses mid next j r source → Gives xs start may node j r source next
+gives-of xs start may node mid next j r source within_j within_r read free n m d c =
     let source_mid : (a q : ℕ) → source_at mid.choices a q ≡ source_at node.choices a q =
     λ a q. ap (λ (s : List Source). get_or s (8 * a + q) Open) d.sources in
     let other : (a q : ℕ) → q < 8 → ((a ≡ j) × (q ≡ r) → ⊥) → source_at next.choices a q ≡ source_at node.choices a q =
@@ -247,11 +272,21 @@ gives-of xs start may node mid next j r source within_j within_r free n m d c =
               λ is. let (holds, leaves) = both.0 (sym (ap (λ (w : List ℕ). bit_at (slice_index w q) k) c.writers) ∙ is) in (held_back k holds, leaves),
               λ (holds, leaves). ap (λ (w : List ℕ). bit_at (slice_index w q) k) c.writers ∙ both.1 (held k holds, leaves),
             );
-        reads = λ a q within_a within_q.
-            let both = d.is.reads a q within_a within_q in (
-              λ is. let (in_it, needs) = both.0 (sym (ap (λ (w : List ℕ). bit_at (slice_index w a) q) c.reads) ∙ is) in (member_back a in_it, needs),
-              λ (in_it, needs). ap (λ (w : List ℕ). bit_at (slice_index w a) q) c.reads ∙ both.1 (member a in_it, needs),
-            );
+        reads = λ a q within_a within_q is.
+            let (in_it, needs) = d.is.reads a q within_a within_q (sym (ap (λ (w : List ℕ). bit_at (slice_index w a) q) c.reads) ∙ is) in
+            (member_back a in_it, needs);
+        rest = λ a q within_a within_q in_it needs.
+            let stays : IsRead mid.choices a q → IsRead next.choices a q =
+            λ is. ap (λ (w : List ℕ). bit_at (slice_index w a) q) c.reads ∙ is in
+            elim (is_pair a q j r) [
+              | inl (same, here) ↦ inl (stays (d.reads a q within_a within_q
+                  (subst (λ (x : ℕ). IsRead node.choices x q) (sym same) (subst (λ (x : ℕ). IsRead node.choices j x) (sym here) read))))
+              | inr differ ↦ elim (d.is.rest a q within_a within_q (member a in_it) needs) [
+                | inl is ↦ inl (stays is)
+                | inr settles ↦ inr (settles-with xs start may mid next a q (λ rank ranks. subst (λ (x : List ℕ). IsRanking rank x) c.reach ranks)
+                    (c.others a q within_q differ) (λ k few is. held_back k is) (λ k few is. inl (held k is)) settles)
+              ]
+            ];
         members = λ k within is. member_back k (d.is.members k within (held k is));
         agree = λ k within is. d.is.agree k within (member k is);
         sound = λ a q within_a within_q. elim (is_pair a q j r) [
@@ -316,47 +351,69 @@ gives-of xs start may node mid next j r source within_j within_r free n m d c =
             ];
       };
       reach = c.reach ∙ d.reach;
+      given = c.here;
+      reads = λ a q within_a within_q is.
+          ap (λ (w : List ℕ). bit_at (slice_index w a) q) c.reads ∙ d.reads a q within_a within_q is;
+      others = other;
     }
 
 pub member-already : (mask i k : ℕ) → In mask i → In mask k ↔ (In mask k ⊎ (k ≡ i))
 member-already mask i k has = (λ is. inl is, λ is. elim is [ inl was ↦ was | inr same ↦ ap (bit_at mask) same ∙ has ])
 
-pub reads-with : (xs : List Deed) (start : State) (i : ℕ) (node : Node) → i < 8 → length node.choices.reads ≡ 8 → IsNode xs start node
-    → (a q : ℕ) → a < 8 → q < 8
-    → In (slice_index (set node.choices.reads i (get_or xs i idle).needed) a) q ↔ (In (bit_or node.members (1 * 2 ^ i % 2 ^ 8)) a × Needs xs a q)
-reads-with xs start i node within size n a q within_a within_q =
+pub reads-with : (xs : List Effect) (start : State) (may i : ℕ) (node new : Node) → i < 8 → (In node.members i → ⊥)
+    → length node.choices.reads ≡ 8 → IsNode xs start may node
+    → ((k : ℕ) → k < 8 → In new.members k ↔ (In node.members k ⊎ (k ≡ i)))
+    → new.choices.reads ≡ set node.choices.reads i (get_or xs i idle).needed → HasReads xs node new
+reads-with xs start may i node new within not size n members made =
     let needed = (get_or xs i idle).needed in
-    let both = set_or node.members i a within in
-    let old = n.reads a q within_a within_q in
-    elim (same_place a i) [
-      | inl same ↦
-          let long : i < length node.choices.reads = omega (arith, within, size) in
-          let is : slice_index (set node.choices.reads i needed) a ≡ needed =
-          ap (slice_index (set node.choices.reads i needed)) same ∙ get_or-set_same node.choices.reads i needed 0 long in
-          let there : (get_or xs a idle).needed ≡ needed = ap (λ (m : ℕ). (get_or xs m idle).needed) same in (
-            λ has. (both.1 (inr same), ap (λ (m : ℕ). bit_at m q) there ∙ sym (ap (λ (m : ℕ). bit_at m q) is) ∙ has),
-            λ (in_it, needs). ap (λ (m : ℕ). bit_at m q) is ∙ sym (ap (λ (m : ℕ). bit_at m q) there) ∙ needs,
-          )
-      | inr apart ↦
-          let is : slice_index (set node.choices.reads i needed) a ≡ slice_index node.choices.reads a =
-          get_or-set_other node.choices.reads i a needed 0 apart in (
-            λ has.
-                let (in_it, needs) = old.0 (sym (ap (λ (m : ℕ). bit_at m q) is) ∙ has) in
-                (both.1 (inl in_it), needs),
-            λ (in_it, needs). ap (λ (m : ℕ). bit_at m q) is ∙ old.1 (elim (both.0 in_it) [ inl was ↦ was | inr same ↦ absurd (apart same) ], needs),
-          )
-    ]
+    let at : (a q : ℕ) → a < 8 → (a ≡ i → ⊥) → bit_at (slice_index new.choices.reads a) q ≡ bit_at (slice_index node.choices.reads a) q =
+    λ a q few apart. ap (λ (m : List ℕ). bit_at (slice_index m a) q) made
+    ∙ ap (λ (m : ℕ). bit_at m q) (get_or-set_other node.choices.reads i a needed 0 apart) in
+    let own : (a q : ℕ) → a ≡ i → bit_at (slice_index new.choices.reads a) q ≡ bit_at (get_or xs a idle).needed q =
+    λ a q same. ap (λ (m : List ℕ). bit_at (slice_index m a) q) made
+    ∙ ap (λ (m : ℕ). bit_at (slice_index (set node.choices.reads i needed) m) q) same
+    ∙ ap (λ (m : ℕ). bit_at m q) (get_or-set_same node.choices.reads i needed 0 (omega (arith, within, size)))
+    ∙ ap (λ (m : ℕ). bit_at (get_or xs m idle).needed q) (sym same) in
+    record {
+      only = λ a q within_a within_q is. elim (same_place a i) [
+        | inl same ↦ ((members a within_a).1 (inr same), sym (own a q same) ∙ is)
+        | inr apart ↦
+            let (in_it, needs) = n.reads a q within_a within_q (sym (at a q within_a apart) ∙ is) in
+            ((members a within_a).1 (inl in_it), needs)
+      ];
+      kept = λ a q within_a within_q is. elim (same_place a i) [
+        | inl same ↦ absurd (not (subst (λ (m : ℕ). In node.members m) same (n.reads a q within_a within_q is).0))
+        | inr apart ↦ at a q within_a apart ∙ is
+      ];
+      all = λ a q within_a within_q in_it needs. elim ((members a within_a).0 in_it) [
+        | inl was ↦ inl was
+        | inr same ↦ inr (own a q same ∙ needs)
+      ];
+    }
 
-pub may-agree : (xs : List Deed) (start : State) (may : ℕ) (node : Node) (j r : ℕ) (source : Source) → MayGive xs start may node j r source
-    → (k : ℕ) → FromIs source k → In node.held k ⊎ IsTrue (get_or xs k idle).agrees
+pub reads-same : (xs : List Effect) (start : State) (may i : ℕ) (node new : Node) → In node.members i → IsNode xs start may node
+    → ((k : ℕ) → k < 8 → In new.members k ↔ (In node.members k ⊎ (k ≡ i)))
+    → new.choices.reads ≡ node.choices.reads → HasReads xs node new
+reads-same xs start may i node new has n members same = record {
+  only = λ a q within_a within_q is.
+      let (in_it, needs) = n.reads a q within_a within_q (sym (ap (λ (m : List ℕ). bit_at (slice_index m a) q) same) ∙ is) in
+      ((members a within_a).1 (inl in_it), needs);
+  kept = λ a q within_a within_q is. ap (λ (m : List ℕ). bit_at (slice_index m a) q) same ∙ is;
+  all = λ a q within_a within_q in_it needs. elim ((members a within_a).0 in_it) [
+    | inl was ↦ inl was
+    | inr here ↦ inl (subst (λ (m : ℕ). In node.members m) (sym here) has)
+  ];
+}
+
+pub may-agree : (xs : List Effect) (start : State) (may : ℕ) (node : Node) (j r : ℕ) (source : Source) → MayGive xs start may node j r source
+    → (k : ℕ) → FromIs source k → In node.held k ⊎ (In may k × IsTrue (get_or xs k idle).agrees)
 may-agree xs start may node j r Open m k from = absurd from
 may-agree xs start may node j r Start m k from = absurd from
 may-agree xs start may node j r (From i) m k from =
     let (within, where_from, leaves, value) = m in
-    subst (λ (q : ℕ). In node.held q ⊎ IsTrue (get_or xs q idle).agrees) (sym from)
-    (elim where_from [ inl held ↦ inl held | inr (might, agrees) ↦ inr agrees ])
+    subst (λ (q : ℕ). In node.held q ⊎ (In may q × IsTrue (get_or xs q idle).agrees)) (sym from) where_from
 
-pub may-within : (xs : List Deed) (start : State) (may : ℕ) (node : Node) (j r : ℕ) (source : Source) → MayGive xs start may node j r source
+pub may-within : (xs : List Effect) (start : State) (may : ℕ) (node : Node) (j r : ℕ) (source : Source) → MayGive xs start may node j r source
     → WithinSource source
 may-within xs start may node j r Open m = tt
 may-within xs start may node j r Start m = tt

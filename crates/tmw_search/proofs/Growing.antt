@@ -8,13 +8,13 @@ use Rattle.tmw_defs.specs.History.{Txn}
 use Rattle.tmw_defs.specs.Opaque.{State}
 use Rattle.tmw_search.specs.Polygraph.{Node, IsIn, IsCompletion, members_of}
 use Rattle.tmw_search.specs.Legal.{Needs, ReadsFrom, ReadsStart, Reads}
-use Rattle.tmw_search.specs.declared.deed.Deed.{Deed}
+use Rattle.tmw_cuts.specs.declared.effect.Effect.{Effect}
 use Rattle.tmw_search.specs.declared.sources.Source.{Source}
 use Rattle.tmw_search.specs.Nodes.{grown, Solves, chosen, IsOneOf, IsLeaf}
 use Rattle.tmw_search.specs.declared.sources.Source.TheVariants.{Open, Start, From}
 
 -- the read has its value from one of these, or from the start
-abbrev pub ReadsWithin : List Deed → ℕ → ℕ → State → (ℕ → ℕ) → ℕ → ℕ → Source → Type 0
+abbrev pub ReadsWithin : List Effect → ℕ → ℕ → State → (ℕ → ℕ) → ℕ → ℕ → Source → Type 0
 ReadsWithin xs held small start rank j r Open =
     ReadsStart xs held start rank j r ⊎ ((i : ℕ) × (bit_at small i ≡ 1) × ReadsFrom xs held rank j r i)
 ReadsWithin xs held small start rank j r Start = ReadsStart xs held start rank j r
@@ -23,12 +23,12 @@ ReadsWithin xs held small start rank j r (From i) = (bit_at small i ≡ 1) × Re
 abbrev pub Sub : ℕ → ℕ → Type 0
 Sub small held = (i : ℕ) → bit_at small i ≡ 1 → bit_at held i ≡ 1
 
-start-less : (xs : List Deed) (held small : ℕ) (start : State) (rank : ℕ → ℕ) (j r : ℕ) → Sub small held
+start-less : (xs : List Effect) (held small : ℕ) (start : State) (rank : ℕ → ℕ) (j r : ℕ) → Sub small held
     → ReadsStart xs held start rank j r → ReadsStart xs small start rank j r
 start-less xs held small start rank j r sub st =
     record { value = st.value; others = λ k w. st.others k (w.0, sub k w.1, w.2) }
 
-from-less : (xs : List Deed) (held small : ℕ) (rank : ℕ → ℕ) (j r i : ℕ) → Sub small held → bit_at small i ≡ 1
+from-less : (xs : List Effect) (held small : ℕ) (rank : ℕ → ℕ) (j r i : ℕ) → Sub small held → bit_at small i ≡ 1
     → ReadsFrom xs held rank j r i → ReadsFrom xs small rank j r i
 from-less xs held small rank j r i sub here f = record {
   writes = (f.writes.0, here, f.writes.2);
@@ -37,7 +37,7 @@ from-less xs held small rank j r i sub here f = record {
   others = λ k w. f.others k (w.0, sub k w.1, w.2);
 }
 
-reads-less : (xs : List Deed) (held small : ℕ) (start : State) (rank : ℕ → ℕ) (j r : ℕ) (source : Source) → Sub small held
+reads-less : (xs : List Effect) (held small : ℕ) (start : State) (rank : ℕ → ℕ) (j r : ℕ) (source : Source) → Sub small held
     → ReadsWithin xs held small start rank j r source → Reads xs small start rank j r source
 reads-less xs held small start rank j r Open sub (inl st) = inl (start-less xs held small start rank j r sub st)
 reads-less xs held small start rank j r Open sub (inr (i, here, f)) = inr (i, from-less xs held small rank j r i sub here f)
@@ -49,7 +49,7 @@ members-less Opacity n held small sub i one = one
 members-less Strict n held small sub i one = sub i one
 
 -- less is held, where each read of those that are still members has its value from what still is
-pub shrunk : (criterion : Criterion) (xs : List Deed) (start : State) (n : ℕ) (node : Node) (held small : ℕ) (rank : ℕ → ℕ) → Sub small held
+pub shrunk : (criterion : Criterion) (xs : List Effect) (start : State) (n : ℕ) (node : Node) (held small : ℕ) (rank : ℕ → ℕ) → Sub small held
     → ((j r : ℕ) → j < 8 → r < 8 → bit_at (members_of criterion n small) j ≡ 1 → Needs xs j r
     → ReadsWithin xs held small start rank j r (node.source j r))
     → IsIn xs start (grown criterion n node held) rank → IsIn xs start (grown criterion n node small) rank
@@ -60,7 +60,7 @@ shrunk criterion xs start n node held small rank sub reads w = record {
 }
 
 -- a leaf is solved by what it holds, if it is solved at all
-pub leaf_solved : (criterion : Criterion) (xs : List Deed) (ts : List Txn) (start : State) (node : Node) (held : ℕ) (rank : ℕ → ℕ)
+pub leaf_solved : (criterion : Criterion) (xs : List Effect) (ts : List Txn) (start : State) (node : Node) (held : ℕ) (rank : ℕ → ℕ)
     → IsCompletion ts node.held → IsLeaf criterion (length ts) xs node → Solves criterion xs ts start node held rank
     → Solves criterion xs ts start node node.held rank
 leaf_solved criterion xs ts start node held rank completion leaf s = record {
@@ -72,14 +72,14 @@ leaf_solved criterion xs ts start node held rank completion leaf s = record {
       s.within;
 }
   where
-    within : (xs : List Deed) (held small : ℕ) (start : State) (rank : ℕ → ℕ) (j r : ℕ) (source : Source) → IsOneOf small source
+    within : (xs : List Effect) (held small : ℕ) (start : State) (rank : ℕ → ℕ) (j r : ℕ) (source : Source) → IsOneOf small source
         → Reads xs held start rank j r source → ReadsWithin xs held small start rank j r source
     within xs held small start rank j r Open none reads = absurd none
     within xs held small start rank j r Start one st = st
     within xs held small start rank j r (From i) one f = (one, f)
 
 -- a solved node is solved with some source for each open read, and what is solved with a source is solved
-pub record IsChosen (criterion : Criterion) (xs : List Deed) (ts : List Txn) (start : State) (node : Node) (held : ℕ) (rank : ℕ → ℕ) (j r : ℕ) : Type 0 where
+pub record IsChosen (criterion : Criterion) (xs : List Effect) (ts : List Txn) (start : State) (node : Node) (held : ℕ) (rank : ℕ → ℕ) (j r : ℕ) : Type 0 where
   pub source : Source
   pub one : IsOneOf held source
   pub reads : Reads xs held start rank j r source
@@ -93,7 +93,7 @@ chosen-else : (node : Node) (j r : ℕ) (source : Source) (held k q : ℕ) → (
     → (chosen node j r source held).source k q ≡ node.source k q
 chosen-else node j r source held k q is = rw is refl
 
-solves-chosen : (criterion : Criterion) (xs : List Deed) (ts : List Txn) (start : State) (node : Node) (held : ℕ) (rank : ℕ → ℕ) (j r : ℕ)
+solves-chosen : (criterion : Criterion) (xs : List Effect) (ts : List Txn) (start : State) (node : Node) (held : ℕ) (rank : ℕ → ℕ) (j r : ℕ)
     (source : Source) (more : ℕ) → Reads xs held start rank j r source → Sub more held → Solves criterion xs ts start node held rank
     → Solves criterion xs ts start (chosen node j r source more) held rank
 solves-chosen criterion xs ts start node held rank j r source more reads sub s = record {
@@ -113,7 +113,7 @@ solves-chosen criterion xs ts start node held rank j r source more reads sub s =
   };
 }
 
-pub some_chosen : (criterion : Criterion) (xs : List Deed) (ts : List Txn) (start : State) (node : Node) (held : ℕ) (rank : ℕ → ℕ) (j r : ℕ)
+pub some_chosen : (criterion : Criterion) (xs : List Effect) (ts : List Txn) (start : State) (node : Node) (held : ℕ) (rank : ℕ → ℕ) (j r : ℕ)
     → j < 8 → r < 8 → bit_at (members_of criterion (length ts) held) j ≡ 1 → Needs xs j r → node.source j r ≡ Open
     → Solves criterion xs ts start node held rank → IsChosen criterion xs ts start node held rank j r
 some_chosen criterion xs ts start node held rank j r low few in_j needs is_open s =
@@ -133,7 +133,7 @@ some_chosen criterion xs ts start node held rank j r low few in_j needs is_open 
       }
     ]
 
-pub chosen_solved : (criterion : Criterion) (xs : List Deed) (ts : List Txn) (start : State) (node : Node) (held more : ℕ) (rank : ℕ → ℕ)
+pub chosen_solved : (criterion : Criterion) (xs : List Effect) (ts : List Txn) (start : State) (node : Node) (held more : ℕ) (rank : ℕ → ℕ)
     (j r : ℕ) (source : Source) → j < 8 → r < 8 → bit_at (members_of criterion (length ts) held) j ≡ 1 → Needs xs j r
     → node.source j r ≡ Open → Sub node.held more → Solves criterion xs ts start (chosen node j r source more) held rank
     → Solves criterion xs ts start node held rank
@@ -155,7 +155,7 @@ chosen_solved criterion xs ts start node held more rank j r source low few in_j 
   };
 }
   where
-    any : (xs : List Deed) (held : ℕ) (start : State) (rank : ℕ → ℕ) (j r : ℕ) (source : Source) → Reads xs held start rank j r source
+    any : (xs : List Effect) (held : ℕ) (start : State) (rank : ℕ → ℕ) (j r : ℕ) (source : Source) → Reads xs held start rank j r source
         → Reads xs held start rank j r Open
     any xs held start rank j r Open reads = reads
     any xs held start rank j r Start st = inl st

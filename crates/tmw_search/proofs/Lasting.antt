@@ -7,7 +7,7 @@ use Rattle.std.proofs.lemmas.List.{get_or-set_same, get_or-set_other, ext_get_or
 use Rattle.tmw_defs.specs.Opaque.{State}
 use Rattle.tmw_cuts.specs.Members.{AddsMember}
 use Rattle.tmw_search.specs.BlindEnds.{Adds}
-use Rattle.tmw_search.specs.declared.deed.Deed.{Deed}
+use Rattle.tmw_cuts.specs.declared.effect.Effect.{Effect}
 use Rattle.tmw_search.specs.declared.node.Node.{Node}
 use Rattle.tmw_search.specs.Legal.{left_at, IsFound, HasNone}
 use Rattle.tmw_search.proofs.Nodes.{ordered, legal-less, legal-with}
@@ -110,10 +110,10 @@ some-last writers rank (suc n) = elim (bit_cases writers n) [
 ]
 
 -- no register is left
-pub settled_end : (xs : List Deed) (start : State) (node : Node) (base e : State) → length base ≡ 8 → EndsOf xs start node 8 base e → e ≡ base
+pub settled_end : (xs : List Effect) (start : State) (node : Node) (base e : State) → length base ≡ 8 → EndsOf xs start node 8 base e → e ≡ base
 settled_end xs start node base e size x = ext_get_or 0 e base (x.size ∙ sym size) (λ q within. x.settled q (omega (arith, within, x.size)))
 
-pub ends-found : (xs : List Deed) (start : State) (node found : Node) (base : State) (done : Bool) (old new : List State) → length base ≡ 8
+pub ends-found : (xs : List Effect) (start : State) (node found : Node) (base : State) (done : Bool) (old new : List State) → length base ≡ 8
     → IsFound xs start 0 node found → AddsMember old new base → Adds done old new (EndsOf xs start node 8 base)
 ends-found xs start node found base done old new size f adds =
     let here : EndsOf xs start node 8 base base = record {
@@ -133,7 +133,7 @@ ends-found xs start node found base done old new size f adds =
       all = λ all e x. (adds e).1 (inl (settled_end xs start node base e size x));
     }
 
-pub ends-none : (xs : List Deed) (start : State) (node : Node) (base : State) (register : ℕ) (done : Bool) (old : List State)
+pub ends-none : (xs : List Effect) (start : State) (node : Node) (base : State) (register : ℕ) (done : Bool) (old : List State)
     → HasNone xs start 0 node → Adds done old old (EndsOf xs start node register base)
 ends-none xs start node base register done old none = record {
   only = λ e has. inl has;
@@ -142,7 +142,7 @@ ends-none xs start node base register done old none = record {
 }
 
 -- a register that none writes
-pub ends-skipped : (xs : List Deed) (start : State) (node : Node) (base : State) (r : ℕ) (done : Bool) (old new : List State) → r < 8
+pub ends-skipped : (xs : List Effect) (start : State) (node : Node) (base : State) (r : ℕ) (done : Bool) (old new : List State) → r < 8
     → slice_index node.choices.writers r ≡ 0 → Adds done old new (EndsOf xs start node (r + 1) base)
     → Adds done old new (EndsOf xs start node r base)
 ends-skipped xs start node base r done old new within none a =
@@ -183,18 +183,18 @@ ends-skipped xs start node base r done old new within none a =
     }
 
 -- an end that the one at the place leaves last
-pub record LeavesAt (xs : List Deed) (start : State) (node : Node) (r : ℕ) (base : State) (place : ℕ) (e : State) : Type 0 where
+pub record LeavesAt (xs : List Effect) (start : State) (node : Node) (r : ℕ) (base : State) (place : ℕ) (e : State) : Type 0 where
   pub ends : EndsOf xs start node r base e
   pub last : IsLastIn xs (slice_index node.choices.writers r) ends.rank r (slice_index e r) place
 
 -- what has been added where each of them but those left was taken for the last
-pub record Tried (xs : List Deed) (start : State) (node : Node) (r writers : ℕ) (base : State) (left : ℕ) (old now : List State) : Type 0 where
+pub record Tried (xs : List Effect) (start : State) (node : Node) (r writers : ℕ) (base : State) (left : ℕ) (old now : List State) : Type 0 where
   pub only : (e : State) → Contains now e → Contains old e ⊎ EndsOf xs start node r base e
   pub kept : (e : State) → Contains old e → Contains now e
   pub all : (i : ℕ) (e : State) → bit_at left i ≡ 0 → LeavesAt xs start node r base i e → Contains now e
   pub among : (i : ℕ) → bit_at left i ≡ 1 → bit_at writers i ≡ 1
 
-pub tried-start : (xs : List Deed) (start : State) (node : Node) (r : ℕ) (base : State) (old : List State)
+pub tried-start : (xs : List Effect) (start : State) (node : Node) (r : ℕ) (base : State) (old : List State)
     → Tried xs start node r (slice_index node.choices.writers r) base (slice_index node.choices.writers r) old old
 tried-start xs start node r base old = record {
   only = λ e has. inl has;
@@ -204,7 +204,7 @@ tried-start xs start node r base old = record {
 }
 
 -- the ends with one for the last are the child's
-pub child-ends : (xs : List Deed) (start : State) (node : Node) (r : ℕ) (base : State) (i : ℕ) (reach : List ℕ) (e : State) → r < 8 → i < 8
+pub child-ends : (xs : List Effect) (start : State) (node : Node) (r : ℕ) (base : State) (i : ℕ) (reach : List ℕ) (e : State) → r < 8 → i < 8
     → length base ≡ 8 → bit_at (slice_index node.choices.writers r) i ≡ 1
     → Narrows (ComesLast (slice_index node.choices.writers r) i) node.reach reach true
     → ((k : ℕ) → k < 8 → bit_at (slice_index node.choices.writers r) k ≡ 1 → Has reach k i)
@@ -233,7 +233,7 @@ child-ends xs start node r base i reach e within_r within_i size writes n last x
       ];
     }
 
-pub child_ends : (xs : List Deed) (start : State) (node : Node) (r : ℕ) (base : State) (i : ℕ) (reach : List ℕ) (alive : Bool) (e : State)
+pub child_ends : (xs : List Effect) (start : State) (node : Node) (r : ℕ) (base : State) (i : ℕ) (reach : List ℕ) (alive : Bool) (e : State)
     → r < 8 → length base ≡ 8 → Narrows (ComesLast (slice_index node.choices.writers r) i) node.reach reach alive
     → LeavesAt xs start node r base i e → EndsOf xs start (ordered node reach) (r + 1) (slice_set base r (left_at xs i r)) e
 child_ends xs start node r base i reach alive e within size n w =
@@ -258,7 +258,7 @@ child_ends xs start node r base i reach alive e within size n w =
     }
 
 -- one more is taken, and all that it makes is added
-pub tried-next : (xs : List Deed) (start : State) (node : Node) (r : ℕ) (base : State) (i left : ℕ) (reach : List ℕ) (old mid new : List State)
+pub tried-next : (xs : List Effect) (start : State) (node : Node) (r : ℕ) (base : State) (i left : ℕ) (reach : List ℕ) (old mid new : List State)
     → r < 8 → i < 8 → length base ≡ 8 → bit_at left i ≡ 1
     → Narrows (ComesLast (slice_index node.choices.writers r) i) node.reach reach true
     → ((k : ℕ) → k < 8 → bit_at (slice_index node.choices.writers r) k ≡ 1 → Has reach k i)
@@ -282,7 +282,7 @@ tried-next xs start node r base i left reach old mid new within_r within_i size 
     }
 
 -- one more cannot be the last
-pub tried-never : (xs : List Deed) (start : State) (node : Node) (r : ℕ) (base : State) (i left : ℕ) (reach : List ℕ) (old mid : List State)
+pub tried-never : (xs : List Effect) (start : State) (node : Node) (r : ℕ) (base : State) (i left : ℕ) (reach : List ℕ) (old mid : List State)
     → i < 8 → bit_at left i ≡ 1 → Narrows (ComesLast (slice_index node.choices.writers r) i) node.reach reach false
     → Tried xs start node r (slice_index node.choices.writers r) base left old mid
     → Tried xs start node r (slice_index node.choices.writers r) base (left - 1 * 2 ^ i % 2 ^ 8) old mid
@@ -300,7 +300,7 @@ tried-never xs start node r base i left reach old mid within one n t =
       among = λ k is. t.among k (less_has left i _ k less is);
     }
 
-pub tried-stopped : (xs : List Deed) (start : State) (node : Node) (r : ℕ) (base : State) (i left : ℕ) (reach : List ℕ) (done : Bool)
+pub tried-stopped : (xs : List Effect) (start : State) (node : Node) (r : ℕ) (base : State) (i left : ℕ) (reach : List ℕ) (done : Bool)
     (old mid new : List State) → r < 8 → i < 8 → length base ≡ 8 → bit_at left i ≡ 1
     → Narrows (ComesLast (slice_index node.choices.writers r) i) node.reach reach true
     → ((k : ℕ) → k < 8 → bit_at (slice_index node.choices.writers r) k ≡ 1 → Has reach k i)
@@ -316,7 +316,7 @@ tried-stopped xs start node r base i left reach done old mid new within_r within
   all = λ is. absurd (never-true is);
 }
 
-pub tried-all : (xs : List Deed) (start : State) (node : Node) (r : ℕ) (base : State) (left : ℕ) (old now : List State) → r < 8
+pub tried-all : (xs : List Effect) (start : State) (node : Node) (r : ℕ) (base : State) (left : ℕ) (old now : List State) → r < 8
     → ((k : ℕ) × (k < 8) × (bit_at (slice_index node.choices.writers r) k ≡ 1)) → left ≡ 0
     → Tried xs start node r (slice_index node.choices.writers r) base left old now
     → Adds true old now (EndsOf xs start node r base)
@@ -339,7 +339,7 @@ pub if_ok : {X E : Type 0} (r : Result X E) (P Q : X → Type 0) → IfOk r P �
 if_ok (Ok x) P Q holds step = step x holds
 if_ok (Err e) P Q holds step = holds
 
-pub ends-here : (xs : List Deed) (start : State) (node : Node) (base : State) (register : ℕ) (done : Bool) (old new : List State) → register ≡ 8
+pub ends-here : (xs : List Effect) (start : State) (node : Node) (base : State) (register : ℕ) (done : Bool) (old new : List State) → register ≡ 8
     → Adds true old new (EndsOf xs start node 8 base) → Adds done old new (EndsOf xs start node register base)
 ends-here xs start node base register done old new is a =
     subst (λ (r : ℕ). Adds done old new (EndsOf xs start node r base)) (sym is) (record { only = a.only; kept = a.kept; all = λ all. a.all refl })

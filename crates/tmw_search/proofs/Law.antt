@@ -8,44 +8,44 @@ use Rattle.tmw_defs.specs.Criteria.{EndsBy}
 use Rattle.tmw_defs.specs.History.{Txn}
 use Rattle.tmw_defs.specs.Opaque.{State}
 use Rattle.tmw_defs.specs.Outcomes.{end_state, Only}
-use Rattle.tmw_search.specs.Polygraph.{ShowsDeeds, ShowsOrder, IsCompletion, IsIn, RanksTo, AreRanked, root}
-use Rattle.tmw_search.specs.declared.deed.Deed.{Deed}
+use Rattle.tmw_search.specs.Polygraph.{ActAs, ShowsOrder, IsCompletion, IsIn, RanksTo, AreRanked, root}
+use Rattle.tmw_cuts.specs.declared.effect.Effect.{Effect}
 use Rattle.tmw_search.specs.Nodes.{AreCommitted, IsSolvable}
 use Rattle.tmw_search.proofs.Rankings.{Ordered}
 use Rattle.tmw_search.proofs.OpacityLaw.{opaque_ranked, opaque_ordered}
 use Rattle.tmw_search.proofs.StrictLaw.{strict_ranked, strict_ordered}
 
-pub ranked_by : (criterion : Criterion) (ts : List Txn) (xs : List Deed) (mat : List ℕ) (start end : State) → ShowsDeeds xs ts → length ts ≤ 8
+pub ranked_by : (criterion : Criterion) (ts : List Txn) (xs : List Effect) (mat : List ℕ) (start end : State) → ActAs xs ts → length ts ≤ 8
     → ShowsOrder criterion ts mat → length start ≡ 8 → EndsBy criterion (Only start) ts end → RanksTo criterion xs ts mat start end
-ranked_by Opacity ts xs mat start end deeds few shows size ends = opaque_ranked ts xs mat start end deeds few shows size ends
-ranked_by Strict ts xs mat start end deeds few shows size ends = strict_ranked ts xs mat start end deeds few shows size ends
+ranked_by Opacity ts xs mat start end acts few shows size ends = opaque_ranked ts xs mat start end acts few shows size ends
+ranked_by Strict ts xs mat start end acts few shows size ends = strict_ranked ts xs mat start end acts few shows size ends
 
-pub ordered_by : (criterion : Criterion) (ts : List Txn) (xs : List Deed) (mat : List ℕ) (start : State) (held : ℕ) (rank : ℕ → ℕ)
-    → ShowsDeeds xs ts → length ts ≤ 8 → ShowsOrder criterion ts mat → length start ≡ 8 → IsCompletion ts held
+pub ordered_by : (criterion : Criterion) (ts : List Txn) (xs : List Effect) (mat : List ℕ) (start : State) (held : ℕ) (rank : ℕ → ℕ)
+    → ActAs xs ts → length ts ≤ 8 → ShowsOrder criterion ts mat → length start ≡ 8 → IsCompletion ts held
     → IsIn xs start (root criterion mat (length ts) held) rank → Ordered criterion ts xs held start rank
-ordered_by Opacity ts xs mat start held rank deeds few shows size completion w =
-    opaque_ordered ts xs mat start held rank deeds few shows size completion w
-ordered_by Strict ts xs mat start held rank deeds few shows size completion w =
-    strict_ordered ts xs mat start held rank deeds few shows size completion w
+ordered_by Opacity ts xs mat start held rank acts few shows size completion w =
+    opaque_ordered ts xs mat start held rank acts few shows size completion w
+ordered_by Strict ts xs mat start held rank acts few shows size completion w =
+    strict_ordered ts xs mat start held rank acts few shows size completion w
 
-pub are_ranked : (criterion : Criterion) (ts : List Txn) (xs : List Deed) (mat : List ℕ) (start : State) → ShowsDeeds xs ts → length ts ≤ 8
+pub are_ranked : (criterion : Criterion) (ts : List Txn) (xs : List Effect) (mat : List ℕ) (start : State) → ActAs xs ts → length ts ≤ 8
     → ShowsOrder criterion ts mat → length start ≡ 8 → AreRanked criterion xs ts mat start
-are_ranked criterion ts xs mat start deeds few shows size end = (
-  λ ends. ranked_by criterion ts xs mat start end deeds few shows size ends,
+are_ranked criterion ts xs mat start acts few shows size end = (
+  λ ends. ranked_by criterion ts xs mat start end acts few shows size ends,
   λ ranks.
       let (held, completion, e) = ranks in
-      let o = ordered_by criterion ts xs mat start held e.rank deeds few shows size completion e.within in
+      let o = ordered_by criterion ts xs mat start held e.rank acts few shows size completion e.within in
       (start, refl, (o.order, o.explains, o.ends end e.size e.each)),
 )
 
 -- for `possible`
-pub some_end : (criterion : Criterion) (ts : List Txn) (xs : List Deed) (mat : List ℕ) (start : State) (committed : ℕ) → ShowsDeeds xs ts
+pub some_end : (criterion : Criterion) (ts : List Txn) (xs : List Effect) (mat : List ℕ) (start : State) (committed : ℕ) → ActAs xs ts
     → length ts ≤ 8 → ShowsOrder criterion ts mat → length start ≡ 8 → AreCommitted ts committed
     → ((end : State) × EndsBy criterion (Only start) ts end) ↔ IsSolvable criterion xs ts start (root criterion mat (length ts) committed)
-some_end criterion ts xs mat start committed deeds few shows size are = (
+some_end criterion ts xs mat start committed acts few shows size are = (
   λ some.
       let (end, ends) = some in
-      let (held, completion, e) = ranked_by criterion ts xs mat start end deeds few shows size ends in (
+      let (held, completion, e) = ranked_by criterion ts xs mat start end acts few shows size ends in (
         held,
         e.rank,
         record {
@@ -59,6 +59,6 @@ some_end criterion ts xs mat start committed deeds few shows size are = (
       ),
   λ solvable.
       let (held, rank, s) = solvable in
-      let o = ordered_by criterion ts xs mat start held rank deeds few shows size s.completion s.within in
+      let o = ordered_by criterion ts xs mat start held rank acts few shows size s.completion s.within in
       (end_state start o.order, (start, refl, (o.order, o.explains, refl))),
 )

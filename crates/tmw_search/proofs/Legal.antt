@@ -14,9 +14,9 @@ use Rattle.tmw_defs.specs.Outcomes.{end_state}
 use Rattle.tmw_defs.specs.Quiet.{is_pending}
 use Rattle.tmw_search.specs.ForcedTransactions.{is_committed}
 use Rattle.tmw_search.proofs.LayerSteps.{slice_get_some}
-use Rattle.tmw_search.specs.Polygraph.{ShowsDeeds, ShowsOrder, IsCompletion, IsIn, members_of, root}
+use Rattle.tmw_search.specs.Polygraph.{ActAs, ShowsOrder, IsCompletion, IsIn, members_of, root}
 use Rattle.tmw_search.specs.Legal.{ReadsFrom, ReadsStart}
-use Rattle.tmw_search.specs.declared.deed.Deed.{Deed}
+use Rattle.tmw_cuts.specs.declared.effect.Effect.{Effect}
 use Rattle.tmw_search.specs.Nodes.{IsLegal, TellStatus, TellsLegal}
 use Rattle.tmw_search.proofs.Growing.{Sub}
 use Rattle.tmw_search.proofs.Law.{ranked_by, ordered_by}
@@ -62,7 +62,7 @@ of_member : (criterion : Criterion) (n committed held small j : ℕ) → (bit_at
 of_member Opacity n committed held small j sub one = inl one
 of_member Strict n committed held small j sub one = inr (sub one)
 
-reads-small : (xs : List Deed) (held small : ℕ) (start : State) (rank : ℕ → ℕ) (j r : ℕ) → Sub small held
+reads-small : (xs : List Effect) (held small : ℕ) (start : State) (rank : ℕ → ℕ) (j r : ℕ) → Sub small held
     → ((i : ℕ) → i < 8 → bit_at held i ≡ 1 → bit_at small i ≡ 1)
     → ReadsStart xs held start rank j r ⊎ ((i : ℕ) × ReadsFrom xs held rank j r i)
     → ReadsStart xs small start rank j r ⊎ ((i : ℕ) × ReadsFrom xs small rank j r i)
@@ -78,7 +78,7 @@ reads-small xs held small start rank j r sub into (inr (i, f)) = inr (
   },
 )
 
-legal-of : (criterion : Criterion) (ts : List Txn) (xs : List Deed) (mat : List ℕ) (start : State) (committed pending held : ℕ) (rank : ℕ → ℕ)
+legal-of : (criterion : Criterion) (ts : List Txn) (xs : List Effect) (mat : List ℕ) (start : State) (committed pending held : ℕ) (rank : ℕ → ℕ)
     → TellStatus ts committed pending → IsCompletion ts held → IsIn xs start (root criterion mat (length ts) held) rank
     → IsLegal xs start pending (root criterion mat (length ts) committed) held rank
 legal-of criterion ts xs mat start committed pending held rank tell c w =
@@ -107,12 +107,12 @@ legal-of criterion ts xs mat start committed pending held rank tell c w =
     }
 
 -- those below n that are held
-record Completes (criterion : Criterion) (ts : List Txn) (xs : List Deed) (mat : List ℕ) (start : State) (rank : ℕ → ℕ) : Type 0 where
+record Completes (criterion : Criterion) (ts : List Txn) (xs : List Effect) (mat : List ℕ) (start : State) (rank : ℕ → ℕ) : Type 0 where
   held : ℕ
   completion : IsCompletion ts held
   within : IsIn xs start (root criterion mat (length ts) held) rank
 
-of_legal : (criterion : Criterion) (ts : List Txn) (xs : List Deed) (mat : List ℕ) (start : State) (committed pending held : ℕ) (rank : ℕ → ℕ)
+of_legal : (criterion : Criterion) (ts : List Txn) (xs : List Effect) (mat : List ℕ) (start : State) (committed pending held : ℕ) (rank : ℕ → ℕ)
     → length ts ≤ 8 → TellStatus ts committed pending → IsLegal xs start pending (root criterion mat (length ts) committed) held rank
     → Completes criterion ts xs mat start rank
 of_legal criterion ts xs mat start committed pending held rank few tell l =
@@ -154,17 +154,17 @@ of_legal criterion ts xs mat start committed pending held rank few tell l =
       };
     }
 
-pub tells_legal : (criterion : Criterion) (ts : List Txn) (xs : List Deed) (mat : List ℕ) (start : State) (committed pending : ℕ)
-    → ShowsDeeds xs ts → length ts ≤ 8 → ShowsOrder criterion ts mat → length start ≡ 8 → TellStatus ts committed pending
+pub tells_legal : (criterion : Criterion) (ts : List Txn) (xs : List Effect) (mat : List ℕ) (start : State) (committed pending : ℕ)
+    → ActAs xs ts → length ts ≤ 8 → ShowsOrder criterion ts mat → length start ≡ 8 → TellStatus ts committed pending
     → TellsLegal criterion xs ts mat start committed pending
-tells_legal criterion ts xs mat start committed pending deeds few shows size tell = (
+tells_legal criterion ts xs mat start committed pending acts few shows size tell = (
   λ some.
       let (end, ends) = some in
-      let (held, completion, e) = ranked_by criterion ts xs mat start end deeds few shows size ends in
+      let (held, completion, e) = ranked_by criterion ts xs mat start end acts few shows size ends in
       (held, e.rank, legal-of criterion ts xs mat start committed pending held e.rank tell completion e.within),
   λ legal.
       let (held, rank, l) = legal in
       let c = of_legal criterion ts xs mat start committed pending held rank few tell l in
-      let o = ordered_by criterion ts xs mat start c.held rank deeds few shows size c.completion c.within in
+      let o = ordered_by criterion ts xs mat start c.held rank acts few shows size c.completion c.within in
       (end_state start o.order, (start, refl, (o.order, o.explains, refl))),
 )

@@ -54,3 +54,5 @@ mod Legal
 mod Windows
 mod EndsByLast
 mod Answering
+mod Reading
+mod Rooting

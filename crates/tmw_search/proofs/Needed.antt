@@ -16,7 +16,7 @@ use Rattle.tmw_search.proofs.LayerSteps.{slice_get_some}
 use Rattle.tmw_search.proofs.Masks.{bit_at-less_same, pow_some}
 use Rattle.tmw_search.specs.Polygraph.{IsIn, IsCompletion, members_of, root}
 use Rattle.tmw_search.specs.Legal.{idle, Needs, ReadsFrom, ReadsStart}
-use Rattle.tmw_search.specs.declared.deed.Deed.{Deed}
+use Rattle.tmw_cuts.specs.declared.effect.Effect.{Effect}
 use Rattle.tmw_search.specs.Nodes.{AreRead}
 use Rattle.tmw_search.proofs.Growing.{Sub, shrunk, members-less}
 
@@ -48,7 +48,7 @@ sub-less held i small less j one =
     ]
 
 -- the read has its value from another than i, or from the start
-abbrev pub ReadsElse : List Deed → ℕ → State → (ℕ → ℕ) → ℕ → ℕ → ℕ → Type 0
+abbrev pub ReadsElse : List Effect → ℕ → State → (ℕ → ℕ) → ℕ → ℕ → ℕ → Type 0
 ReadsElse xs held start rank i j r = ReadsStart xs held start rank j r ⊎ ((k : ℕ) × (k ≡ i → ⊥) × ReadsFrom xs held rank j r k)
 
 -- what is pending may be left out
@@ -69,7 +69,7 @@ completion-less ts held i small t c at pending less = record {
   ];
 }
 
-pub unneeded : (criterion : Criterion) (xs : List Deed) (ts : List Txn) (start : State) (mat : List ℕ) (held small i : ℕ) (rank : ℕ → ℕ)
+pub unneeded : (criterion : Criterion) (xs : List Effect) (ts : List Txn) (start : State) (mat : List ℕ) (held small i : ℕ) (rank : ℕ → ℕ)
     → IsLess held i small → IsIn xs start (root criterion mat (length ts) held) rank
     → ((j r : ℕ) → j < 8 → r < 8 → bit_at (members_of criterion (length ts) held) j ≡ 1 → Needs xs j r → ReadsElse xs held start rank i j r)
     → IsIn xs start (root criterion mat (length ts) small) rank
@@ -100,11 +100,11 @@ all_or (suc n) A B each =
     ]
 
 -- a member reads from i
-abbrev IsRead : Criterion → List Deed → ℕ → ℕ → (ℕ → ℕ) → ℕ → Type 0
+abbrev IsRead : Criterion → List Effect → ℕ → ℕ → (ℕ → ℕ) → ℕ → Type 0
 IsRead criterion xs n held rank i =
     (j : ℕ) × (r : ℕ) × (bit_at (members_of criterion n held) j ≡ 1) × Needs xs j r × ReadsFrom xs held rank j r i
 
-read_or : (criterion : Criterion) (xs : List Deed) (start : State) (mat : List ℕ) (n held : ℕ) (rank : ℕ → ℕ) (i : ℕ)
+read_or : (criterion : Criterion) (xs : List Effect) (start : State) (mat : List ℕ) (n held : ℕ) (rank : ℕ → ℕ) (i : ℕ)
     → IsIn xs start (root criterion mat n held) rank
     → IsRead criterion xs n held rank i
     ⊎ ((j r : ℕ) → j < 8 → r < 8 → bit_at (members_of criterion n held) j ≡ 1 → Needs xs j r → ReadsElse xs held start rank i j r)
@@ -143,25 +143,25 @@ pending_or Committed = inr (λ same. absurd (cc))
 pending_or Aborted = inr (λ same. absurd (cc))
 
 -- a completion of fewer, each of whose pending ones is read from
-pub record Fewer (criterion : Criterion) (xs : List Deed) (ts : List Txn) (start : State) (mat : List ℕ) (held : ℕ) (rank : ℕ → ℕ) : Type 0 where
+pub record Fewer (criterion : Criterion) (xs : List Effect) (ts : List Txn) (start : State) (mat : List ℕ) (held : ℕ) (rank : ℕ → ℕ) : Type 0 where
   pub small : ℕ
   pub sub : Sub small held
   pub completion : IsCompletion ts small
   pub within : IsIn xs start (root criterion mat (length ts) small) rank
   pub read : AreRead criterion xs ts small rank
 
-record IsUnread (criterion : Criterion) (xs : List Deed) (ts : List Txn) (start : State) (held : ℕ) (rank : ℕ → ℕ) (i : ℕ) : Type 0 where
+record IsUnread (criterion : Criterion) (xs : List Effect) (ts : List Txn) (start : State) (held : ℕ) (rank : ℕ → ℕ) (i : ℕ) : Type 0 where
   txn : Txn
   at : slice_get ts i ≡ Some txn
   pending : status_of txn.text ≡ Pending
   has : bit_at held i ≡ 1
   reads : (j r : ℕ) → j < 8 → r < 8 → bit_at (members_of criterion (length ts) held) j ≡ 1 → Needs xs j r → ReadsElse xs held start rank i j r
 
-abbrev IsReadAt : Criterion → List Deed → List Txn → ℕ → (ℕ → ℕ) → ℕ → Type 0
+abbrev IsReadAt : Criterion → List Effect → List Txn → ℕ → (ℕ → ℕ) → ℕ → Type 0
 IsReadAt criterion xs ts held rank i = (t : Txn) → slice_get ts i ≡ Some t → status_of t.text ≡ Pending → bit_at held i ≡ 1
     → IsRead criterion xs (length ts) held rank i
 
-unread_or : (criterion : Criterion) (xs : List Deed) (ts : List Txn) (start : State) (mat : List ℕ) (held : ℕ) (rank : ℕ → ℕ) (i : ℕ)
+unread_or : (criterion : Criterion) (xs : List Effect) (ts : List Txn) (start : State) (mat : List ℕ) (held : ℕ) (rank : ℕ → ℕ) (i : ℕ)
     → i < length ts → IsIn xs start (root criterion mat (length ts) held) rank
     → IsUnread criterion xs ts start held rank i ⊎ IsReadAt criterion xs ts held rank i
 unread_or criterion xs ts start mat held rank i within w =
@@ -177,7 +177,7 @@ unread_or criterion xs ts start mat held rank i within w =
       ]
     ]
 
-pub fewer : (fuel : ℕ) (criterion : Criterion) (xs : List Deed) (ts : List Txn) (start : State) (mat : List ℕ) (held : ℕ) (rank : ℕ → ℕ)
+pub fewer : (fuel : ℕ) (criterion : Criterion) (xs : List Effect) (ts : List Txn) (start : State) (mat : List ℕ) (held : ℕ) (rank : ℕ → ℕ)
     → held < fuel → IsCompletion ts held → IsIn xs start (root criterion mat (length ts) held) rank
     → Fewer criterion xs ts start mat held rank
 fewer zero criterion xs ts start mat held rank below c w = absurd (omega (arith, below))

@@ -12,8 +12,8 @@ use Rattle.tmw_defs.specs.Outcomes.{end_state, Only}
 use Rattle.tmw_defs.specs.Criteria.{EndsBy}
 use Rattle.tmw_cuts.specs.Views.{bit}
 use Rattle.tmw_search.proofs.LayerSteps.{slice_get_some}
-use Rattle.tmw_search.specs.Polygraph.{ShowsDeeds, ShowsOrder, IsCompletion, IsIn, RanksTo, root}
-use Rattle.tmw_search.specs.declared.deed.Deed.{Deed}
+use Rattle.tmw_search.specs.Polygraph.{ActAs, ShowsOrder, IsCompletion, IsIn, RanksTo, root}
+use Rattle.tmw_cuts.specs.declared.effect.Effect.{Effect}
 use Rattle.tmw_search.proofs.Places.{Stands, stands, sorts}
 use Rattle.tmw_search.proofs.Runs.{keeps_at, keeps-each, completed_at, completed-each}
 use Rattle.tmw_search.proofs.Values.{Runs}
@@ -54,14 +54,14 @@ in_all : (n j : ℕ) → bit_at (2 ^ n - 1) j ≡ 1 → j < n
 in_all n j one =
     elim (cases_lt j n) [ inl within ↦ within | inr past ↦ absurd (omega (arith, one, bit_at_ones_above n j past)) ]
 
-runs-all : (ts : List Txn) (xs : List Deed) (held : ℕ) (order : List Placed) (rank place : ℕ → ℕ) → ShowsDeeds xs ts → length ts ≤ 8
+runs-all : (ts : List Txn) (xs : List Effect) (held : ℕ) (order : List Placed) (rank place : ℕ → ℕ) → ActAs xs ts → length ts ≤ 8
     → ((i : ℕ) → length ts ≤ i → bit_at held i ≡ 0) → Stands ts order rank place
     → ((k : ℕ) (p : Placed) → slice_get order k ≡ Some p → p.held ≡ (bit_at held (place k) == 1))
     → Runs ts xs (2 ^ length ts - 1) held order rank place
-runs-all ts xs held order rank place deeds few none s told =
+runs-all ts xs held order rank place acts few none s told =
     let n = length ts in
     record {
-      deeds = deeds;
+      acts = acts;
       few = omega (arith, s.size, few);
       low = λ j one. omega (arith, in_all n j one, few);
       sub = λ j one. bit_at_ones n j (elim (cases_lt j n) [ inl within ↦ within | inr past ↦ absurd (omega (arith, one, none j past)) ]);
@@ -88,9 +88,9 @@ abbrev held_in : Option Placed → Bool
 held_in None = false
 held_in (Some p) = p.held
 
-pub opaque_ranked : (ts : List Txn) (xs : List Deed) (mat : List ℕ) (start end : State) → ShowsDeeds xs ts → length ts ≤ 8 → ShowsOrder Opacity ts mat
+pub opaque_ranked : (ts : List Txn) (xs : List Effect) (mat : List ℕ) (start end : State) → ActAs xs ts → length ts ≤ 8 → ShowsOrder Opacity ts mat
     → length start ≡ 8 → EndsBy Opacity (Only start) ts end → RanksTo Opacity xs ts mat start end
-opaque_ranked ts xs mat start end deeds few shows size (s, is, (order, e, to)) =
+opaque_ranked ts xs mat start end acts few shows size (s, is, (order, e, to)) =
     let n = length ts in
     let (rank, place, st) = stands ts order e.each in
     let holds : ℕ → Bool = λ j. held_in (slice_get order (rank j)) in
@@ -100,7 +100,7 @@ opaque_ranked ts xs mat start end deeds few shows size (s, is, (order, e, to)) =
     let here : slice_get order (rank (place k)) ≡ Some p =
     ap (slice_get order) (st.ranked k (omega (arith, slice_get_within order k p at, st.size))) ∙ at in
     sym (ap (λ (b : ℕ). b == 1) (bit_at-mask_of holds n (place k) inside) ∙ bit_is (holds (place k)) ∙ ap held_in here) in
-    let runs = runs-all ts xs held order rank place deeds few (bit_at-mask_past holds n) st told in
+    let runs = runs-all ts xs held order rank place acts few (bit_at-mask_past holds n) st told in
     let completion : IsCompletion ts held = record {
       may = λ i t at.
           let inside : i < n = slice_get_within ts i t at in
@@ -116,13 +116,13 @@ opaque_ranked ts xs mat start end deeds few shows size (s, is, (order, e, to)) =
     let ends : end_state start order ≡ end = ap (λ (x : State). end_state x order) (sym is) ∙ to in
     (held, completion, rw ends at all)
 
-pub opaque_ordered : (ts : List Txn) (xs : List Deed) (mat : List ℕ) (start : State) (held : ℕ) (rank : ℕ → ℕ) → ShowsDeeds xs ts → length ts ≤ 8
+pub opaque_ordered : (ts : List Txn) (xs : List Effect) (mat : List ℕ) (start : State) (held : ℕ) (rank : ℕ → ℕ) → ActAs xs ts → length ts ≤ 8
     → ShowsOrder Opacity ts mat → length start ≡ 8 → IsCompletion ts held → IsIn xs start (root Opacity mat (length ts) held) rank
     → Ordered Opacity ts xs held start rank
-opaque_ordered ts xs mat start held rank deeds few shows size completion w =
+opaque_ordered ts xs mat start held rank acts few shows size completion w =
     let n = length ts in
     let s = sorts n ts rank (λ j. bit_at held j == 1) refl in
-    let runs = runs-all ts xs held s.order s.ranks s.place deeds few completion.none s.stands s.held in
+    let runs = runs-all ts xs held s.order s.ranks s.place acts few completion.none s.stands s.held in
     let serial = serial_of ts xs (2 ^ n - 1) held mat s.order s.ranks s.place start rank runs (meets-all ts mat shows) size w
     (λ i j in_i in_j less. s.keeps i j (in_all n i in_i) (in_all n j in_j) less) in
     record {

@@ -8,7 +8,7 @@ use Rattle.tmw_defs.specs.Opaque.{State}
 use Rattle.tmw_search.specs.Chosen.{source_at, IsRead}
 use Rattle.tmw_search.specs.declared.sources.Choices.{Choices}
 use Rattle.tmw_search.specs.declared.sources.Source.TheVariants.{Open, Start, From}
-use Rattle.tmw_search.specs.declared.deed.Deed.{Deed}
+use Rattle.tmw_cuts.specs.declared.effect.Effect.{Effect}
 use Rattle.tmw_search.specs.declared.node.Node.{Node}
 use Rattle.tmw_search.specs.declared.node.Branch.{Branch}
 use Rattle.tmw_search.specs.Legal.{In, ReadsFrom, ReadsStart, IsLegal, IsBranch, MayGive, HasNone, IsFound, Gives}
@@ -58,12 +58,12 @@ picked-last c j left None P none p = λ a r below within is. elim (same_place a 
 picked-last c j left (Some b) P none p = p
 
 -- every legal order has the read's value come from one of those left
-pub record Tries (xs : List Deed) (start : State) (may : ℕ) (node : Node) (j r left : ℕ) : Type 0 where
+pub record Tries (xs : List Effect) (start : State) (may : ℕ) (node : Node) (j r left : ℕ) : Type 0 where
   pub all : (held : ℕ) (rank : ℕ → ℕ) → IsLegal xs start may node held rank
       → (i : ℕ) × (i < 8) × In left i × ReadsFrom xs held rank j r i
   pub among : (i : ℕ) → i < 8 → In left i → MayGive xs start may node j r (From i)
 
-pub tries-none : (xs : List Deed) (start : State) (may : ℕ) (node : Node) (b : Branch) → IsBranch xs start may node b
+pub tries-none : (xs : List Effect) (start : State) (may : ℕ) (node : Node) (b : Branch) → IsBranch xs start may node b
     → (IsTrue b.start → (held : ℕ) (rank : ℕ → ℕ) → IsLegal xs start may node held rank
     → ReadsStart xs held start rank b.reader b.register → ⊥)
     → Tries xs start may node b.reader b.register b.writers
@@ -77,7 +77,7 @@ tries-none xs start may node b is none = record {
       (within, may_hold, leaves, value);
 }
 
-pub tries-next : (xs : List Deed) (start : State) (may : ℕ) (node child : Node) (j r left i : ℕ) → i < 8 → In left i
+pub tries-next : (xs : List Effect) (start : State) (may : ℕ) (node child : Node) (j r left i : ℕ) → i < 8 → In left i
     → Gives xs start may node j r (From i) child → HasNone xs start may child → Tries xs start may node j r left
     → Tries xs start may node j r (left - 1 * 2 ^ i % 2 ^ 8)
 tries-next xs start may node child j r left i within one g none t =
@@ -92,13 +92,13 @@ tries-next xs start may node child j r left i within one g none t =
       among = λ k few is. t.among k few (less_has left i _ k less is);
     }
 
-pub tries-all : (xs : List Deed) (start : State) (may : ℕ) (node : Node) (j r left : ℕ) → left ≡ 0 → Tries xs start may node j r left
+pub tries-all : (xs : List Effect) (start : State) (may : ℕ) (node : Node) (j r left : ℕ) → left ≡ 0 → Tries xs start may node j r left
     → HasNone xs start may node
 tries-all xs start may node j r left none t = λ held rank l.
     let (k, few, is, reads) = t.all held rank l in
     absurd (omega (arith, is, ap (λ (m : ℕ). bit_at m k) none, bit_at-zero k))
 
-pub found-given : (xs : List Deed) (start : State) (may : ℕ) (node child found : Node) (j r i : ℕ)
+pub found-given : (xs : List Effect) (start : State) (may : ℕ) (node child found : Node) (j r i : ℕ)
     → Gives xs start may node j r (From i) child → IsFound xs start may child found → IsFound xs start may node found
 found-given xs start may node child found j r i g f = record {
   order = f.order;
@@ -107,7 +107,7 @@ found-given xs start may node child found j r i g f = record {
   legal = λ rank ranks. g.into found.held rank (f.legal rank ranks);
 }
 
-pub found-started : (xs : List Deed) (start : State) (may : ℕ) (node child found : Node) (j r : ℕ)
+pub found-started : (xs : List Effect) (start : State) (may : ℕ) (node child found : Node) (j r : ℕ)
     → Gives xs start may node j r Start child → IsFound xs start may child found → IsFound xs start may node found
 found-started xs start may node child found j r g f = record {
   order = f.order;

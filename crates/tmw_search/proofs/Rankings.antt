@@ -14,7 +14,7 @@ use Rattle.tmw_search.proofs.LayersProof.{same_place, bit_cases}
 use Rattle.tmw_search.proofs.LayerSteps.{slice_get_some}
 use Rattle.tmw_search.specs.Polygraph.{Node, IsIn, EndsAt, EndsIn}
 use Rattle.tmw_search.specs.Legal.{ReadsFrom, ReadsStart}
-use Rattle.tmw_search.specs.declared.deed.Deed.{Deed}
+use Rattle.tmw_cuts.specs.declared.effect.Effect.{Effect}
 use Rattle.tmw_search.specs.declared.sources.Source.TheVariants.{Open}
 use Rattle.tmw_search.proofs.Runs.{Keeps}
 use Rattle.tmw_search.proofs.Values.{Runs, length-end}
@@ -43,14 +43,14 @@ le-same : (members : ℕ) (one other : ℕ → ℕ) (i j : ℕ) → SameOrder me
 le-same members one other i j back in_i in_j low =
     elim (cases_lt (other j) (other i)) [ inl less ↦ absurd (omega (arith, low, back j i in_j in_i less)) | inr high ↦ high ]
 
-start-same : (xs : List Deed) (members held : ℕ) (start : State) (one other : ℕ → ℕ) (j r : ℕ) → Sub held members → bit_at members j ≡ 1
+start-same : (xs : List Effect) (members held : ℕ) (start : State) (one other : ℕ → ℕ) (j r : ℕ) → Sub held members → bit_at members j ≡ 1
     → SameOrder members other one → ReadsStart xs held start one j r → ReadsStart xs held start other j r
 start-same xs members held start one other j r sub in_j back st = record {
   value = st.value;
   others = λ k w. le-same members one other j k back in_j (sub k w.1) (st.others k w);
 }
 
-from-same : (xs : List Deed) (members held : ℕ) (one other : ℕ → ℕ) (j r i : ℕ) → Sub held members → bit_at members j ≡ 1
+from-same : (xs : List Effect) (members held : ℕ) (one other : ℕ → ℕ) (j r i : ℕ) → Sub held members → bit_at members j ≡ 1
     → SameOrder members one other → SameOrder members other one → ReadsFrom xs held one j r i → ReadsFrom xs held other j r i
 from-same xs members held one other j r i sub in_j same back f = record {
   writes = f.writes;
@@ -62,7 +62,7 @@ from-same xs members held one other j r i sub in_j same back f = record {
   ];
 }
 
-pub reads-same : (xs : List Deed) (members held : ℕ) (start : State) (one other : ℕ → ℕ) (j r : ℕ) → Sub held members → bit_at members j ≡ 1
+pub reads-same : (xs : List Effect) (members held : ℕ) (start : State) (one other : ℕ → ℕ) (j r : ℕ) → Sub held members → bit_at members j ≡ 1
     → SameOrder members one other → SameOrder members other one
     → ReadsStart xs held start one j r ⊎ ((i : ℕ) × ReadsFrom xs held one j r i)
     → ReadsStart xs held start other j r ⊎ ((i : ℕ) × ReadsFrom xs held other j r i)
@@ -71,7 +71,7 @@ reads-same xs members held start one other j r sub in_j same back (inl st) =
 reads-same xs members held start one other j r sub in_j same back (inr (i, f)) =
     inr (i, from-same xs members held one other j r i sub in_j same back f)
 
-pub ends-same : (xs : List Deed) (members held : ℕ) (one other : ℕ → ℕ) (r old value : ℕ) → Sub held members → SameOrder members other one
+pub ends-same : (xs : List Effect) (members held : ℕ) (one other : ℕ → ℕ) (r old value : ℕ) → Sub held members → SameOrder members other one
     → EndsAt xs held one r old value → EndsAt xs held other r old value
 ends-same xs members held one other r old value sub same (inl none) = inl none
 ends-same xs members held one other r old value sub same (inr (place, l)) = inr (
@@ -97,7 +97,7 @@ wide-out : (members : ℕ) (rank : ℕ → ℕ) (j : ℕ) → bit_at members j �
 wide-out members rank j none =
     let is : (bit_at members j == 1) ≡ false = ne_eqb (bit_at members j) 1 (λ one. absurd (omega (arith, one, none))) in rw is refl
 
-ranking-of : (ts : List Txn) (xs : List Deed) (members held : ℕ) (mat : List ℕ) (order : List Placed) (rank place : ℕ → ℕ)
+ranking-of : (ts : List Txn) (xs : List Effect) (members held : ℕ) (mat : List ℕ) (order : List Placed) (rank place : ℕ → ℕ)
     → Runs ts xs members held order rank place → Meets ts members mat → Keeps order → IsRanking (wide members rank) mat
 ranking-of ts xs members held mat order rank place runs meets keeps =
     let small : (j : ℕ) → bit_at members j ≡ 1 → rank j < 8 = λ j in_j. omega (arith, runs.within j in_j, runs.few) in
@@ -138,7 +138,7 @@ ranking-of ts xs members held mat order rank place runs meets keeps =
     }
 
 -- a serial order's ranks are a ranking that ends as it does
-pub ranks_of : (ts : List Txn) (xs : List Deed) (members held : ℕ) (mat : List ℕ) (order : List Placed) (rank place : ℕ → ℕ) (s : State)
+pub ranks_of : (ts : List Txn) (xs : List Effect) (members held : ℕ) (mat : List ℕ) (order : List Placed) (rank place : ℕ → ℕ) (s : State)
     → Runs ts xs members held order rank place → Meets ts members mat → Keeps order → IsTrue (is_legal s order) → length s ≡ 8
     → EndsIn xs s (open_node mat members held) (end_state s order)
 ranks_of ts xs members held mat order rank place s runs meets keeps legal size =
@@ -160,13 +160,13 @@ ranks_of ts xs members held mat order rank place s runs meets keeps legal size =
     }
 
 -- an order that is sorted by a ranking
-pub record Serial (xs : List Deed) (held : ℕ) (s : State) (order : List Placed) (ranking : ℕ → ℕ) : Type 0 where
+pub record Serial (xs : List Effect) (held : ℕ) (s : State) (order : List Placed) (ranking : ℕ → ℕ) : Type 0 where
   pub keeps : Keeps order
   pub legal : IsTrue (is_legal s order)
   pub ends : (end : State) → length end ≡ 8 → ((r : ℕ) → r < 8 → EndsAt xs held ranking r (slice_index s r) (slice_index end r))
       → end_state s order ≡ end
 
-pub serial_of : (ts : List Txn) (xs : List Deed) (members held : ℕ) (mat : List ℕ) (order : List Placed) (rank place : ℕ → ℕ) (s : State)
+pub serial_of : (ts : List Txn) (xs : List Effect) (members held : ℕ) (mat : List ℕ) (order : List Placed) (rank place : ℕ → ℕ) (s : State)
     (given : ℕ → ℕ) → Runs ts xs members held order rank place → Meets ts members mat → length s ≡ 8
     → IsIn xs s (open_node mat members held) given → SameOrder members given rank → Serial xs held s order given
 serial_of ts xs members held mat order rank place s given runs meets size w same =
@@ -206,7 +206,7 @@ serial_of ts xs members held mat order rank place s given runs meets size w same
     }
 
 -- a serial order that the ranking makes
-pub record Ordered (criterion : Criterion) (ts : List Txn) (xs : List Deed) (held : ℕ) (start : State) (rank : ℕ → ℕ) : Type 0 where
+pub record Ordered (criterion : Criterion) (ts : List Txn) (xs : List Effect) (held : ℕ) (start : State) (rank : ℕ → ℕ) : Type 0 where
   pub order : List Placed
   pub explains : ExplainsBy criterion start ts order
   pub ends : (end : State) → length end ≡ 8 → ((r : ℕ) → r < 8 → EndsAt xs held rank r (slice_index start r) (slice_index end r))

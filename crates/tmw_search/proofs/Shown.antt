@@ -1,4 +1,4 @@
--- What a window shows of its transactions is what the law asks: their effects are deeds, and their masks the real-time order.
+-- What a window shows of its transactions is what the law asks: their effects are acts, and their masks the real-time order.
 use Rattle.std.proofs.Common.{◌≡◌, ◌==◌, ◌||◌, ◌&&◌, ◌<◌, ◌≤◌, ℕ, zero, suc, Bool, true, false, not, List, [], ◌∷◌, length, Some, IsTrue, refl, sym, ap, ◌∙◌, inl, inr, arith}
 use Rattle.std.specs.Int.{bit_at}
 use Rattle.std.specs.Prelude.{slice_get, slice_index, get_or, if◌then◌else◌}
@@ -20,9 +20,9 @@ use Rattle.tmw_cuts.specs.Views.{View, bit, view, effect_of}
 use Rattle.tmw_search.specs.Layers.{is_aside}
 use Rattle.tmw_search.specs.ShownTransactions.{ShowsTransactions, NoneBeforeItself}
 use Rattle.tmw_search.proofs.LayerSteps.{slice_get_some}
-use Rattle.tmw_search.specs.Polygraph.{IsDeedOf, ShowsDeeds, ShowsOrder}
-use Rattle.tmw_search.specs.Legal.{idle}
-use Rattle.tmw_search.specs.WindowLaws.{deed, ShowsReach}
+use Rattle.tmw_search.specs.Polygraph.{ActsAs, ActAs, ShowsOrder}
+use Rattle.tmw_search.specs.Legal.{effects, idle}
+use Rattle.tmw_search.specs.WindowLaws.{ShowsReach}
 
 have_at : (ds : List Bool) (vs : List ℕ) (s : State) (i : ℕ) → i < length ds → i < length vs → i < length s → IsTrue (have ds vs s)
     → get_or ds i false ≡ true → slice_index s i ≡ slice_index vs i
@@ -65,8 +65,8 @@ get_or-chosen : (mask r : ℕ) → r < 8 → get_or (chosen mask) r false ≡ (b
 unfolding chosen
 get_or-chosen mask r below = get_or-map-range_with_len (λ k. bit_at mask k == 1) 0 8 r r false below (omega arith)
 
-pub is-deed : (e : Effect) (ops : List Op) → length e.needs ≡ 8 → length e.leaves ≡ 8 → SumsUp e ops → IsDeedOf (deed e) ops
-is-deed e ops needs leaves sums =
+pub acts-as : (e : Effect) (ops : List Op) → length e.needs ≡ 8 → length e.leaves ≡ 8 → SumsUp e ops → ActsAs e ops
+acts-as e ops needs leaves sums =
     let long : (mask r : ℕ) → r < 8 → r < length (chosen mask) = λ mask r few. omega (arith, few, length-chosen mask) in
     record {
       reads = λ s size. (
@@ -148,18 +148,18 @@ order-of_reach criterion xs ts mat shows self few are = record {
       ];
 }
 
--- a window's effects are its transactions' deeds
+-- a window's effects are its transactions' acts
 abbrev pub HaveEight : List cuts.Txn → Type 0
 HaveEight items = (i : ℕ) (x : cuts.Txn) → slice_get items i ≡ Some x → (length (effect_of x).needs ≡ 8) × (length (effect_of x).leaves ≡ 8)
 
-pub shows-deeds : (items : List cuts.Txn) (ts : List Txn) → ShowsTransactions (map view items) ts → HaveEight items
-    → ShowsDeeds (map (λ (x : cuts.Txn). deed (effect_of x)) items) ts
-shows-deeds items ts shows eight i t at =
+pub act-as : (items : List cuts.Txn) (ts : List Txn) → ShowsTransactions (map view items) ts → HaveEight items
+    → ActAs (effects items) ts
+act-as items ts shows eight i t at =
     let within : i < length items = (let w = slice_get_within ts i t at in omega (arith, w, shows.same_length, length-map items view)) in
     let (x, at_x) = slice_get_some items i within in
     let shown : slice_get (map view items) i ≡ Some (view x) = slice_get-map view items i ∙ ap (option_map view) at_x in
-    let made : slice_get (map (λ (y : cuts.Txn). deed (effect_of y)) items) i ≡ Some (deed (effect_of x)) =
-    slice_get-map (λ (y : cuts.Txn). deed (effect_of y)) items i ∙ ap (option_map (λ (y : cuts.Txn). deed (effect_of y))) at_x in
+    let made : slice_get (effects items) i ≡ Some (effect_of x) =
+    slice_get-map effect_of items i ∙ ap (option_map effect_of) at_x in
     let one = shows.each i (view x) t shown at in
-    let is = is-deed (effect_of x) x.ops.items (eight i x at_x).0 (eight i x at_x).1 x.sums.0 in
-    rw (get_or_from_slice_get (map (λ (y : cuts.Txn). deed (effect_of y)) items) i (deed (effect_of x)) idle made, ← one.ops) is
+    let is = acts-as (effect_of x) x.ops.items (eight i x at_x).0 (eight i x at_x).1 x.sums.0 in
+    rw (get_or_from_slice_get (effects items) i (effect_of x) idle made, ← one.ops) is

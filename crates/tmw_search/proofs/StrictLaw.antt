@@ -14,8 +14,8 @@ use Rattle.tmw_defs.specs.Criteria.{EndsBy}
 use Rattle.tmw_defs.specs.Strict.{AreHeld}
 use Rattle.tmw_search.specs.Layers.{is_aside}
 use Rattle.tmw_search.proofs.LayerSteps.{slice_get_some}
-use Rattle.tmw_search.specs.Polygraph.{ShowsDeeds, ShowsOrder, IsCompletion, IsIn, RanksTo, root}
-use Rattle.tmw_search.specs.declared.deed.Deed.{Deed}
+use Rattle.tmw_search.specs.Polygraph.{ActAs, ShowsOrder, IsCompletion, IsIn, RanksTo, root}
+use Rattle.tmw_cuts.specs.declared.effect.Effect.{Effect}
 use Rattle.tmw_search.proofs.Places.{Stands, stands, sorts}
 use Rattle.tmw_search.proofs.Runs.{keeps_at, keeps-each, completed_at, completed-each}
 use Rattle.tmw_search.proofs.Values.{Runs}
@@ -184,11 +184,11 @@ held_of (t ∷ ts) holds may =
       }
     ]
 
-runs-held : (ts us : List Txn) (xs : List Deed) (held : ℕ) (order : List Placed) (rank place out back : ℕ → ℕ) → ShowsDeeds xs ts
+runs-held : (ts us : List Txn) (xs : List Effect) (held : ℕ) (order : List Placed) (rank place out back : ℕ → ℕ) → ActAs xs ts
     → length ts ≤ 8 → ((i : ℕ) → length ts ≤ i → bit_at held i ≡ 0) → Embeds ts us (λ j. bit_at held j == 1) out back
     → Stands us order rank place → ((k : ℕ) (p : Placed) → slice_get order k ≡ Some p → p.held ≡ true)
     → Runs ts xs held held order (λ j. rank (back j)) (λ k. out (place k))
-runs-held ts us xs held order rank place out back deeds few none e s told =
+runs-held ts us xs held order rank place out back acts few none e s told =
     let inside : (j : ℕ) → bit_at held j ≡ 1 → j < length ts =
     λ j one. elim (cases_lt j (length ts)) [ inl within ↦ within | inr past ↦ absurd (omega (arith, one, none j past)) ] in
     let is_yes : (j : ℕ) → bit_at held j ≡ 1 → (bit_at held j == 1) ≡ true = λ j one. eq-eqb (bit_at held j) 1 one in
@@ -196,7 +196,7 @@ runs-held ts us xs held order rank place out back deeds few none e s told =
     λ k low. (let there = slice_get_some order k low in slice_get_within us (place k) there.0.txn (s.at k there.0 there.1)) in
     let is_in : (k : ℕ) → k < length order → (bit_at held (out (place k)) == 1) ≡ true = λ k low. e.is (place k) (stand k low) in
     record {
-      deeds = deeds;
+      acts = acts;
       few = omega (arith, s.size, e.fewer, few);
       low = λ j one. omega (arith, inside j one, few);
       sub = λ j one. one;
@@ -235,9 +235,9 @@ meets-held ts mat held shows completion =
           let (t, u, at_i, at_j, aside, free_u, before) = shows.only i j low_i low_j differ one in (t, u, at_i, at_j, before);
     }
 
-pub strict_ranked : (ts : List Txn) (xs : List Deed) (mat : List ℕ) (start end : State) → ShowsDeeds xs ts → length ts ≤ 8 → ShowsOrder Strict ts mat
+pub strict_ranked : (ts : List Txn) (xs : List Effect) (mat : List ℕ) (start end : State) → ActAs xs ts → length ts ≤ 8 → ShowsOrder Strict ts mat
     → length start ≡ 8 → EndsBy Strict (Only start) ts end → RanksTo Strict xs ts mat start end
-strict_ranked ts xs mat start end deeds few shows size (s, is, (order, x, to)) =
+strict_ranked ts xs mat start end acts few shows size (s, is, (order, x, to)) =
     let n = length ts in
     let e = embedded ts x.members x.are in
     let (rank, place, st) = stands x.members order x.explains.each in
@@ -258,7 +258,7 @@ strict_ranked ts xs mat start end deeds few shows size (s, is, (order, x, to)) =
     let none = bit_at-mask_past e.holds n in
     let completion : IsCompletion ts held =
     record { may = λ i t at. rw (bits i (slice_get_within ts i t at)) (e.may i t at); none = none } in
-    let runs = runs-held ts x.members xs held order rank place e.out e.back deeds few none embeds st
+    let runs = runs-held ts x.members xs held order rank place e.out e.back acts few none embeds st
     (λ k p at. completed_at (λ q. q.held) order x.held k p at) in
     let legal = rw is at x.explains.legal in
     let all = ranks_of ts xs held held mat order (λ j. rank (e.back j)) (λ k. e.out (place k)) start runs (meets-held ts mat held shows completion)
@@ -266,13 +266,13 @@ strict_ranked ts xs mat start end deeds few shows size (s, is, (order, x, to)) =
     let ends : end_state start order ≡ end = ap (λ (y : State). end_state y order) (sym is) ∙ to in
     (held, completion, rw ends at all)
 
-pub strict_ordered : (ts : List Txn) (xs : List Deed) (mat : List ℕ) (start : State) (held : ℕ) (rank : ℕ → ℕ) → ShowsDeeds xs ts → length ts ≤ 8
+pub strict_ordered : (ts : List Txn) (xs : List Effect) (mat : List ℕ) (start : State) (held : ℕ) (rank : ℕ → ℕ) → ActAs xs ts → length ts ≤ 8
     → ShowsOrder Strict ts mat → length start ≡ 8 → IsCompletion ts held → IsIn xs start (root Strict mat (length ts) held) rank
     → Ordered Strict ts xs held start rank
-strict_ordered ts xs mat start held rank deeds few shows size completion w =
+strict_ordered ts xs mat start held rank acts few shows size completion w =
     let h = held_of ts (λ j. bit_at held j == 1) completion.may in
     let s = sorts (length h.us) h.us (λ m. rank (h.out m)) (λ m. true) refl in
-    let runs = runs-held ts h.us xs held s.order s.ranks s.place h.out h.back deeds few completion.none h.embeds s.stands s.held in
+    let runs = runs-held ts h.us xs held s.order s.ranks s.place h.out h.back acts few completion.none h.embeds s.stands s.held in
     let inside : (j : ℕ) → bit_at held j ≡ 1 → j < length ts =
     λ j one. elim (cases_lt j (length ts)) [ inl within ↦ within | inr past ↦ absurd (omega (arith, one, completion.none j past)) ] in
     let is_yes : (j : ℕ) → bit_at held j ≡ 1 → (bit_at held j == 1) ≡ true = λ j one. eq-eqb (bit_at held j) 1 one in

@@ -10,14 +10,14 @@ use Rattle.tmw_defs.specs.History.{Txn, operations}
 use Rattle.tmw_defs.specs.Opaque.{State, Placed, after, after_writes}
 use Rattle.tmw_defs.specs.Outcomes.{end_state}
 use Rattle.tmw_search.proofs.LayersProof.{bit_cases}
-use Rattle.tmw_search.specs.Polygraph.{IsDeedOf, ShowsDeeds}
+use Rattle.tmw_search.specs.Polygraph.{ActsAs, ActAs}
 use Rattle.tmw_search.specs.Legal.{idle, left_at, Writes}
-use Rattle.tmw_search.specs.declared.deed.Deed.{Deed}
+use Rattle.tmw_cuts.specs.declared.effect.Effect.{Effect}
 use Rattle.tmw_search.proofs.Runs.{state_at, or_kept, Leave, holds-at}
 
 -- The order's transactions are the members, at their ranks, held as the mask says.
-pub record Runs (ts : List Txn) (xs : List Deed) (members held : ℕ) (order : List Placed) (rank place : ℕ → ℕ) : Type 0 where
-  pub deeds : ShowsDeeds xs ts
+pub record Runs (ts : List Txn) (xs : List Effect) (members held : ℕ) (order : List Placed) (rank place : ℕ → ℕ) : Type 0 where
+  pub acts : ActAs xs ts
   pub few : length order ≤ 8
   pub low : (j : ℕ) → bit_at members j ≡ 1 → j < 8
   pub sub : (j : ℕ) → bit_at held j ≡ 1 → bit_at members j ≡ 1
@@ -48,7 +48,7 @@ length-end s [] = refl
 length-end s (p ∷ order) = length-end (after s p) order ∙ length-after s p
 
 -- what the one at the place leaves in the register, if it is held
-abbrev left_in : List Deed → ℕ → ℕ → ℕ → Option ℕ
+abbrev left_in : List Effect → ℕ → ℕ → ℕ → Option ℕ
 left_in xs held r j = if (bit_at held j == 1) && (bit_at (get_or xs j idle).left r == 1) then Some (left_at xs j r) else None
 
 is_one : (mask i : ℕ) → bit_at mask i ≡ 1 → (bit_at mask i == 1) ≡ true
@@ -57,10 +57,10 @@ is_one mask i one = eq-eqb (bit_at mask i) 1 one
 not_one : (mask i : ℕ) → bit_at mask i ≡ 0 → (bit_at mask i == 1) ≡ false
 not_one mask i none = ne_eqb (bit_at mask i) 1 (λ one. absurd (omega (arith, one, none)))
 
-left-writes : (xs : List Deed) (held r j : ℕ) → Writes xs held r j → left_in xs held r j ≡ Some (left_at xs j r)
+left-writes : (xs : List Effect) (held r j : ℕ) → Writes xs held r j → left_in xs held r j ≡ Some (left_at xs j r)
 left-writes xs held r j (low, is, writes) = rw (is_one held j is, is_one (get_or xs j idle).left r writes) refl
 
-left_writes : (xs : List Deed) (held r j v : ℕ) → j < 8 → left_in xs held r j ≡ Some v → Writes xs held r j × (v ≡ left_at xs j r)
+left_writes : (xs : List Effect) (held r j v : ℕ) → j < 8 → left_in xs held r j ≡ Some v → Writes xs held r j × (v ≡ left_at xs j r)
 left_writes xs held r j v low some =
     elim (bit_cases held j) [
       | inl none ↦ absurd (let n = rw (not_one held j none) at some in cc)
@@ -70,7 +70,7 @@ left_writes xs held r j v low some =
       ]
     ]
 
-leaves-held : (xs : List Deed) (held r j : ℕ) (p : Placed) (s : State) → IsDeedOf (get_or xs j idle) (operations p.txn.text)
+leaves-held : (xs : List Effect) (held r j : ℕ) (p : Placed) (s : State) → ActsAs (get_or xs j idle) (operations p.txn.text)
     → p.held ≡ (bit_at held j == 1) → length s ≡ 8 → r < 8 → slice_index (after s p) r ≡ or_kept (left_in xs held r j) (slice_index s r)
 leaves-held xs held r j p s deed told size few =
     elim (cases_Bool p.held) [
@@ -83,24 +83,24 @@ leaves-held xs held r j p s deed told size few =
           ]
     ]
 
-leave : (ts : List Txn) (xs : List Deed) (members held : ℕ) (order : List Placed) (rank place : ℕ → ℕ) (r : ℕ)
+leave : (ts : List Txn) (xs : List Effect) (members held : ℕ) (order : List Placed) (rank place : ℕ → ℕ) (r : ℕ)
     → Runs ts xs members held order rank place → r < 8 → Leave r order (λ k. left_in xs held r (place k))
 leave ts xs members held order rank place r runs few k p s at size =
-    (length-after s p ∙ size, leaves-held xs held r (place k) p s (runs.deeds (place k) p.txn (runs.at k p at)) (runs.told k p at) size few)
+    (length-after s p ∙ size, leaves-held xs held r (place k) p s (runs.acts (place k) p.txn (runs.at k p at)) (runs.told k p at) size few)
 
 -- the writer that is ranked last below K
-pub record LastBelow (xs : List Deed) (held : ℕ) (rank : ℕ → ℕ) (upto r value : ℕ) : Type 0 where
+pub record LastBelow (xs : List Effect) (held : ℕ) (rank : ℕ → ℕ) (upto r value : ℕ) : Type 0 where
   pub place : ℕ
   pub writes : Writes xs held r place
   pub below : rank place < upto
   pub is : value ≡ left_at xs place r
   pub last : (k : ℕ) → Writes xs held r k → rank place < rank k → rank k < upto → ⊥
 
-abbrev pub ValueAt : List Deed → ℕ → (ℕ → ℕ) → ℕ → ℕ → ℕ → ℕ → Type 0
+abbrev pub ValueAt : List Effect → ℕ → (ℕ → ℕ) → ℕ → ℕ → ℕ → ℕ → Type 0
 ValueAt xs held rank upto r old value =
     (((k : ℕ) → Writes xs held r k → rank k < upto → ⊥) × (value ≡ old)) ⊎ LastBelow xs held rank upto r value
 
-pub value_at : (ts : List Txn) (xs : List Deed) (members held : ℕ) (order : List Placed) (rank place : ℕ → ℕ) (s : State) (r upto : ℕ)
+pub value_at : (ts : List Txn) (xs : List Effect) (members held : ℕ) (order : List Placed) (rank place : ℕ → ℕ) (s : State) (r upto : ℕ)
     → Runs ts xs members held order rank place → length s ≡ 8 → r < 8 → upto ≤ length order
     → ValueAt xs held rank upto r (slice_index s r) (slice_index (state_at s order upto) r)
 value_at ts xs members held order rank place s r upto runs size few inside =

@@ -24,12 +24,13 @@ use Rattle.tmw_cuts.specs.Views.{View}
 use Rattle.tmw_search.specs.ShownTransactions.{ShowsTransactions}
 use Rattle.tmw_search.proofs.WindowViews.{shows-views_of, none_before_itself}
 use Rattle.tmw_search.specs.Polygraph.{IsCompletion, EndsIn, root}
+use Rattle.tmw_search.specs.Legal.{effects}
 use Rattle.tmw_search.specs.Nodes.{TellStatus}
-use Rattle.tmw_search.specs.WindowLaws.{deeds, ShowsReach, ShowsStatus, WindowEnds, WindowRanked, WindowLegal}
+use Rattle.tmw_search.specs.WindowLaws.{ShowsReach, ShowsStatus, WindowEnds, WindowRanked, WindowLegal}
 use Rattle.tmw_search.proofs.Law.{are_ranked}
 use Rattle.tmw_search.proofs.Runs.{list_all_at}
 use Rattle.tmw_search.proofs.Legal.{tells_legal}
-use Rattle.tmw_search.proofs.Shown.{HaveEight, shows-deeds, order-of_reach}
+use Rattle.tmw_search.proofs.Shown.{HaveEight, act-as, order-of_reach}
 
 pub window_ranked : (criterion : Criterion) (states : States) (window : Window) (mat : List ℕ) → count_of window ≤ 8
     → HaveEight window.txns.items → ShowsReach criterion (views window) mat
@@ -38,18 +39,18 @@ window_ranked criterion states window mat few eight reach long events stands end
     let ts = transactions events in
     let shows : ShowsTransactions (views window) ts = rw stands.shows (shows-views_of events) in
     let low : length ts ≤ 8 = omega (arith, few, shows.same_length) in
-    let told = shows-deeds window.txns.items ts shows eight in
+    let told = act-as window.txns.items ts shows eight in
     let order = order-of_reach criterion (views window) ts mat shows (none_before_itself events) low reach in (
       λ ends.
           let (start, has, leads) = ends in
-          (start, has, (are_ranked criterion ts (deeds window) mat start told low order (long start has) end).0 (start, refl, leads)),
+          (start, has, (are_ranked criterion ts (effects window.txns.items) mat start told low order (long start has) end).0 (start, refl, leads)),
       λ ranks.
           let (start, has, to) = ranks in
-          let (s, is, leads) = (are_ranked criterion ts (deeds window) mat start told low order (long start has) end).1 to in
+          let (s, is, leads) = (are_ranked criterion ts (effects window.txns.items) mat start told low order (long start has) end).1 to in
           (start, has, subst (λ (x : State). LeadsBy criterion x ts end) is leads),
     )
 
-status-of : (xs : List View) (ts : List Txn) (committed pending : ℕ) → ShowsTransactions xs ts → ShowsStatus xs committed pending
+pub status-of : (xs : List View) (ts : List Txn) (committed pending : ℕ) → ShowsTransactions xs ts → ShowsStatus xs committed pending
     → TellStatus ts committed pending
 status-of xs ts committed pending shows are =
     let there : (i : ℕ) (t : Txn) → slice_get ts i ≡ Some t → (x : View) × (slice_get xs i ≡ Some x) =
@@ -69,19 +70,19 @@ window_legal criterion states window mat committed pending few eight reach statu
     let ts = transactions events in
     let shows : ShowsTransactions (views window) ts = rw stands.shows (shows-views_of events) in
     let low : length ts ≤ 8 = omega (arith, few, shows.same_length) in
-    let told = shows-deeds window.txns.items ts shows eight in
+    let told = act-as window.txns.items ts shows eight in
     let order = order-of_reach criterion (views window) ts mat shows (none_before_itself events) low reach in
     let tell = status-of (views window) ts committed pending shows status in (
       λ some.
           let (end, ends) = some in
           let (start, has, leads) = ends in
           let (held, rank, l) =
-          (tells_legal criterion ts (deeds window) mat start committed pending told low order (long start has) tell).0 (end, (start, refl, leads)) in
+          (tells_legal criterion ts (effects window.txns.items) mat start committed pending told low order (long start has) tell).0 (end, (start, refl, leads)) in
           (start, has, held, rank, l),
       λ legal.
           let (start, has, held, rank, l) = legal in
           let (end, ends) =
-          (tells_legal criterion ts (deeds window) mat start committed pending told low order (long start has) tell).1 (held, rank, l) in
+          (tells_legal criterion ts (effects window.txns.items) mat start committed pending told low order (long start has) tell).1 (held, rank, l) in
           let (s, is, leads) = ends in
           (end, (start, has, subst (λ (x : State). LeadsBy criterion x ts end) is leads)),
     )
@@ -147,7 +148,7 @@ window_ends criterion states window mat committed pending few eight reach status
           let (start, has, ranks) = law.0 ends in
           let (held, completion, e) = ranks in
           let same = held-over ts committed pending held tell over completion in
-          (start, has, subst (λ (h : ℕ). EndsIn (deeds window) start (root criterion mat (length ts) h) end) same e),
+          (start, has, subst (λ (h : ℕ). EndsIn (effects window.txns.items) start (root criterion mat (length ts) h) end) same e),
       λ ranks.
           let (start, has, e) = ranks in
           law.1 (start, has, (committed, over-completes ts committed pending tell over, e)),

@@ -10,6 +10,7 @@ pub mod Last
 pub mod LastWrites
 pub mod Layers
 pub mod Legal
+pub mod Narrowed
 pub mod Nexts
 pub mod Nodes
 pub mod Opens
@@ -17,6 +18,7 @@ pub mod Order
 pub mod Pairs
 pub mod Polygraph
 pub mod Room
+pub mod Rooted
 pub mod Settled
 pub mod ShownTransactions
 pub mod WindowLaws

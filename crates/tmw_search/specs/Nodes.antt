@@ -12,7 +12,7 @@ use Rattle.tmw_defs.specs.Quiet.{is_pending}
 use Rattle.tmw_search.specs.ForcedTransactions.{is_committed}
 use Rattle.tmw_search.specs.Polygraph.{Node, IsIn, EndsAt, IsCompletion, members_of, root}
 use Rattle.tmw_search.specs.Legal.{idle, Needs, need_at, left_at, Writes, ReadsFrom, Reads}
-use Rattle.tmw_search.specs.declared.deed.Deed.{Deed}
+use Rattle.tmw_cuts.specs.declared.effect.Effect.{Effect}
 use Rattle.tmw_search.specs.declared.sources.Source.{Source}
 use Rattle.tmw_search.specs.declared.sources.Source.TheVariants.{Open, Start, From}
 
@@ -21,12 +21,12 @@ abbrev pub grown : Criterion → ℕ → Node → ℕ → Node
 grown criterion n node held = record { mat = node.mat; members = members_of criterion n held; held = held; source = node.source }
 
 -- A completion and a ranking solve a node: it holds at least what the node holds, and the ranking is one of the node with what it holds.
-pub record Solves (criterion : Criterion) (xs : List Deed) (ts : List Txn) (start : State) (node : Node) (held : ℕ) (rank : ℕ → ℕ) : Type 0 where
+pub record Solves (criterion : Criterion) (xs : List Effect) (ts : List Txn) (start : State) (node : Node) (held : ℕ) (rank : ℕ → ℕ) : Type 0 where
   pub completion : IsCompletion ts held
   pub holds : (i : ℕ) → bit_at node.held i ≡ 1 → bit_at held i ≡ 1
   pub within : IsIn xs start (grown criterion (length ts) node held) rank
 
-abbrev pub IsSolvable : Criterion → List Deed → List Txn → State → Node → Type 0
+abbrev pub IsSolvable : Criterion → List Effect → List Txn → State → Node → Type 0
 IsSolvable criterion xs ts start node = (held : ℕ) × (rank : ℕ → ℕ) × Solves criterion xs ts start node held rank
 
 -- Those of the mask have committed.
@@ -49,12 +49,12 @@ IsOneOf held Start = Unit {0}
 IsOneOf held (From i) = bit_at held i ≡ 1
 
 -- Nothing is open: each read of a member has its source in what the node holds.
-abbrev pub IsLeaf : Criterion → ℕ → List Deed → Node → Type 0
+abbrev pub IsLeaf : Criterion → ℕ → List Effect → Node → Type 0
 IsLeaf criterion n xs node = (j r : ℕ) → j < 8 → r < 8 → bit_at (members_of criterion n node.held) j ≡ 1 → Needs xs j r
     → IsOneOf node.held (node.source j r)
 
 -- Of these each that is pending is one that a member reads from.
-abbrev pub AreRead : Criterion → List Deed → List Txn → ℕ → (ℕ → ℕ) → Type 0
+abbrev pub AreRead : Criterion → List Effect → List Txn → ℕ → (ℕ → ℕ) → Type 0
 AreRead criterion xs ts held rank = (i : ℕ) (t : Txn) → slice_get ts i ≡ Some t → status_of t.text ≡ Pending → bit_at held i ≡ 1
     → (j : ℕ) × (r : ℕ) × (bit_at (members_of criterion (length ts) held) j ≡ 1) × Needs xs j r × ReadsFrom xs held rank j r i
 
@@ -66,7 +66,7 @@ pub record IsClosed (mat : List ℕ) : Type 0 where
   pub apart : (i j : ℕ) → i < 8 → j < 8 → bit_at (slice_index mat j) i ≡ 1 → bit_at (slice_index mat i) j ≡ 1 → i ≡ j
 
 -- By who precedes whom alone, the read has its value from its source.
-abbrev pub IsSettled : List Deed → State → List ℕ → ℕ → ℕ → ℕ → Source → Type 0
+abbrev pub IsSettled : List Effect → State → List ℕ → ℕ → ℕ → ℕ → Source → Type 0
 IsSettled xs start mat held j r Open = ⊥
 IsSettled xs start mat held j r Start = (slice_index start r ≡ need_at xs j r)
     × ((k : ℕ) → Writes xs held r k → bit_at (slice_index mat k) j ≡ 1)
@@ -74,14 +74,14 @@ IsSettled xs start mat held j r (From i) = Writes xs held r i × (left_at xs i r
     × ((k : ℕ) → Writes xs held r k → (bit_at (slice_index mat i) k ≡ 1) ⊎ (bit_at (slice_index mat k) j ≡ 1))
 
 -- Who precedes whom settles each read: then each order that keeps it is legal.
-pub record AreSettled (xs : List Deed) (start : State) (node : Node) : Type 0 where
+pub record AreSettled (xs : List Effect) (start : State) (node : Node) : Type 0 where
   pub closed : IsClosed node.mat
   pub agree : (j : ℕ) → j < 8 → bit_at node.members j ≡ 1 → IsTrue (get_or xs j idle).agrees
   pub reads : (j r : ℕ) → j < 8 → r < 8 → bit_at node.members j ≡ 1 → Needs xs j r
       → IsSettled xs start node.mat node.held j r (node.source j r)
 
 -- The ranking is a legal order of the node in which these are held: what it holds, and any others that may be.
-pub record IsLegal (xs : List Deed) (start : State) (may : ℕ) (node : Node) (held : ℕ) (rank : ℕ → ℕ) : Type 0 where
+pub record IsLegal (xs : List Effect) (start : State) (may : ℕ) (node : Node) (held : ℕ) (rank : ℕ → ℕ) : Type 0 where
   pub ranking : IsRanking rank node.mat
   pub more : (i : ℕ) → i < 8 → bit_at node.held i ≡ 1 → bit_at held i ≡ 1
   pub only : (i : ℕ) → i < 8 → bit_at held i ≡ 1 → (bit_at node.held i ≡ 1) ⊎ (bit_at may i ≡ 1)
@@ -97,13 +97,13 @@ pub record TellStatus (ts : List Txn) (committed pending : ℕ) : Type 0 where
 
 -- THE LAW of `possible` (proofs/Legal.antt): some legal serial order ends somewhere just where the root that holds what has committed has
 -- a legal order.
-abbrev pub TellsLegal : Criterion → List Deed → List Txn → List ℕ → State → ℕ → ℕ → Type 0
+abbrev pub TellsLegal : Criterion → List Effect → List Txn → List ℕ → State → ℕ → ℕ → Type 0
 TellsLegal criterion xs ts mat start committed pending =
     ((end : State) × EndsBy criterion (Only start) ts end)
     ↔ ((held : ℕ) × (rank : ℕ → ℕ) × IsLegal xs start pending (root criterion mat (length ts) committed) held rank)
 
 -- For `outcomes` (proofs/Ends.antt): the ends of a node's rankings in which the registers below this one hold what the state does.
-pub record EndsFrom (xs : List Deed) (start : State) (node : Node) (register : ℕ) (state end : State) : Type 0 where
+pub record EndsFrom (xs : List Effect) (start : State) (node : Node) (register : ℕ) (state end : State) : Type 0 where
   pub rank : ℕ → ℕ
   pub within : IsIn xs start node rank
   pub size : length end ≡ 8
@@ -111,5 +111,5 @@ pub record EndsFrom (xs : List Deed) (start : State) (node : Node) (register : �
   pub rest : (r : ℕ) → register ≤ r → r < 8 → EndsAt xs node.held rank r (slice_index start r) (slice_index end r)
 
 -- The rankings that keep the second are those that keep the first and rank no writer of the register above i.
-abbrev pub PutsLast : List Deed → ℕ → ℕ → ℕ → List ℕ → List ℕ → Type 0
+abbrev pub PutsLast : List Effect → ℕ → ℕ → ℕ → List ℕ → List ℕ → Type 0
 PutsLast xs held r i mat next = (rank : ℕ → ℕ) → IsRanking rank next ↔ (IsRanking rank mat × ((k : ℕ) → Writes xs held r k → rank k ≤ rank i))

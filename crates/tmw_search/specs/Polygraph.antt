@@ -12,7 +12,7 @@ use Rattle.tmw_defs.specs.Opaque.{State, precedes, may_hold, reads_hold, after_w
 use Rattle.tmw_defs.specs.Outcomes.{Only}
 use Rattle.tmw_search.specs.Choices.{IsRanking}
 use Rattle.tmw_search.specs.Layers.{is_aside}
-use Rattle.tmw_search.specs.declared.deed.Deed.{Deed}
+use Rattle.tmw_cuts.specs.declared.effect.Effect.{Effect}
 use Rattle.tmw_search.specs.declared.sources.Source.{Source}
 use Rattle.tmw_search.specs.declared.sources.Source.TheVariants.{Open, Start, From}
 use Rattle.tmw_search.specs.Legal.{idle, Needs, need_at, Leaves, left_at, Writes, ReadsFrom, ReadsStart, Reads}
@@ -25,39 +25,39 @@ pub record Node : Type 0 where
   pub source : ℕ → ℕ → Source
 
 -- S(node): the ranking keeps who precedes whom, and each read has its value from its source.
-pub record IsIn (xs : List Deed) (start : State) (node : Node) (rank : ℕ → ℕ) : Type 0 where
+pub record IsIn (xs : List Effect) (start : State) (node : Node) (rank : ℕ → ℕ) : Type 0 where
   pub ranking : IsRanking rank node.mat
   pub agree : (j : ℕ) → j < 8 → bit_at node.members j ≡ 1 → IsTrue (get_or xs j idle).agrees
   pub reads : (j r : ℕ) → j < 8 → r < 8 → bit_at node.members j ≡ 1 → Needs xs j r → Reads xs node.held start rank j r (node.source j r)
 
 -- What a register ends with that held `old`: the value of the writer ranked last, or `old` where there is none.
-pub record IsLast (xs : List Deed) (held : ℕ) (rank : ℕ → ℕ) (r value place : ℕ) : Type 0 where
+pub record IsLast (xs : List Effect) (held : ℕ) (rank : ℕ → ℕ) (r value place : ℕ) : Type 0 where
   pub writes : Writes xs held r place
   pub is : value ≡ left_at xs place r
   pub last : (k : ℕ) → Writes xs held r k → rank k ≤ rank place
 
-abbrev pub EndsAt : List Deed → ℕ → (ℕ → ℕ) → ℕ → ℕ → ℕ → Type 0
+abbrev pub EndsAt : List Effect → ℕ → (ℕ → ℕ) → ℕ → ℕ → ℕ → Type 0
 EndsAt xs held rank r old value =
     (((k : ℕ) → Writes xs held r k → ⊥) × (value ≡ old)) ⊎ ((place : ℕ) × IsLast xs held rank r value place)
 
 -- Some ranking of the node ends in the state.
-pub record EndsIn (xs : List Deed) (start : State) (node : Node) (end : State) : Type 0 where
+pub record EndsIn (xs : List Effect) (start : State) (node : Node) (end : State) : Type 0 where
   pub rank : ℕ → ℕ
   pub within : IsIn xs start node rank
   pub size : length end ≡ 8
   pub each : (r : ℕ) → r < 8 → EndsAt xs node.held rank r (slice_index start r) (slice_index end r)
 
--- The deed is what the operations do: they are answered what the registers hold just where they agree with one another and each register
+-- It is what the operations do: they are answered what the registers hold just where they agree with one another and each register
 -- that they need holds what they need, and they leave what is told in the registers that they write, and keep the others.
-pub record IsDeedOf (d : Deed) (ops : List Op) : Type 0 where
+pub record ActsAs (d : Effect) (ops : List Op) : Type 0 where
   pub reads : (s : State) → length s ≡ 8
       → IsTrue (reads_hold s ops) ↔ (IsTrue d.agrees × ((r : ℕ) → r < 8 → bit_at d.needed r ≡ 1 → slice_index s r ≡ slice_index d.needs r))
   pub leaves : (s : State) (r : ℕ) → length s ≡ 8 → r < 8 → bit_at d.left r ≡ 1
       → slice_index (after_writes s ops) r ≡ slice_index d.leaves r
   pub keeps : (s : State) (r : ℕ) → length s ≡ 8 → r < 8 → bit_at d.left r ≡ 0 → slice_index (after_writes s ops) r ≡ slice_index s r
 
-abbrev pub ShowsDeeds : List Deed → List Txn → Type 0
-ShowsDeeds xs ts = (i : ℕ) (t : Txn) → slice_get ts i ≡ Some t → IsDeedOf (get_or xs i idle) (operations t.text)
+abbrev pub ActAs : List Effect → List Txn → Type 0
+ActAs xs ts = (i : ℕ) (t : Txn) → slice_get ts i ≡ Some t → ActsAs (get_or xs i idle) (operations t.text)
 
 -- The masks tell which of these precede which in real time, among those that a serial order of the criterion may have.
 pub record ShowsOrder (criterion : Criterion) (ts : List Txn) (mat : List ℕ) : Type 0 where
@@ -82,10 +82,10 @@ abbrev pub root : Criterion → List ℕ → ℕ → ℕ → Node
 root criterion mat n held = record { mat = mat; members = members_of criterion n held; held = held; source = λ j r. Open }
 
 -- Some completion and some ranking of its root end in the state.
-abbrev pub RanksTo : Criterion → List Deed → List Txn → List ℕ → State → State → Type 0
+abbrev pub RanksTo : Criterion → List Effect → List Txn → List ℕ → State → State → Type 0
 RanksTo criterion xs ts mat start end = (held : ℕ) × IsCompletion ts held × EndsIn xs start (root criterion mat (length ts) held) end
 
--- THE LAW (proved for both criteria, proofs/OpacityLaw.antt and StrictLaw.antt, of ShowsDeeds, ShowsOrder, at most 8 transactions, a start
+-- THE LAW (proved for both criteria, proofs/OpacityLaw.antt and StrictLaw.antt, of ActAs, ShowsOrder, at most 8 transactions, a start
 -- of 8 registers): what legal serial orders end in is what rankings end in.
-abbrev pub AreRanked : Criterion → List Deed → List Txn → List ℕ → State → Type 0
+abbrev pub AreRanked : Criterion → List Effect → List Txn → List ℕ → State → Type 0
 AreRanked criterion xs ts mat start = (end : State) → EndsBy criterion (Only start) ts end ↔ RanksTo criterion xs ts mat start end

@@ -1,24 +1,27 @@
--- The law of a window: its effects are the deeds, and its masks the real-time order.
+-- The law of a window: its transactions' effects, and masks of the real-time order.
 use Rattle.std.specs.Prelude.{◌≡◌, ◌==◌, ◌&&◌, ◌⊎◌, ◌↔◌, ◌<◌, ◌≤◌, ℕ, not, map, List, length, slice_get, slice_index, Some, IsTrue}
 use Rattle.std.specs.Int.{bit_at}
 use Rattle.std.specs.List.{Contains, list_all}
 use Rattle.tmw_defs.specs.declared.criterion.Criterion.{Criterion}
 use Rattle.tmw_defs.specs.History.{transactions, is_ended}
+use Rattle.tmw_defs.specs.Criteria.{EndsBy}
 use Rattle.tmw_defs.specs.Opaque.{State}
+use Rattle.tmw_defs.specs.Outcomes.{Only}
 use Rattle.tmw_events.specs.declared.event.Event.{Event}
 use Rattle.tmw_cuts.specs.declared.effect.Effect.{Effect}
 use Rattle.tmw_cuts.specs.declared.states.States.{States}
 use Rattle.tmw_cuts.specs.declared.txn.Txn as cuts
 use Rattle.tmw_cuts.specs.declared.window.Window.{Window}
 use Rattle.tmw_cuts.specs.Members.{members}
-use Rattle.tmw_cuts.specs.Standing.{StandsFor}
-use Rattle.tmw_cuts.specs.Views.{View, effect_of}
+use Rattle.tmw_cuts.specs.Standing.{StandsFor, views_of}
+use Rattle.tmw_cuts.specs.Views.{View, view}
 use Rattle.tmw_search.specs.Ended.{EndsOf}
 use Rattle.tmw_defs.specs.Quiet.{is_pending}
 use Rattle.tmw_search.specs.ForcedTransactions.{is_committed}
 use Rattle.tmw_search.specs.Layers.{is_aside}
 use Rattle.tmw_search.specs.Polygraph.{EndsIn, root, RanksTo}
-use Rattle.tmw_search.specs.declared.deed.Deed.{Deed}
+use Rattle.tmw_cuts.specs.declared.effect.Effect.{Effect}
+use Rattle.tmw_search.specs.Legal.{effects}
 use Rattle.tmw_search.specs.Nodes.{IsLegal}
 
 -- For each of these the mask of it and those that precede it in real time, among those that a serial order of the criterion may have.
@@ -28,18 +31,11 @@ pub record ShowsReach (criterion : Criterion) (xs : List View) (mat : List ℕ) 
       → (bit_at (slice_index mat j) i == 1) ≡ ((bit_at y.before i == 1) && (not (is_aside criterion x.status) && not (is_aside criterion y.status)))
   pub none : (i j : ℕ) → i < 8 → j < 8 → (i ≡ j → ⊥) → (length xs ≤ i) ⊎ (length xs ≤ j) → bit_at (slice_index mat j) i ≡ 0
 
-abbrev pub deed : Effect → Deed
-deed e = record { agrees = e.agrees; needed = e.needed; needs = e.needs; left = e.left; leaves = e.leaves }
-
--- The deeds of the window's transactions.
-abbrev pub deeds : Window → List Deed
-deeds window = map (λ (x : cuts.Txn). deed (effect_of x)) window.txns.items
-
 -- What the window's transactions end in, from the states of the set, is what rankings end in.
 abbrev pub WindowRanked : Criterion → States → Window → List ℕ → Type 0
 WindowRanked criterion states window mat = (events : List Event) → StandsFor window events → (end : State)
     → EndsOf criterion states events end
-    ↔ ((start : State) × Contains (members states) start × RanksTo criterion (deeds window) (transactions events) mat start end)
+    ↔ ((start : State) × Contains (members states) start × RanksTo criterion (effects window.txns.items) (transactions events) mat start end)
 
 -- Whatever window shows them: it has an end just where the root has a legal order from one of the states.
 pub record ShowsStatus (xs : List View) (committed pending : ℕ) : Type 0 where
@@ -51,7 +47,7 @@ abbrev pub WindowLegal : Criterion → States → Window → List ℕ → ℕ �
 WindowLegal criterion states window mat committed pending = (events : List Event) → StandsFor window events
     → ((end : State) × EndsOf criterion states events end)
     ↔ ((start : State) × Contains (members states) start × (held : ℕ) × (rank : ℕ → ℕ)
-    × IsLegal (deeds window) start pending (root criterion mat (length (transactions events)) committed) held rank)
+    × IsLegal (effects window.txns.items) start pending (root criterion mat (length (transactions events)) committed) held rank)
 
 -- At a cut all transactions are over, and what has committed is the one completion.
 abbrev pub WindowEnds : Criterion → States → Window → List ℕ → ℕ → Type 0
@@ -59,4 +55,13 @@ WindowEnds criterion states window mat committed = (events : List Event) → Sta
     → IsTrue (list_all (λ t. is_ended t.text) (transactions events)) → (end : State)
     → EndsOf criterion states events end
     ↔ ((start : State) × Contains (members states) start
-    × EndsIn (deeds window) start (root criterion mat (length (transactions events)) committed) end)
+    × EndsIn (effects window.txns.items) start (root criterion mat (length (transactions events)) committed) end)
+
+-- Whatever events the transactions are of, they have no end from the start, or they have one.
+abbrev pub Refutes : Criterion → List cuts.Txn → State → Type 0
+Refutes criterion items start = (events : List Event) → map view items ≡ views_of events → (end : State)
+    → EndsBy criterion (Only start) (transactions events) end → ⊥
+
+abbrev pub Explains : Criterion → List cuts.Txn → State → Type 0
+Explains criterion items start = (events : List Event) → map view items ≡ views_of events
+    → (end : State) × EndsBy criterion (Only start) (transactions events) end

@@ -13,12 +13,12 @@ ghost use Rattle.tmw_search.specs.Chosen.{
   Within,
 };
 
-use crate::sources::{Choices, Source};
 use crate::settle::{Found, lowest, settle_read, settle_start};
+use crate::sources::{Choices, Source};
 
 /// What follows from the source of one read.
 #[inline(always)]
-fn settle_source(reach: &mut [u8; 8], writers: u8, j: usize, source: Source) -> Found
+pub fn settle_source(reach: &mut [u8; 8], writers: u8, j: usize, source: Source) -> Found
     requires second { j < 8 }
     requires within { WithinSource source }
     requires order { IsOrder reach.now }

@@ -1,6 +1,6 @@
 use Rattle.std.proofs.Common.{arith, inl, inr}
 use Rattle.tmw_search.specs.Opens.{opens}
-use Rattle.tmw_search.specs.Legal.{HasNone, IsFound}
+use Rattle.tmw_search.specs.Legal.{effects, HasNone, IsFound}
 use Rattle.tmw_search.proofs.Nodes.{ordered, node-ordered, none-settled, none-with, found-less, found-clear, none-sides}
 use Rattle.tmw_search.proofs.Picking.{tries-none, tries-next, tries-all, found-given, found-started, result-with, fewer-given, fewer-ordered}
 use Rattle.tmw_search.proofs.search.+any.Goals.{then-branch+in-None-any, else-branch, then-precede+in-None-any-3, else-precede}
@@ -8,55 +8,55 @@ use Rattle.tmw_search.proofs.search.+any.Goals as goal
 
 pub returns-then-not-is_alive : goal.returns-then-not-is_alive
 returns-then-not-is_alive t c =
-    none-settled c.args.deeds.now c.args.start.now c.args.may c.args.node.now c.settle-settled.new.reach _ c.requires.node
+    none-settled (effects c.args.items.now) c.args.start.now c.args.may c.args.node.now c.settle-settled.new.reach _ c.requires.node
     c.settle-settled.ensures.narrows (cc)
 
 pub any-requires : goal.any-requires
 any-requires t c =
-    let fewer = fewer-given c.args.node.now.reach c.settle-settled.new.reach c.give-child.result.reach (opens c.args.node.now.choices)
-    (opens c.give-child.result.choices) c.settle-settled.ensures.narrows.grows c.give-child.ensures.gives.reach c.give-child.ensures.fewer in
-    (omega (arith, c.decreases, fewer), c.give-child.ensures.gives.is)
+    let fewer = fewer-given c.args.node.now.reach c.settle-settled.new.reach c.give.new.node.reach (opens c.args.node.now.choices)
+    (opens c.give.new.node.choices) c.settle-settled.ensures.narrows.grows c.give.ensures.gives.reach c.give.ensures.fewer in
+    (omega (arith, c.decreases, fewer), c.give.ensures.gives.is)
 
 pub returns-in-Some-any : goal.returns-in-Some-any
 returns-in-Some-any t c =
-    found-less c.args.deeds.now c.args.start.now c.args.may c.args.node.now c.in-Some-any.found c.settle-settled.new.reach
+    found-less (effects c.args.items.now) c.args.start.now c.args.may c.args.node.now c.in-Some-any.found c.settle-settled.new.reach
     c.settle-settled.ensures.narrows.grows
-    (found-started c.args.deeds.now c.args.start.now c.args.may (ordered c.args.node.now c.settle-settled.new.reach) c.give-child.result
-    c.in-Some-any.found c.in-Some.branch.reader c.in-Some.branch.register c.give-child.ensures.gives c.in-Some-any.ensures)
+    (found-started (effects c.args.items.now) c.args.start.now c.args.may (ordered c.args.node.now c.settle-settled.new.reach) c.give.new.node
+    c.in-Some-any.found c.in-Some.branch.reader c.in-Some.branch.register c.give.ensures.gives c.in-Some-any.ensures)
 
 pub loop-left-init : goal.loop-left-init
 loop-left-init t c =
-    tries-none c.args.deeds.now c.args.start.now c.args.may (ordered c.args.node.now c.settle-settled.new.reach) c.in-Some.branch c.in-Some.ensures
+    tries-none (effects c.args.items.now) c.args.start.now c.args.may (ordered c.args.node.now c.settle-settled.new.reach) c.in-Some.branch c.in-Some.ensures
     (elim c.if-branch.branch [
-      | then-branch+in-None-any w ↦ λ is held rank l reads. w.in-None-any.ensures held rank (w.give-child.ensures.gives.onto held rank l reads)
+      | then-branch+in-None-any w ↦ λ is held rank l reads. w.in-None-any.ensures held rank (w.give.ensures.gives.onto held rank l reads)
       | else-branch w ↦ λ is. absurd (let f = w.if-branch.false in cc)
     ])
 
 pub any-requires-in-loop-left : goal.any-requires-in-loop-left
 any-requires-in-loop-left t c =
-    let child = c.give-child-in-loop-left in
-    let fewer = fewer-given c.args.node.now.reach c.settle-settled.new.reach child.result.reach (opens c.args.node.now.choices)
-    (opens child.result.choices) c.settle-settled.ensures.narrows.grows child.ensures.gives.reach child.ensures.fewer in
+    let child = c.give-in-loop-left in
+    let fewer = fewer-given c.args.node.now.reach c.settle-settled.new.reach child.new.node.reach (opens c.args.node.now.choices)
+    (opens child.new.node.choices) c.settle-settled.ensures.narrows.grows child.ensures.gives.reach child.ensures.fewer in
     (omega (arith, c.decreases, fewer), child.ensures.gives.is)
 
 pub returns-in-Some-any-2 : goal.returns-in-Some-any-2
 returns-in-Some-any-2 t c =
-    found-less c.args.deeds.now c.args.start.now c.args.may c.args.node.now c.in-Some-any-2.found c.settle-settled.new.reach
+    found-less (effects c.args.items.now) c.args.start.now c.args.may c.args.node.now c.in-Some-any-2.found c.settle-settled.new.reach
     c.settle-settled.ensures.narrows.grows
-    (found-given c.args.deeds.now c.args.start.now c.args.may (ordered c.args.node.now c.settle-settled.new.reach) c.give-child-in-loop-left.result
-    c.in-Some-any-2.found c.in-Some.branch.reader c.in-Some.branch.register c.lowest-i.result c.give-child-in-loop-left.ensures.gives
+    (found-given (effects c.args.items.now) c.args.start.now c.args.may (ordered c.args.node.now c.settle-settled.new.reach) c.give-in-loop-left.new.node
+    c.in-Some-any-2.found c.in-Some.branch.reader c.in-Some.branch.register c.lowest-i.result c.give-in-loop-left.ensures.gives
     c.in-Some-any-2.ensures)
 
 pub loop-left-preserved : goal.loop-left-preserved
 loop-left-preserved t c =
-    tries-next c.args.deeds.now c.args.start.now c.args.may (ordered c.args.node.now c.settle-settled.new.reach) c.give-child-in-loop-left.result
+    tries-next (effects c.args.items.now) c.args.start.now c.args.may (ordered c.args.node.now c.settle-settled.new.reach) c.give-in-loop-left.new.node
     c.in-Some.branch.reader c.in-Some.branch.register c.loop-left.left c.lowest-i.result c.lowest-i.ensures.within c.lowest-i.ensures.among
-    c.give-child-in-loop-left.ensures.gives c.in-None-any-2.ensures c.loop-left.invariant
+    c.give-in-loop-left.ensures.gives c.in-None-any-2.ensures c.loop-left.invariant
 
 pub returns-after-loop-left : goal.returns-after-loop-left
 returns-after-loop-left t c =
-    none-with c.args.deeds.now c.args.start.now c.args.may c.args.node.now c.settle-settled.new.reach _ c.requires.node c.settle-settled.ensures.narrows
-    (tries-all c.args.deeds.now c.args.start.now c.args.may (ordered c.args.node.now c.settle-settled.new.reach) c.in-Some.branch.reader
+    none-with (effects c.args.items.now) c.args.start.now c.args.may c.args.node.now c.settle-settled.new.reach _ c.requires.node c.settle-settled.ensures.narrows
+    (tries-all (effects c.args.items.now) c.args.start.now c.args.may (ordered c.args.node.now c.settle-settled.new.reach) c.in-Some.branch.reader
     c.in-Some.branch.register c.loop-left.left c.loop-left-test.false c.loop-left.invariant)
 
 pub any-requires-then-precede : goal.any-requires-then-precede
@@ -66,12 +66,14 @@ any-requires-then-precede t c =
     (opens c.args.node.now.choices) b.third b.first c.settle-settled.ensures.narrows.grows c.precede.ensures.narrows.grows
     (c.precede.ensures.has c.if-precede.true) (λ is. b.free (inl is)) in (
       omega (arith, c.decreases, fewer),
-      node-ordered c.args.deeds.now c.args.start.now c.args.node.now c.precede.new.reach c.precede.ensures.narrows.order c.requires.node,
+      node-ordered (effects c.args.items.now) c.args.start.now c.args.may c.args.node.now c.precede.new.reach
+          (λ a b within_a within_b is. c.precede.ensures.narrows.grows a b within_a within_b
+          (c.settle-settled.ensures.narrows.grows a b within_a within_b is)) c.precede.ensures.narrows.order c.requires.node,
     )
 
 pub returns-in-Some-any-3 : goal.returns-in-Some-any-3
 returns-in-Some-any-3 t c =
-    found-less c.args.deeds.now c.args.start.now c.args.may c.args.node.now c.in-Some-any-3.found c.precede.new.reach
+    found-less (effects c.args.items.now) c.args.start.now c.args.may c.args.node.now c.in-Some-any-3.found c.precede.new.reach
     (λ a b within_a within_b is. c.precede.ensures.narrows.grows a b within_a within_b (c.settle-settled.ensures.narrows.grows a b within_a within_b is))
     c.in-Some-any-3.ensures
 
@@ -83,23 +85,26 @@ any-requires-then-precede-2 t c =
     (opens c.args.node.now.choices) b.second b.third c.settle-settled.ensures.narrows.grows p.ensures.narrows.grows
     (p.ensures.has c.if-precede-2.true) (λ is. b.free (inr is)) in (
       omega (arith, c.decreases, fewer),
-      node-ordered c.args.deeds.now c.args.start.now c.args.node.now p.new.reach p.ensures.narrows.order c.requires.node,
+      node-ordered (effects c.args.items.now) c.args.start.now c.args.may c.args.node.now p.new.reach
+          (λ a b within_a within_b is. p.ensures.narrows.grows a b within_a within_b
+          (c.settle-settled.ensures.narrows.grows a b within_a within_b is)) p.ensures.narrows.order c.requires.node,
     )
 
 pub returns-then-precede-2 : goal.returns-then-precede-2
 returns-then-precede-2 t c =
     let p = c.precede-in-Stuck in
     let next = ordered c.args.node.now c.settle-settled.new.reach in
-    let is = node-ordered c.args.deeds.now c.args.start.now c.args.node.now c.settle-settled.new.reach c.settle-settled.ensures.narrows.order
+    let is = node-ordered (effects c.args.items.now) c.args.start.now c.args.may c.args.node.now c.settle-settled.new.reach c.settle-settled.ensures.narrows.grows
+    c.settle-settled.ensures.narrows.order
     c.requires.node in
-    result-with c.any-then-precede-2.result (HasNone c.args.deeds.now c.args.start.now c.args.may (ordered c.args.node.now p.new.reach))
-    (HasNone c.args.deeds.now c.args.start.now c.args.may c.args.node.now)
-    (λ f. IsFound c.args.deeds.now c.args.start.now c.args.may (ordered c.args.node.now p.new.reach) f)
-    (λ f. IsFound c.args.deeds.now c.args.start.now c.args.may c.args.node.now f)
+    result-with c.any-then-precede-2.result (HasNone (effects c.args.items.now) c.args.start.now c.args.may (ordered c.args.node.now p.new.reach))
+    (HasNone (effects c.args.items.now) c.args.start.now c.args.may c.args.node.now)
+    (λ f. IsFound (effects c.args.items.now) c.args.start.now c.args.may (ordered c.args.node.now p.new.reach) f)
+    (λ f. IsFound (effects c.args.items.now) c.args.start.now c.args.may c.args.node.now f)
     (λ none.
-    none-with c.args.deeds.now c.args.start.now c.args.may c.args.node.now c.settle-settled.new.reach _ c.requires.node
+    none-with (effects c.args.items.now) c.args.start.now c.args.may c.args.node.now c.settle-settled.new.reach _ c.requires.node
     c.settle-settled.ensures.narrows
-    (none-sides c.args.deeds.now c.args.start.now c.args.may next c.in-Stuck.i c.in-Stuck.j c.in-Stuck.k c.precede.new.reach p.new.reach
+    (none-sides (effects c.args.items.now) c.args.start.now c.args.may next c.in-Stuck.i c.in-Stuck.j c.in-Stuck.k c.precede.new.reach p.new.reach
     c.precede.result p.result is c.in-Stuck.ensures.stuck c.precede.ensures.narrows p.ensures.narrows
     (elim c.if-precede.branch [
       | then-precede+in-None-any-3 w ↦ λ alive. w.in-None-any-3.ensures
@@ -107,7 +112,7 @@ returns-then-precede-2 t c =
     ])
     (λ alive. none)))
     (λ f found.
-    found-less c.args.deeds.now c.args.start.now c.args.may c.args.node.now f p.new.reach
+    found-less (effects c.args.items.now) c.args.start.now c.args.may c.args.node.now f p.new.reach
     (λ a b within_a within_b has. p.ensures.narrows.grows a b within_a within_b (c.settle-settled.ensures.narrows.grows a b within_a within_b has))
     found)
     c.any-then-precede-2.ensures
@@ -116,11 +121,12 @@ pub returns-else-precede-2 : goal.returns-else-precede-2
 returns-else-precede-2 t c =
     let p = c.precede-in-Stuck in
     let next = ordered c.args.node.now c.settle-settled.new.reach in
-    let is = node-ordered c.args.deeds.now c.args.start.now c.args.node.now c.settle-settled.new.reach c.settle-settled.ensures.narrows.order
+    let is = node-ordered (effects c.args.items.now) c.args.start.now c.args.may c.args.node.now c.settle-settled.new.reach c.settle-settled.ensures.narrows.grows
+    c.settle-settled.ensures.narrows.order
     c.requires.node in
-    none-with c.args.deeds.now c.args.start.now c.args.may c.args.node.now c.settle-settled.new.reach _ c.requires.node
+    none-with (effects c.args.items.now) c.args.start.now c.args.may c.args.node.now c.settle-settled.new.reach _ c.requires.node
     c.settle-settled.ensures.narrows
-    (none-sides c.args.deeds.now c.args.start.now c.args.may next c.in-Stuck.i c.in-Stuck.j c.in-Stuck.k c.precede.new.reach p.new.reach
+    (none-sides (effects c.args.items.now) c.args.start.now c.args.may next c.in-Stuck.i c.in-Stuck.j c.in-Stuck.k c.precede.new.reach p.new.reach
     c.precede.result p.result is c.in-Stuck.ensures.stuck c.precede.ensures.narrows p.ensures.narrows
     (elim c.if-precede.branch [
       | then-precede+in-None-any-3 w ↦ λ alive. w.in-None-any-3.ensures
@@ -130,8 +136,26 @@ returns-else-precede-2 t c =
 
 pub returns-in-Clear : goal.returns-in-Clear
 returns-in-Clear t c =
-    found-less c.args.deeds.now c.args.start.now c.args.may c.args.node.now (ordered c.args.node.now c.settle-settled.new.reach)
+    found-less (effects c.args.items.now) c.args.start.now c.args.may c.args.node.now (ordered c.args.node.now c.settle-settled.new.reach)
     c.settle-settled.new.reach c.settle-settled.ensures.narrows.grows
-    (found-clear c.args.deeds.now c.args.start.now c.args.may (ordered c.args.node.now c.settle-settled.new.reach)
-    (node-ordered c.args.deeds.now c.args.start.now c.args.node.now c.settle-settled.new.reach c.settle-settled.ensures.narrows.order c.requires.node)
+    (found-clear (effects c.args.items.now) c.args.start.now c.args.may (ordered c.args.node.now c.settle-settled.new.reach)
+    (node-ordered (effects c.args.items.now) c.args.start.now c.args.may c.args.node.now c.settle-settled.new.reach c.settle-settled.ensures.narrows.grows
+    c.settle-settled.ensures.narrows.order c.requires.node)
     c.in-Clear.ensures.clear c.in-None.ensures)
+
+pub pick-requires : goal.pick-requires
+pick-requires t c =
+    record {
+      node = node-ordered (effects c.args.items.now) c.args.start.now c.args.may c.args.node.now c.settle-settled.new.reach
+          c.settle-settled.ensures.narrows.grows c.settle-settled.ensures.narrows.order c.requires.node;
+    }
+
+pub give-requires-clause-node : goal.give-requires-clause-node
+give-requires-clause-node t c =
+    node-ordered (effects c.args.items.now) c.args.start.now c.args.may c.args.node.now c.settle-settled.new.reach
+    c.settle-settled.ensures.narrows.grows c.settle-settled.ensures.narrows.order c.requires.node
+
+pub give-requires-in-loop-left-clause-node : goal.give-requires-in-loop-left-clause-node
+give-requires-in-loop-left-clause-node t c =
+    node-ordered (effects c.args.items.now) c.args.start.now c.args.may c.args.node.now c.settle-settled.new.reach
+    c.settle-settled.ensures.narrows.grows c.settle-settled.ensures.narrows.order c.requires.node

@@ -1,4 +1,5 @@
 use Rattle.std.proofs.Common.{◌+◌}
+use Rattle.tmw_search.specs.Legal.{effects}
 use Rattle.tmw_search.specs.Room.{room}
 use Rattle.tmw_search.specs.Opens.{opens}
 use Rattle.tmw_search.proofs.Picking.{Tries}
@@ -8,7 +9,7 @@ abbrev pub decreases-any : goal.decreases-any
 decreases-any l = room l.node.now.reach + opens l.node.now.choices
 
 abbrev pub invariant-loop-left : goal.invariant-loop-left
-invariant-loop-left l = Tries l.deeds l.start l.may l.next l.j l.r l.left
+invariant-loop-left l = Tries (effects l.items) l.start l.may l.next l.j l.r l.left
 
 abbrev pub decreases-loop-left : goal.decreases-loop-left
 decreases-loop-left l = l.left

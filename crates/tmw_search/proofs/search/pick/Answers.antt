@@ -7,7 +7,7 @@ loop-left-init c = (picked-first c.args.node.now.choices c.loop-j.j c.loop-j.bes
 
 pub loop-left-preserved-then-is_open : goal.loop-left-preserved-then-is_open
 loop-left-preserved-then-is_open c =
-    (c.branch_of-branch.ensures, λ r is. c.loop-left.invariant.1 r (less_has c.loop-left.left c.lowest-r.result _ r (less_of c.loop-left.left c.lowest-r.result c.lowest-r.ensures.within c.lowest-r.ensures.among) is))
+    (c.branch_of-branch.ensures.branch, λ r is. c.loop-left.invariant.1 r (less_has c.loop-left.left c.lowest-r.result _ r (less_of c.loop-left.left c.lowest-r.result c.lowest-r.ensures.within c.lowest-r.ensures.among) is))
 
 pub loop-left-preserved-then-is_open-2 : goal.loop-left-preserved-then-is_open-2
 loop-left-preserved-then-is_open-2 c = (

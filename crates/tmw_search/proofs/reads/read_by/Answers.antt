@@ -1,0 +1,15 @@
+use Rattle.std.proofs.Common.{false}
+use Rattle.tmw_search.specs.Legal.{effects}
+use Rattle.tmw_search.proofs.Reading.{follows-then, read-more}
+use Rattle.tmw_search.proofs.reads.read_by.Goals as goal
+
+pub returns-then-not-read_one-clause-follows : goal.returns-then-not-read_one-clause-follows
+returns-then-not-read_one-clause-follows c =
+    follows-then (effects c.args.items.now) c.args.start.now c.args.may c.args.node.now c.loop-left.node c.read_one.new.node false
+    c.loop-left.invariant.follows c.if-not-read_one.ensures.follows
+
+pub loop-left-preserved : goal.loop-left-preserved
+loop-left-preserved c =
+    read-more (effects c.args.items.now) c.args.start.now c.args.may c.args.j c.lowest-r.result c.loop-left.left c.args.node.now c.loop-left.node
+    c.read_one.new.node c.requires.reader c.lowest-r.ensures.within c.lowest-r.ensures.among c.loop-left.invariant
+    c.if-not-read_one.ensures.follows c.read_one.ensures.others
