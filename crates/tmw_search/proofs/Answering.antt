@@ -29,14 +29,14 @@ use Rattle.tmw_search.specs.Legal.{effects, In}
 use Rattle.tmw_search.specs.Nodes.{IsLegal}
 use Rattle.tmw_search.specs.Polygraph.{members_of, root}
 use Rattle.tmw_search.specs.Rooted.{AreRising, Begins, IsRoot, orderly}
-use Rattle.tmw_search.specs.WindowLaws.{ShowsReach, ShowsStatus, Explains, Refutes}
+use Rattle.tmw_search.specs.WindowLaws.{HaveEight, ShowsReach, ShowsStatus, Explains, Refutes}
 use Rattle.tmw_search.specs.ShownTransactions.{ShowsTransactions}
 use Rattle.tmw_search.proofs.Bits.{bit_cases, or-left, or-right, or_either}
 use Rattle.tmw_search.proofs.LayerSteps.{slice_get_some}
 use Rattle.tmw_search.proofs.Legal.{tells_legal}
 use Rattle.tmw_search.proofs.Rooms.{order-ranks, rank_of}
 use Rattle.tmw_search.proofs.Rooting.{rising-views}
-use Rattle.tmw_search.proofs.Shown.{HaveEight, act-as, order-of_reach}
+use Rattle.tmw_search.proofs.Shown.{act-as, order-of_reach}
 use Rattle.tmw_search.proofs.Windows.{status-of}
 use Rattle.tmw_search.proofs.WindowViews.{shows-views_of, none_before_itself}
 

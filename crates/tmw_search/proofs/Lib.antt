@@ -56,3 +56,4 @@ mod EndsByLast
 mod Answering
 mod Reading
 mod Rooting
+mod Finding

@@ -22,7 +22,7 @@ use Rattle.tmw_search.specs.ShownTransactions.{ShowsTransactions, NoneBeforeItse
 use Rattle.tmw_search.proofs.LayerSteps.{slice_get_some}
 use Rattle.tmw_search.specs.Polygraph.{ActsAs, ActAs, ShowsOrder}
 use Rattle.tmw_search.specs.Legal.{effects, idle}
-use Rattle.tmw_search.specs.WindowLaws.{ShowsReach}
+use Rattle.tmw_search.specs.WindowLaws.{HaveEight, ShowsReach}
 
 have_at : (ds : List Bool) (vs : List ℕ) (s : State) (i : ℕ) → i < length ds → i < length vs → i < length s → IsTrue (have ds vs s)
     → get_or ds i false ≡ true → slice_index s i ≡ slice_index vs i
@@ -149,9 +149,6 @@ order-of_reach criterion xs ts mat shows self few are = record {
 }
 
 -- a window's effects are its transactions' acts
-abbrev pub HaveEight : List cuts.Txn → Type 0
-HaveEight items = (i : ℕ) (x : cuts.Txn) → slice_get items i ≡ Some x → (length (effect_of x).needs ≡ 8) × (length (effect_of x).leaves ≡ 8)
-
 pub act-as : (items : List cuts.Txn) (ts : List Txn) → ShowsTransactions (map view items) ts → HaveEight items
     → ActAs (effects items) ts
 act-as items ts shows eight i t at =

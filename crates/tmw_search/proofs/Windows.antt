@@ -26,11 +26,11 @@ use Rattle.tmw_search.proofs.WindowViews.{shows-views_of, none_before_itself}
 use Rattle.tmw_search.specs.Polygraph.{IsCompletion, EndsIn, root}
 use Rattle.tmw_search.specs.Legal.{effects}
 use Rattle.tmw_search.specs.Nodes.{TellStatus}
-use Rattle.tmw_search.specs.WindowLaws.{ShowsReach, ShowsStatus, WindowEnds, WindowRanked, WindowLegal}
+use Rattle.tmw_search.specs.WindowLaws.{HaveEight, ShowsReach, ShowsStatus, WindowEnds, WindowRanked, WindowLegal}
 use Rattle.tmw_search.proofs.Law.{are_ranked}
 use Rattle.tmw_search.proofs.Runs.{list_all_at}
 use Rattle.tmw_search.proofs.Legal.{tells_legal}
-use Rattle.tmw_search.proofs.Shown.{HaveEight, act-as, order-of_reach}
+use Rattle.tmw_search.proofs.Shown.{act-as, order-of_reach}
 
 pub window_ranked : (criterion : Criterion) (states : States) (window : Window) (mat : List ℕ) → count_of window ≤ 8
     → HaveEight window.txns.items → ShowsReach criterion (views window) mat

@@ -14,7 +14,7 @@ use Rattle.tmw_cuts.specs.declared.txn.Txn as cuts
 use Rattle.tmw_cuts.specs.declared.window.Window.{Window}
 use Rattle.tmw_cuts.specs.Members.{members}
 use Rattle.tmw_cuts.specs.Standing.{StandsFor, views_of}
-use Rattle.tmw_cuts.specs.Views.{View, view}
+use Rattle.tmw_cuts.specs.Views.{View, view, effect_of}
 use Rattle.tmw_search.specs.Ended.{EndsOf}
 use Rattle.tmw_defs.specs.Quiet.{is_pending}
 use Rattle.tmw_search.specs.ForcedTransactions.{is_committed}
@@ -57,10 +57,20 @@ WindowEnds criterion states window mat committed = (events : List Event) → Sta
     ↔ ((start : State) × Contains (members states) start
     × EndsIn (effects window.txns.items) start (root criterion mat (length (transactions events)) committed) end)
 
+-- What they do is told of eight registers.
+abbrev pub HasEight : Effect → Type 0
+HasEight e = (length e.needs ≡ 8) × (length e.leaves ≡ 8)
+
+abbrev pub HaveEight : List cuts.Txn → Type 0
+HaveEight items = (i : ℕ) (x : cuts.Txn) → slice_get items i ≡ Some x → HasEight (effect_of x)
+
 -- Whatever events the transactions are of, they have no end from the start, or they have one.
 abbrev pub Refutes : Criterion → List cuts.Txn → State → Type 0
 Refutes criterion items start = (events : List Event) → map view items ≡ views_of events → (end : State)
     → EndsBy criterion (Only start) (transactions events) end → ⊥
+
+abbrev pub NoneExplains : Criterion → List cuts.Txn → List State → Type 0
+NoneExplains criterion items starts = (start : State) → Contains starts start → Refutes criterion items start
 
 abbrev pub Explains : Criterion → List cuts.Txn → State → Type 0
 Explains criterion items start = (events : List Event) → map view items ≡ views_of events

@@ -10,7 +10,7 @@ use crate::dead_end::is_dead_end;
 use crate::idle::{idle_of, place_idle};
 use crate::nexts::{end_of, is_next, may_hold};
 use crate::progress::Progress;
-use crate::seek::Step;
+use crate::steps::Step;
 use std::alloc::{AllocError, Global};
 use tmw_cuts::{State, States, Txn};
 use tmw_defs::Criterion;

@@ -10,6 +10,7 @@ use crate::aside::{Aside, set_aside};
 use crate::blind::{are_blind, find_blind_ends};
 use crate::depth_first::search_ends;
 use crate::end_states::EndStates;
+use crate::find::find_order;
 use crate::forced::is_forced;
 use crate::layers::layer_of;
 use crate::nexts::Reached;
@@ -68,22 +69,13 @@ fn last_of(
 /// opacity the order has all of them, by strict serializability those that the completion holds.
 pub fn possible(
     criterion: Criterion,
-    alloc: Global,
+    _alloc: Global,
     states: &States,
     window: &Window,
 ) -> Result<bool, AllocError>
     ensures { IfOk result (TellsEnd criterion states.now window.now) }
 {
-    // One end tells that there is one.
-    let found = search_ends(criterion, alloc, window.transactions(), states.states(), 0)?;
-    if !found.ends.is_empty() {
-        return Ok(true);
-    }
-    if found.done {
-        return Ok(false);
-    }
-    let last = last_of(criterion, alloc, states, window)?;
-    Ok(!last.is_empty())
+    Ok(find_order(criterion, states, window).is_some())
 }
 
 /// Finds the states in which the window's transactions may end, over all legal serial orders and completions, from

@@ -7,7 +7,7 @@ ghost use Rattle.tmw_search.specs.Legal.{effects, IsNode};
 ghost use Rattle.tmw_search.specs.Order.{IsOrder};
 ghost use Rattle.tmw_search.specs.Polygraph.{members_of};
 ghost use Rattle.tmw_search.specs.Rooted.{Agree, Begins, IsRow, IsRoot, AreRising, ShowReads, ShowWriters, orderly};
-ghost use Rattle.tmw_search.specs.WindowLaws.{ShowsStatus};
+ghost use Rattle.tmw_search.specs.WindowLaws.{HaveEight, ShowsStatus};
 
 use crate::effects::{agrees, needed_at, written_at};
 use crate::node::Node;
@@ -24,14 +24,25 @@ pub struct Statuses {
     pub pending: u8,
 }
 
+/// Does nothing: its clause tells a caller's proof what the type says.
+#[inline(always)]
+fn tell_eight(values: &[u64; 8])
+    ensures { length values.now ≡ 8 }
+{
+    let _values = *values;
+}
+
 /// Returns which of the transactions have committed, and which are commit-pending.
 pub fn statuses_of(items: &[Txn]) -> Statuses
     requires { length items.now ≤ 8 }
-    ensures { ShowsStatus (map view items.now) result.committed result.pending }
+    ensures shows { ShowsStatus (map view items.now) result.committed result.pending }
+    ensures eight { HaveEight items.now }
 {
     let mut committed = 0u8;
     let mut pending = 0u8;
     for (place, item) in items.iter().enumerate() {
+        tell_eight(&item.effect().needs);
+        tell_eight(&item.effect().leaves);
         match item.status {
             Status::Committed => committed |= 1 << place,
             Status::Pending => pending |= 1 << place,

@@ -4,18 +4,12 @@ ghost use Rattle.std.specs.Prelude.{◌<◌, ◌≤◌, length};
 use crate::idle::{idle_of, place_idle};
 use crate::nexts::is_next;
 use crate::progress::Progress;
+use crate::steps::Step;
 use tmw_cuts::{State, Txn};
 use tmw_defs::Status;
 
 /// How many times a guess may choose the next transaction.
 const FUEL: u32 = 256;
-
-/// One transaction in an order, held or left out.
-#[derive(Clone, Copy, Debug)]
-pub struct Step {
-    pub place: usize,
-    pub held: bool,
-}
 
 /// What has been placed, and how many times the next may still be chosen.
 #[derive(Clone, Copy)]

@@ -1,0 +1,6 @@
+use Rattle.std.proofs.Common.{take}
+use Rattle.tmw_search.specs.WindowLaws.{NoneExplains}
+use Rattle.tmw_search.proofs.find.find_in.Given as goal
+
+abbrev pub invariant-loop-start : goal.invariant-loop-start
+invariant-loop-start l = NoneExplains l.fn.criterion l.items (take l.start-index l.starts)
