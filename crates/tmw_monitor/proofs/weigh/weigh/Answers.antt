@@ -7,17 +7,28 @@ use Rattle.tmw_defs.proofs.Weaker.{ends-by}
 use Rattle.tmw_cuts.specs.Members.{members}
 use Rattle.tmw_monitor.proofs.weigh.weigh.Goals as goal
 
-pub returns-then-has_order-clause-ok : goal.returns-then-has_order-clause-ok
-returns-then-has_order-clause-ok c quiet events stands uncut was =
-    let found = c.has_order.ensures.ends c.if-has_order.true events stands was in
+pub returns-then-is_known-clause-ok : goal.returns-then-is_known-clause-ok
+returns-then-is_known-clause-ok c quiet events stands uncut was =
+    let states = members c.args.kept.now.states in
+    let found = c.is_known.ensures.ends states events was c.if-is_known.true in
     inl (record {
       uncut = sym uncut ∙ c.if-cut.false;
-      ends = inr (found.0, ends-by c.args.criterion (Contains (members c.args.kept.now.states)) (transactions events) found.0 found.1);
+      ends = inr (found.0, ends-by c.args.criterion (Contains states) (transactions events) found.0 found.1);
       states = refl;
       stands = stands;
-      witness = c.has_order.ensures.stays events stands was;
+      witness = was;
     })
 
-pub returns-else-branch-clause-ok : goal.returns-else-branch-clause-ok
-returns-else-branch-clause-ok c quiet events stands uncut was end ends =
-    let bad : false ≡ true = sym c.if-branch.false ∙ (c.in_ok-possible.ensures events stands).1 (end, ends) in absurd (cc)
+pub returns-then-finds-clause-ok : goal.returns-then-finds-clause-ok
+returns-then-finds-clause-ok c quiet events stands uncut was =
+    inl (record {
+      uncut = sym uncut ∙ c.if-cut.false;
+      ends = inr ((c.finds.ensures.tells events stands).0 c.if-finds.true);
+      states = refl;
+      stands = stands;
+      witness = c.finds.ensures.known events stands;
+    })
+
+pub returns-else-finds-clause-ok : goal.returns-else-finds-clause-ok
+returns-else-finds-clause-ok c quiet events stands uncut was end ends =
+    let bad : false ≡ true = sym c.if-finds.false ∙ (c.finds.ensures.tells events stands).1 (end, ends) in absurd (cc)

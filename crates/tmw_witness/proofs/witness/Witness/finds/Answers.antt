@@ -1,10 +1,10 @@
+use Rattle.std.proofs.Common.{List, subst}
 use Rattle.tmw_cuts.specs.Members.{members}
+use Rattle.tmw_cuts.specs.Views.{View}
+use Rattle.tmw_witness.specs.Witnessing.{Witnesses}
 use Rattle.tmw_witness.proofs.witness.Witness.finds.Goals as goal
 
-pub returns-then-is_known-clause-ends : goal.returns-then-is_known-clause-ends
-returns-then-is_known-clause-ends c = λ known events stands was.
-    c.is_known.ensures.ends (members c.args.starts.now) events was c.if-is_known.true
-
-pub returns-clause-ends : goal.returns-clause-ends
-returns-clause-ends c = λ known events stands was.
-    c.is_known-2.ensures.ends (members c.args.starts.now) events (c.find.ensures events stands) known
+pub returns-in-Some-clause-known : goal.returns-in-Some-clause-known
+returns-in-Some-clause-known c = λ events stands.
+    subst (λ (v : List View). Witnesses (members c.args.starts.now) v c.take.new.self) (c.transactions.ensures.stands events stands)
+    (c.take.ensures (members c.args.starts.now) c.in-Some.ensures.start)
