@@ -26,15 +26,15 @@ use Rattle.tmw_search.specs.ForcedTransactions.{is_committed}
 use Rattle.tmw_search.specs.Layers.{is_aside}
 use Rattle.tmw_search.specs.Legal as legal
 use Rattle.tmw_search.specs.Legal.{effects, In}
-use Rattle.tmw_search.specs.Nodes.{IsLegal}
-use Rattle.tmw_search.specs.Polygraph.{members_of, root}
+use Rattle.tmw_search.specs.Nodes.{IsLegal, TellStatus}
+use Rattle.tmw_search.specs.Order.{IsOrder}
+use Rattle.tmw_search.specs.Polygraph.{ActAs, ShowsOrder, root}
 use Rattle.tmw_search.specs.Rooted.{AreRising, Begins, IsRoot, orderly}
 use Rattle.tmw_search.specs.WindowLaws.{HaveEight, ShowsReach, ShowsStatus, Explains, Refutes}
 use Rattle.tmw_search.specs.ShownTransactions.{ShowsTransactions}
 use Rattle.tmw_search.proofs.Bits.{bit_cases, or-left, or-right, or_either}
 use Rattle.tmw_search.proofs.LayerSteps.{slice_get_some}
 use Rattle.tmw_search.proofs.Legal.{tells_legal}
-use Rattle.tmw_search.proofs.Rooms.{order-ranks, rank_of}
 use Rattle.tmw_search.proofs.Rooting.{rising-views}
 use Rattle.tmw_search.proofs.Shown.{act-as, order-of_reach}
 use Rattle.tmw_search.proofs.Windows.{status-of}
@@ -81,31 +81,30 @@ in-free Strict xs committed pending i x s at has = elim (or_either committed pen
     is-pending_at Live is = absurd (cc)
     is-pending_at Aborted is = absurd (cc)
 
-root-reach : (criterion : Criterion) (xs : List View) (committed pending : ℕ) (node : search.Node) → length xs ≤ 8 → AreRising xs
-    → ShowsStatus xs committed pending → IsRoot criterion xs committed pending node → ShowsReach criterion xs node.reach
-root-reach criterion xs committed pending node few rising status is =
-    let begins = is.begins rising in
+reach-shows : (criterion : Criterion) (xs : List View) (committed pending : ℕ) (reach : List ℕ) → length xs ≤ 8 → AreRising xs
+    → ShowsStatus xs committed pending → IsOrder reach → Begins (orderly criterion committed pending) xs reach → ShowsReach criterion xs reach
+reach-shows criterion xs committed pending reach few rising status order begins =
     record {
-      self = is.order.self;
+      self = order.self;
       each = λ i j x y at_x at_y apart.
           let within_i : i < 8 = (let w = slice_get_within xs i x at_x in omega (arith, w, few)) in
           let within_j : j < 8 = (let w = slice_get_within xs j y at_y in omega (arith, w, few)) in
           let both = begins.each i j y within_i at_y apart in
-          same-truth (bit_at (slice_index node.reach j) i == 1) _
+          same-truth (bit_at (slice_index reach j) i == 1) _
           (λ has.
-          let (own, other, one) = both.0 (eqb-true (bit_at (slice_index node.reach j) i) 1 has) in
+          let (own, other, one) = both.0 (eqb-true (bit_at (slice_index reach j) i) 1 has) in
           and_from (bit_at y.before i == 1) _ (eq-eqb (bit_at y.before i) 1 one)
           (rw (in-free criterion xs committed pending i x status at_x other, in-free criterion xs committed pending j y status at_y own) refl))
           (λ all.
           let (one, rest) = and_parts (bit_at y.before i == 1) _ all in
           let (free_x, free_y) = and_parts (not (is_aside criterion x.status)) _ rest in
-          eq-eqb (bit_at (slice_index node.reach j) i) 1
+          eq-eqb (bit_at (slice_index reach j) i) 1
           (both.1 (
             in-orderly criterion xs committed pending j y within_j status at_y (not-is _ free_y),
             in-orderly criterion xs committed pending i x within_i status at_x (not-is _ free_x),
             eqb-true (bit_at y.before i) 1 one,
           )));
-      none = λ i j within_i within_j apart out. elim (bit_cases (slice_index node.reach j) i) [
+      none = λ i j within_i within_j apart out. elim (bit_cases (slice_index reach j) i) [
         | inl none ↦ none
         | inr has ↦ elim (cases_lt j (length xs)) [
           | inr past ↦ absurd (begins.none i j within_i within_j apart past has)
@@ -126,75 +125,85 @@ root-reach criterion xs committed pending node few rising status is =
     not-is false is = refl
 
 -- the root of the search is that of the law
-to-search : (criterion : Criterion) (xs : List Effect) (start : State) (views : List View) (committed pending held : ℕ) (rank : ℕ → ℕ)
-    (node : search.Node) → IsRoot criterion views committed pending node
-    → IsLegal xs start pending (root criterion node.reach (length views) committed) held rank
-    → legal.IsLegal xs start pending node held rank
-to-search criterion xs start views committed pending held rank node is l = record {
-  ranking = l.ranking;
-  more = rw is.held l.more;
-  only = rw is.held l.only;
+to-search : (criterion : Criterion) (xs : List Effect) (start : State) (n : ℕ) (reach : List ℕ) (committed pending held : ℕ) (rank : ℕ → ℕ)
+    (node : search.Node) → IsRoot criterion xs n reach committed node
+    → IsLegal xs start pending (root criterion reach n committed) held rank → legal.IsLegal xs start pending node held rank
+to-search criterion xs start n reach committed pending held rank node is l = record {
+  ranking = rw is.masks l.ranking;
+  more = rw is.holds l.more;
+  only = rw is.holds l.only;
   agree = rw is.members l.agree;
   reads = λ j r low few in_j needs. rw (is.free j r low few) (l.reads j r low few (rw is.members at in_j) needs);
 }
 
-of-search : (criterion : Criterion) (xs : List Effect) (start : State) (views : List View) (committed pending held : ℕ) (rank : ℕ → ℕ)
-    (node : search.Node) → IsRoot criterion views committed pending node → legal.IsLegal xs start pending node held rank
-    → IsLegal xs start pending (root criterion node.reach (length views) committed) held rank
-of-search criterion xs start views committed pending held rank node is l = record {
-  ranking = l.ranking;
-  more = rw is.held at l.more;
-  only = rw is.held at l.only;
+of-search : (criterion : Criterion) (xs : List Effect) (start : State) (n : ℕ) (reach : List ℕ) (committed pending held : ℕ) (rank : ℕ → ℕ)
+    (node : search.Node) → IsRoot criterion xs n reach committed node → legal.IsLegal xs start pending node held rank
+    → IsLegal xs start pending (root criterion reach n committed) held rank
+of-search criterion xs start n reach committed pending held rank node is l = record {
+  ranking = rw is.masks at l.ranking;
+  more = rw is.holds at l.more;
+  only = rw is.holds at l.only;
   agree = rw is.members at l.agree;
   reads = λ j r low few in_j needs. rw (is.free j r low few) at (l.reads j r low few (rw (is.members) in_j) needs);
 }
 
--- the law of these events, told by the root of the search
-pub law-of : (criterion : Criterion) (items : List cuts.Txn) (start : State) (events : List Event) (committed pending : ℕ) (node : search.Node)
-    → length items ≤ 8 → HaveEight items → length start ≡ 8 → ShowsStatus (map view items) committed pending
-    → IsRoot criterion (map view items) committed pending node → map view items ≡ views_of events
-    → ((end : State) × EndsBy criterion (Only start) (transactions events) end)
-    ↔ ((held : ℕ) × (rank : ℕ → ℕ) × legal.IsLegal (effects items) start pending node held rank)
-law-of criterion items start events committed pending node few eight size status is shown =
+-- what the law asks of the transactions of these events, and of masks made of them
+pub record Shown (criterion : Criterion) (items : List cuts.Txn) (events : List Event) (committed pending : ℕ) (reach : List ℕ) : Type 0 where
+  pub few : length (transactions events) ≤ 8
+  pub same : length (transactions events) ≡ length items
+  pub acts : ActAs (effects items) (transactions events)
+  pub order : ShowsOrder criterion (transactions events) reach
+  pub status : TellStatus (transactions events) committed pending
+
+pub shown-of : (criterion : Criterion) (items : List cuts.Txn) (events : List Event) (committed pending : ℕ) (reach : List ℕ)
+    → length items ≤ 8 → HaveEight items → ShowsStatus (map view items) committed pending → IsOrder reach
+    → (AreRising (map view items) → Begins (orderly criterion committed pending) (map view items) reach)
+    → map view items ≡ views_of events → Shown criterion items events committed pending reach
+shown-of criterion items events committed pending reach few eight status order begins shown =
     let ts = transactions events in
     let xs = map view items in
     let shows : ShowsTransactions xs ts = rw shown (shows-views_of events) in
     let low : length xs ≤ 8 = omega (arith, few, length-map items view) in
-    let many : length ts ≤ 8 = omega (arith, low, shows.same_length) in
     let rising : AreRising xs = rw shown (rising-views events) in
-    let reach = root-reach criterion xs committed pending node low rising status is in
-    let order = order-of_reach criterion xs ts node.reach shows (none_before_itself events) many reach in
-    let same : length ts ≡ length xs = sym shows.same_length in
-    let law = tells_legal criterion ts (effects items) node.reach start committed pending (act-as items ts shows eight) many order size
-    (status-of xs ts committed pending shows status) in (
+    let shows_reach = reach-shows criterion xs committed pending reach low rising status order (begins rising) in
+    let many : length ts ≤ 8 = omega (arith, low, shows.same_length) in
+    record {
+      few = many;
+      same = sym shows.same_length ∙ length-map items view;
+      acts = act-as items ts shows eight;
+      order = order-of_reach criterion xs ts reach shows (none_before_itself events) many shows_reach;
+      status = status-of xs ts committed pending shows status;
+    }
+
+-- the law of these events, told by the root of the search
+law-of : (criterion : Criterion) (items : List cuts.Txn) (start : State) (events : List Event) (committed pending : ℕ) (reach : List ℕ)
+    (node : search.Node) → Shown criterion items events committed pending reach → length start ≡ 8
+    → IsRoot criterion (effects items) (length items) reach committed node
+    → ((end : State) × EndsBy criterion (Only start) (transactions events) end)
+    ↔ ((held : ℕ) × (rank : ℕ → ℕ) × legal.IsLegal (effects items) start pending node held rank)
+law-of criterion items start events committed pending reach node s size is =
+    let law = tells_legal criterion (transactions events) (effects items) reach start committed pending s.acts s.few s.order size s.status in (
       λ ends.
-          let (held, rank, l) = law.0 ends in (
-            held,
-            rank,
-            to-search criterion (effects items) start xs committed pending held rank node is
-                (subst (λ (n : ℕ). IsLegal (effects items) start pending (root criterion node.reach n committed) held rank) same l),
-          ),
+          let (held, rank, l) = law.0 ends in
+          (held, rank, to-search criterion (effects items) start (length items) reach committed pending held rank node is
+          (subst (λ (n : ℕ). IsLegal (effects items) start pending (root criterion reach n committed) held rank) s.same l)),
       λ legals.
           let (held, rank, l) = legals in
-          law.1 (
-            held,
-            rank,
-            subst (λ (n : ℕ). IsLegal (effects items) start pending (root criterion node.reach n committed) held rank) (sym same)
-                (of-search criterion (effects items) start xs committed pending held rank node is l),
-          ),
+          law.1 (held, rank, subst (λ (n : ℕ). IsLegal (effects items) start pending (root criterion reach n committed) held rank) (sym s.same)
+          (of-search criterion (effects items) start (length items) reach committed pending held rank node is l)),
     )
 
-pub refutes : (criterion : Criterion) (items : List cuts.Txn) (start : State) (committed pending : ℕ) (node : search.Node)
-    → length items ≤ 8 → HaveEight items → length start ≡ 8 → ShowsStatus (map view items) committed pending
-    → IsRoot criterion (map view items) committed pending node → legal.HasNone (effects items) start pending node
+pub refutes : (criterion : Criterion) (items : List cuts.Txn) (start : State) (committed pending : ℕ) (reach : List ℕ) (node : search.Node)
+    → ((events : List Event) → map view items ≡ views_of events → Shown criterion items events committed pending reach) → length start ≡ 8
+    → IsRoot criterion (effects items) (length items) reach committed node → legal.HasNone (effects items) start pending node
     → Refutes criterion items start
-refutes criterion items start committed pending node few eight size status is none events shown end ends =
-    let (held, rank, l) = (law-of criterion items start events committed pending node few eight size status is shown).0 (end, ends) in
+refutes criterion items start committed pending reach node s size is none events shown end ends =
+    let (held, rank, l) = (law-of criterion items start events committed pending reach node (s events shown) size is).0 (end, ends) in
     none held rank l
 
-pub explains : (criterion : Criterion) (items : List cuts.Txn) (start : State) (committed pending : ℕ) (node found : search.Node)
-    → length items ≤ 8 → HaveEight items → length start ≡ 8 → ShowsStatus (map view items) committed pending
-    → IsRoot criterion (map view items) committed pending node → legal.IsFound (effects items) start pending node found
+pub explains : (criterion : Criterion) (items : List cuts.Txn) (start : State) (committed pending : ℕ) (reach : List ℕ) (node found : search.Node)
+    → ((events : List Event) → map view items ≡ views_of events → Shown criterion items events committed pending reach) → length start ≡ 8
+    → IsRoot criterion (effects items) (length items) reach committed node → legal.IsFound (effects items) start pending node found
     → Explains criterion items start
-explains criterion items start committed pending node found few eight size status is f events shown =
-    (law-of criterion items start events committed pending node few eight size status is shown).1 (found.held, f.rank, f.legal f.rank f.ranking)
+explains criterion items start committed pending reach node found s size is f events shown =
+    (law-of criterion items start events committed pending reach node (s events shown) size is).1 (found.held, f.rank, f.legal f.rank f.ranking)

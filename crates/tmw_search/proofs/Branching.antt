@@ -16,15 +16,15 @@ use Rattle.tmw_search.specs.Legal.{In, need_at, MayBe, IsNode, IsBranch, Reads, 
 use Rattle.tmw_search.proofs.Bits.{same_place, less_of, less_has, or-left, or-right, or_either}
 
 pub record Branches (xs : List Effect) (may : ℕ) (node : Node) (j r writers left : ℕ) : Type 0 where
-  pub only : (i : ℕ) → i < 8 → In writers i → (In node.held i ⊎ In may i) × MayBe xs node j r i
-  pub all : (i : ℕ) → i < 8 → (In node.held i ⊎ In may i) → In left i ⊎ (MayBe xs node j r i → In writers i)
-  pub among : (i : ℕ) → i < 8 → In left i → In node.held i ⊎ In may i
+  pub only : (i : ℕ) → i < 8 → In writers i → (In (slice_index node.choices.writers r) i ⊎ In may i) × MayBe xs node j r i
+  pub all : (i : ℕ) → i < 8 → (In (slice_index node.choices.writers r) i ⊎ In may i) → In left i ⊎ (MayBe xs node j r i → In writers i)
+  pub among : (i : ℕ) → i < 8 → In left i → In (slice_index node.choices.writers r) i ⊎ In may i
 
-pub branches-none : (xs : List Effect) (may : ℕ) (node : Node) (j r : ℕ) → Branches xs may node j r 0 (bit_or node.held may)
+pub branches-none : (xs : List Effect) (may : ℕ) (node : Node) (j r : ℕ) → Branches xs may node j r 0 (bit_or (slice_index node.choices.writers r) may)
 branches-none xs may node j r = record {
   only = λ i within is. absurd (omega (arith, is, bit_at-zero i));
-  all = λ i within is. elim is [ inl held ↦ inl (or-left node.held may i held) | inr might ↦ inl (or-right node.held may i might) ];
-  among = λ i within is. or_either node.held may i is;
+  all = λ i within is. elim is [ inl held ↦ inl (or-left (slice_index node.choices.writers r) may i held) | inr might ↦ inl (or-right (slice_index node.choices.writers r) may i might) ];
+  among = λ i within is. or_either (slice_index node.choices.writers r) may i is;
 }
 
 pub branches-with : (xs : List Effect) (may : ℕ) (node : Node) (j r writers left i : ℕ) → i < 8 → In left i → MayBe xs node j r i
@@ -82,7 +82,7 @@ branches-all xs start may node j r writers left b within_j within_r read free n 
   from_start = to;
   from = λ i within is.
       let (where_from, may_be) = bs.only i within is in
-      (elim where_from [ inl held ↦ inl held | inr might ↦ inr (might, may_be.agrees) ], may_be.leaves, may_be.value);
+      (elim where_from [ inl one ↦ inl ((n.writers r i within_r within).0 one).0 | inr might ↦ inr (might, may_be.agrees) ], may_be.leaves, may_be.value);
   all = λ held rank l.
       let (member, needs) = n.reads j r within_j within_r read in
       elim (open-reads xs held start rank j r (source_at node.choices j r) free (l.reads j r within_j within_r (inl member) needs)) [
@@ -104,7 +104,10 @@ branches-all xs start may node j r writers left b within_j within_r read free n 
             inr (
               i,
               within,
-              elim (bs.all i within (l.only i within holds)) [
+              elim (bs.all i within (elim (l.only i within holds) [
+                | inl own ↦ inl ((n.writers r i within_r within).1 (own, leaves))
+                | inr might ↦ inr might
+              ])) [
                 | inl still ↦ absurd (omega (arith, still, ap (λ (m : ℕ). bit_at m i) none, bit_at-zero i))
                 | inr done ↦ done may_be
               ],

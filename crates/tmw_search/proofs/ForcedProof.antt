@@ -14,7 +14,7 @@ use Rattle.tmw_defs.specs.Opaque.{State, Placed, PlacesEach, may_be, reads_hold,
 use Rattle.tmw_defs.specs.Outcomes.{end_state, Leads}
 use Rattle.tmw_defs.proofs.Removals.{list_all-places}
 use Rattle.tmw_cuts.specs.Written.{writes, writes_blindly}
-use Rattle.tmw_search.proofs.Completions.{held_is}
+use Rattle.tmw_search.proofs.HeldOnes.{held_is}
 
 -- a sum over an order is the sum over the transactions that it places
 sum_by-remove : {A : Type 0} (f : A → ℕ) (xs : List A) (i : ℕ) (x : A) → slice_get xs i ≡ Some x

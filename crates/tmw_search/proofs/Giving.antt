@@ -6,8 +6,7 @@ use Rattle.std.proofs.lemmas.Nat.Bits.{bit_at_set_same, bit_at_set_other}
 use Rattle.std.proofs.lemmas.List.{get_or-set_same, get_or-set_other}
 use Rattle.std.proofs.Math.ListN.{set}
 use Rattle.tmw_defs.specs.Opaque.{State}
-use Rattle.tmw_search.specs.Choices.{IsRanking}
-use Rattle.tmw_search.specs.Order.{IsOrder}
+use Rattle.tmw_search.specs.Order.{IsOrder, IsRanking}
 use Rattle.tmw_search.specs.Chosen.{source_at, IsRead, WithinSource}
 use Rattle.tmw_search.specs.Opens.{count, is_open, opens}
 use Rattle.tmw_search.specs.declared.sources.Choices.{Choices}

@@ -28,19 +28,19 @@ yes_of mask i one = eq-eqb (bit_at mask i) 1 one
 of_yes : (mask i : ℕ) → (bit_at mask i == 1) ≡ true → bit_at mask i ≡ 1
 of_yes mask i is = eqb-true (bit_at mask i) 1 is
 
-held_either : (s : Status) (b : Bool) → b ≡ true → IsTrue (may_hold s b) → (is_committed s ≡ true) ⊎ (is_pending s ≡ true)
+pub held_either : (s : Status) (b : Bool) → b ≡ true → IsTrue (may_hold s b) → (is_committed s ≡ true) ⊎ (is_pending s ≡ true)
 held_either Committed b is may = inl refl
 held_either Pending b is may = inr refl
 held_either Live b is may = absurd (let m = rw is at may in cc)
 held_either Aborted b is may = absurd (let m = rw is at may in cc)
 
-committed_held : (s : Status) (b : Bool) → is_committed s ≡ true → IsTrue (may_hold s b) → b ≡ true
+pub committed_held : (s : Status) (b : Bool) → is_committed s ≡ true → IsTrue (may_hold s b) → b ≡ true
 committed_held Committed b is may = may
 committed_held Pending b is may = absurd (cc)
 committed_held Live b is may = absurd (cc)
 committed_held Aborted b is may = absurd (cc)
 
-may_of : (s : Status) (b : Bool) → (is_committed s ≡ true → b ≡ true) → (b ≡ true → (is_committed s ≡ true) ⊎ (is_pending s ≡ true)) → IsTrue (may_hold s b)
+pub may_of : (s : Status) (b : Bool) → (is_committed s ≡ true → b ≡ true) → (b ≡ true → (is_committed s ≡ true) ⊎ (is_pending s ≡ true)) → IsTrue (may_hold s b)
 may_of Committed b all only = all refl
 may_of Pending b all only = refl
 may_of Live true all only = absurd (elim (only refl) [ inl c ↦ (absurd (cc)) | inr p ↦ (absurd (cc)) ])

@@ -1,26 +1,15 @@
-mod ApartFirst
-mod BlindEnds
-mod BlindProof
-mod Choosing
-mod Completions
-mod DeadEnd
-mod DepthFirst
+mod HeldOnes
 pub mod ForcedEnds
 mod ForcedProof
 mod Forcing
 pub mod FreeNext
-mod Gathering
 mod Holding
-mod IdleFirst
-mod LastFound
 mod LastOfOrder
 mod LayerLists
 pub mod LayerSteps
 mod LayersBy
 pub mod LayersProof
 pub mod Masks
-mod OrderRanks
-mod RankedOrders
 mod SameEnds
 mod Setting
 mod Sorting
@@ -47,13 +36,11 @@ mod OpacityLaw
 mod StrictLaw
 mod Growing
 mod Law
-mod Needed
 mod Shown
-mod Extension
 mod Legal
 mod Windows
-mod EndsByLast
 mod Answering
 mod Reading
 mod Rooting
 mod Finding
+mod Completing

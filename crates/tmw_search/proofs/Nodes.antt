@@ -2,8 +2,7 @@
 use Rattle.std.proofs.Common.{◌≡◌, ◌⊎◌, ◌<◌, ℕ, List, Bool, false, IsTrue, refl, sym, subst, inl, inr, arith}
 use Rattle.std.specs.Prelude.{slice_index}
 use Rattle.tmw_defs.specs.Opaque.{State}
-use Rattle.tmw_search.specs.Choices.{IsRanking}
-use Rattle.tmw_search.specs.Order.{Has, IsOrder, Narrows, Before}
+use Rattle.tmw_search.specs.Order.{Has, IsOrder, Narrows, Before, IsRanking}
 use Rattle.tmw_search.specs.Settled.{IsBetween}
 use Rattle.tmw_search.specs.Chosen.{Sourced, SettledSource, Chosen, AllSettled, source_at, IsRead}
 use Rattle.tmw_search.specs.declared.sources.Choices.{Choices}
@@ -11,14 +10,10 @@ use Rattle.tmw_search.specs.declared.sources.Source.{Source}
 use Rattle.tmw_search.specs.declared.sources.Source.TheVariants.{Open, Start, From}
 use Rattle.tmw_cuts.specs.declared.effect.Effect.{Effect}
 use Rattle.tmw_search.specs.declared.node.Node.{Node}
-use Rattle.tmw_search.specs.Legal.{In, Writes, Reads, IsLegal, IsSound, Settles, IsNode, IsFound, HasNone}
+use Rattle.tmw_search.specs.Legal.{In, ordered, Writes, Reads, IsLegal, IsSound, Settles, IsNode, IsFound, HasNone}
 use Rattle.tmw_search.proofs.Bits.{same_place}
 use Rattle.tmw_search.proofs.Passing.{Grows}
 use Rattle.tmw_search.proofs.Rooms.{rank_of, order-ranks}
-
--- the node with this order
-abbrev pub ordered : Node → List ℕ → Node
-ordered node reach = record node { reach = reach }
 
 pub ranking-less : (old new : List ℕ) (rank : ℕ → ℕ) → Grows old new → IsRanking rank new → IsRanking rank old
 ranking-less old new rank grows r = record {

@@ -5,8 +5,7 @@ use Rattle.std.specs.Prelude.{slice_index, if◌then◌else◌}
 use Rattle.std.proofs.lemmas.Bool.{cases_lt}
 use Rattle.std.proofs.lemmas.Nat.{or_of_8}
 use Rattle.std.proofs.lemmas.List.{get_or_past}
-use Rattle.tmw_search.specs.Choices.{IsRanking}
-use Rattle.tmw_search.specs.Order.{Has, IsOrder, Narrows, Joins, Before}
+use Rattle.tmw_search.specs.Order.{Has, IsOrder, Narrows, Joins, Before, IsRanking}
 use Rattle.tmw_search.proofs.Bits.{bit_cases, or-left, or-right, or_either}
 
 -- nothing changes, where the second comes before the first

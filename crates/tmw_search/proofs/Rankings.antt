@@ -9,7 +9,7 @@ use Rattle.tmw_defs.specs.Criteria.{ExplainsBy}
 use Rattle.tmw_defs.specs.History.{Txn}
 use Rattle.tmw_defs.specs.Opaque.{State, Placed, precedes, is_legal}
 use Rattle.tmw_defs.specs.Outcomes.{end_state}
-use Rattle.tmw_search.specs.Choices.{IsRanking}
+use Rattle.tmw_search.specs.Order.{IsRanking}
 use Rattle.tmw_search.proofs.LayersProof.{same_place, bit_cases}
 use Rattle.tmw_search.proofs.LayerSteps.{slice_get_some}
 use Rattle.tmw_search.specs.Polygraph.{Node, IsIn, EndsAt, EndsIn}

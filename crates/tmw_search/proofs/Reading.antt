@@ -9,20 +9,19 @@ use Rattle.std.proofs.lemmas.Nat.Bits.{bit_at-zero, bit_at-lt, bit_at_and, bit_a
 use Rattle.tmw_cuts.proofs.Bits.{shift_is}
 use Rattle.tmw_defs.specs.Opaque.{State}
 use Rattle.tmw_cuts.specs.declared.effect.Effect.{Effect}
-use Rattle.tmw_search.specs.Choices.{IsRanking}
-use Rattle.tmw_search.specs.Order.{Has, IsOrder, Narrows}
+use Rattle.tmw_search.specs.Order.{Has, IsOrder, Narrows, IsRanking}
 use Rattle.tmw_search.specs.Settled.{lives}
-use Rattle.tmw_search.specs.Chosen.{Sourced, SettledSource, source_at, IsRead}
+use Rattle.tmw_search.specs.Chosen.{Chosen, Sourced, SettledSource, source_at, IsRead}
 use Rattle.tmw_search.specs.declared.node.Branch.{Branch}
 use Rattle.tmw_search.specs.declared.node.Node.{Node}
 use Rattle.tmw_search.specs.declared.sources.Source.{Source}
 use Rattle.tmw_search.specs.declared.sources.Source.TheVariants.{Open, Start, From}
-use Rattle.tmw_search.specs.Legal.{need_at, In, Leaves, Needs, Writes, ReadsStart, ReadsFrom, Reads, IsLegal, IsSound, Settles, IsNode, IsBranch, MayGive, Gives, HasNone}
+use Rattle.tmw_search.specs.Legal.{ordered, need_at, In, Leaves, Needs, Writes, ReadsStart, ReadsFrom, Reads, IsLegal, IsSound, Settles, IsNode, IsBranch, MayGive, Gives, HasNone}
 use Rattle.tmw_search.specs.Narrowed.{Follows, KeepsOthers, LeavesOut, NoneMay, IsOnly, AllOpen}
 use Rattle.tmw_search.proofs.Bits.{same_place, less_of, less_has}
 use Rattle.tmw_search.proofs.Branching.{never-true}
 use Rattle.tmw_search.proofs.Giving.{is_pair}
-use Rattle.tmw_search.proofs.Nodes.{ordered, node-ordered, legal-with, legal-less, reads-sourced, before-of, settles-with}
+use Rattle.tmw_search.proofs.Nodes.{node-ordered, legal-chosen, legal-with, legal-less, reads-sourced, before-of, settles-with}
 
 pub follows-same : (xs : List Effect) (start : State) (may : ℕ) (node : Node) → IsNode xs start may node → Follows xs start may node node true
 follows-same xs start may node n = record {
@@ -201,6 +200,18 @@ follows-given xs start may old mid reach b source alive is only g n = record {
       let (holds, leaves) = (g.is.writers b.register k is.register within).0 one in
       (within, next.more k within holds, leaves)) reads in
       (n.told rank next.ranking sourced, legal-with xs start may mid reach held rank (n.all rank next.ranking sourced) next);
+}
+
+-- what follows from all sources that are chosen is known
+pub follows-settled : (xs : List Effect) (start : State) (may : ℕ) (old mid : Node) (reach : List ℕ) (alive : Bool) → Follows xs start may old mid true
+    → Narrows (Chosen mid.choices) mid.reach reach alive → Follows xs start may old (ordered mid reach) alive
+follows-settled xs start may old mid reach alive f n = record {
+  is = λ lives. node-ordered xs start may mid reach n.grows n.order (f.is refl);
+  into = λ held rank lives l. f.into held rank refl (legal-less xs start may mid reach held rank n.grows l);
+  onto = λ held rank l.
+      let next = (f.onto held rank l).1 in
+      let chosen = legal-chosen xs start may mid held rank (f.is refl) next in
+      (n.told rank next.ranking chosen, legal-with xs start may mid reach held rank (n.all rank next.ranking chosen) next);
 }
 
 -- by who precedes whom the read is settled

@@ -4,8 +4,7 @@ use Rattle.std.specs.Int.{bit_at}
 use Rattle.std.specs.Prelude.{slice_index}
 use Rattle.std.proofs.lemmas.List.{ext_get_or}
 use Rattle.std.proofs.lemmas.Nat.Bits.{bit_at-lt, same_from_bits_below}
-use Rattle.tmw_search.specs.Choices.{IsRanking}
-use Rattle.tmw_search.specs.Order.{Has, IsOrder}
+use Rattle.tmw_search.specs.Order.{Has, IsOrder, IsRanking}
 use Rattle.tmw_search.specs.Room.{lacks, room_of, room}
 use Rattle.tmw_search.proofs.Bits.{same_place, bit_cases}
 use Rattle.tmw_search.proofs.Passing.{Grows}

@@ -458,11 +458,15 @@ writers-more xs mask writers next left i row within is one adds u =
           );
     }
 
--- one that has committed is in each serial order
-pub held-member : (criterion : Criterion) (xs : List View) (committed pending i : ℕ) → ShowsStatus xs committed pending → In committed i
-    → In (members_of criterion (length xs) committed) i
-held-member Strict xs committed pending i s has = has
-held-member Opacity xs committed pending i s has = elim (cases_lt i (length xs)) [
-  | inl below ↦ bit_at_ones (length xs) i below
-  | inr past ↦ absurd (omega (arith, has, (s.none i past).0))
-]
+-- one that is held is in each serial order
+pub held-member : (criterion : Criterion) (n held i : ℕ) → i < n → In held i → In (members_of criterion n held) i
+held-member Strict n held i within has = has
+held-member Opacity n held i within has = bit_at_ones n i within
+
+-- those that have committed, and those that are pending, are of the list
+pub status-within : (xs : List View) (committed pending : ℕ) → ShowsStatus xs committed pending
+    → ((i : ℕ) → In committed i → i < length xs) × ((i : ℕ) → In pending i → i < length xs)
+status-within xs committed pending s = (
+  λ i has. elim (cases_lt i (length xs)) [ inl within ↦ within | inr past ↦ absurd (omega (arith, has, (s.none i past).0)) ],
+  λ i has. elim (cases_lt i (length xs)) [ inl within ↦ within | inr past ↦ absurd (omega (arith, has, (s.none i past).1)) ],
+)

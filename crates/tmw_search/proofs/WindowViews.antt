@@ -11,8 +11,7 @@ use Rattle.tmw_cuts.specs.Views.{bit, view}
 use Rattle.tmw_cuts.specs.Standing.{before_of, view_of, views_of}
 use Rattle.tmw_cuts.proofs.Bits.{bit_at-before_of}
 use Rattle.tmw_cuts.proofs.Pushes.{length-views_of}
-use Rattle.tmw_search.specs.BlindEnds.{LastInTime}
-use Rattle.tmw_search.specs.ShownTransactions.{ShowsTransaction, ShowsTransactions, NoneBeforeItself}
+use Rattle.tmw_search.specs.ShownTransactions.{ShowsTransaction, ShowsTransactions, NoneBeforeItself, LastInTime}
 use Rattle.tmw_cuts.proofs.Masks.{bit-le}
 use Rattle.std.specs.Option.{option_map}
 use Rattle.std.proofs.lemmas.Option.{slice_get_read, slice_get-map}

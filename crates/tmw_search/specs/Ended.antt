@@ -34,22 +34,6 @@ abbrev pub AreLayerBy : Criterion → States → Window → ℕ → List (ℕ ×
 AreLayerBy criterion states window k pairs = (events : List Event) → StandsFor window events → (p : ℕ × State)
     → Contains pairs p ↔ InLayerBy criterion (Contains (members states)) (transactions events) k p.0 p.1
 
--- One of the pairs has this state.
-pub record HasState (pairs : List (ℕ × State)) (s : State) : Type 0 where
-  pub pair : ℕ × State
-  pub within : Contains pairs pair
-  pub is : pair.1 ≡ s
-
--- The states of the pairs are just the end states of the transactions that the list shows, from the states of the start.
-abbrev pub HaveLast : Criterion → List State → List View → List (ℕ × State) → Type 0
-HaveLast criterion start xs pairs = (ts : List Txn) → ShowsTransactions xs ts → NoneBeforeItself ts → (s : State)
-    → HasState pairs s ↔ EndsBy criterion (Contains start) ts s
-
--- The states of the pairs are just the end states of the window's events.
-abbrev pub AreLastOf : Criterion → States → Window → List (ℕ × State) → Type 0
-AreLastOf criterion states window pairs = (events : List Event) → StandsFor window events → (s : State)
-    → HasState pairs s ↔ EndsOf criterion states events s
-
 -- It tells whether the window's transactions have an end state.
 abbrev pub TellsEnd : Criterion → States → Window → Bool → Type 0
 TellsEnd criterion states window answer = (events : List Event) → StandsFor window events

@@ -1,33 +1,43 @@
--- Which of a register's writers is its last.
-use Rattle.std.specs.Prelude.{◌≡◌, ◌⊎◌, ◌<◌, ◌≤◌, ℕ, List, length, slice_index}
-use Rattle.std.specs.Int.{bit_at}
+-- The ends of a node's orders, told by the last writer of each register.
+use Rattle.std.specs.Prelude.{◌≡◌, ◌⊎◌, ◌<◌, ◌≤◌, ℕ, Bool, List, IsTrue, length, slice_index, slice_set}
+use Rattle.std.specs.List.{Contains}
 use Rattle.tmw_defs.specs.Opaque.{State}
 use Rattle.tmw_cuts.specs.declared.effect.Effect.{Effect}
 use Rattle.tmw_search.specs.declared.node.Node.{Node}
-use Rattle.tmw_search.specs.Legal.{left_at, IsLegal}
+use Rattle.tmw_search.specs.declared.sources.Choices.{Choices}
+use Rattle.tmw_search.specs.Chosen.{Chosen}
+use Rattle.tmw_search.specs.Legal.{In, left_at, IsLegal}
+use Rattle.tmw_search.specs.Order.{Has}
+use Rattle.tmw_search.specs.Polygraph.{EndsAt}
 
 -- None of these is ranked above it.
 abbrev pub ComesLast : ℕ → ℕ → (ℕ → ℕ) → Type 0
-ComesLast writers i rank = (k : ℕ) → k < 8 → bit_at writers k ≡ 1 → rank k ≤ rank i
+ComesLast writers i rank = (k : ℕ) → k < 8 → In writers k → rank k ≤ rank i
 
--- The one at the place is the last writer of the register, and leaves this value there.
-pub record IsLastIn (xs : List Effect) (writers : ℕ) (rank : ℕ → ℕ) (r value place : ℕ) : Type 0 where
-  pub within : place < 8
-  pub writes : bit_at writers place ≡ 1
-  pub is : value ≡ left_at xs place r
-  pub last : (k : ℕ) → k < 8 → bit_at writers k ≡ 1 → rank k ≤ rank place
+-- None of the writers is ranked above it, and the reads have their values from their sources.
+abbrev pub IsPutLast : Choices → ℕ → ℕ → (ℕ → ℕ) → Type 0
+IsPutLast choices writers i rank = ComesLast writers i rank × Chosen choices rank
 
--- What a register ends with that held this.
-abbrev pub EndsWith : List Effect → ℕ → (ℕ → ℕ) → ℕ → ℕ → ℕ → Type 0
-EndsWith xs writers rank r old value =
-    (((k : ℕ) → k < 8 → bit_at writers k ≡ 1 → ⊥) × (value ≡ old)) ⊎ ((place : ℕ) × IsLastIn xs writers rank r value place)
+-- They are those that come before another of these.
+pub record ComeBefore (reach : List ℕ) (these before : ℕ) : Type 0 where
+  pub only : (i : ℕ) → i < 8 → In before i → (j : ℕ) × (j < 8) × In these j × Has reach i j × (i ≡ j → ⊥)
+  pub all : (i j : ℕ) → i < 8 → j < 8 → In these j → Has reach i j → (i ≡ j → ⊥) → In before i
 
--- The end of a legal order of the node, where the registers below this one hold what the state does.
-pub record EndsOf (xs : List Effect) (start : State) (node : Node) (register : ℕ) (base end : State) : Type 0 where
+-- The end of a legal order of the node, where each register that is not in the mask holds what the state does.
+pub record EndsOf (xs : List Effect) (start : State) (node : Node) (registers : ℕ) (base end : State) : Type 0 where
   pub held : ℕ
   pub rank : ℕ → ℕ
   pub legal : IsLegal xs start 0 node held rank
   pub size : length end ≡ 8
-  pub settled : (r : ℕ) → r < register → slice_index end r ≡ slice_index base r
-  pub rest : (r : ℕ) → register ≤ r → r < 8
-      → EndsWith xs (slice_index node.choices.writers r) rank r (slice_index base r) (slice_index end r)
+  pub settled : (r : ℕ) → r < 8 → (In registers r → ⊥) → slice_index end r ≡ slice_index base r
+  pub rest : (r : ℕ) → r < 8 → In registers r → EndsAt xs held rank r (slice_index base r) (slice_index end r)
+
+-- It is the state with what one of the mask leaves in the register.
+abbrev pub LeftByOne : List Effect → ℕ → ℕ → State → State → Type 0
+LeftByOne xs r mask base e = (place : ℕ) × (place < 8) × In mask place × (e ≡ slice_set base r (left_at xs place r))
+
+-- Members of P were added to the set, and all of them where it is done.
+pub record Adds (done : Bool) (old new : List State) (P : State → Type 0) : Type 0 where
+  pub only : (e : State) → Contains new e → Contains old e ⊎ P e
+  pub kept : (e : State) → Contains old e → Contains new e
+  pub all : IsTrue done → (e : State) → P e → Contains new e

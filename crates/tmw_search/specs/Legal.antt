@@ -2,7 +2,6 @@
 use Rattle.std.specs.Prelude.{◌≡◌, ◌⊎◌, ◌↔◌, ◌<◌, ◌≤◌, ℕ, false, List, [], map, slice_index, get_or, IsTrue}
 use Rattle.std.specs.Int.{bit_at}
 use Rattle.tmw_defs.specs.Opaque.{State}
-use Rattle.tmw_search.specs.Choices.{IsRanking}
 use Rattle.tmw_search.specs.declared.sources.Source.{Source}
 use Rattle.tmw_search.specs.declared.sources.Source.TheVariants.{Open, Start, From}
 use Rattle.tmw_cuts.specs.declared.effect.Effect.{Effect}
@@ -10,7 +9,7 @@ use Rattle.tmw_cuts.specs.declared.txn.Txn.{Txn}
 use Rattle.tmw_cuts.specs.Views.{effect_of}
 use Rattle.tmw_search.specs.declared.node.Node.{Node}
 use Rattle.tmw_search.specs.declared.node.Branch.{Branch}
-use Rattle.tmw_search.specs.Order.{Has, IsOrder}
+use Rattle.tmw_search.specs.Order.{Has, IsOrder, IsRanking}
 use Rattle.tmw_search.specs.Chosen.{IsRead, source_at}
 
 abbrev pub idle : Effect
@@ -63,6 +62,10 @@ pub record IsLegal (xs : List Effect) (start : State) (may : ℕ) (node : Node) 
   pub agree : (j : ℕ) → j < 8 → In node.members j ⊎ In held j → IsTrue (get_or xs j idle).agrees
   pub reads : (j r : ℕ) → j < 8 → r < 8 → In node.members j ⊎ In held j → Needs xs j r
       → Reads xs held start rank j r (source_at node.choices j r)
+
+-- The node with these coming before one another.
+abbrev pub ordered : Node → List ℕ → Node
+ordered node reach = record node { reach = reach }
 
 -- What a source has to be.
 abbrev pub IsSound : List Effect → State → ℕ → ℕ → ℕ → Source → Type 0

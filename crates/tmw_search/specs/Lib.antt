@@ -1,13 +1,9 @@
-pub mod BlindEnds
-pub mod BlindTransactions
-pub mod Choices
 pub mod Chosen
-pub mod DepthFirst
+pub mod Completed
 pub mod Ended
 pub mod ForcedEnds
 pub mod ForcedTransactions
 pub mod Last
-pub mod LastWrites
 pub mod Layers
 pub mod Legal
 pub mod Narrowed

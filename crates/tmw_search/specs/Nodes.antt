@@ -7,8 +7,8 @@ use Rattle.tmw_defs.specs.Criteria.{EndsBy}
 use Rattle.tmw_defs.specs.History.{Txn, status_of}
 use Rattle.tmw_defs.specs.Opaque.{State}
 use Rattle.tmw_defs.specs.Outcomes.{Only}
-use Rattle.tmw_search.specs.Choices.{IsRanking}
 use Rattle.tmw_defs.specs.Quiet.{is_pending}
+use Rattle.tmw_search.specs.Order.{IsRanking}
 use Rattle.tmw_search.specs.ForcedTransactions.{is_committed}
 use Rattle.tmw_search.specs.Polygraph.{Node, IsIn, EndsAt, IsCompletion, members_of, root}
 use Rattle.tmw_search.specs.Legal.{idle, Needs, need_at, left_at, Writes, ReadsFrom, Reads}

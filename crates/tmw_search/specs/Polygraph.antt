@@ -10,7 +10,7 @@ use Rattle.tmw_defs.specs.Criteria.{EndsBy}
 use Rattle.tmw_defs.specs.History.{Txn, operations, status_of}
 use Rattle.tmw_defs.specs.Opaque.{State, precedes, may_hold, reads_hold, after_writes}
 use Rattle.tmw_defs.specs.Outcomes.{Only}
-use Rattle.tmw_search.specs.Choices.{IsRanking}
+use Rattle.tmw_search.specs.Order.{IsRanking}
 use Rattle.tmw_search.specs.Layers.{is_aside}
 use Rattle.tmw_cuts.specs.declared.effect.Effect.{Effect}
 use Rattle.tmw_search.specs.declared.sources.Source.{Source}

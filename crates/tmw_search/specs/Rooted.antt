@@ -6,9 +6,8 @@ use Rattle.tmw_cuts.specs.Views.{View}
 use Rattle.tmw_cuts.specs.declared.effect.Effect.{Effect}
 use Rattle.tmw_search.specs.declared.node.Node.{Node}
 use Rattle.tmw_search.specs.declared.sources.Source.TheVariants.{Open}
-use Rattle.tmw_search.specs.Chosen.{source_at}
+use Rattle.tmw_search.specs.Chosen.{IsRead, source_at}
 use Rattle.tmw_search.specs.Legal.{idle, In, Leaves, Needs}
-use Rattle.tmw_search.specs.Order.{IsOrder}
 use Rattle.tmw_search.specs.Polygraph.{members_of}
 
 -- In the order of their first events: those that precede one began before it, and precede each that began later.
@@ -42,10 +41,14 @@ abbrev pub orderly : Criterion → ℕ → ℕ → ℕ
 orderly Opacity committed pending = 255
 orderly Strict committed pending = bit_or committed pending
 
--- What is known of all serial orders: who precedes whom in real time, and who has committed. No source of a read is chosen.
-pub record IsRoot (criterion : Criterion) (xs : List View) (committed pending : ℕ) (node : Node) : Type 0 where
-  pub order : IsOrder node.reach
-  pub begins : AreRising xs → Begins (orderly criterion committed pending) xs node.reach
-  pub held : node.held ≡ committed
-  pub members : node.members ≡ members_of criterion (length xs) committed
+-- Each need of a member is looked at.
+abbrev pub ReadsAll : List Effect → Node → Type 0
+ReadsAll xs node = (j r : ℕ) → j < 8 → r < 8 → In node.members j → Needs xs j r → IsRead node.choices j r
+
+-- What is known of all serial orders of a completion that holds these: who precedes whom. No source of a read is chosen.
+pub record IsRoot (criterion : Criterion) (xs : List Effect) (n : ℕ) (reach : List ℕ) (held : ℕ) (node : Node) : Type 0 where
+  pub masks : node.reach ≡ reach
+  pub holds : node.held ≡ held
+  pub members : node.members ≡ members_of criterion n held
+  pub reads : ReadsAll xs node
   pub free : (j r : ℕ) → j < 8 → r < 8 → source_at node.choices j r ≡ Open

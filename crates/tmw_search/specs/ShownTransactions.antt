@@ -1,5 +1,5 @@
 -- What the search sees of a window's transactions, and what they are by the definitions.
-use Rattle.std.specs.Prelude.{◌≡◌, ◌^◌, ◌<◌, ℕ, false, List, length, slice_get, Some}
+use Rattle.std.specs.Prelude.{◌≡◌, ◌^◌, ◌<◌, ◌≤◌, ℕ, false, List, length, slice_get, Some}
 use Rattle.std.specs.Int.{bit_at}
 use Rattle.tmw_defs.specs.History.{Txn, status_of, operations}
 use Rattle.tmw_defs.specs.Opaque.{precedes}
@@ -20,3 +20,7 @@ pub record ShowsTransactions (xs : List View) (ts : List Txn) : Type 0 where
 -- no transaction precedes itself
 abbrev pub NoneBeforeItself : List Txn → Type 0
 NoneBeforeItself ts = (i : ℕ) (t : Txn) → slice_get ts i ≡ Some t → precedes t t ≡ false
+
+-- None of these has its last event before its first.
+abbrev pub LastInTime : List Txn → Type 0
+LastInTime ts = (i : ℕ) (t : Txn) → slice_get ts i ≡ Some t → t.first ≤ t.last

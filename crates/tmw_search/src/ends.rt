@@ -3,17 +3,16 @@ ghost use Rattle.std.specs.List.Sorted.{IsStrictlySortedBy};
 ghost use Rattle.tmw_events.specs.declared.event.Event.{Event};
 ghost use Rattle.tmw_cuts.specs.Members.{members};
 ghost use Rattle.tmw_cuts.specs.Standing.{StandsFor, count_of};
-ghost use Rattle.tmw_search.specs.Ended.{AreLayer, AreLastOf, TellsEnd, AreEnds, EndsOf, Replaces};
+ghost use Rattle.tmw_search.specs.Ended.{AreLayer, TellsEnd, AreEnds, EndsOf, Replaces};
 ghost use Rattle.tmw_search.specs.Pairs.{pair_cmp};
 
-use crate::aside::{Aside, set_aside};
-use crate::blind::{are_blind, find_blind_ends};
-use crate::depth_first::search_ends;
+use crate::aside::Aside;
 use crate::end_states::EndStates;
 use crate::find::find_order;
 use crate::forced::is_forced;
 use crate::layers::layer_of;
 use crate::nexts::Reached;
+use crate::completions::find_ends;
 use std::alloc::{AllocError, Global};
 use tmw_cuts::{State, States, Window};
 use tmw_defs::Criterion;
@@ -44,27 +43,6 @@ pub fn layer(
     )
 }
 
-/// Pairs all of the window's transactions, as a mask, with each state in which they may end from one of the states.
-fn last_of(
-    criterion: Criterion,
-    alloc: Global,
-    states: &States,
-    window: &Window,
-) -> Result<Vec<Reached>, AllocError>
-    ensures { IfOk result (λ pairs. AreLastOf criterion states.now window.now pairs.items) }
-{
-    let items = window.transactions();
-    let aside = set_aside(criterion, items);
-    layer_of(
-        criterion,
-        alloc,
-        states.states(),
-        items,
-        &aside,
-        items.len(),
-    )
-}
-
 /// Tells whether the window's transactions have a legal serial order, for some completion, from one of the states. By
 /// opacity the order has all of them, by strict serializability those that the completion holds.
 pub fn possible(
@@ -89,28 +67,13 @@ pub fn outcomes(
 ) -> Result<EndStates, AllocError>
     ensures { IfOk result (AreEnds criterion states.now window.now cap) }
 {
-    let items = window.transactions();
-    if are_blind(criterion, items) {
-        return find_blind_ends(alloc, items, states.states(), cap);
-    }
-    let found = search_ends(criterion, alloc, items, states.states(), cap as usize)?;
-    // The first state past the cap settles it. At a cap of 0 any end is `Many`, and no end is `Few` of no state.
-    if found.ends.len() > cap as usize {
-        return Ok(EndStates::Many);
-    }
-    if found.done {
-        return Ok(EndStates::Few(found.ends));
-    }
-    // A set has its states in rising order, register 0 first, so the order of the search does not show.
-    let mut ends = States::empty(alloc);
-    let last = last_of(criterion, alloc, states, window)?;
-    for (_all, state) in &last {
-        ends.insert(*state)?;
-        if ends.len() > cap as usize {
-            return Ok(EndStates::Many);
-        }
-    }
-    Ok(EndStates::Few(ends))
+    find_ends(
+        criterion,
+        alloc,
+        window.transactions(),
+        states.states(),
+        cap as usize,
+    )
 }
 
 /// Replaces the states by the outcomes of the window's transactions from them, if these are at most `cap`, and tells

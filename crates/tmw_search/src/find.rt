@@ -9,7 +9,7 @@ ghost use Rattle.tmw_search.specs.WindowLaws.{Explains, NoneExplains};
 
 use crate::node::Node;
 use crate::reads::{read_all, written_by};
-use crate::root::{all_agree, root_of, statuses_of};
+use crate::root::{all_agree, order_of, orderly, root_of, statuses_of};
 use crate::search::any;
 use crate::steps::{Order, steps_of};
 use tmw_cuts::{State, States, Txn, Window};
@@ -44,7 +44,8 @@ fn find_in(criterion: Criterion, items: &[Txn], starts: &[State]) -> Option<Expl
         (λ found. Contains starts.now found.start × Explains criterion items.now found.start) }
 {
     let statuses = statuses_of(items);
-    let root = root_of(criterion, items, &statuses);
+    let reach = order_of(items, orderly(criterion, &statuses));
+    let root = root_of(criterion, items, &reach, statuses.committed);
     if !all_agree(items, root.members) {
         return None;
     }

@@ -1,96 +1,182 @@
-ghost use Rattle.std.specs.Prelude.{◌≡◌, ◌<◌, ◌≤◌, IsTrue, ℕ, slice_index, MatchOption, IfOk, OnOk, IsFalse, length, true};
-ghost use Rattle.std.specs.Int.{bit_at};
-ghost use Rattle.tmw_search.specs.Order.{Has, IsOrder, Narrows};
+//! The ends of a node's orders: one register after another, one of its writers is taken for the last.
+ghost use Rattle.std.specs.Prelude.{◌≡◌, ◌↔◌, ◌<◌, ◌≤◌, IsTrue, IsFalse, ℕ, slice_index, IfOk, OnOk, length, true};
 ghost use Rattle.tmw_cuts.specs.Members.{members};
-ghost use Rattle.tmw_search.specs.BlindEnds.{Adds};
-ghost use Rattle.tmw_search.specs.Legal.{effects, IsNode};
-ghost use Rattle.tmw_search.specs.Last.{ComesLast, EndsOf};
+ghost use Rattle.tmw_search.specs.Chosen.{IsRead, Within};
+ghost use Rattle.tmw_search.specs.Last.{ComeBefore, EndsOf, IsPutLast, LeftByOne, Adds};
+ghost use Rattle.tmw_search.specs.Legal.{In, effects, ordered, IsNode};
+ghost use Rattle.tmw_search.specs.Order.{Has, IsOrder, Narrows};
 
 use crate::effects::left_at;
+use crate::found::Found;
 use crate::node::Node;
-use crate::order::precede;
+use crate::order::join;
+use crate::pass::settle;
 use crate::search::any;
 use crate::settle::lowest;
+use crate::sources::Choices;
 use std::alloc::AllocError;
-use tmw_cuts::{State, States, Txn};
+use tmw_cuts::{State, Txn};
 
-/// Puts all of the mask before this one.
-pub fn put_last(reach: &mut [u8; 8], i: usize, writers: u8) -> bool
+/// Returns those that come before another of these, as a mask.
+fn before_of(reach: &[u8; 8], these: u8) -> u8
+    ensures comes { ComeBefore reach.now these result }
+    ensures fits { these < 256 }
+{
+    let mut before = 0u8;
+    let mut left = these;
+    while left != 0 {
+        let place = lowest(left);
+        left -= 1 << place;
+        before |= reach[place] & !(1 << place);
+    }
+    before
+}
+
+/// Tells whether no read is looked at, so that each order is legal.
+#[inline(always)]
+pub fn is_plain(choices: &Choices) -> bool
+    ensures { IsTrue result → (j r : ℕ) → IsRead choices.now j r → ⊥ }
+{
+    choices.reads == [0; 8]
+}
+
+/// Has the transaction come last of the writers, where those of `before` come before another of them. Returns whether
+/// there may be an order.
+#[inline(always)]
+fn put_last(choices: &Choices, reach: &mut [u8; 8], i: usize, writers: u8, before: u8) -> bool
     requires within { i < 8 }
     requires order { IsOrder reach.now }
-    ensures narrows { Narrows (ComesLast writers i) reach.old reach.new result }
-    ensures last { IsTrue result → (k : ℕ) → k < 8 → bit_at writers k ≡ 1 → Has reach.new k i }
+    requires sources { Within choices.now }
+    requires comes { ComeBefore reach.now writers before }
+    requires writes { In writers i }
+    requires free { In before i → ⊥ }
+    ensures narrows { Narrows (IsPutLast choices.now writers i) reach.old reach.new result }
+    ensures last { IsTrue result → (k : ℕ) → k < 8 → In writers k → Has reach.new k i }
 {
-    let mut left = writers;
+    join(reach, i, writers | before);
+    is_plain(choices) || settle(reach, choices).is_alive()
+}
+
+/// Returns the place of one of the mask's that leaves the least in the register.
+fn least(items: &[Txn], register: usize, mask: u8) -> usize
+    requires register { register < 8 }
+    requires some { 0 < mask }
+    ensures within { result < 8 }
+    ensures among { In mask result }
+{
+    let mut least = lowest(mask);
+    let mut left = mask - (1 << least);
     while left != 0 {
-        let k = lowest(left);
-        left -= 1 << k;
-        if !precede(reach, k, i) {
-            return false;
+        let place = lowest(left);
+        left -= 1 << place;
+        if left_at(items, place, register) < left_at(items, least, register) {
+            least = place;
         }
     }
-    true
+    least
 }
 
-/// Tells whether the mask has a place.
-#[inline(always)]
-fn has_place(mask: u8) -> bool
-    ensures some { IsTrue result → (k : ℕ) × (k < 8) × (bit_at mask k ≡ 1) }
-    ensures none { IsFalse result → mask ≡ 0 }
+/// Makes of the state a number, which differs for most.
+fn mixed(state: &State) -> u64 {
+    let mut sum = 0u64;
+    for value in state {
+        sum = sum.wrapping_mul(3).wrapping_add(*value);
+    }
+    sum
+}
+
+/// Adds the states with what one of the mask leaves in the register, and else what this one holds.
+fn add_each(
+    items: &[Txn],
+    register: usize,
+    mask: u8,
+    end: &State,
+    found: &mut Found,
+) -> Result<(), AllocError>
+    requires { register < 8 }
+    ensures adds { OnOk result (Adds true (members found.old.ends) (members found.new.ends)
+        (LeftByOne (effects items.now) register mask end.now)) }
+    ensures cap { found.new.cap ≡ found.old.cap }
 {
-    mask != 0
+    let number = mixed(end);
+    let mut chosen = *end;
+    let mut left = mask;
+    while left != 0 {
+        let place = least(items, register, left);
+        left -= 1 << place;
+        let value = left_at(items, place, register);
+        chosen[register] = value;
+        found.add(&chosen, number ^ value.wrapping_mul(8))?;
+    }
+    Ok(())
 }
 
-/// Adds the state, if the node has a legal order.
+/// Adds the state, if the node has a legal order with these coming before one another.
 fn add_end(
     items: &[Txn],
     start: &State,
     node: &Node,
+    reach: &[u8; 8],
     end: &State,
-    found: &mut States,
+    found: &mut Found,
 ) -> Result<(), AllocError>
-    requires node { IsNode (effects items.now) start.now 0 node.now }
-    ensures { OnOk result (Adds true (members found.old) (members found.new) (EndsOf (effects items.now) start.now node.now 8 end.now)) }
+    requires node { IsNode (effects items.now) start.now 0 (ordered node.now reach.now) }
+    ensures adds { OnOk result (Adds true (members found.old.ends) (members found.new.ends)
+        (EndsOf (effects items.now) start.now (ordered node.now reach.now) 0 end.now)) }
+    ensures cap { found.new.cap ≡ found.old.cap }
 {
-    match any(items, start, 0, node) {
-        Some(_) => found.insert(*end),
+    if is_plain(&node.choices) {
+        return found.add(end, 0);
+    }
+    let mut next = *node;
+    next.reach = *reach;
+    match any(items, start, 0, &next) {
+        Some(_) => found.add(end, 0),
         None => Ok(()),
     }
 }
 
-/// Adds the ends of the node's legal orders in which the registers below this one hold what the state does. Returns
-/// whether all were added: they are at most `cap`.
+/// Adds the ends of the node's legal orders with these coming before one another, in which each register that is not
+/// of the mask holds what the state does. Each writer that comes before no other is taken for the last. Returns whether
+/// all were added: they are not too many.
 pub fn add_last(
     items: &[Txn],
     start: &State,
     node: &Node,
-    register: usize,
+    reach: &[u8; 8],
+    registers: u8,
     end: &State,
-    found: &mut States,
-    cap: usize,
+    found: &mut Found,
 ) -> Result<bool, AllocError>
-    requires node { IsNode (effects items.now) start.now 0 node.now }
-    requires within { register ≤ 8 }
-    ensures { IfOk result (λ done. Adds done (members found.old) (members found.new)
-        (EndsOf (effects items.now) start.now node.now register end.now)) }
+    requires node { IsNode (effects items.now) start.now 0 (ordered node.now reach.now) }
+    requires written { (r : ℕ) → r < 8 → In registers r
+        → (k : ℕ) × (k < 8) × In (slice_index node.now.choices.writers r) k }
+    ensures adds { IfOk result (λ done. Adds done (members found.old.ends) (members found.new.ends)
+        (EndsOf (effects items.now) start.now (ordered node.now reach.now) registers end.now)) }
+    ensures cap { found.new.cap ≡ found.old.cap }
+    ensures more { IfOk result (λ done. IsFalse done → found.old.cap < length (members found.new.ends)) }
 {
-    if register == 8 {
-        add_end(items, start, node, end, found)?;
-        return Ok(found.len() <= cap);
+    if registers == 0 {
+        add_end(items, start, node, reach, end, found)?;
+        return Ok(found.are_few());
     }
+    let register = lowest(registers);
+    let rest = registers - (1 << register);
     let writers = node.choices.writers[register];
-    if !has_place(writers) {
-        return add_last(items, start, node, register + 1, end, found, cap);
+    let before = before_of(reach, writers);
+    let mut left = writers & !before;
+    if rest == 0 && is_plain(&node.choices) {
+        add_each(items, register, left, end, found)?;
+        return Ok(found.are_few());
     }
-    let mut left = writers;
     while left != 0 {
-        let i = lowest(left);
+        let i = least(items, register, left);
         left -= 1 << i;
-        let mut next = *node;
-        if put_last(&mut next.reach, i, writers) {
-            let mut chosen = *end;
-            chosen[register] = left_at(items, i, register);
-            if !add_last(items, start, &next, register + 1, &chosen, found, cap)? {
+        let mut chosen = *end;
+        chosen[register] = left_at(items, i, register);
+        let mut next = *reach;
+        if put_last(&node.choices, &mut next, i, writers, before) {
+            if !add_last(items, start, node, &next, rest, &chosen, found)? {
                 return Ok(false);
             }
         }

@@ -13,7 +13,7 @@ pub fn has(reach: &[u8; 8], i: usize, j: usize) -> bool
 
 /// Adds these to the masks that have the place.
 #[inline(always)]
-fn join(reach: &mut [u8; 8], place: usize, before: u8)
+pub fn join(reach: &mut [u8; 8], place: usize, before: u8)
     requires within { place < 8 }
     requires order { IsOrder reach.now }
     ensures { Joins place before reach.old reach.new }

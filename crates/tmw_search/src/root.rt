@@ -3,7 +3,7 @@ ghost use Rattle.std.specs.Prelude.{◌≡◌, ◌<◌, ◌≤◌, ◌↔◌, �
 ghost use Rattle.tmw_cuts.specs.Views.{view};
 ghost use Rattle.tmw_defs.specs.Opaque.{State};
 ghost use Rattle.tmw_search.specs.declared.sources.Source.TheVariants.{Open};
-ghost use Rattle.tmw_search.specs.Legal.{effects, IsNode};
+ghost use Rattle.tmw_search.specs.Legal.{In, effects, IsNode};
 ghost use Rattle.tmw_search.specs.Order.{IsOrder};
 ghost use Rattle.tmw_search.specs.Polygraph.{members_of};
 ghost use Rattle.tmw_search.specs.Rooted.{Agree, Begins, IsRow, IsRoot, AreRising, ShowReads, ShowWriters, orderly};
@@ -126,18 +126,18 @@ fn writers_of(items: &[Txn], mask: u8) -> [u8; 8]
 }
 
 /// Returns the transactions that are in each serial order of the criterion, as a mask.
-fn members_of(criterion: Criterion, items: &[Txn], committed: u8) -> u8
+fn members_of(criterion: Criterion, items: &[Txn], held: u8) -> u8
     requires { length items.now ≤ 8 }
-    ensures { result ≡ members_of criterion (length items.now) committed }
+    ensures { result ≡ members_of criterion (length items.now) held }
 {
     match criterion {
         Criterion::Opacity => ((1u16 << items.len()) - 1) as u8,
-        Criterion::Strict => committed,
+        Criterion::Strict => held,
     }
 }
 
 /// Returns the transactions that may be in a serial order of the criterion, as a mask.
-fn orderly(criterion: Criterion, statuses: &Statuses) -> u8
+pub fn orderly(criterion: Criterion, statuses: &Statuses) -> u8
     ensures { result ≡ orderly criterion statuses.now.committed statuses.now.pending }
 {
     match criterion {
@@ -155,23 +155,24 @@ fn none_chosen() -> [Source; 64]
     sources
 }
 
-/// Returns what is known of all serial orders: the real-time order, and who has committed. No source is chosen.
-pub fn root_of(criterion: Criterion, items: &[Txn], statuses: &Statuses) -> Node
+/// Returns what is known of all serial orders of a completion that holds these: who precedes whom. No source is chosen.
+pub fn root_of(criterion: Criterion, items: &[Txn], reach: &[u8; 8], held: u8) -> Node
     requires few { length items.now ≤ 8 }
-    requires statuses { ShowsStatus (map view items.now) statuses.now.committed statuses.now.pending }
-    ensures root { IsRoot criterion (map view items.now) statuses.now.committed statuses.now.pending result }
+    requires order { IsOrder reach.now }
+    requires within { (i : ℕ) → In held i → i < length items.now }
+    ensures root { IsRoot criterion (effects items.now) (length items.now) reach.now held result }
     ensures node { Agree (effects items.now) result.members → (start : State) (may : ℕ)
         → IsNode (effects items.now) start may result }
 {
-    let members = members_of(criterion, items, statuses.committed);
+    let members = members_of(criterion, items, held);
     let sources = none_chosen();
     Node {
-        reach: order_of(items, orderly(criterion, statuses)),
-        held: statuses.committed,
+        reach: *reach,
+        held,
         members,
         choices: Choices {
             reads: reads_of(items, members),
-            writers: writers_of(items, statuses.committed),
+            writers: writers_of(items, held),
             sources,
         },
     }

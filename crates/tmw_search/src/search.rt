@@ -140,7 +140,7 @@ pub fn branch_of(items: &[Txn], start: &State, may: u8, node: &Node, j: usize, r
     ensures register { result.register ≡ r }
 {
     let mut writers = 0u8;
-    let mut left = node.held | may;
+    let mut left = node.choices.writers[r] | may;
     while left != 0 {
         let i = lowest(left);
         left -= 1 << i;

@@ -2,14 +2,18 @@ use Rattle.std.proofs.Common.{[], refl, arith}
 use Rattle.std.specs.Prelude.{get_or}
 use Rattle.std.proofs.lemmas.List.{take_all}
 use Rattle.tmw_search.specs.Legal.{effects}
-use Rattle.tmw_search.proofs.Answering.{refutes, explains}
+use Rattle.tmw_search.proofs.Answering.{shown-of, refutes, explains}
 use Rattle.tmw_search.proofs.Finding.{none-agrees, none-first, none-more, start-at, start-size}
 use Rattle.tmw_search.proofs.find.find_in.Goals as goal
 
 pub returns-then-not-all_agree : goal.returns-then-not-all_agree
 returns-then-not-all_agree c = λ start has.
     refutes c.args.criterion c.args.items.now start c.statuses_of-statuses.result.committed c.statuses_of-statuses.result.pending
-    c.root_of-root.result c.requires c.statuses_of-statuses.ensures.eight (start-size c.args.starts.now start c.told-starts has) c.statuses_of-statuses.ensures.shows c.root_of-root.ensures.root
+    c.order_of-reach.result c.root_of-root.result
+    (λ events shown. shown-of c.args.criterion c.args.items.now events c.statuses_of-statuses.result.committed
+    c.statuses_of-statuses.result.pending c.order_of-reach.result c.requires c.statuses_of-statuses.ensures.eight
+    c.statuses_of-statuses.ensures.shows c.order_of-reach.ensures.order (rw c.orderly.ensures at c.order_of-reach.ensures.shows) shown)
+    (start-size c.args.starts.now start c.told-starts has) c.root_of-root.ensures.root
     (none-agrees (effects c.args.items.now) start c.statuses_of-statuses.result.pending c.root_of-root.result
     (λ agree. let told = c.if-not-all_agree.ensures.1 agree in absurd (cc)))
 
@@ -27,8 +31,11 @@ returns-in-Some c =
     let start = get_or c.args.starts.now c.loop-start.start-index [] in (
       start-at c.args.starts.now c.loop-start.start-index c.loop-start-test.true,
       explains c.args.criterion c.args.items.now start c.statuses_of-statuses.result.committed c.statuses_of-statuses.result.pending
-          c.root_of-root.result c.in-Some.node c.requires c.statuses_of-statuses.ensures.eight (c.told-starts c.loop-start.start-index c.loop-start-test.true) c.statuses_of-statuses.ensures.shows
-          c.root_of-root.ensures.root c.in-Some.ensures,
+          c.order_of-reach.result c.root_of-root.result c.in-Some.node
+          (λ events shown. shown-of c.args.criterion c.args.items.now events c.statuses_of-statuses.result.committed
+          c.statuses_of-statuses.result.pending c.order_of-reach.result c.requires c.statuses_of-statuses.ensures.eight
+          c.statuses_of-statuses.ensures.shows c.order_of-reach.ensures.order (rw c.orderly.ensures at c.order_of-reach.ensures.shows) shown)
+          (c.told-starts c.loop-start.start-index c.loop-start-test.true) c.root_of-root.ensures.root c.in-Some.ensures,
     )
 
 pub loop-start-preserved : goal.loop-start-preserved
@@ -36,8 +43,11 @@ loop-start-preserved c =
     let start = get_or c.args.starts.now c.loop-start.start-index [] in
     none-more c.args.criterion c.args.items.now c.args.starts.now c.loop-start.start-index c.loop-start-test.true c.loop-start.invariant
     (refutes c.args.criterion c.args.items.now start c.statuses_of-statuses.result.committed c.statuses_of-statuses.result.pending
-    c.root_of-root.result c.requires c.statuses_of-statuses.ensures.eight (c.told-starts c.loop-start.start-index c.loop-start-test.true) c.statuses_of-statuses.ensures.shows c.root_of-root.ensures.root
-    c.in-None.ensures)
+    c.order_of-reach.result c.root_of-root.result
+    (λ events shown. shown-of c.args.criterion c.args.items.now events c.statuses_of-statuses.result.committed
+    c.statuses_of-statuses.result.pending c.order_of-reach.result c.requires c.statuses_of-statuses.ensures.eight
+    c.statuses_of-statuses.ensures.shows c.order_of-reach.ensures.order (rw c.orderly.ensures at c.order_of-reach.ensures.shows) shown)
+    (c.told-starts c.loop-start.start-index c.loop-start-test.true) c.root_of-root.ensures.root c.in-None.ensures)
 
 pub returns : goal.returns
 returns c = rw (take_all c.loop-start.start-index c.args.starts.now (omega (arith, c.loop-start-test.false))) at c.loop-start.invariant

@@ -1,11 +1,18 @@
-use Rattle.tmw_search.specs.Legal.{effects}
-use Rattle.tmw_search.proofs.Lasting.{ends-found, ends-none, on_ok}
+use Rattle.tmw_search.specs.Legal.{effects, ordered}
+use Rattle.tmw_search.proofs.Lasting.{ends-found, ends-none, on_ok, plain-found}
 use Rattle.tmw_search.proofs.last.add_end.Goals as goal
 
-pub returns-in-None : goal.returns-in-None
-returns-in-None c = ends-none (effects c.args.items.now) c.args.start.now c.args.node.now c.args.end.now 8 _ _ c.in-None.ensures
+pub returns-then-is_plain-clause-adds : goal.returns-then-is_plain-clause-adds
+returns-then-is_plain-clause-adds c =
+    on_ok c.add.result _ _ c.add.ensures.adds (λ adds.
+    ends-found (effects c.args.items.now) c.args.start.now (ordered c.args.node.now c.args.reach.now) (ordered c.args.node.now c.args.reach.now) c.args.end.now _ _ c.told-end
+    (plain-found (effects c.args.items.now) c.args.start.now (ordered c.args.node.now c.args.reach.now) (c.is_plain.ensures c.if-is_plain.true) c.requires.node) adds)
 
-pub returns-in-Some : goal.returns-in-Some
-returns-in-Some c =
-    on_ok c.insert.result _ _ c.insert.ensures.ok (λ adds.
-    ends-found (effects c.args.items.now) c.args.start.now c.args.node.now c.in-Some.field-0 c.args.end.now _ _ _ c.told-end c.in-Some.ensures adds)
+pub returns-in-Some-clause-adds : goal.returns-in-Some-clause-adds
+returns-in-Some-clause-adds c =
+    on_ok c.add-in-Some.result _ _ c.add-in-Some.ensures.adds (λ adds.
+    ends-found (effects c.args.items.now) c.args.start.now (ordered c.args.node.now c.args.reach.now) c.in-Some.field-0 c.args.end.now _ _ c.told-end c.in-Some.ensures adds)
+
+pub returns-in-None-clause-adds : goal.returns-in-None-clause-adds
+returns-in-None-clause-adds c =
+    ends-none (effects c.args.items.now) c.args.start.now (ordered c.args.node.now c.args.reach.now) 0 c.args.end.now _ c.in-None.ensures

@@ -1,7 +1,6 @@
 use Rattle.std.proofs.Common.{true, false, refl}
-use Rattle.tmw_search.specs.Legal.{effects}
+use Rattle.tmw_search.specs.Legal.{ordered, effects}
 use Rattle.tmw_search.proofs.Reading.{follows-given, follows-left, follows-then, settled-by, only-may, only-closed, kept-given, kept-left}
-use Rattle.tmw_search.proofs.Nodes.{ordered}
 use Rattle.tmw_search.proofs.reads.give_only.Goals as goal
 
 pub returns-in-Never-clause-follows : goal.returns-in-Never-clause-follows

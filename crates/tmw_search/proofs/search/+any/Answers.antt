@@ -1,7 +1,7 @@
 use Rattle.std.proofs.Common.{arith, inl, inr}
 use Rattle.tmw_search.specs.Opens.{opens}
-use Rattle.tmw_search.specs.Legal.{effects, HasNone, IsFound}
-use Rattle.tmw_search.proofs.Nodes.{ordered, node-ordered, none-settled, none-with, found-less, found-clear, none-sides}
+use Rattle.tmw_search.specs.Legal.{ordered, effects, HasNone, IsFound}
+use Rattle.tmw_search.proofs.Nodes.{node-ordered, none-settled, none-with, found-less, found-clear, none-sides}
 use Rattle.tmw_search.proofs.Picking.{tries-none, tries-next, tries-all, found-given, found-started, result-with, fewer-given, fewer-ordered}
 use Rattle.tmw_search.proofs.search.+any.Goals.{then-branch+in-None-any, else-branch, then-precede+in-None-any-3, else-precede}
 use Rattle.tmw_search.proofs.search.+any.Goals as goal

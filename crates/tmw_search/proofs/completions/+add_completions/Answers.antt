@@ -1,0 +1,37 @@
+use Rattle.std.proofs.Common.{length, arith}
+use Rattle.tmw_search.specs.Legal.{effects}
+use Rattle.tmw_search.proofs.Bits.{less_of, less_has, less_lt}
+use Rattle.tmw_search.proofs.Completing.{more-none, more-next, more-part, held-within}
+use Rattle.tmw_search.proofs.WindowLayers.{if_ok}
+use Rattle.tmw_search.proofs.completions.+add_completions.Goals as goal
+
+pub returns-then-left-eq0-clause-adds : goal.returns-then-left-eq0-clause-adds
+returns-then-left-eq0-clause-adds t c =
+    if_ok c.add_held.result _ _ c.add_held.ensures.adds (λ done adds.
+    more-none c.args.criterion (effects c.args.items.now) (length c.args.items.now) c.args.starts.now c.args.reach.now c.args.held c.args.left done _ _ c.if-left-eq0.true adds)
+
+pub add_completions-requires : goal.add_completions-requires
+add_completions-requires t c = (
+  omega (arith, c.decreases, less_lt c.args.left c.lowest-i.result c.lowest-i.ensures.within c.lowest-i.ensures.among),
+  (c.requires.few, (c.requires.order, (c.requires.within, λ k is. c.requires.left k (less_has c.args.left c.lowest-i.result _ k
+  (less_of c.args.left c.lowest-i.result c.lowest-i.ensures.within c.lowest-i.ensures.among) is)))),
+)
+
+pub returns-then-not-branch-clause-adds : goal.returns-then-not-branch-clause-adds
+returns-then-not-branch-clause-adds t c =
+    more-part c.args.criterion (effects c.args.items.now) (length c.args.items.now) c.args.starts.now c.args.reach.now c.args.held c.args.left c.lowest-i.result _ _ c.lowest-i.ensures.within c.lowest-i.ensures.among
+    (rw c.if-not-branch.true at c.in_ok-add_completions.ensures.adds)
+
+pub add_completions-requires-2 : goal.add_completions-requires-2
+add_completions-requires-2 t c = (
+  omega (arith, c.decreases, less_lt c.args.left c.lowest-i.result c.lowest-i.ensures.within c.lowest-i.ensures.among),
+  (c.requires.few, (c.requires.order, (held-within c.args.held c.args.left c.lowest-i.result (length c.args.items.now)
+  c.lowest-i.ensures.within c.lowest-i.ensures.among c.requires.within c.requires.left, λ k is. c.requires.left k (less_has c.args.left c.lowest-i.result _ k
+  (less_of c.args.left c.lowest-i.result c.lowest-i.ensures.within c.lowest-i.ensures.among) is)))),
+)
+
+pub returns-clause-adds : goal.returns-clause-adds
+returns-clause-adds t c =
+    if_ok c.add_completions-2.result _ _ c.add_completions-2.ensures.adds (λ done adds.
+    more-next c.args.criterion (effects c.args.items.now) (length c.args.items.now) c.args.starts.now c.args.reach.now c.args.held c.args.left c.lowest-i.result done _ _ _ c.lowest-i.ensures.within c.lowest-i.ensures.among
+    (rw c.if-not-branch.false at c.in_ok-add_completions.ensures.adds) adds)

@@ -1,0 +1,8 @@
+use Rattle.tmw_search.specs.Legal.{effects}
+use Rattle.tmw_search.proofs.Reading.{follows-settled}
+use Rattle.tmw_search.proofs.completions.read_settled.Goals as goal
+
+pub returns-else-is_plain : goal.returns-else-is_plain
+returns-else-is_plain c =
+    rw c.is_alive.ensures (follows-settled (effects c.args.items.now) c.args.start.now 0 c.args.node.now c.read_all.new.node c.settle.new.reach _
+    c.if-not-read_all.ensures c.settle.ensures.narrows)
