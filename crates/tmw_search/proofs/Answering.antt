@@ -184,13 +184,20 @@ law-of : (criterion : Criterion) (items : List cuts.Txn) (start : State) (events
 law-of criterion items start events committed pending reach node s size is =
     let law = tells_legal criterion (transactions events) (effects items) reach start committed pending s.acts s.few s.order size s.status in (
       λ ends.
-          let (held, rank, l) = law.0 ends in
-          (held, rank, to-search criterion (effects items) start (length items) reach committed pending held rank node is
-          (subst (λ (n : ℕ). IsLegal (effects items) start pending (root criterion reach n committed) held rank) s.same l)),
+          let (held, rank, l) = law.0 ends in (
+            held,
+            rank,
+            to-search criterion (effects items) start (length items) reach committed pending held rank node is
+                (subst (λ (n : ℕ). IsLegal (effects items) start pending (root criterion reach n committed) held rank) s.same l),
+          ),
       λ legals.
           let (held, rank, l) = legals in
-          law.1 (held, rank, subst (λ (n : ℕ). IsLegal (effects items) start pending (root criterion reach n committed) held rank) (sym s.same)
-          (of-search criterion (effects items) start (length items) reach committed pending held rank node is l)),
+          law.1 (
+            held,
+            rank,
+            subst (λ (n : ℕ). IsLegal (effects items) start pending (root criterion reach n committed) held rank) (sym s.same)
+                (of-search criterion (effects items) start (length items) reach committed pending held rank node is l),
+          ),
     )
 
 pub refutes : (criterion : Criterion) (items : List cuts.Txn) (start : State) (committed pending : ℕ) (reach : List ℕ) (node : search.Node)

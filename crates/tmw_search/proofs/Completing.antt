@@ -328,41 +328,57 @@ more-next criterion xs n starts reach held left i done old mid new within one a 
     let rest = left - 1 * 2 ^ i % 2 ^ 8 in
     adds-both done old mid new (EndsByMore criterion xs n starts reach held rest)
     (EndsByMore criterion xs n starts reach (bit_or held (1 * 2 ^ i % 2 ^ 8)) rest) (EndsByMore criterion xs n starts reach held left) a b
-    (λ e (more, c, y). (more, record {
-      all = c.all;
-      only = λ k has. elim (c.only k has) [ inl own ↦ inl own | inr still ↦ inr (less_has left i rest k less still) ];
-    }, y))
-    (λ e (more, c, y). (more, record {
-      all = λ k has. c.all k ((set_or held i k within).1 (inl has));
-      only = λ k has. elim (c.only k has) [
-        | inl own ↦ elim ((set_or held i k within).0 own) [
-          | inl was ↦ inl was
-          | inr same ↦ inr (ap (bit_at left) same ∙ one)
-        ]
-        | inr still ↦ inr (less_has left i rest k less still)
-      ];
-    }, y))
-    (λ e (more, c, y). elim (bit_cases more i) [
-      | inl out ↦ inl (more, record {
+    (λ e (more, c, y). (
+      more,
+      record {
         all = c.all;
+        only = λ k has. elim (c.only k has) [ inl own ↦ inl own | inr still ↦ inr (less_has left i rest k less still) ];
+      },
+      y,
+    ))
+    (λ e (more, c, y). (
+      more,
+      record {
+        all = λ k has. c.all k ((set_or held i k within).1 (inl has));
         only = λ k has. elim (c.only k has) [
-          | inl own ↦ inl own
-          | inr still ↦ inr (sym (less.other k (λ same. absurd (omega (arith, out, ap (bit_at more) same, has)))) ∙ still)
-        ];
-      }, y)
-      | inr in_more ↦ inr (more, record {
-        all = λ k has. elim ((set_or held i k within).0 has) [
-          | inl was ↦ c.all k was
-          | inr same ↦ ap (bit_at more) same ∙ in_more
-        ];
-        only = λ k has. elim (c.only k has) [
-          | inl own ↦ inl ((set_or held i k within).1 (inl own))
-          | inr still ↦ elim (same_place k i) [
-            | inl same ↦ inl ((set_or held i k within).1 (inr same))
-            | inr apart ↦ inr (sym (less.other k apart) ∙ still)
+          | inl own ↦ elim ((set_or held i k within).0 own) [
+            | inl was ↦ inl was
+            | inr same ↦ inr (ap (bit_at left) same ∙ one)
           ]
+          | inr still ↦ inr (less_has left i rest k less still)
         ];
-      }, y)
+      },
+      y,
+    ))
+    (λ e (more, c, y). elim (bit_cases more i) [
+      | inl out ↦ inl (
+        more,
+        record {
+          all = c.all;
+          only = λ k has. elim (c.only k has) [
+            | inl own ↦ inl own
+            | inr still ↦ inr (sym (less.other k (λ same. absurd (omega (arith, out, ap (bit_at more) same, has)))) ∙ still)
+          ];
+        },
+        y,
+      )
+      | inr in_more ↦ inr (
+        more,
+        record {
+          all = λ k has. elim ((set_or held i k within).0 has) [
+            | inl was ↦ c.all k was
+            | inr same ↦ ap (bit_at more) same ∙ in_more
+          ];
+          only = λ k has. elim (c.only k has) [
+            | inl own ↦ inl ((set_or held i k within).1 (inl own))
+            | inr still ↦ elim (same_place k i) [
+              | inl same ↦ inl ((set_or held i k within).1 (inr same))
+              | inr apart ↦ inr (sym (less.other k apart) ∙ still)
+            ]
+          ];
+        },
+        y,
+      )
     ])
 
 pub more-part : (criterion : Criterion) (xs : List Effect) (n : ℕ) (starts : List State) (reach : List ℕ) (held left i : ℕ)
@@ -371,10 +387,14 @@ pub more-part : (criterion : Criterion) (xs : List Effect) (n : ℕ) (starts : L
     → Adds false old new (EndsByMore criterion xs n starts reach held left)
 more-part criterion xs n starts reach held left i old new within one a =
     adds-part old new (EndsByMore criterion xs n starts reach held (left - 1 * 2 ^ i % 2 ^ 8)) (EndsByMore criterion xs n starts reach held left)
-    (λ e (more, c, y). (more, record {
-      all = c.all;
-      only = λ k has. elim (c.only k has) [ inl own ↦ inl own | inr still ↦ inr (less_has left i _ k (less_of left i within one) still) ];
-    }, y)) a
+    (λ e (more, c, y). (
+      more,
+      record {
+        all = c.all;
+        only = λ k has. elim (c.only k has) [ inl own ↦ inl own | inr still ↦ inr (less_has left i _ k (less_of left i within one) still) ];
+      },
+      y,
+    )) a
 
 -- the completions are those of the transactions
 completes-of : (ts : List Txn) (committed pending held : ℕ) → TellStatus ts committed pending → IsCompletion ts held
@@ -426,14 +446,19 @@ ends-of criterion items events starts committed pending reach e s sizes =
     let law = λ (start : State) (size : length start ≡ 8). are_ranked criterion ts (effects items) reach start s.acts s.few s.order size e in (
       λ more.
           let (held, c, (start, has, y)) = more in
-          let (t, is, leads) = (law start (start-size starts start sizes has)).1 (held, completion-of ts committed pending held s.status c,
-          subst (λ (n : ℕ). EndsIn (effects items) start (root criterion reach n held) e) (sym s.same) y) in
+          let (t, is, leads) = (law start (start-size starts start sizes has)).1 (
+            held,
+            completion-of ts committed pending held s.status c,
+            subst (λ (n : ℕ). EndsIn (effects items) start (root criterion reach n held) e) (sym s.same) y,
+          ) in
           (start, has, subst (λ (x : State). LeadsBy criterion x ts e) is leads),
       λ ends.
           let (start, has, leads) = ends in
-          let (held, c, y) = (law start (start-size starts start sizes has)).0 (start, refl, leads) in
-          (held, completes-of ts committed pending held s.status c,
-          (start, has, subst (λ (n : ℕ). EndsIn (effects items) start (root criterion reach n held) e) s.same y)),
+          let (held, c, y) = (law start (start-size starts start sizes has)).0 (start, refl, leads) in (
+            held,
+            completes-of ts committed pending held s.status c,
+            (start, has, subst (λ (n : ℕ). EndsIn (effects items) start (root criterion reach n held) e) s.same y),
+          ),
     )
 
 -- a mask that is not empty has a place
@@ -484,8 +509,12 @@ pub ends-many : (criterion : Criterion) (items : List cuts.Txn) (starts : List S
     → ((i : ℕ) → i < length starts → length (get_or starts i []) ≡ 8) → cap < length (members ends)
     → Adds done [] (members ends) (EndsByMore criterion (effects items) (length items) starts reach committed pending)
     → AreEndsFrom criterion items starts cap Many
-ends-many criterion items starts cap committed pending reach done ends s sizes more a = λ events shown.
-    (members ends, ends.rising, more, λ e has. elim (a.only e has) [
-      | inl none ↦ absurd (contains_none e none)
-      | inr y ↦ (ends-of criterion items events starts committed pending reach e (s events shown) sizes).0 y
-    ])
+ends-many criterion items starts cap committed pending reach done ends s sizes more a = λ events shown. (
+  members ends,
+  ends.rising,
+  more,
+  λ e has. elim (a.only e has) [
+    | inl none ↦ absurd (contains_none e none)
+    | inr y ↦ (ends-of criterion items events starts committed pending reach e (s events shown) sizes).0 y
+  ],
+)

@@ -7,12 +7,12 @@ ghost use Rattle.tmw_search.specs.Ended.{AreLayer, TellsEnd, AreEnds, EndsOf, Re
 ghost use Rattle.tmw_search.specs.Pairs.{pair_cmp};
 
 use crate::aside::Aside;
+use crate::completions::find_ends;
 use crate::end_states::EndStates;
 use crate::find::find_order;
 use crate::forced::is_forced;
 use crate::layers::layer_of;
 use crate::nexts::Reached;
-use crate::completions::find_ends;
 use std::alloc::{AllocError, Global};
 use tmw_cuts::{State, States, Window};
 use tmw_defs::Criterion;

@@ -20,8 +20,8 @@ mod reads;
 mod root;
 mod search;
 mod settle;
-mod steps;
 mod sources;
+mod steps;
 
 pub use end_states::EndStates;
 pub use ends::{layer, outcomes, possible, replace_by_outcomes};

@@ -29,7 +29,10 @@ struct Listing {
 /// Lists each transaction before which none is left.
 fn list_free(node: &Node, listing: &mut Listing) {
     for place in 0..8usize {
-        if listing.left >> place & 1 == 1 && node.reach[place] & listing.left == 1 << place && listing.open > 0 {
+        if listing.left >> place & 1 == 1
+            && node.reach[place] & listing.left == 1 << place
+            && listing.open > 0
+        {
             listing.open -= 1;
             listing.left &= !(1 << place);
             if let Some(step) = listing.steps.get_mut(listing.open) {

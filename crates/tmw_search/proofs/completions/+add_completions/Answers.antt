@@ -13,8 +13,17 @@ returns-then-left-eq0-clause-adds t c =
 pub add_completions-requires : goal.add_completions-requires
 add_completions-requires t c = (
   omega (arith, c.decreases, less_lt c.args.left c.lowest-i.result c.lowest-i.ensures.within c.lowest-i.ensures.among),
-  (c.requires.few, (c.requires.order, (c.requires.within, λ k is. c.requires.left k (less_has c.args.left c.lowest-i.result _ k
-  (less_of c.args.left c.lowest-i.result c.lowest-i.ensures.within c.lowest-i.ensures.among) is)))),
+  (
+    c.requires.few,
+    (
+      c.requires.order,
+      (
+        c.requires.within,
+        λ k is. c.requires.left k (less_has c.args.left c.lowest-i.result _ k
+            (less_of c.args.left c.lowest-i.result c.lowest-i.ensures.within c.lowest-i.ensures.among) is),
+      ),
+    ),
+  ),
 )
 
 pub returns-then-not-branch-clause-adds : goal.returns-then-not-branch-clause-adds
@@ -25,9 +34,18 @@ returns-then-not-branch-clause-adds t c =
 pub add_completions-requires-2 : goal.add_completions-requires-2
 add_completions-requires-2 t c = (
   omega (arith, c.decreases, less_lt c.args.left c.lowest-i.result c.lowest-i.ensures.within c.lowest-i.ensures.among),
-  (c.requires.few, (c.requires.order, (held-within c.args.held c.args.left c.lowest-i.result (length c.args.items.now)
-  c.lowest-i.ensures.within c.lowest-i.ensures.among c.requires.within c.requires.left, λ k is. c.requires.left k (less_has c.args.left c.lowest-i.result _ k
-  (less_of c.args.left c.lowest-i.result c.lowest-i.ensures.within c.lowest-i.ensures.among) is)))),
+  (
+    c.requires.few,
+    (
+      c.requires.order,
+      (
+        held-within c.args.held c.args.left c.lowest-i.result (length c.args.items.now)
+            c.lowest-i.ensures.within c.lowest-i.ensures.among c.requires.within c.requires.left,
+        λ k is. c.requires.left k (less_has c.args.left c.lowest-i.result _ k
+            (less_of c.args.left c.lowest-i.result c.lowest-i.ensures.within c.lowest-i.ensures.among) is),
+      ),
+    ),
+  ),
 )
 
 pub returns-clause-adds : goal.returns-clause-adds

@@ -36,9 +36,9 @@ loop-r-preserved c =
           | inl same ↦ (
             λ has. absurd (c.loop-r.invariant.rest q (omega (arith, same)) has),
             λ some. absurd (
-            let t = c.has_place.ensures.1 (subst (λ (p : ℕ). (k : ℕ) × (k < 8) × In (slice_index c.args.writers.now p) k) same some) in
-            let f = w.if-has_place.false in
-            cc),
+                let t = c.has_place.ensures.1 (subst (λ (p : ℕ). (k : ℕ) × (k < 8) × In (slice_index c.args.writers.now p) k) same some) in
+                let f = w.if-has_place.false in
+                cc),
           )
           | inr apart ↦ c.loop-r.invariant.made q (omega (arith, less, apart)) few
         ];

@@ -37,22 +37,34 @@ loop-place-preserved c =
     let none = c.loop-place.invariant.status.rest place (omega arith) in
     elim c.match-item.branch [
       | in-Committed w ↦
-          rw (w.committed-is, w.pending-is) (record { status = status-more (map view items) place _ _ _ _ x at c.loop-place.invariant.status
-          (λ i apart. (bit_at_set_other w8 c.loop-place.committed place within i apart, refl))
-          (eq-eqb _ 1 (bit_at_set_same w8 c.loop-place.committed place within) ∙ sym (ap is_committed w.in-Committed.is))
-          (ap (λ (m : ℕ). m == 1) none.1 ∙ sym (ap is_pending w.in-Committed.is)); eight = eight })
+          rw (w.committed-is, w.pending-is) (record {
+            status = status-more (map view items) place _ _ _ _ x at c.loop-place.invariant.status
+                (λ i apart. (bit_at_set_other w8 c.loop-place.committed place within i apart, refl))
+                (eq-eqb _ 1 (bit_at_set_same w8 c.loop-place.committed place within) ∙ sym (ap is_committed w.in-Committed.is))
+                (ap (λ (m : ℕ). m == 1) none.1 ∙ sym (ap is_pending w.in-Committed.is));
+            eight = eight;
+          })
       | in-Pending w ↦
-          rw (w.committed-is, w.pending-is) (record { status = status-more (map view items) place _ _ _ _ x at c.loop-place.invariant.status
-          (λ i apart. (refl, bit_at_set_other w8 c.loop-place.pending place within i apart))
-          (ap (λ (m : ℕ). m == 1) none.0 ∙ sym (ap is_committed w.in-Pending.is))
-          (eq-eqb _ 1 (bit_at_set_same w8 c.loop-place.pending place within) ∙ sym (ap is_pending w.in-Pending.is)); eight = eight })
+          rw (w.committed-is, w.pending-is) (record {
+            status = status-more (map view items) place _ _ _ _ x at c.loop-place.invariant.status
+                (λ i apart. (refl, bit_at_set_other w8 c.loop-place.pending place within i apart))
+                (ap (λ (m : ℕ). m == 1) none.0 ∙ sym (ap is_committed w.in-Pending.is))
+                (eq-eqb _ 1 (bit_at_set_same w8 c.loop-place.pending place within) ∙ sym (ap is_pending w.in-Pending.is));
+            eight = eight;
+          })
       | in-Live w ↦
-          rw (w.committed-is, w.pending-is) (record { status = status-more (map view items) place _ _ _ _ x at c.loop-place.invariant.status (λ i apart. (refl, refl))
-          (ap (λ (m : ℕ). m == 1) none.0 ∙ sym (ap is_committed w.in-Live.is)) (ap (λ (m : ℕ). m == 1) none.1 ∙ sym (ap is_pending w.in-Live.is)); eight = eight })
+          rw (w.committed-is, w.pending-is) (record {
+            status = status-more (map view items) place _ _ _ _ x at c.loop-place.invariant.status (λ i apart. (refl, refl))
+                (ap (λ (m : ℕ). m == 1) none.0 ∙ sym (ap is_committed w.in-Live.is)) (ap (λ (m : ℕ). m == 1) none.1 ∙ sym (ap is_pending w.in-Live.is));
+            eight = eight;
+          })
       | in-Aborted w ↦
-          rw (w.committed-is, w.pending-is) (record { status = status-more (map view items) place _ _ _ _ x at c.loop-place.invariant.status (λ i apart. (refl, refl))
-          (ap (λ (m : ℕ). m == 1) none.0 ∙ sym (ap is_committed w.in-Aborted.is))
-          (ap (λ (m : ℕ). m == 1) none.1 ∙ sym (ap is_pending w.in-Aborted.is)); eight = eight })
+          rw (w.committed-is, w.pending-is) (record {
+            status = status-more (map view items) place _ _ _ _ x at c.loop-place.invariant.status (λ i apart. (refl, refl))
+                (ap (λ (m : ℕ). m == 1) none.0 ∙ sym (ap is_committed w.in-Aborted.is))
+                (ap (λ (m : ℕ). m == 1) none.1 ∙ sym (ap is_pending w.in-Aborted.is));
+            eight = eight;
+          })
     ]
 
 pub returns-clause-shows : goal.returns-clause-shows
