@@ -13,7 +13,7 @@ use Rattle.tmw_defs.specs.declared.status.Status.{Status}
 use Rattle.tmw_defs.specs.declared.status.Status.TheVariants.{Live, Pending, Committed, Aborted}
 use Rattle.tmw_defs.specs.Criteria.{EndsBy}
 use Rattle.tmw_defs.specs.Quiet.{is_pending}
-use Rattle.tmw_defs.specs.History.{Txn, transactions}
+use Rattle.tmw_defs.specs.History.{Txn, status_of, transactions}
 use Rattle.tmw_defs.specs.Opaque.{State}
 use Rattle.tmw_defs.specs.Outcomes.{Only}
 use Rattle.tmw_cuts.specs.declared.effect.Effect.{Effect}
@@ -37,7 +37,6 @@ use Rattle.tmw_search.proofs.LayerSteps.{slice_get_some}
 use Rattle.tmw_search.proofs.Legal.{tells_legal}
 use Rattle.tmw_search.proofs.Rooting.{rising-views}
 use Rattle.tmw_search.proofs.Shown.{act-as, order-of_reach}
-use Rattle.tmw_search.proofs.Windows.{status-of}
 use Rattle.tmw_search.proofs.WindowViews.{shows-views_of, none_before_itself}
 
 same-truth : (a b : Bool) → (IsTrue a → IsTrue b) → (IsTrue b → IsTrue a) → a ≡ b
@@ -123,6 +122,20 @@ reach-shows criterion xs committed pending reach few rising status order begins 
     not-is : (b : Bool) → IsTrue (not b) → b ≡ false
     not-is true is = absurd (cc)
     not-is false is = refl
+
+-- what is shown of the status
+status-of : (xs : List View) (ts : List Txn) (committed pending : ℕ) → ShowsTransactions xs ts → ShowsStatus xs committed pending
+    → TellStatus ts committed pending
+status-of xs ts committed pending shows are =
+    let there : (i : ℕ) (t : Txn) → slice_get ts i ≡ Some t → (x : View) × (slice_get xs i ≡ Some x) =
+    λ i t at. slice_get_some xs i (let w = slice_get_within ts i t at in omega (arith, w, shows.same_length)) in
+    record {
+      committed_at = λ i t at.
+          let (x, at_x) = there i t at in are.committed_at i x at_x ∙ ap is_committed (shows.each i x t at_x at).status;
+      pending_at = λ i t at.
+          let (x, at_x) = there i t at in are.pending_at i x at_x ∙ ap is_pending (shows.each i x t at_x at).status;
+      none = λ i past. are.none i (omega (arith, past, shows.same_length));
+    }
 
 -- the root of the search is that of the law
 to-search : (criterion : Criterion) (xs : List Effect) (start : State) (n : ℕ) (reach : List ℕ) (committed pending held : ℕ) (rank : ℕ → ℕ)

@@ -48,14 +48,3 @@ layer_first Opacity S ts aside count mask r a l =
     let first = layer_zero S ts mask r (subst (λ (n : ℕ). InLayer S ts n mask r) none.1 l) in
     (first.0 ∙ sym none.0, first.1)
 layer_first Strict S ts aside count mask r a l = strict_first S ts aside count mask r a l
-
--- the last has all transactions and their end states
-pub layer-last_by : (criterion : Criterion) (S : State → Type 0) (ts : List Txn) (r : State) → EndsBy criterion S ts r
-    → InLayerBy criterion S ts (length ts) (2 ^ length ts - 1) r
-layer-last_by Opacity S ts r ends = layer-last S ts r ends
-layer-last_by Strict S ts r ends = strict-last S ts r ends
-
-pub layer_last-by : (criterion : Criterion) (S : State → Type 0) (ts : List Txn) (mask : ℕ) (r : State)
-    → InLayerBy criterion S ts (length ts) mask r → EndsBy criterion S ts r
-layer_last-by Opacity S ts mask r l = layer_last S ts mask r l
-layer_last-by Strict S ts mask r l = strict_last S ts mask r l

@@ -18,9 +18,12 @@ use Rattle.tmw_search.specs.Polygraph.{ActAs, ShowsOrder, IsCompletion, IsIn, me
 use Rattle.tmw_search.specs.Legal.{ReadsFrom, ReadsStart}
 use Rattle.tmw_cuts.specs.declared.effect.Effect.{Effect}
 use Rattle.tmw_search.specs.Nodes.{IsLegal, TellStatus, TellsLegal}
-use Rattle.tmw_search.proofs.Growing.{Sub}
 use Rattle.tmw_search.proofs.Law.{ranked_by, ordered_by}
 use Rattle.tmw_search.proofs.OpacityLaw.{mask_of, bit_at-mask_of, bit_at-mask_past, bit_is}
+
+-- each of the one is one of the other
+abbrev Sub : ℕ → ℕ → Type 0
+Sub small held = (i : ℕ) → bit_at small i ≡ 1 → bit_at held i ≡ 1
 
 yes_of : (mask i : ℕ) → bit_at mask i ≡ 1 → (bit_at mask i == 1) ≡ true
 yes_of mask i one = eq-eqb (bit_at mask i) 1 one

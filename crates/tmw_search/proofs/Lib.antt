@@ -34,11 +34,9 @@ mod Ranked
 mod Rankings
 mod OpacityLaw
 mod StrictLaw
-mod Growing
 mod Law
 mod Shown
 mod Legal
-mod Windows
 mod Answering
 mod Reading
 mod Rooting

@@ -1,4 +1,4 @@
--- Where all transactions have ended, their ends by strict serializability are those of the committed ones by opacity.
+-- Where transactions leave the same state in all legal orders by opacity, so do those that a completion holds.
 use Rattle.std.proofs.Common.{◌≡◌, ◌+◌, ◌≤◌, ℕ, Bool, not, List, [], ◌∷◌, IsTrue, cond, refl, sym, subst, ◌∙◌, inl, inr, arith}
 use Rattle.std.specs.List.{list_all, count_by}
 use Rattle.std.proofs.lemmas.Bool.{and_parts, and_from}
@@ -17,43 +17,6 @@ use Rattle.tmw_defs.proofs.Removals.{list_all-places}
 use Rattle.tmw_search.specs.ForcedTransactions.{is_committed, is_writer, is_blind_writer, IsForced}
 use Rattle.tmw_search.proofs.ForcedProof.{forced-end}
 use Rattle.tmw_search.proofs.Holding.{most_held, ended-held, committed-held, committed_held}
-
--- one of these statuses is held
-committed-may : (p : Placed) → IsTrue (is_committed (status_of p.txn.text)) → IsTrue (may_be p) → IsTrue p.held
-committed-may p is may = of_status (status_of p.txn.text) p.held is may
-  where
-    of_status : (status : Status) (held : Bool) → IsTrue (is_committed status) → IsTrue (may_hold status held) → IsTrue held
-    of_status Committed held is may = may
-    of_status Live held is may = absurd (cc)
-    of_status Pending held is may = absurd (cc)
-    of_status Aborted held is may = absurd (cc)
-
-all-held : (order : List Placed) → IsTrue (list_all (λ p. is_committed (status_of p.txn.text)) order) → IsTrue (list_all may_be order)
-    → IsTrue (list_all (λ p. p.held) order)
-all-held [] committed may = refl
-all-held (p ∷ order) committed may =
-    let (here, rest) = and_parts (is_committed (status_of p.txn.text)) _ committed in
-    let (may_p, may_rest) = and_parts (may_be p) _ may in
-    and_from p.held _ (committed-may p here may_p) (all-held order rest may_rest)
-
--- where all have committed, both criteria have the same ends
-pub committed_ends : (S : State → Type 0) (ts : List Txn) (r : State) → IsTrue (list_all (λ t. is_committed (status_of t.text)) ts)
-    → EndsBy Strict S ts r → Ends S ts r
-committed_ends S ts r committed (s, is, (order, e, is_r)) =
-    (s, is, (order, subst (λ (ms : List Txn). Explains s ms order) (committed_held ts e.members committed e.are) e.explains, is_r))
-
-pub committed-ends : (S : State → Type 0) (ts : List Txn) (r : State) → IsTrue (list_all (λ t. is_committed (status_of t.text)) ts)
-    → Ends S ts r → EndsBy Strict S ts r
-committed-ends S ts r committed (s, is, (order, e, is_r)) =
-    let each = list_all-places (λ t. is_committed (status_of t.text)) ts order e.each ∙ committed in (
-      s,
-      is,
-      (
-        order,
-        record { members = ts; are = committed-held ts committed; explains = e; held = all-held order each e.completed },
-        is_r,
-      ),
-    )
 
 -- members of what has few writers of a register are few
 abbrev flag : Bool → ℕ

@@ -98,12 +98,6 @@ pub record IsFound (xs : List Effect) (start : State) (may : ℕ) (node found : 
 abbrev pub HasNone : List Effect → State → ℕ → Node → Type 0
 HasNone xs start may node = (held : ℕ) (rank : ℕ → ℕ) → IsLegal xs start may node held rank → ⊥
 
--- One of the sources that a read may have.
-abbrev pub IsOffered : Branch → Source → Type 0
-IsOffered b Open = ⊥
-IsOffered b Start = IsTrue b.start
-IsOffered b (From i) = (i < 8) × In b.writers i
-
 -- All ways to choose the source of an open read.
 pub record IsBranch (xs : List Effect) (start : State) (may : ℕ) (node : Node) (b : Branch) : Type 0 where
   pub reader : b.reader < 8

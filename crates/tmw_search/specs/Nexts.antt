@@ -46,7 +46,3 @@ FollowsOne criterion xs layer q = (p : ℕ × State) × Contains layer p × Foll
 -- no completion holds it, or each of its operations is a read: it leaves each state as it is
 abbrev pub is_idle : View → Bool
 is_idle x = not (may_hold x.status true) || list_all is_read x.ops
-
--- it may come next, leaves each state as it is, and read what the state has
-abbrev pub is_idle_next : View → ℕ → ℕ → State → Bool
-is_idle_next x place mask s = is_next x place mask && (is_idle x && reads_hold s x.ops)

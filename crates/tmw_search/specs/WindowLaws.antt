@@ -1,28 +1,20 @@
--- The law of a window: its transactions' effects, and masks of the real-time order.
-use Rattle.std.specs.Prelude.{◌≡◌, ◌==◌, ◌&&◌, ◌⊎◌, ◌↔◌, ◌<◌, ◌≤◌, ℕ, not, map, List, length, slice_get, slice_index, Some, IsTrue}
+-- What the law asks of what a window shows of its transactions, and what it says of them.
+use Rattle.std.specs.Prelude.{◌≡◌, ◌==◌, ◌&&◌, ◌⊎◌, ◌<◌, ◌≤◌, ℕ, not, map, List, length, slice_get, slice_index, Some}
 use Rattle.std.specs.Int.{bit_at}
-use Rattle.std.specs.List.{Contains, list_all}
+use Rattle.std.specs.List.{Contains}
+use Rattle.tmw_events.specs.declared.event.Event.{Event}
 use Rattle.tmw_defs.specs.declared.criterion.Criterion.{Criterion}
-use Rattle.tmw_defs.specs.History.{transactions, is_ended}
 use Rattle.tmw_defs.specs.Criteria.{EndsBy}
+use Rattle.tmw_defs.specs.History.{transactions}
 use Rattle.tmw_defs.specs.Opaque.{State}
 use Rattle.tmw_defs.specs.Outcomes.{Only}
-use Rattle.tmw_events.specs.declared.event.Event.{Event}
-use Rattle.tmw_cuts.specs.declared.effect.Effect.{Effect}
-use Rattle.tmw_cuts.specs.declared.states.States.{States}
-use Rattle.tmw_cuts.specs.declared.txn.Txn as cuts
-use Rattle.tmw_cuts.specs.declared.window.Window.{Window}
-use Rattle.tmw_cuts.specs.Members.{members}
-use Rattle.tmw_cuts.specs.Standing.{StandsFor, views_of}
-use Rattle.tmw_cuts.specs.Views.{View, view, effect_of}
-use Rattle.tmw_search.specs.Ended.{EndsOf}
 use Rattle.tmw_defs.specs.Quiet.{is_pending}
+use Rattle.tmw_cuts.specs.declared.effect.Effect.{Effect}
+use Rattle.tmw_cuts.specs.declared.txn.Txn as cuts
+use Rattle.tmw_cuts.specs.Standing.{views_of}
+use Rattle.tmw_cuts.specs.Views.{View, view, effect_of}
 use Rattle.tmw_search.specs.ForcedTransactions.{is_committed}
 use Rattle.tmw_search.specs.Layers.{is_aside}
-use Rattle.tmw_search.specs.Polygraph.{EndsIn, root, RanksTo}
-use Rattle.tmw_cuts.specs.declared.effect.Effect.{Effect}
-use Rattle.tmw_search.specs.Legal.{effects}
-use Rattle.tmw_search.specs.Nodes.{IsLegal}
 
 -- For each of these the mask of it and those that precede it in real time, among those that a serial order of the criterion may have.
 pub record ShowsReach (criterion : Criterion) (xs : List View) (mat : List ℕ) : Type 0 where
@@ -31,31 +23,11 @@ pub record ShowsReach (criterion : Criterion) (xs : List View) (mat : List ℕ) 
       → (bit_at (slice_index mat j) i == 1) ≡ ((bit_at y.before i == 1) && (not (is_aside criterion x.status) && not (is_aside criterion y.status)))
   pub none : (i j : ℕ) → i < 8 → j < 8 → (i ≡ j → ⊥) → (length xs ≤ i) ⊎ (length xs ≤ j) → bit_at (slice_index mat j) i ≡ 0
 
--- What the window's transactions end in, from the states of the set, is what rankings end in.
-abbrev pub WindowRanked : Criterion → States → Window → List ℕ → Type 0
-WindowRanked criterion states window mat = (events : List Event) → StandsFor window events → (end : State)
-    → EndsOf criterion states events end
-    ↔ ((start : State) × Contains (members states) start × RanksTo criterion (effects window.txns.items) (transactions events) mat start end)
-
--- Whatever window shows them: it has an end just where the root has a legal order from one of the states.
+-- The masks of those that have committed, and of those that are pending.
 pub record ShowsStatus (xs : List View) (committed pending : ℕ) : Type 0 where
   pub committed_at : (i : ℕ) (x : View) → slice_get xs i ≡ Some x → (bit_at committed i == 1) ≡ is_committed x.status
   pub pending_at : (i : ℕ) (x : View) → slice_get xs i ≡ Some x → (bit_at pending i == 1) ≡ is_pending x.status
   pub none : (i : ℕ) → length xs ≤ i → (bit_at committed i ≡ 0) × (bit_at pending i ≡ 0)
-
-abbrev pub WindowLegal : Criterion → States → Window → List ℕ → ℕ → ℕ → Type 0
-WindowLegal criterion states window mat committed pending = (events : List Event) → StandsFor window events
-    → ((end : State) × EndsOf criterion states events end)
-    ↔ ((start : State) × Contains (members states) start × (held : ℕ) × (rank : ℕ → ℕ)
-    × IsLegal (effects window.txns.items) start pending (root criterion mat (length (transactions events)) committed) held rank)
-
--- At a cut all transactions are over, and what has committed is the one completion.
-abbrev pub WindowEnds : Criterion → States → Window → List ℕ → ℕ → Type 0
-WindowEnds criterion states window mat committed = (events : List Event) → StandsFor window events
-    → IsTrue (list_all (λ t. is_ended t.text) (transactions events)) → (end : State)
-    → EndsOf criterion states events end
-    ↔ ((start : State) × Contains (members states) start
-    × EndsIn (effects window.txns.items) start (root criterion mat (length (transactions events)) committed) end)
 
 -- What they do is told of eight registers.
 abbrev pub HasEight : Effect → Type 0
